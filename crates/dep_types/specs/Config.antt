@@ -1,0 +1,22 @@
+-- Which configurations a server can be set up with.
+use Rattle.std.specs.Prelude.{ℕ}
+use Rattle.dep_types.specs.Base.{IsBase}
+use Rattle.dep_types.specs.Limits.{IsLimit}
+use Rattle.dep_types.specs.declared.config.Config.{Config}
+use Rattle.dep_types.specs.declared.config.ConfigFault.{ConfigFault}
+use Rattle.dep_types.specs.declared.config.ConfigFault.TheVariants.{Base, Limit, Memory}
+
+pub record HasLimits (config : Config) : Type 0 where
+  pub upload : IsLimit config.max_upload 16777216
+  pub assembled : IsLimit config.max_assembled 536870912
+  pub segments : IsLimit config.max_segments 1000
+  pub idle : IsLimit config.staging_max_idle 31536000
+
+pub record IsChecked (config : Config) : Type 0 where
+  pub base : IsBase config.base
+  pub limits : HasLimits config
+
+abbrev pub fault_number : ConfigFault → ℕ
+fault_number Base = 1
+fault_number Limit = 2
+fault_number Memory = 3

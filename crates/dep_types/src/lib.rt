@@ -1,0 +1,26 @@
+//! The records, outcomes and interfaces that every layer of the server speaks of.
+#![tactic(auto)]
+
+mod base;
+mod config;
+mod counters;
+pub mod laws;
+mod outlet;
+mod refusal;
+mod target;
+mod text;
+mod through;
+
+pub use config::{
+    Config, ConfigFault, GREATEST_MAX_ASSEMBLED, GREATEST_MAX_SEGMENTS, GREATEST_MAX_UPLOAD,
+    GREATEST_STAGING_MAX_IDLE,
+};
+pub use counters::Counters;
+pub use outlet::{Outlet, WriteFailed};
+pub use refusal::Refusal;
+pub use target::{Method, Resource, Target};
+pub use text::Text;
+pub use through::Through;
+
+#[cfg(test)]
+mod tests;

@@ -1,0 +1,138 @@
+//! Why a request is refused.
+ghost use Rattle.std.specs.Prelude.{◌≡◌};
+ghost use Rattle.dep_types.specs.Refusals.{facts_of};
+
+/// Why a request is refused: each has a number, a status of HTTP, a name and a text, which its
+/// error document tells (SWORD 3.0, error documents).
+#[derive(Clone, Copy, Debug, PartialEq, Eq)]
+pub enum Refusal {
+    BadRequest,
+    ContentMalformed,
+    InvalidSegmentSize,
+    UnexpectedSegment,
+    SegmentLimitExceeded,
+    MaxAssembledSizeExceeded,
+    NotFound,
+    MethodNotAllowed,
+    SegmentedUploadTimedOut,
+    DigestMismatch,
+    ETagNotMatched,
+    ETagRequired,
+    OnBehalfOfNotAllowed,
+    ByReferenceNotAllowed,
+    MaxUploadSizeExceeded,
+    ContentTypeNotAcceptable,
+    MetadataFormatNotAcceptable,
+    PackagingFormatNotAcceptable,
+    StoreFull,
+}
+
+impl Refusal {
+    /// The number that the error document's log tells, 1 to 19.
+    pub fn number(self) -> u8
+        ensures { result ≡ (facts_of self).number }
+    {
+        match self {
+            Refusal::BadRequest => 1,
+            Refusal::ContentMalformed => 2,
+            Refusal::InvalidSegmentSize => 3,
+            Refusal::UnexpectedSegment => 4,
+            Refusal::SegmentLimitExceeded => 5,
+            Refusal::MaxAssembledSizeExceeded => 6,
+            Refusal::NotFound => 7,
+            Refusal::MethodNotAllowed => 8,
+            Refusal::SegmentedUploadTimedOut => 9,
+            Refusal::DigestMismatch => 10,
+            Refusal::ETagNotMatched => 11,
+            Refusal::ETagRequired => 12,
+            Refusal::OnBehalfOfNotAllowed => 13,
+            Refusal::ByReferenceNotAllowed => 14,
+            Refusal::MaxUploadSizeExceeded => 15,
+            Refusal::ContentTypeNotAcceptable => 16,
+            Refusal::MetadataFormatNotAcceptable => 17,
+            Refusal::PackagingFormatNotAcceptable => 18,
+            Refusal::StoreFull => 19,
+        }
+    }
+
+    /// The status of the reply (RFC 9110, section 15).
+    pub fn status(self) -> u16
+        ensures { result ≡ (facts_of self).status }
+    {
+        match self {
+            Refusal::BadRequest
+            | Refusal::ContentMalformed
+            | Refusal::InvalidSegmentSize
+            | Refusal::UnexpectedSegment
+            | Refusal::SegmentLimitExceeded
+            | Refusal::MaxAssembledSizeExceeded => 400,
+            Refusal::NotFound => 404,
+            Refusal::MethodNotAllowed => 405,
+            Refusal::SegmentedUploadTimedOut => 410,
+            Refusal::DigestMismatch
+            | Refusal::ETagNotMatched
+            | Refusal::ETagRequired
+            | Refusal::OnBehalfOfNotAllowed
+            | Refusal::ByReferenceNotAllowed => 412,
+            Refusal::MaxUploadSizeExceeded => 413,
+            Refusal::ContentTypeNotAcceptable
+            | Refusal::MetadataFormatNotAcceptable
+            | Refusal::PackagingFormatNotAcceptable => 415,
+            Refusal::StoreFull => 507,
+        }
+    }
+
+    /// The name that the error document has as its type.
+    pub fn name(self) -> &'static str
+        ensures { result.now ≡ (facts_of self).name }
+    {
+        match self {
+            Refusal::BadRequest => "BadRequest",
+            Refusal::ContentMalformed => "ContentMalformed",
+            Refusal::InvalidSegmentSize => "InvalidSegmentSize",
+            Refusal::UnexpectedSegment => "UnexpectedSegment",
+            Refusal::SegmentLimitExceeded => "SegmentLimitExceeded",
+            Refusal::MaxAssembledSizeExceeded => "MaxAssembledSizeExceeded",
+            Refusal::NotFound => "NotFound",
+            Refusal::MethodNotAllowed => "MethodNotAllowed",
+            Refusal::SegmentedUploadTimedOut => "SegmentedUploadTimedOut",
+            Refusal::DigestMismatch => "DigestMismatch",
+            Refusal::ETagNotMatched => "ETagNotMatched",
+            Refusal::ETagRequired => "ETagRequired",
+            Refusal::OnBehalfOfNotAllowed => "OnBehalfOfNotAllowed",
+            Refusal::ByReferenceNotAllowed => "ByReferenceNotAllowed",
+            Refusal::MaxUploadSizeExceeded => "MaxUploadSizeExceeded",
+            Refusal::ContentTypeNotAcceptable => "ContentTypeNotAcceptable",
+            Refusal::MetadataFormatNotAcceptable => "MetadataFormatNotAcceptable",
+            Refusal::PackagingFormatNotAcceptable => "PackagingFormatNotAcceptable",
+            Refusal::StoreFull => "StoreFull",
+        }
+    }
+
+    /// What the error document says to a person.
+    pub fn text(self) -> &'static str
+        ensures { result.now ≡ (facts_of self).text }
+    {
+        match self {
+            Refusal::BadRequest => "The request is not well formed for this operation",
+            Refusal::ContentMalformed => "The document could not be read",
+            Refusal::InvalidSegmentSize => "The segment sizes do not fit the upload",
+            Refusal::UnexpectedSegment => "This segment is not expected",
+            Refusal::SegmentLimitExceeded => "Too many segments",
+            Refusal::MaxAssembledSizeExceeded => "The assembled file would be too large",
+            Refusal::NotFound => "There is nothing at this URL",
+            Refusal::MethodNotAllowed => "The method is not allowed here",
+            Refusal::SegmentedUploadTimedOut => "The upload has timed out",
+            Refusal::DigestMismatch => "The content does not match its digest",
+            Refusal::ETagNotMatched => "The entity tag does not match",
+            Refusal::ETagRequired => "An entity tag is required",
+            Refusal::OnBehalfOfNotAllowed => "Deposit on behalf of others is not allowed",
+            Refusal::ByReferenceNotAllowed => "This reference is not allowed",
+            Refusal::MaxUploadSizeExceeded => "The content is too large",
+            Refusal::ContentTypeNotAcceptable => "The content type is not acceptable",
+            Refusal::MetadataFormatNotAcceptable => "The metadata format is not acceptable",
+            Refusal::PackagingFormatNotAcceptable => "The packaging format is not acceptable",
+            Refusal::StoreFull => "No more numbers can be given",
+        }
+    }
+}
