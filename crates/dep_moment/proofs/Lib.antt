@@ -1,0 +1,4 @@
+pub mod OnLiterals
+pub mod Agreement
+pub mod Walk
+pub mod OneCivil

@@ -1,0 +1,9 @@
+//! Moments in whole seconds since 1970, and the texts that spell them. Nothing here allocates.
+#![tactic(auto)]
+
+pub mod laws;
+mod moment;
+#[cfg(test)]
+mod tests;
+
+pub use moment::Moment;
