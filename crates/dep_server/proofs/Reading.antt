@@ -1,0 +1,71 @@
+-- Laws of the reading of a stream.
+use Rattle.std.proofs.Common.{◌≡◌, ℕ, Bool, true, false, List, [], ◌∷◌, ◌++◌, length, length-drop, take, drop, ◌+◌, ◌<◌, ◌≤◌, refl, sym, ap, subst, ◌∙◌, append_assoc, arith, if◌then◌else◌}
+use Rattle.dep_server.specs.Places.{Place, Open, Shut, HasBytes, Reading, left_to_read, more}
+use Rattle.dep_server.specs.Stream.{Item, Fault, Request, after_item, closes, FirstAt, Reads, IsRequestText}
+use Rattle.dep_server.specs.Steps.{Takes}
+use Rattle.std.proofs.lemmas.List.{take-append-drop}
+use Rattle.dep_server.specs.declared.message.Message.{Message}
+
+more_if : (b : Bool) (behind piece : List ℕ)
+    → (if b then Shut else Open (behind ++ piece)) ≡ more (if b then Shut else Open behind) piece
+more_if true behind piece = refl
+more_if false behind piece = refl
+
+-- where the reading stands behind an item, once more bytes have come
+more_after : (item : Item) (behind piece : List ℕ) → after_item item (behind ++ piece) ≡ more (after_item item behind) piece
+more_after (Fault r b) behind piece = refl
+more_after (Request m) behind piece = more_if (closes m) behind piece
+
+-- the first item stays the first when more bytes come
+pub first_more : (limit : ℕ) (from : Place) (item : Item) (next : Place) (piece : List ℕ)
+    → FirstAt limit from item next → FirstAt limit (more from piece) item (more next piece)
+first_more limit (Open bytes) item next piece f =
+    record {
+      text = f.text;
+      behind = f.behind ++ piece;
+      whole = ap (λ bytes. bytes ++ piece) f.whole ∙ append_assoc f.text f.behind piece;
+      spelled = f.spelled;
+      goes_on = rw f.goes_on (sym (more_after item f.behind piece));
+    }
+first_more limit Shut item next piece f = f
+
+-- The reading of a stream carries on: what was read before is read still, and what was left goes on with the piece.
+pub reads_more : (limit : ℕ) (items : List Item) (from to : Place) (piece : List ℕ)
+    → Reads limit from items to → Reads limit (more from piece) items (more to piece)
+reads_more limit [] from to piece r = ap (λ p. more p piece) r
+reads_more limit (item ∷ items) from to piece r =
+    (more r.0 piece, first_more limit from item r.0 piece r.1, reads_more limit items r.0 to piece r.2)
+
+-- one reading after another
+pub reads_append : (limit : ℕ) (xs ys : List Item) (from mid to : Place)
+    → Reads limit from xs mid → Reads limit mid ys to → Reads limit from (xs ++ ys) to
+reads_append limit [] ys from mid to r s = let e : mid ≡ from = r in subst (λ p. Reads limit p ys to) e s
+reads_append limit (x ∷ xs) ys from mid to r s = (r.0, r.1, reads_append limit xs ys r.0 mid to r.2 s)
+
+-- one item more
+pub reads_one : (limit : ℕ) (xs : List Item) (x : Item) (from mid to : Place)
+    → Reads limit from xs mid → FirstAt limit mid x to → Reads limit from (xs ++ x ∷ []) to
+reads_one limit xs x from mid to r f = reads_append limit xs (x ∷ []) from mid to r (to, f, refl)
+
+pub has_bytes : (bytes : List ℕ) → 0 < length bytes → HasBytes (Open bytes)
+has_bytes [] l = absurd (omega arith)
+has_bytes (b ∷ bytes) l = tt
+
+less_if : (b : Bool) (bytes rest : List ℕ) → length rest < length bytes → left_to_read (if b then Shut else Open rest) < length bytes + 1
+less_if true bytes rest l = omega arith
+less_if false bytes rest l = omega arith
+
+-- the first message of an open place is taken
+pub takes_message : (limit : ℕ) (bytes : List ℕ) (old new : Reading) (m : Message) (used : ℕ)
+    → old ≡ record { limit = limit; place = Open bytes }
+    → (used ≤ length bytes) × IsRequestText limit (take used bytes) m × (0 < used)
+    → new ≡ record { limit = limit; place = after_item (Request m) (drop used bytes) }
+    → Takes old new (Request m)
+takes_message limit bytes old new m used o t n =
+    let within : used ≤ length bytes = t.0 in
+    let some : 0 < used = t.2 in
+    rw (o, n) (record {
+      first = record { text = take used bytes; behind = drop used bytes; whole = sym (take-append-drop used bytes); spelled = t.1; goes_on = refl };
+      limit = refl;
+      less = less_if (closes m) bytes (drop used bytes) (simp length-drop (omega arith));
+    })
