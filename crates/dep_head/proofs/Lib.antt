@@ -1,0 +1,4 @@
+pub mod HeadEnd
+pub mod EndFinds
+pub mod FieldLemmas
+pub mod OneHead

@@ -1,0 +1,30 @@
+-- Fields as spans over a text.
+use Rattle.std.specs.Prelude.{ℕ, List, length, map, All}
+use Rattle.httparse.specs.Spans.{header_bytes, span_bytes, IsWithin, IsHeaderWithin}
+use Rattle.httparse.specs.declared.spans.Span.{Span}
+use Rattle.httparse.specs.declared.spans.HeaderSpan.{HeaderSpan}
+use Rattle.http_uri.specs.Uri.{uri_path}
+use Rattle.http_uri.specs.declared.uri.Uri.{Uri}
+use Rattle.dep_head.specs.Head.{HeadParts, values_of}
+
+-- the fields that spans cover
+abbrev pub fields_at : List ℕ → List HeaderSpan → List (List ℕ × List ℕ)
+fields_at text spans = map (header_bytes text) spans
+
+-- each span lies in the text
+abbrev pub AreWithin : List ℕ → List HeaderSpan → Type 0
+AreWithin text spans = All (IsHeaderWithin (length text)) spans
+
+-- what spans over a text, and the target read apart, tell
+abbrev pub spanned_parts : List ℕ → Span → Uri → ℕ → List HeaderSpan → HeadParts
+spanned_parts text method uri minor spans = record {
+  method = span_bytes text method;
+  path = uri_path uri;
+  minor = minor;
+  fields = fields_at text spans;
+}
+
+-- the spans of a head lie in its text
+pub record SpansFit (text : List ℕ) (method : Span) (spans : List HeaderSpan) : Type 0 where
+  pub method_fits : IsWithin (length text) method
+  pub fields_fit : AreWithin text spans

@@ -1,0 +1,125 @@
+//! Heads of requests.
+ghost use Rattle.std.specs.Prelude.{◌≡◌, ◌↔◌, length, codes, IfOk, IsTrue, IsErrOf, Err};
+ghost use Rattle.dep_head.specs.Head.{HeadParts, IsHeadText, IsHostCount, values_of};
+
+use crate::end::{HEAD_LIMIT, find_end};
+use crate::fields::{Values, values_in};
+use http_uri::{Uri, UriError};
+use httparse::Status;
+use httparse::spans::{EMPTY_HEADER_SPAN, HeaderSpan, Span, parse_request};
+use std::alloc::Global;
+use std::marker::Model;
+
+/// Why no head was read.
+#[derive(Clone, Copy, Debug, PartialEq, Eq)]
+pub enum HeadFault {
+    /// The text is no head of a request.
+    NotAHead,
+    /// Memory was refused.
+    Memory,
+}
+
+/// The head of a request, which keeps a copy of its text.
+#[derive(Drop)]
+pub struct Head {
+    text: Vec<u8>,
+    method: Span,
+    uri: Uri,
+    minor: u8,
+    fields: Vec<HeaderSpan>,
+}
+
+impl Model for Head {
+    ghost use Rattle.dep_head.specs.Head.{HeadParts};
+    ghost use Rattle.dep_head.specs.Spans.{spanned_parts, SpansFit};
+
+    ghost Value = { HeadParts };
+
+    ghost view = { λ h. spanned_parts h.text.items h.method h.uri h.minor h.fields.items };
+
+    ghost invariant = { λ h. SpansFit h.text.items h.method h.fields.items };
+}
+
+impl Head {
+    /// The request's method, in the letter case that it has (RFC 9110, section 9.1).
+    pub fn method(&self) -> &[u8]
+        ensures { result.now ≡ self.now.method }
+    {
+        self.method.of(&self.text)
+    }
+
+    /// The path of the request's target as it stands there: nothing is decoded, and the query is left out.
+    pub fn path(&self) -> &[u8]
+        ensures { result.now ≡ self.now.path }
+    {
+        self.uri.path().as_bytes()
+    }
+
+    /// The second digit of the version, such as 1 for HTTP/1.1.
+    pub fn minor_version(&self) -> u8
+        ensures { result ≡ self.now.minor }
+    {
+        self.minor
+    }
+
+    /// The values of the fields with this name, in any letter case, each without the white space around
+    /// it (RFC 9112, section 5.1). It takes no memory.
+    pub fn values<'a>(&'a self, name: &'a str) -> Values<'a>
+        ensures { result ≡ values_of self.now.fields name.now }
+    {
+        values_in(&self.text, &self.fields, name)
+    }
+}
+
+/// Reads a text that is the whole head of a request, and nothing after it.
+pub fn read_head(alloc: Global, text: &[u8]) -> Result<Head, HeadFault>
+    ensures read { IfOk result (IsHeadText text.now) }
+    ensures refused { result ≡ Err HeadFault.NotAHead → (parts : HeadParts) → ¬ IsHeadText text.now parts }
+{
+    let Some(end) = find_end(text) else {
+        return Err(HeadFault::NotAHead);
+    };
+    if end != text.len() || end > HEAD_LIMIT {
+        return Err(HeadFault::NotAHead);
+    }
+    let mut headers = [EMPTY_HEADER_SPAN; 64];
+    let Ok(Status::Complete(spans)) = parse_request(text, &mut headers) else {
+        return Err(HeadFault::NotAHead);
+    };
+    if spans.len != text.len() {
+        return Err(HeadFault::NotAHead);
+    }
+    let uri = match Uri::from_bytes(alloc, spans.path.of(text)) {
+        Ok(uri) => uri,
+        Err(UriError::Invalid(_)) => return Err(HeadFault::NotAHead),
+        Err(UriError::OutOfMemory) => return Err(HeadFault::Memory),
+    };
+    let Ok(fields) = Vec::from_slice(alloc, &headers[..spans.headers]) else {
+        return Err(HeadFault::Memory);
+    };
+    let Ok(text) = Vec::from_slice(alloc, text) else {
+        return Err(HeadFault::Memory);
+    };
+    let head = Head {
+        text,
+        method: spans.method,
+        uri,
+        minor: spans.version,
+        fields,
+    };
+    if !has_good_host(&head) {
+        return Err(HeadFault::NotAHead);
+    }
+    Ok(head)
+}
+
+// HTTP/1.1 has exactly one Host field, and HTTP/1.0 at most one (RFC 9112, section 3.2).
+fn has_good_host(head: &Head) -> bool
+    ensures { IsTrue result ↔ IsHostCount head.now.minor (length (values_of head.now.fields (codes "Host"))) }
+{
+    let mut hosts = head.values("Host");
+    match hosts.next() {
+        Some(_) => hosts.next().is_none(),
+        None => head.minor_version() != 1,
+    }
+}
