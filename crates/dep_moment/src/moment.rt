@@ -1,5 +1,5 @@
 //! A moment, and its day and time of day in UTC as texts.
-ghost use Rattle.std.specs.Prelude.{◌≡◌, ◌<◌, ◌≤◌, min};
+ghost use Rattle.std.specs.Prelude.{◌≡◌, ◌<◌, ◌≤◌, min, IsAscii};
 ghost use Rattle.httpdate.specs.Text.{two_digits, four_digits};
 ghost use Rattle.dep_moment.specs.Civil.{civil_of, day_text, rfc3339_text, http_text};
 ghost use Rattle.dep_moment.specs.Greatest.{greatest_moment};
@@ -77,7 +77,8 @@ impl Moment {
 
     /// The day and the time of day in UTC, as `2018-04-16T00:00:00Z` (RFC 3339).
     pub fn rfc3339(self) -> [u8; 20]
-        ensures { result ≡ rfc3339_text self }
+        ensures text { result ≡ rfc3339_text self }
+        ensures ascii { IsAscii result }
     {
         let [
             year_1,

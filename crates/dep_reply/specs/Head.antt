@@ -1,0 +1,65 @@
+-- The bytes of a reply's head (RFC 9110, RFC 9112).
+use Rattle.std.specs.Prelude.{ℕ, ◌==◌, Bool, List, [], ◌++◌, Option, Some, None, option_map, codes, decimal, if◌then◌else◌}
+use Rattle.dep_moment.specs.Civil.{http_text}
+
+-- what a head tells, with the date in seconds since 1970
+pub record ReplyHead : Type 0 where
+  pub status : ℕ
+  pub date : ℕ
+  pub content_type : Option (List ℕ)
+  pub content_length : Option ℕ
+  pub tag : Option ℕ
+  pub location : Option (List ℕ)
+  pub allow : Option (List ℕ)
+  pub closes : Bool
+
+-- the reason phrase of a status
+abbrev pub phrase : ℕ → List ℕ
+phrase status =
+    if status == 200 then codes "OK"
+    else if status == 201 then codes "Created"
+    else if status == 204 then codes "No Content"
+    else if status == 400 then codes "Bad Request"
+    else if status == 404 then codes "Not Found"
+    else if status == 405 then codes "Method Not Allowed"
+    else if status == 410 then codes "Gone"
+    else if status == 412 then codes "Precondition Failed"
+    else if status == 413 then codes "Content Too Large"
+    else if status == 415 then codes "Unsupported Media Type"
+    else if status == 507 then codes "Insufficient Storage"
+    else []
+
+-- a line with its end
+abbrev pub line : List ℕ → List ℕ
+line text = text ++ codes "\r\n"
+
+unfoldable pub status_line : ℕ → List ℕ
+status_line status = line (codes "HTTP/1.1 " ++ decimal status ++ codes " " ++ phrase status)
+
+abbrev pub field : (name value : List ℕ) → List ℕ
+field name value = line (name ++ codes ": " ++ value)
+
+-- a field, where there is a value
+abbrev pub optional : (name : List ℕ) → Option (List ℕ) → List ℕ
+optional name None = []
+optional name (Some value) = field name value
+
+-- an entity tag as it stands in a field
+abbrev pub quoted : ℕ → List ℕ
+quoted tag = codes "\"" ++ decimal tag ++ codes "\""
+
+abbrev pub connection : Bool → Option (List ℕ)
+connection closes = if closes then Some (codes "close") else None
+
+-- the head, with its empty line
+unfoldable pub head_text : ReplyHead → List ℕ
+head_text r =
+    status_line r.status
+    ++ field (codes "Date") (http_text r.date)
+    ++ optional (codes "Content-Type") r.content_type
+    ++ optional (codes "Content-Length") (option_map decimal r.content_length)
+    ++ optional (codes "ETag") (option_map quoted r.tag)
+    ++ optional (codes "Location") r.location
+    ++ optional (codes "Allow") r.allow
+    ++ optional (codes "Connection") (connection r.closes)
+    ++ line []
