@@ -2,5 +2,14 @@ pub mod Places
 pub mod Framing
 pub mod Stream
 pub mod Targets
+pub mod Answers
+pub mod Replies
+pub mod Machine
+pub mod Records
+pub mod Calm
+pub mod Standing
 pub mod Steps
+pub mod Serving
+pub mod Sending
+pub mod Numbers
 pub mod Code

@@ -1,0 +1,5 @@
+pub mod Json
+pub mod JsonObject
+pub mod Documents
+pub mod ServiceSteps
+pub mod ExampleDocuments

@@ -1,0 +1,15 @@
+//! Whole documents, computed.
+ghost use Rattle.std.specs.Prelude.{◌≡◌};
+ghost use Rattle.dep_docs_out.specs.Documents as spec;
+ghost use Rattle.dep_docs_out.specs.ExampleDocuments.{example_config, service_text, error_text};
+ghost use Rattle.dep_types.specs.declared.refusal.Refusal.TheVariants.{DigestMismatch};
+
+/// The service document of the example.
+pub fn service_document_of_example()
+    ensures { spec.service_document example_config ≡ service_text }
+{}
+
+/// The error document of a content that does not match its digest.
+pub fn error_document_of_example()
+    ensures { spec.error_document DigestMismatch 1523836800 ≡ error_text }
+{}

@@ -1,0 +1,13 @@
+//! The documents that the server writes: compact JSON (RFC 8259) with the members in the order of their names' bytes.
+#![tactic(auto)]
+
+mod error;
+pub mod laws;
+mod object;
+mod service;
+
+pub use error::error_document;
+pub use service::service_document;
+
+#[cfg(test)]
+mod tests;
