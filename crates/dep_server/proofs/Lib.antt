@@ -5,3 +5,4 @@ pub mod ServingLemmas
 pub mod CalmLemmas
 pub mod ConnectionLemmas
 pub mod HubLemmas
+pub mod TalkLemmas

@@ -8,6 +8,7 @@ pub mod Machine
 pub mod Records
 pub mod Calm
 pub mod Standing
+pub mod Conversation
 pub mod Steps
 pub mod Serving
 pub mod Sending

@@ -3,6 +3,7 @@
 
 mod answer;
 mod arrived;
+mod connection;
 mod connections;
 mod framing;
 mod hub;
@@ -16,6 +17,7 @@ mod step;
 mod store;
 
 pub use arrived::Arrived;
+pub use connection::{Served, serve_connection};
 pub use connections::ConnId;
 pub use hub::{ConnectFault, Hub, HubFault};
 pub use message::{Content, Message};
