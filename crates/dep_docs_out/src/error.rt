@@ -10,7 +10,7 @@ use itoa::Buffer;
 use std::alloc::{AllocError, Global};
 
 /// The error document of SWORD 3.0: why a request was refused, at the moment of the server's clock.
-pub fn error_document(alloc: Global, refusal: Refusal, clock: Moment) -> Result<Vec<u8>, AllocError>
+pub fn error_doc(alloc: Global, refusal: Refusal, clock: Moment) -> Result<Vec<u8>, AllocError>
     ensures { IfOk result (λ bytes. bytes.items ≡ spec.error_document refusal clock) }
 {
     let log = log_text(alloc, refusal)?;

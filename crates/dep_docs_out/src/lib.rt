@@ -6,8 +6,8 @@ pub mod laws;
 mod object;
 mod service;
 
-pub use error::error_document;
-pub use service::service_document;
+pub use error::error_doc;
+pub use service::service_doc;
 
 #[cfg(test)]
 mod tests;

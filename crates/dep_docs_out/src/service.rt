@@ -9,7 +9,7 @@ use dep_types::Config;
 use std::alloc::{AllocError, Global};
 
 /// The service document of SWORD 3.0: what the server offers, and its limits.
-pub fn service_document(alloc: Global, config: &Config) -> Result<Vec<u8>, AllocError>
+pub fn service_doc(alloc: Global, config: &Config) -> Result<Vec<u8>, AllocError>
     ensures { IfOk result (λ bytes. bytes.items ≡ spec.service_document config.now) }
 {
     let root = url(alloc, config, "/service")?;

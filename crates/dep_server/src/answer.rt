@@ -5,7 +5,7 @@ ghost use Rattle.dep_server.specs.Replies.{accepted_answer, content_at, refused_
 ghost use Rattle.dep_server.specs.Answers.{json, head_of};
 
 use crate::routing::{Routed, allow};
-use dep_docs_out::{error_document, service_document};
+use dep_docs_out::{error_doc, service_doc};
 use dep_moment::Moment;
 use dep_reply::{Reply, Status, spell_head};
 use dep_types::{Config, Refusal, Resource};
@@ -60,7 +60,7 @@ impl Answer {
     {
         Ok(Answer {
             status: Status::from(refusal),
-            document: Some(error_document(alloc, refusal, clock)?),
+            document: Some(error_doc(alloc, refusal, clock)?),
             allow,
         })
     }
@@ -158,7 +158,7 @@ fn document_at(
     ensures { IfOk result (λ document. option_map (λ d. json d.items) document ≡ content_at config.now resource.now) }
 {
     match resource {
-        Resource::Service => Ok(Some(service_document(alloc, config)?)),
+        Resource::Service => Ok(Some(service_doc(alloc, config)?)),
         _ => Ok(None),
     }
 }

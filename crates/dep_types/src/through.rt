@@ -6,6 +6,7 @@ use std::io::Write;
 
 /// An outlet over any writer. A write counts as failed at any error, an interruption too, and where
 /// the writer takes no byte of a rest that is not empty.
+#[derive(Drop)]
 pub struct Through<W> {
     writer: W,
     failures: u64,

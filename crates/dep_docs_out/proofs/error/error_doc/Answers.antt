@@ -6,7 +6,7 @@ use Rattle.std.proofs.lemmas.Result.{IfOk-weaker}
 use Rattle.serde_json.specs.View.{view}
 use Rattle.serde_json.specs.Written.{has_float, compact_text}
 use Rattle.dep_docs_out.specs.Documents.{error_data}
-use Rattle.dep_docs_out.proofs.error.error_document.Goals as goal
+use Rattle.dep_docs_out.proofs.error.error_doc.Goals as goal
 
 pub unreachable-requires : goal.unreachable-requires
 unreachable-requires c =

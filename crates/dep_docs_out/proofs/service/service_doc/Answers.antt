@@ -4,7 +4,7 @@ use Rattle.serde_json.specs.View.{view}
 use Rattle.serde_json.specs.Written.{has_float, compact_text}
 use Rattle.dep_docs_out.specs.Documents.{service_data, url}
 use Rattle.dep_docs_out.specs.ServiceSteps.{with_offers, with_limits, with_rest}
-use Rattle.dep_docs_out.proofs.service.service_document.Goals as goal
+use Rattle.dep_docs_out.proofs.service.service_doc.Goals as goal
 
 pub returns : goal.returns
 unfolding service_data with_offers with_limits with_rest

@@ -1,0 +1,18 @@
+-- The configuration of the program.
+use Rattle.std.specs.Prelude.{ℕ, false, List, codes}
+use Rattle.dep_types.specs.declared.config.Config.{Config}
+
+-- with this base
+abbrev pub program_config : List ℕ → Config
+program_config base = record {
+  base = base;
+  title = codes "swordd";
+  abstract_text = codes "Deposit service";
+  depositor = codes "depositor";
+  on_behalf_of = false;
+  require_if_match = false;
+  max_upload = 16777216;
+  max_assembled = 536870912;
+  max_segments = 1000;
+  staging_max_idle = 3600;
+}

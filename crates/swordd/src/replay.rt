@@ -1,0 +1,33 @@
+//! One connection over an archive in memory.
+
+use crate::outcome::Outcome;
+use crate::setup::configuration;
+use dep_moment::Moment;
+use dep_server::{Hub, HubFault, Served, Store, serve_connection};
+use dep_types::Outlet;
+use std::alloc::Global;
+use std::io::Read;
+
+/// Serves one connection over an archive in memory, which is empty at first: the reader is read to its end,
+/// or until the connection is closed, each piece at the moment, and the replies go to the writer.
+pub fn replay<R: Read, W: Outlet>(
+    alloc: Global,
+    moment: Moment,
+    base: &str,
+    reader: &mut R,
+    writer: &mut W,
+) -> Outcome {
+    let Ok(config) = configuration(alloc, base) else {
+        return Outcome::StoreFault;
+    };
+    let mut hub = match Hub::new(alloc, config, Store::empty()) {
+        Ok(hub) => hub,
+        Err((HubFault::Config, _)) => return Outcome::Usage,
+        Err((HubFault::Memory, _)) => return Outcome::StoreFault,
+    };
+    match serve_connection(alloc, reader, writer, &mut hub, || moment) {
+        Served::Ended | Served::Closed => Outcome::Done,
+        Served::Unserved => Outcome::StoreFault,
+        Served::ReadFault | Served::WriteFault | Served::Bound => Outcome::TransferFault,
+    }
+}
