@@ -11,9 +11,10 @@ mod tests;
 use crate::command::Command;
 pub use crate::outcome::Outcome;
 pub use crate::replay::replay;
+use dep_moment::Moment;
 use dep_types::Through;
-use std::env;
 use std::process::ExitCode;
+use std::{env, io};
 
 fn main(rt: HostRuntime) -> ExitCode {
     let outcome = run(&rt);
@@ -24,20 +25,26 @@ fn main(rt: HostRuntime) -> ExitCode {
 }
 
 fn run(rt: &HostRuntime) -> Outcome {
-    let Ok(words) = env::args(rt) else {
+    let Ok(words) = words(rt) else {
         return Outcome::StoreFault;
     };
-    let command = match Command::read(words.skip(1)) {
-        Some(command) => command,
-        None => return Outcome::Usage,
-    };
-    match command {
-        Command::Replay { moment, base } => replay(
+    match Command::read(&words) {
+        None => Outcome::Usage,
+        Some(Command::Replay { moment, base }) => replay(
             rt.alloc(),
-            moment,
-            base.as_str(),
+            Moment::new(moment),
+            base,
             &mut rt.stdin(),
             &mut Through::new(rt.stdout()),
         ),
     }
+}
+
+// The words after the program's name.
+fn words(rt: &HostRuntime) -> io::Result<Vec<String>> {
+    let mut words = Vec::new(rt.alloc());
+    for word in env::args(rt)?.skip(1) {
+        words.push(word)?;
+    }
+    Ok(words)
 }
