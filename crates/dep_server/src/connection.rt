@@ -41,7 +41,8 @@ pub fn serve_connection<R: Read, W: Outlet, C: FnMut() -> Moment>(
     mut clock: C,
 ) -> Served
     requires { C.IsAlwaysCallable clock }
-    ensures { ConversesOver C.step hub.old hub.new (R.remaining reader.old) (R.remaining reader.new) (W.taken writer.old) (W.taken writer.new) clock result }
+    ensures config { hub.new.config ≡ hub.old.config }
+    ensures converses { ConversesOver C.step hub.old hub.new (R.remaining reader.old) (R.remaining reader.new) (W.taken writer.old) (W.taken writer.new) clock result }
 {
     let Ok(mut buffer) = vec![in alloc; 0u8; MOST_READ] else {
         return Served::Unserved;
@@ -73,7 +74,8 @@ fn converse<R: Read, W: Outlet, C: FnMut() -> Moment>(
     requires call { C.IsAlwaysCallable clock.old }
     requires there { IsSome (intake_of hub.old.connections.items connection) }
     requires room { length buffer.old ≡ most_read }
-    ensures { TalksUntil C.step connection hub.old hub.new (R.remaining reader.old) (R.remaining reader.new) (W.taken writer.old) (W.taken writer.new) clock.old clock.new result }
+    ensures config { hub.new.config ≡ hub.old.config }
+    ensures talks { TalksUntil C.step connection hub.old hub.new (R.remaining reader.old) (R.remaining reader.new) (W.taken writer.old) (W.taken writer.new) clock.old clock.new result }
 {
     for count in 0..MOST_READS {
         if let Some(end) = turn(reader, writer, hub, clock, connection, buffer) {
@@ -98,6 +100,7 @@ fn turn<R: Read, W: Outlet, C: FnMut() -> Moment>(
     ensures call { C.IsAlwaysCallable clock.new }
     ensures there { IsSome (intake_of hub.new.connections.items connection) }
     ensures room { length buffer.new ≡ most_read }
+    ensures config { hub.new.config ≡ hub.old.config }
     ensures turn { TurnsTo C.step connection hub.old hub.new (R.remaining reader.old) (R.remaining reader.new) (W.taken writer.old) (W.taken writer.new) clock.old clock.new result }
 {
     match reader.read(buffer) {

@@ -9,5 +9,6 @@ invariant-loop-count g l = record {
   call : goal.C-IsAlwaysCallable g l.clock;
   room : length l.buffer ≡ most_read;
   there : IsSome (intake_of l.hub.connections.items l.connection);
+  config : l.hub.config ≡ l.fn.hub.config;
   talk : Talk (goal.C-step g) l.connection l.fn.hub l.hub (g.R.Read.remaining l.fn.reader) (g.R.Read.remaining l.reader) (g.W.Outlet.taken l.fn.writer) (g.W.Outlet.taken l.writer) l.fn.clock l.clock l.count StaysOpen;
 }
