@@ -1,4 +1,6 @@
 //! One connection over an archive in memory.
+ghost use Rattle.std.specs.Prelude.{◌≡◌};
+ghost use Rattle.swordd.specs.Replays.{Replays, outcome_of};
 
 use crate::outcome::Outcome;
 use crate::setup::configuration;
@@ -16,7 +18,9 @@ pub fn replay<R: Read, W: Outlet>(
     base: &str,
     reader: &mut R,
     writer: &mut W,
-) -> Outcome {
+) -> Outcome
+    ensures { Replays base.now moment (R.remaining reader.old) (R.remaining reader.new) (W.taken writer.old) (W.taken writer.new) result }
+{
     let Ok(config) = configuration(alloc, base) else {
         return Outcome::StoreFault;
     };
@@ -25,7 +29,16 @@ pub fn replay<R: Read, W: Outlet>(
         Err((HubFault::Config, _)) => return Outcome::Usage,
         Err((HubFault::Memory, _)) => return Outcome::StoreFault,
     };
-    match serve_connection(alloc, reader, writer, &mut hub, || moment) {
+    let clock = move || -> Moment
+        ensures { result ≡ moment }
+    { moment };
+    outcome_of(serve_connection(alloc, reader, writer, &mut hub, clock))
+}
+
+fn outcome_of(served: Served) -> Outcome
+    ensures { result ≡ outcome_of served }
+{
+    match served {
         Served::Ended | Served::Closed => Outcome::Done,
         Served::Unserved => Outcome::StoreFault,
         Served::ReadFault | Served::WriteFault | Served::Bound => Outcome::TransferFault,
