@@ -4,7 +4,7 @@ use Rattle.std.proofs.lemmas.List.{append-nil}
 use Rattle.std.specs.List.{flat_map, FoldsTo}
 use Rattle.std.specs.Io.KnownBytes.{Appends, Consumes, Keeps, IsAtEnd}
 use Rattle.dep_types.specs.State.{State}
-use Rattle.dep_server.specs.Records.{World, Event, Connect, Arrive, Close, Record}
+use Rattle.dep_server.specs.Records.{World, put, Event, Connect, Arrive, Close, Record}
 use Rattle.dep_server.specs.Standing.{StandsAt, StandsFor, Adds, Moves, intake_of}
 use Rattle.dep_server.specs.declared.hub.Hub.{Hub}
 use Rattle.dep_server.specs.declared.arrived.Arrived.{Arrived}
@@ -135,23 +135,45 @@ all_added n turns old opened talked new a b d first records h =
     (append_assoc (records ++ c ∷ []) m (k ∷ []) ∙ append_assoc records (c ∷ []) (m ++ k ∷ []))
     (d first ((records ++ c ∷ []) ++ m) (b first (records ++ c ∷ []) (a first records h)))
 
-converses : {C : Type 0} (ticks : C → ℕ → C → Type 0) (n : ℕ) (old opened talked new : Hub) (unread left held holds : Option (List ℕ)) (clock now : C) (k : ℕ) (answer : Arrived) (served : Served)
-    → intake_of old.connections.items n ≡ None → Moves old opened (Connect n) [] → Moves talked new (Close n) []
-    → Adds old opened (Connect n) [] → (t : Talk ticks n opened talked unread left held holds clock now k answer) → Adds talked new (Close n) [] → EndsAs left t.turns served
-    → Converses ticks old new unread left held holds clock served
-converses ticks n old opened talked new unread left held holds clock now k answer served f ma md a t d e =
-    record { number = n; turns = t.turns; fresh = f; opened = opened; opens = ma; talked = talked; talks = t.talks; closes = md; adds = all_added n t.turns old opened talked new a (talks_add n opened talked t.turns t.talks) d; pieces = t.pieces; replies = t.replies; moments = (now, t.moments); ends = e; sizes = t.sizes }
+-- the hub stands after the turns where it stood before
+stands_talked : (n : ℕ) (opened talked : Hub) (turns : List Turn) → Talks n opened turns talked → (w : World) → StandsAt opened w → (w' : World) × StandsAt talked w'
+stands_talked n opened talked turns silent w at = (w, at)
+stands_talked n opened talked turns (turn {mid = mid} {turns = before} u t a) w at =
+    let m = stands_talked n opened mid before t w at in
+    let r = a.answers m.0 m.1 in
+    (record { state = r.0; line = put n r.1 m.0.line }, r.3)
 
-pub serves_whole : {C : Type 0} (ticks : C → ℕ → C → Type 0) (n : ℕ) (old opened talked new : Hub) (unread left held holds : Option (List ℕ)) (clock now : C) (served : Served)
-    → intake_of old.connections.items n ≡ None → Moves old opened (Connect n) [] → Moves talked new (Close n) []
-    → Adds old opened (Connect n) [] → TalksUntil ticks n opened talked unread left held holds clock now served → Adds talked new (Close n) []
-    → ConversesOver ticks old new unread left held holds clock served
-serves_whole ticks n old opened talked new unread left held holds clock now Closed f ma md a t d = converses ticks n old opened talked new unread left held holds clock now t.0 HasClosed Closed f ma md a t.2 d (t.2.answered, subst (λ m. m ≤ most_reads) (sym t.2.counted) t.1)
-serves_whole ticks n old opened talked new unread left held holds clock now WriteFault f ma md a t d = converses ticks n old opened talked new unread left held holds clock now t.0 Cut WriteFault f ma md a t.2 d (t.2.answered, subst (λ m. m ≤ most_reads) (sym t.2.counted) t.1)
-serves_whole ticks n old opened talked new unread left held holds clock now Ended f ma md a t d = converses ticks n old opened talked new unread left held holds clock now t.0 StaysOpen Ended f ma md a t.2 d (t.3, t.2.answered, subst (λ m. m < most_reads) (sym t.2.counted) t.1)
-serves_whole ticks n old opened talked new unread left held holds clock now ReadFault f ma md a t d = converses ticks n old opened talked new unread left held holds clock now t.0 StaysOpen ReadFault f ma md a t.2 d (t.2.answered, subst (λ m. m < most_reads) (sym t.2.counted) t.1)
-serves_whole ticks n old opened talked new unread left held holds clock now Bound f ma md a t d = converses ticks n old opened talked new unread left held holds clock now most_reads StaysOpen Bound f ma md a t d (t.answered, t.counted)
-serves_whole ticks n old opened talked new unread left held holds clock now Unserved f ma md a t d = absurd t
+module _ {C : Type 0} (ticks : C → ℕ → C → Type 0) (n : ℕ) (old opened talked new : Hub) (unread left held holds : Option (List ℕ)) (clock now : C)
+    (fresh : intake_of old.connections.items n ≡ None) (opens : Moves old opened (Connect n) []) (closes : Moves talked new (Close n) [])
+    (opening : Adds old opened (Connect n) []) (closing : Adds talked new (Close n) [])
+    (gone : (w : World) → StandsAt talked w → intake_of new.connections.items n ≡ None) where
+  converses : (k : ℕ) (answer : Arrived) (served : Served) (t : Talk ticks n opened talked unread left held holds clock now k answer) → EndsAs left t.turns served
+      → Converses ticks old new unread left held holds clock served
+  converses k answer served t e = record {
+    number = n;
+    turns = t.turns;
+    fresh = fresh;
+    opened = opened;
+    opens = opens;
+    talked = talked;
+    talks = t.talks;
+    closes = closes;
+    gone = λ w at. let o = opens w at in let m = stands_talked n opened talked t.turns t.talks o.0 o.2 in gone m.0 m.1;
+    adds = all_added n t.turns old opened talked new opening (talks_add n opened talked t.turns t.talks) closing;
+    pieces = t.pieces;
+    replies = t.replies;
+    moments = (now, t.moments);
+    ends = e;
+    sizes = t.sizes;
+  }
+
+  pub serves_whole : (served : Served) → TalksUntil ticks n opened talked unread left held holds clock now served → ConversesOver ticks old new unread left held holds clock served
+  serves_whole Closed t = converses t.0 HasClosed Closed t.2 (t.2.answered, subst (λ m. m ≤ most_reads) (sym t.2.counted) t.1)
+  serves_whole WriteFault t = converses t.0 Cut WriteFault t.2 (t.2.answered, subst (λ m. m ≤ most_reads) (sym t.2.counted) t.1)
+  serves_whole Ended t = converses t.0 StaysOpen Ended t.2 (t.3, t.2.answered, subst (λ m. m < most_reads) (sym t.2.counted) t.1)
+  serves_whole ReadFault t = converses t.0 StaysOpen ReadFault t.2 (t.2.answered, subst (λ m. m < most_reads) (sym t.2.counted) t.1)
+  serves_whole Bound t = converses most_reads StaysOpen Bound t (t.answered, t.counted)
+  serves_whole Unserved t = absurd t
 
 -- not opened
 pub unserved : (old new : Hub) (unread held : Option (List ℕ)) → ((w : World) → StandsAt old w → StandsAt new w) → ((first : State) (records : List Record) → StandsFor old first records → StandsFor new first records)

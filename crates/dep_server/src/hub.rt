@@ -134,6 +134,7 @@ impl Hub {
     pub fn close(&mut self, connection: ConnId)
         ensures adds { Adds self.old self.new (Close connection) [] }
         ensures moves { Moves self.old self.new (Close connection) [] }
+        ensures gone { (w : World) → StandsAt self.old w → intake_of self.new.connections.items connection ≡ None }
         ensures config { self.new.config ≡ self.old.config }
         ensures next { self.new.next ≡ self.old.next }
     {

@@ -1,5 +1,6 @@
-use Rattle.std.proofs.Common.{refl, sym, ap, subst, ◌∙◌, ℕ, List, [], None}
+use Rattle.std.proofs.Common.{Bool, if◌then◌else◌, refl, sym, ap, subst, ◌∙◌, ℕ, List, [], None}
 use Rattle.std.specs.List.{remove}
+use Rattle.std.proofs.lemmas.Bool.{eq-eqb}
 use Rattle.dep_server.specs.Numbers.{index_of}
 use Rattle.dep_server.specs.Records.{Close}
 use Rattle.dep_server.specs.Standing.{intake_of, Ascends}
@@ -26,3 +27,14 @@ returns-in_default-clause-moves c =
 
 pub returns-in_default-clause-adds : goal.returns-in_default-clause-adds
 returns-in_default-clause-adds c = moves_adds c.args.self.now c.args.self.now (Close c.args.connection) [] refl (returns-in_default-clause-moves c)
+
+pub returns-in-Some-clause-gone : goal.returns-in-Some-clause-gone
+returns-in-Some-clause-gone c = λ w at.
+    let index = (λ i. index_of (sym c.number.ensures i) (sym c.as_slice.ensures.value i)) ∙ sym c.in-Some.ensures.value in
+    ap (λ (cs : List Connection). intake_of cs c.args.connection) c.remove.ensures.items
+    ∙ (intake_remove c.args.connection 0 c.args.self.now.next c.in-Some.i c.args.self.now.connections.items index at.numbers c.args.connection
+    ∙ ap (λ (b : Bool). if b then None else intake_of c.args.self.now.connections.items c.args.connection) (eq-eqb c.args.connection c.args.connection refl))
+
+pub returns-in_default-clause-gone : goal.returns-in_default-clause-gone
+returns-in_default-clause-gone c = λ w at.
+    index_none c.args.connection c.args.self.now.connections.items ((λ i. index_of (sym c.number.ensures i) (sym c.as_slice.ensures.value i)) ∙ (sym c.index_among.ensures.value ∙ c.in_default.is))
