@@ -1,2 +1,4 @@
 pub mod Kept
 pub mod TickLemmas
+pub mod Later
+pub mod TickSound

@@ -64,7 +64,7 @@ rises a b = omega arith
 pub clock_rises : (config : Config) (s : State) (moment : ℕ) → s.clock ≤ (tick config s moment).clock
 clock_rises config s moment = rises s.clock (min moment greatest_clock)
 
-contains-timed_out : (config : Config) (s : State) (moment u : ℕ)
+pub contains-timed_out : (config : Config) (s : State) (moment u : ℕ)
     → set.contains (tick config s moment).timed_out u ≡ (set.contains s.timed_out u || is_some (cond (expires config (clock_at s moment) s.uploads u) (map.get s.uploads u) None))
 contains-timed_out config s moment u =
     set.contains-union nat_cmp_total s.timed_out _ u ∙ ap (λ b. set.contains s.timed_out u || b) (contains-expired config (clock_at s moment) s.uploads u)

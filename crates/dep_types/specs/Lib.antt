@@ -6,3 +6,7 @@ pub mod Limits
 pub mod Config
 pub mod Writing
 pub mod Through
+pub mod Uploads
+pub mod Names
+pub mod Sound
+pub mod Rows

@@ -7,6 +7,7 @@ mod counters;
 pub mod laws;
 mod outlet;
 mod refusal;
+mod rows;
 mod target;
 mod text;
 mod through;
@@ -18,6 +19,7 @@ pub use config::{
 pub use counters::Counters;
 pub use outlet::{Outlet, WriteFailed};
 pub use refusal::Refusal;
+pub use rows::{FileRow, FileRows, ObjectRow, ObjectView};
 pub use target::{Method, Resource, Target};
 pub use text::Text;
 pub use through::Through;

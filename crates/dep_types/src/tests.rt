@@ -1,6 +1,6 @@
 //! What no contract says: the happy paths with ample memory, and writers that fail.
 
-use crate::{Config, ConfigFault, Outlet, Refusal, Text, Through, WriteFailed};
+use crate::{Config, ConfigFault, FileRow, FileRows, Outlet, Refusal, Text, Through, WriteFailed};
 use std::alloc::{AllocError, Global};
 use std::io;
 use std::io::Write;
@@ -97,4 +97,31 @@ fn a_writer_that_takes_no_more_fails(rt: HostRuntime) {
     assert_eq!(rt; out.write(b""), Ok(()));
     let Reluctant { taken, most: _ } = out.into_inner();
     assert_eq!(rt; taken, 4);
+}
+
+fn file(alloc: Global, number: u64) -> Result<FileRow, AllocError> {
+    Ok(FileRow {
+        file: number,
+        object: 1,
+        name: Text::copied(alloc, "a.txt")?,
+        media: Text::copied(alloc, "text/plain")?,
+        size: 3,
+        tag: 1,
+        deposited: 1_523_836_800,
+        behalf: None,
+        by_reference: false,
+    })
+}
+
+#[test]
+fn rows_keep_their_order(rt: HostRuntime) -> Result<(), Fail> {
+    let mut rows = Vec::new(rt.alloc());
+    rows.push(file(rt.alloc(), 2)?)?;
+    rows.push(file(rt.alloc(), 7)?)?;
+    let rows = FileRows::new(rows);
+    let mut told = rows.as_slice().iter();
+    assert_eq!(rt; told.next().ok_or("none")?.file, 2);
+    assert_eq!(rt; told.next().ok_or("one")?.file, 7);
+    assert!(rt; told.next().is_none());
+    Ok(())
 }

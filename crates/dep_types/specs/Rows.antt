@@ -1,0 +1,39 @@
+-- What rows and views tell of an object.
+use Rattle.std.specs.Prelude.{ℕ, length, map}
+use Rattle.std.specs.FinMap as finmap
+use Rattle.dep_types.specs.State.{Object, File}
+use Rattle.dep_types.specs.declared.rows.ObjectRow.{ObjectRow}
+use Rattle.dep_types.specs.declared.rows.FileRow.{FileRow}
+use Rattle.dep_types.specs.declared.rows.ObjectView.{ObjectView}
+
+-- the object of this number, without its metadata and files
+abbrev pub object_row : ℕ → Object → ObjectRow
+object_row n o = record {
+  object = n;
+  ingested = o.ingested;
+  object_tag = o.tag;
+  metadata_tag = o.metadata_tag;
+  files_tag = o.files_tag;
+  changed = o.changed;
+}
+
+-- the file of this object and number, without its bytes
+abbrev pub file_row : (n f : ℕ) → File → FileRow
+file_row n f file = record {
+  file = f;
+  object = n;
+  name = file.name;
+  media = file.media;
+  size = length file.content;
+  tag = file.tag;
+  deposited = file.deposited;
+  behalf = file.behalf;
+  by_reference = file.by_reference;
+}
+
+-- the object of this number, with its files by ascending number
+abbrev pub object_view : ℕ → Object → ObjectView
+object_view n o = record {
+  object = object_row n o;
+  files = map (λ e. file_row n e.0 e.1) (finmap.entries o.files);
+}

@@ -1,0 +1,85 @@
+//! An object and its files, without the bytes of contents.
+ghost use Rattle.std.specs.Prelude.{◌≡◌};
+
+use crate::text::Text;
+use std::marker::Model;
+
+/// An object, without its metadata and files.
+#[derive(Clone, Copy, Debug, PartialEq, Eq)]
+pub struct ObjectRow {
+    /// The object's number.
+    pub object: u64,
+    /// Whether its deposit is complete (SWORD 3.0, the state `ingested`).
+    pub ingested: bool,
+    /// The entity tag of the object as a whole.
+    pub object_tag: u64,
+    /// The entity tag of its metadata.
+    pub metadata_tag: u64,
+    /// The entity tag of its file set.
+    pub files_tag: u64,
+    /// The moment of its last change, in seconds of Unix time.
+    pub changed: u64,
+}
+
+/// A file, without its bytes.
+#[derive(Drop)]
+pub struct FileRow {
+    /// The file's number.
+    pub file: u64,
+    /// The number of the object that it belongs to.
+    pub object: u64,
+    /// The name that it was deposited under.
+    pub name: Text,
+    /// Its media type (RFC 9110, section 8.3.1), as it was given.
+    pub media: Text,
+    /// How many bytes it has.
+    pub size: u64,
+    /// Its entity tag.
+    pub tag: u64,
+    /// The moment of its deposit, in seconds of Unix time.
+    pub deposited: u64,
+    /// On whose behalf it was deposited.
+    pub behalf: Option<Text>,
+    /// Whether it was deposited by reference to a staged upload.
+    pub by_reference: bool,
+}
+
+/// The files of an object, which contracts see as the list of their rows.
+#[derive(Drop)]
+pub struct FileRows {
+    rows: Vec<FileRow>,
+}
+
+impl Model for FileRows {
+    ghost use Rattle.std.specs.Prelude.{List};
+    ghost use Rattle.dep_types.specs.declared.rows.FileRow.{FileRow};
+
+    ghost Value = { List FileRow };
+
+    ghost view = { λ r. r.rows.items };
+}
+
+impl FileRows {
+    /// Takes the rows over without a copy.
+    pub fn new(rows: Vec<FileRow>) -> FileRows
+        ensures { result ≡ rows.items }
+    {
+        FileRows { rows }
+    }
+
+    /// The rows, in their order.
+    pub fn as_slice(&self) -> &[FileRow]
+        ensures { result.now ≡ self.now }
+    {
+        self.rows.as_slice()
+    }
+}
+
+/// What is told of an object: its row, and its files by ascending number.
+#[derive(Drop)]
+pub struct ObjectView {
+    /// The object itself.
+    pub object: ObjectRow,
+    /// Its files.
+    pub files: FileRows,
+}
