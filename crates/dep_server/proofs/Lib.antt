@@ -6,3 +6,4 @@ pub mod CalmLemmas
 pub mod ConnectionLemmas
 pub mod HubLemmas
 pub mod TalkLemmas
+pub mod SegmentLemmas
