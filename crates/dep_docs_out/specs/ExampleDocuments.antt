@@ -1,5 +1,7 @@
 -- Whole documents.
-use Rattle.std.specs.Prelude.{ℕ, false, List, codes}
+use Rattle.std.specs.Prelude.{ℕ, false, true, List, [], ◌∷◌, None, codes}
+use Rattle.std.specs.FinMap as finmap
+use Rattle.dep_types.specs.State.{Object, File}
 use Rattle.dep_types.specs.declared.config.Config.{Config}
 
 abbrev pub example_config : Config
@@ -16,8 +18,35 @@ example_config = record {
   staging_max_idle = 3600;
 }
 
+-- a text file of 16 April 2018
+abbrev pub example_file : File
+example_file = record {
+  name = codes "a.txt";
+  media = codes "text/plain";
+  content = codes "abc";
+  tag = 1;
+  deposited = 1523836800;
+  behalf = None;
+  by_reference = false;
+}
+
+-- an object that has that file alone
+abbrev pub example_object : Object
+example_object = record {
+  ingested = true;
+  metadata = finmap.empty;
+  files = finmap.from_sorted ((1, example_file) ∷ []);
+  tag = 1;
+  metadata_tag = 1;
+  files_tag = 1;
+  changed = 1523836800;
+}
+
 unfoldable pub service_text : List ℕ
 service_text = codes "{\"@context\":\"https://swordapp.github.io/swordv3/swordv3.jsonld\",\"@id\":\"http://127.0.0.1:8080/service\",\"@type\":\"ServiceDocument\",\"accept\":[\"*/*\"],\"acceptDeposits\":true,\"acceptMetadata\":[\"http://purl.org/net/sword/3.0/types/Metadata\"],\"acceptPackaging\":[\"http://purl.org/net/sword/3.0/package/Binary\"],\"byReferenceDeposit\":true,\"dc:title\":\"swordd\",\"dcterms:abstract\":\"Deposit service\",\"digest\":[\"SHA-256\"],\"maxAssembledSize\":536870912,\"maxSegments\":1000,\"maxUploadSize\":16777216,\"onBehalfOf\":false,\"root\":\"http://127.0.0.1:8080/service\",\"staging\":\"http://127.0.0.1:8080/staging\",\"stagingMaxIdle\":3600,\"version\":\"http://purl.org/net/sword/3.0\"}"
 
 unfoldable pub error_text : List ℕ
 error_text = codes "{\"@context\":\"https://swordapp.github.io/swordv3/swordv3.jsonld\",\"@type\":\"DigestMismatch\",\"error\":\"The content does not match its digest\",\"log\":\"refusal 10\",\"timestamp\":\"2018-04-16T00:00:00Z\"}"
+
+unfoldable pub status_text : List ℕ
+status_text = codes "{\"@context\":\"https://swordapp.github.io/swordv3/swordv3.jsonld\",\"@id\":\"http://127.0.0.1:8080/objects/1\",\"@type\":\"Status\",\"actions\":{\"appendFiles\":true,\"appendMetadata\":true,\"deleteFiles\":true,\"deleteMetadata\":true,\"deleteObject\":true,\"getFiles\":true,\"getMetadata\":true,\"replaceFiles\":true,\"replaceMetadata\":true},\"eTag\":\"1\",\"fileSet\":{\"@id\":\"http://127.0.0.1:8080/objects/1/files\",\"eTag\":\"1\"},\"links\":[{\"@id\":\"http://127.0.0.1:8080/objects/1/files/1\",\"contentType\":\"text/plain\",\"depositedBy\":\"depositor\",\"depositedOn\":\"2018-04-16T00:00:00Z\",\"eTag\":\"1\",\"packaging\":\"http://purl.org/net/sword/3.0/package/Binary\",\"rel\":[\"http://purl.org/net/sword/3.0/terms/originalDeposit\",\"http://purl.org/net/sword/3.0/terms/fileSetFile\"],\"status\":\"http://purl.org/net/sword/3.0/filestate/ingested\"}],\"metadata\":{\"@id\":\"http://127.0.0.1:8080/objects/1/metadata\",\"eTag\":\"1\"},\"service\":\"http://127.0.0.1:8080/service\",\"state\":[{\"@id\":\"http://purl.org/net/sword/3.0/state/ingested\"}]}"

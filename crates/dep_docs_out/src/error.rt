@@ -14,10 +14,6 @@ pub fn error_doc(alloc: Global, refusal: Refusal, clock: Moment) -> Result<Vec<u
     ensures { IfOk result (λ bytes. bytes.items ≡ spec.error_document refusal clock) }
 {
     let log = log_text(alloc, refusal)?;
-    let moment = clock.rfc3339();
-    let Ok(timestamp) = str::from_utf8(&moment) else {
-        unreachable!();
-    };
     let mut document = Object::new(alloc);
     document.text(
         "@context",
@@ -26,7 +22,7 @@ pub fn error_doc(alloc: Global, refusal: Refusal, clock: Moment) -> Result<Vec<u
     document.text("@type", refusal.name())?;
     document.text("error", refusal.text())?;
     document.text("log", log.as_str())?;
-    document.text("timestamp", timestamp)?;
+    document.moment("timestamp", clock)?;
     document.into_value().to_vec(alloc)
 }
 

@@ -1,7 +1,8 @@
 //! Whole documents, computed.
 ghost use Rattle.std.specs.Prelude.{◌≡◌};
 ghost use Rattle.dep_docs_out.specs.Documents as spec;
-ghost use Rattle.dep_docs_out.specs.ExampleDocuments.{example_config, service_text, error_text};
+ghost use Rattle.dep_docs_out.specs.ExampleDocuments.{example_config, example_object, service_text, error_text, status_text};
+ghost use Rattle.dep_types.specs.Rows.{object_view};
 ghost use Rattle.dep_types.specs.declared.refusal.Refusal.TheVariants.{DigestMismatch};
 
 /// The service document of the example.
@@ -12,4 +13,9 @@ pub fn service_document_of_example()
 /// The error document of a content that does not match its digest.
 pub fn error_document_of_example()
     ensures { spec.error_document DigestMismatch 1523836800 ≡ error_text }
+{}
+
+/// The status document of an object that has one file.
+pub fn status_document_of_example()
+    ensures { spec.status_document example_config (object_view 1 example_object) ≡ status_text }
 {}

@@ -5,9 +5,12 @@ mod error;
 pub mod laws;
 mod object;
 mod service;
+mod status;
+mod urls;
 
 pub use error::error_doc;
 pub use service::service_doc;
+pub use status::status_doc;
 
 #[cfg(test)]
 mod tests;

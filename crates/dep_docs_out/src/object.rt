@@ -1,10 +1,13 @@
 //! An object of JSON that is being written.
-ghost use Rattle.std.specs.Prelude.{◌≡◌, OnOk};
+ghost use Rattle.std.specs.Prelude.{◌≡◌, OnOk, decimal, string_bytes};
 ghost use Rattle.serde_json.specs.Data.{put, no_members, string, boolean, object};
 ghost use Rattle.serde_json.specs.View.{view};
+ghost use Rattle.dep_moment.specs.Civil.{rfc3339_text};
 ghost use Rattle.dep_docs_out.specs.Json.{whole, only};
 ghost use Rattle.dep_docs_out.specs.JsonObject.{written};
 
+use dep_moment::Moment;
+use itoa::Buffer;
 use serde_json::{Map, Value};
 use std::alloc::{AllocError, Global};
 
@@ -39,6 +42,32 @@ impl Object {
     {
         let value = Value::try_from_str(self.alloc, text)?;
         self.set(name, value)
+    }
+
+    /// The same of a text that is taken over without a copy.
+    pub fn string(&mut self, name: &str, text: String) -> Result<(), AllocError>
+        ensures { OnOk result (written self.new ≡ put name.now (string (string_bytes text)) (written self.old)) }
+    {
+        self.set(name, Value::String(text))
+    }
+
+    /// The same of a number, as the text of its decimal digits.
+    pub fn decimal(&mut self, name: &str, number: u64) -> Result<(), AllocError>
+        ensures { OnOk result (written self.new ≡ put name.now (string (decimal number)) (written self.old)) }
+    {
+        let mut digits = Buffer::new();
+        self.text(name, digits.format(number))
+    }
+
+    /// The same of a moment, as the text of its day and its time of day in UTC (RFC 3339).
+    pub fn moment(&mut self, name: &str, moment: Moment) -> Result<(), AllocError>
+        ensures { OnOk result (written self.new ≡ put name.now (string (rfc3339_text moment)) (written self.old)) }
+    {
+        let bytes = moment.rfc3339();
+        let Ok(text) = str::from_utf8(&bytes) else {
+            unreachable!();
+        };
+        self.text(name, text)
     }
 
     /// The same of a whole number.

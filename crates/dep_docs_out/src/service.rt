@@ -1,10 +1,11 @@
 //! The service document.
-ghost use Rattle.std.specs.Prelude.{◌≡◌, ◌++◌, IfOk, OnOk, string_bytes};
+ghost use Rattle.std.specs.Prelude.{◌≡◌, IfOk, OnOk};
 ghost use Rattle.dep_docs_out.specs.Documents as spec;
 ghost use Rattle.dep_docs_out.specs.JsonObject.{written};
 ghost use Rattle.dep_docs_out.specs.ServiceSteps.{with_offers, with_limits, with_rest};
 
 use crate::object::Object;
+use crate::urls::url;
 use dep_types::Config;
 use std::alloc::{AllocError, Global};
 
@@ -19,15 +20,6 @@ pub fn service_doc(alloc: Global, config: &Config) -> Result<Vec<u8>, AllocError
     add_limits(&mut document, config)?;
     add_rest(&mut document, config, root.as_str(), staging.as_str())?;
     document.into_value().to_vec(alloc)
-}
-
-// A URL of the server.
-fn url(alloc: Global, config: &Config, path: &str) -> Result<String, AllocError>
-    ensures { IfOk result (λ text. string_bytes text ≡ spec.url config.now path.now) }
-{
-    let mut text = String::from_str(alloc, config.base.as_str())?;
-    text.push_str(path)?;
-    Ok(text)
 }
 
 // The document itself, and what it takes.

@@ -1,0 +1,60 @@
+//! URLs of the server.
+ghost use Rattle.std.specs.Prelude.{◌≡◌, IfOk, string_bytes};
+ghost use Rattle.dep_docs_out.specs.Documents as spec;
+
+use dep_types::Config;
+use itoa::Buffer;
+use std::alloc::{AllocError, Global};
+
+/// The URL with this path.
+pub fn url(alloc: Global, config: &Config, path: &str) -> Result<String, AllocError>
+    ensures { IfOk result (λ text. string_bytes text ≡ spec.url config.now path.now) }
+{
+    let mut text = String::from_str(alloc, config.base.as_str())?;
+    text.push_str(path)?;
+    Ok(text)
+}
+
+/// The Object-URL of the object with this number.
+pub fn object_url(alloc: Global, config: &Config, object: u64) -> Result<String, AllocError>
+    ensures { IfOk result (λ text. string_bytes text ≡ spec.object_url config.now object) }
+{
+    let mut digits = Buffer::new();
+    let mut text = url(alloc, config, "/objects/")?;
+    text.push_str(digits.format(object))?;
+    Ok(text)
+}
+
+/// Its Metadata-URL.
+pub fn metadata_url(alloc: Global, config: &Config, object: u64) -> Result<String, AllocError>
+    ensures { IfOk result (λ text. string_bytes text ≡ spec.metadata_url config.now object) }
+{
+    let mut text = object_url(alloc, config, object)?;
+    text.push_str("/metadata")?;
+    Ok(text)
+}
+
+/// Its FileSet-URL.
+pub fn files_url(alloc: Global, config: &Config, object: u64) -> Result<String, AllocError>
+    ensures { IfOk result (λ text. string_bytes text ≡ spec.files_url config.now object) }
+{
+    let mut text = object_url(alloc, config, object)?;
+    text.push_str("/files")?;
+    Ok(text)
+}
+
+/// The File-URL of the file with this number.
+pub fn file_url(
+    alloc: Global,
+    config: &Config,
+    object: u64,
+    file: u64,
+) -> Result<String, AllocError>
+    ensures { IfOk result (λ text. string_bytes text ≡ spec.file_url config.now object file) }
+{
+    let mut digits = Buffer::new();
+    let mut text = object_url(alloc, config, object)?;
+    text.push_str("/files/")?;
+    text.push_str(digits.format(file))?;
+    Ok(text)
+}
