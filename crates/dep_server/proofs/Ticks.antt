@@ -1,12 +1,14 @@
 -- A tick where there are no uploads moves the clock alone.
-use Rattle.std.proofs.Common.{◌≡◌, ℕ, Bool, true, false, cond, ◌||◌, Option, None, is_some, refl, sym, ap, ◌∙◌, nat_cmp}
+use Rattle.std.proofs.Common.{◌≡◌, ℕ, Bool, true, false, cond, ◌||◌, Option, None, is_some, List, refl, sym, ap, ◌∙◌, nat_cmp}
 use Rattle.std.specs.Cmp.{nat_cmp_total}
 use Rattle.std.specs.FinMap as map
 use Rattle.std.specs.FinSet as set
 use Rattle.dep_types.specs.State.{Upload, tick, clock_at, unexpired, expired}
 use Rattle.dep_types.specs.declared.config.Config.{Config}
 use Rattle.dep_types.proofs.TickLemmas.{get-unexpired, contains-expired}
-use Rattle.dep_server.specs.Code.{state_at}
+use Rattle.dep_types.specs.declared.counters.Counters.{Counters}
+use Rattle.dep_server.specs.declared.record.Record.{Record}
+use Rattle.dep_server.specs.Kept.{state_of}
 
 nothing : (b : Bool) (o : Option Upload) → o ≡ None → cond b o None ≡ None
 nothing true o e = e
@@ -26,8 +28,10 @@ none_out config c = set.same_set nat_cmp_total set.nat_cmp-IsAntisymmetric _ _ (
     ∙ ap (λ b. b || false) (set.contains-empty nat_cmp q)
     ∙ sym (set.contains-empty nat_cmp q))
 
-pub clock_alone : (config : Config) (clock moment : ℕ) → state_at (clock_at (state_at clock) moment) ≡ tick config (state_at clock) moment
-clock_alone config clock moment = λ i. record (state_at (clock_at (state_at clock) moment)) {
-  uploads = sym (none_left config (clock_at (state_at clock) moment)) i;
-  timed_out = sym (none_out config (clock_at (state_at clock) moment)) i;
+-- a tick of an archive without uploads moves the clock alone
+pub clock_alone : (config : Config) (clock moment : ℕ) (next : Counters) (records : List Record)
+    → state_of (clock_at (state_of clock next records) moment) next records ≡ tick config (state_of clock next records) moment
+clock_alone config clock moment next records = λ i. record (state_of (clock_at (state_of clock next records) moment) next records) {
+  uploads = sym (none_left config (clock_at (state_of clock next records) moment)) i;
+  timed_out = sym (none_out config (clock_at (state_of clock next records) moment)) i;
 }

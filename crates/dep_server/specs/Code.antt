@@ -3,7 +3,7 @@ use Rattle.std.specs.Prelude.{ℕ, Bool, List, Option, refl}
 use Rattle.std.specs.Coded.{Coded, code_by, coded×, coded_ℕ, coded_bool, coded_list, coded_option}
 use Rattle.std.specs.FinSet as set
 use Rattle.dep_types.specs.Maps.{Numbered, Numbers, numbered_code, named_code}
-use Rattle.dep_types.specs.State.{State, Object, File, Upload, Texts, empty_state}
+use Rattle.dep_types.specs.State.{State, Object, File, Upload, Texts}
 use Rattle.dep_types.specs.declared.counters.Counters.{Counters}
 
 abbrev pub text_code : Coded (List ℕ)
@@ -43,6 +43,3 @@ state_code = code_by (ℕ × (Counters × (Numbered Object × (Numbered Upload �
     (λ x. (x.clock, (x.next, (x.objects, (x.uploads, x.timed_out)))))
     (λ p. record { clock = p.0; next = p.1.0; objects = p.1.1.0; uploads = p.1.1.1.0; timed_out = p.1.1.1.1 })
     (λ _. refl)
-
-abbrev pub state_at : ℕ → State
-state_at clock = record empty_state { clock = clock }

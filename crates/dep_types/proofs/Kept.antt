@@ -19,7 +19,7 @@ kept-was false o x e = absurd (cc)
 
 -- ---- one entry more
 
-tied : (q k : ℕ) → q ≢ k → eq_by_cmp nat_cmp q k ≡ false
+pub tied : (q k : ℕ) → q ≢ k → eq_by_cmp nat_cmp q k ≡ false
 tied q k apart = elim (nat_cmp q k) as (λ r. nat_cmp q k ≡ r → is_eq r ≡ false) [
   | Less ↦ λ e. refl
   | Equal ↦ λ e. absurd (apart (map.nat_cmp-IsAntisymmetric q k e))

@@ -1,6 +1,6 @@
 use Rattle.std.proofs.Common.{◌≡◌, ◌≤◌, ℕ, ap, ◌∙◌, max, min, arith}
 use Rattle.dep_types.specs.State.{State, tick, greatest_clock}
-use Rattle.dep_server.specs.Code.{state_at}
+use Rattle.dep_server.specs.Kept.{state_of}
 use Rattle.dep_server.proofs.Ticks.{clock_alone}
 use Rattle.dep_server.proofs.store.Store.tick.Goals as goal
 
@@ -10,6 +10,7 @@ later a b h k = omega arith
 
 pub returns-clause-state : goal.returns-clause-state
 returns-clause-state c =
-    ap state_at (c.new-self-inside.ensures ∙ ap (λ (n : ℕ). min n greatest_clock) c.max.ensures ∙ later c.secs.result c.secs-2.result c.secs.ensures.greatest c.secs-2.ensures.greatest ∙ (λ i. max (c.secs.ensures.seconds i) (min (c.secs-2.ensures.seconds i) greatest_clock)))
-    ∙ clock_alone c.args._config.now c.self.inside.clock c.args.moment
+    ap (λ (n : ℕ). state_of n c.self.inside.next c.self.inside.records.items)
+    (c.new-self-inside.ensures ∙ ap (λ (n : ℕ). min n greatest_clock) c.max.ensures ∙ later c.secs.result c.secs-2.result c.secs.ensures.greatest c.secs-2.ensures.greatest ∙ (λ i. max (c.secs.ensures.seconds i) (min (c.secs-2.ensures.seconds i) greatest_clock)))
+    ∙ clock_alone c.args._config.now c.self.inside.clock c.args.moment c.self.inside.next c.self.inside.records.items
     ∙ ap (λ (s : State). tick c.args._config.now s c.args.moment) c.self.view_is
