@@ -2,3 +2,12 @@ pub mod Reading
 pub mod Ticks
 pub mod SegmentLemmas
 pub mod StoreLemmas
+pub mod OneReading
+pub mod ServingLemmas
+pub mod CalmLemmas
+pub mod ConnectionLemmas
+pub mod HubLemmas
+pub mod TalkLemmas
+pub mod SendingLemmas
+pub mod PerformLemmas
+pub mod FileFieldLemmas

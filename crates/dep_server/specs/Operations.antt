@@ -13,7 +13,7 @@ use Rattle.dep_types.specs.declared.target.Method.{Method}
 use Rattle.dep_types.specs.declared.target.Method.TheVariants.{Get, Post}
 use Rattle.dep_types.specs.declared.target.Target.{Target}
 use Rattle.dep_head.specs.Head.{HeadParts, values_of}
-use Rattle.dep_server.specs.Fields.{disposition_name, media_of}
+use Rattle.dep_server.specs.FileFields.{disposition_name, media_of}
 use Rattle.dep_server.specs.Targets.{greatest_number}
 
 -- a target, and what the fields tell: the name of the file that is deposited, and its media type

@@ -1,6 +1,6 @@
 //! The archive, kept in memory.
-ghost use Rattle.std.specs.Prelude.{◌≡◌, ◌+◌, nat_le, OnOk, OnErr, IsTrue, find, ◌==◌, option_map};
-ghost use Rattle.std.specs.Option.{option_copied};
+ghost use Rattle.std.specs.Prelude.{◌≡◌, ◌+◌, nat_le, OnOk, OnErr, IsTrue, find, ◌==◌, [], option_map};
+ghost use Rattle.std.specs.Option.{option_copied, option_map_or};
 ghost use Rattle.dep_types.specs.State.{State, empty_state, tick, file_at};
 ghost use Rattle.dep_server.specs.Code.{state_code};
 ghost use Rattle.dep_server.specs.Kept.{state_of, file_of};
@@ -51,6 +51,13 @@ impl Store {
         }
     }
 
+    /// The greatest moment so far.
+    pub fn clock(&self) -> Moment
+        ensures { result ≡ self.now.clock }
+    {
+        self.clock
+    }
+
     /// The next number of each kind.
     pub fn next_numbers(&self) -> Counters
         ensures { result ≡ self.now.next }
@@ -74,7 +81,21 @@ impl Store {
         let Some(record) = newest(&self.records, object) else {
             return None;
         };
-        if record.file == file { Some(record) } else { None }
+        if record.file == file {
+            Some(record)
+        } else {
+            None
+        }
+    }
+
+    /// The content of a file, or nothing where there is none.
+    pub fn content(&self, object: u64, file: u64) -> &[u8]
+        ensures { result.now ≡ option_map_or (λ f. f.content) (file_at self.now object file) [] }
+    {
+        match self.file(object, file) {
+            Some(record) => record.content.as_slice(),
+            None => &[],
+        }
     }
 
     /// Whether a deposit can be given its numbers.

@@ -1,0 +1,20 @@
+use Rattle.std.proofs.Common.{refl, sym, ap, subst, ◌∙◌, ℕ, List, [], arith}
+use Rattle.dep_server.specs.Records.{Line, World, begins, begin_with, Absent, put}
+use Rattle.dep_server.specs.Standing.{IsKeptAs, Ascends, intake_of}
+use Rattle.dep_server.specs.declared.connections.Connection.{Connection}
+use Rattle.dep_server.proofs.hub.Hub.new.Goals as goal
+
+pub returns-in-Ok-clause-again : goal.returns-in-Ok-clause-again
+returns-in-Ok-clause-again c = λ first records w run absent e. record {
+  world = w;
+  run = run;
+  at = record {
+    state = e;
+    kept = λ n. subst (λ (cs : List Connection). IsKeptAs c.args.config.max_upload (w.line n) (intake_of cs n)) (sym c.new.ensures.items)
+        (subst (λ (l : Line). IsKeptAs c.args.config.max_upload l (intake_of [] n)) (sym (absent n)) tt);
+    numbers = subst (λ (cs : List Connection). Ascends 0 cs 0) (sym c.new.ensures.items) (omega arith);
+  };
+}
+
+pub returns-in-Ok-clause-stands : goal.returns-in-Ok-clause-stands
+returns-in-Ok-clause-stands c = λ first e. returns-in-Ok-clause-again c first [] (begin_with first) begins (λ n. refl) e

@@ -1,0 +1,110 @@
+-- The deposit machine: what one item of a stream does to the state, and what is sent for it.
+use Rattle.std.specs.Prelude.{◌≡◌, ◌⊎◌, ℕ, Bool, true, false, List, [], ◌∷◌, ◌++◌, Option, Some, None, codes}
+use Rattle.dep_types.specs.State.{State, tick}
+use Rattle.dep_types.specs.Writing.{IsProperPrefix}
+use Rattle.dep_types.specs.declared.config.Config.{Config}
+use Rattle.dep_types.specs.declared.refusal.Refusal.{Refusal}
+use Rattle.dep_types.specs.declared.refusal.Refusal.TheVariants as why
+use Rattle.dep_types.specs.declared.target.Target.{Target}
+use Rattle.dep_server.specs.declared.routing.Routed.{Routed}
+use Rattle.dep_server.specs.declared.routing.Routed.TheVariants.{To, NotFound, NotAllowed}
+use Rattle.dep_server.specs.declared.message.Message.{Message}
+use Rattle.dep_server.specs.Places.{Place, Open, Shut, HasBytes}
+use Rattle.dep_server.specs.Stream.{Item, Fault, Request, Waits, closes}
+use Rattle.dep_server.specs.Framing.{is_bare}
+use Rattle.dep_server.specs.Targets.{target, allow_text}
+use Rattle.dep_server.specs.Replies.{spelled, accepted_answer, refused_answer}
+use Rattle.dep_server.specs.Operations.{operation_of, refusal, effect}
+use Rattle.dep_server.specs.declared.arrived.Arrived.{Arrived}
+use Rattle.dep_server.specs.declared.arrived.Arrived.TheVariants.{Open as StaysOpen, Closed, Cut}
+
+-- what a step leaves, sends, and whether it closes the connection
+pub record Stepped : Type 0 where
+  pub state : State
+  pub sent : List ℕ
+  pub closes : Bool
+
+-- the reply to a fault at a clock, after which the connection is closed
+abbrev pub fault_reply : (clock : ℕ) → Refusal → (bare : Bool) → List ℕ
+fault_reply clock refusal bare = spelled (refused_answer clock refusal None) clock bare true
+
+-- a refused message leaves the state
+abbrev pub turned_down : State → Message → Refusal → (allow : Option (List ℕ)) → Stepped
+turned_down s m r allow = record { state = s; sent = spelled (refused_answer s.clock r allow) s.clock (is_bare m.head) (closes m); closes = closes m }
+
+-- an accepted message is answered at the state that its effect leaves
+abbrev pub done : Config → State → Message → Target → State → Stepped
+done config s m t after = record { state = after; sent = spelled (accepted_answer config after (operation_of m.head t)) s.clock (is_bare m.head) (closes m); closes = closes m }
+
+abbrev pub ruled : Config → State → Message → Target → Option Refusal → Stepped
+ruled config s m t None = done config s m t (effect s (operation_of m.head t) m.content)
+ruled config s m t (Some r) = turned_down s m r None
+
+-- no such resource comes before no such method, and both before the rules
+abbrev pub routed : Config → State → Message → Routed → Stepped
+routed config s m NotFound = turned_down s m why.NotFound None
+routed config s m (NotAllowed resource) = turned_down s m why.MethodNotAllowed (Some (allow_text resource))
+routed config s m (To t) = ruled config s m t (refusal s (operation_of m.head t))
+
+-- one step at a moment: the tick, and then what the item asks for
+unfoldable pub step : Config → State → Item → ℕ → Stepped
+step config s (Fault r bare) moment =
+    record { state = tick config s moment; sent = fault_reply (tick config s moment).clock r bare; closes = true }
+step config s (Request m) moment = routed config (tick config s moment) m (target m.head.method m.head.path)
+
+-- the state after these items, one step each
+abbrev pub state_after : Config → State → List Item → ℕ → State
+state_after config s [] moment = s
+state_after config s (item ∷ items) moment = state_after config (step config s item moment).state items moment
+
+-- what is sent for them
+abbrev pub replies : Config → State → List Item → ℕ → List ℕ
+replies config s [] moment = []
+replies config s (item ∷ items) moment = (step config s item moment).sent ++ replies config (step config s item moment).state items moment
+
+-- the replies in place of a step's own (RFC 9110, sections 15.6.4 and 15.6.1)
+abbrev pub want_of_memory : List ℕ
+want_of_memory = codes "HTTP/1.1 503 Service Unavailable\r\nContent-Length: 0\r\nConnection: close\r\n\r\n"
+
+abbrev pub store_fault : List ℕ
+store_fault = codes "HTTP/1.1 500 Internal Server Error\r\nContent-Length: 0\r\nConnection: close\r\n\r\n"
+
+-- all of the bytes were sent, or the rest was cut off
+pub data SendsUpTo (whole : List ℕ) : List ℕ → Arrived → Type 0 where
+  all : SendsUpTo whole whole Closed
+  cut : {part : List ℕ} → IsProperPrefix part whole → SendsUpTo whole part Cut
+
+-- a step that fails
+pub data Fails (config : Config) (s : State) (item : Item) (moment : ℕ) : List ℕ → State → Arrived → Type 0 where
+  -- a fixed reply in place of its own: the state is that of before, or of the tick
+  given_up : {fixed sent : List ℕ} {left : State} {answer : Arrived}
+      → (fixed ≡ want_of_memory) ⊎ (fixed ≡ store_fault)
+      → SendsUpTo fixed sent answer
+      → (left ≡ s) ⊎ (left ≡ tick config s moment)
+      → Fails config s item moment sent left answer
+  -- its own reply is cut short: the state is the step's
+  cut_short : {sent : List ℕ} {left : State} → IsProperPrefix sent (step config s item moment).sent
+      → (left ≡ (step config s item moment).state)
+      → Fails config s item moment sent left Cut
+
+-- what a connection answers where the reading stands
+abbrev pub answer_at_place : Place → Arrived
+answer_at_place (Open rest) = StaysOpen
+answer_at_place Shut = Closed
+
+-- One arrival: the items that are complete now are stepped in order, until none is left or a step fails.
+-- `reads items place` says that these items are the first of those, and that the reading then stands at the place.
+pub data Serves (config : Config) (reads : List Item → Place → Type 0) (s : State) (moment : ℕ)
+    : (sent : List ℕ) → (left : State) → (at : Place) → (answer : Arrived) → Type 0 where
+  serves_all : (items : List Item) {at : Place} → reads items at → Waits config.max_upload at
+      → Serves config reads s moment (replies config s items moment) (state_after config s items moment) at (answer_at_place at)
+  -- a step fails, and the connection makes no more
+  step_fails : (items : List Item) (item : Item) (at : Place) {sent : List ℕ} {left : State} {answer : Arrived}
+      → reads (items ++ item ∷ []) at
+      → Fails config (state_after config s items moment) item moment sent left answer
+      → Serves config reads s moment (replies config s items moment ++ sent) left Shut answer
+  -- memory ran out over bytes that may be no whole item
+  gives_up : (items : List Item) (at : Place) {sent : List ℕ} {answer : Arrived}
+      → reads items at → HasBytes at
+      → SendsUpTo want_of_memory sent answer
+      → Serves config reads s moment (replies config s items moment ++ sent) (state_after config s items moment) Shut answer

@@ -1,0 +1,73 @@
+-- Lists of arrivals, and the runs of the deposit machine that they allow.
+use Rattle.std.specs.Prelude.{◌≡◌, ℕ, ◌==◌, List, [], ◌∷◌, ◌++◌, if◌then◌else◌}
+use Rattle.dep_types.specs.State.{State}
+use Rattle.dep_types.specs.declared.config.Config.{Config}
+use Rattle.dep_server.specs.Places.{Place, Open, Shut}
+use Rattle.dep_server.specs.Stream.{Item, Reads, Spells}
+use Rattle.dep_server.specs.Machine.{Serves}
+use Rattle.dep_server.specs.declared.arrived.Arrived.{Arrived}
+use Rattle.dep_server.specs.declared.arrived.Arrived.TheVariants.{Closed}
+
+-- what happens to a server: a connection is opened, bytes of one arrive at a moment, one is closed
+pub data Event : Type 0 where
+  Connect : (number : ℕ) → Event
+  Arrive : (number : ℕ) (piece : List ℕ) (moment : ℕ) → Event
+  Close : (number : ℕ) → Event
+
+-- an event, with the bytes that were sent for it
+pub record Record : Type 0 where
+  pub event : Event
+  pub sent : List ℕ
+
+-- a connection of the machine: not there, with its whole stream, or making no more steps
+pub data Line : Type 0 where
+  Absent : Line
+  Live : (stream : List ℕ) → Line
+  Ended : Line
+
+-- the machine: what it keeps, and each connection by its number
+pub record World : Type 0 where
+  pub state : State
+  pub line : ℕ → Line
+
+abbrev pub put : ℕ → Line → (ℕ → Line) → ℕ → Line
+put number line lines n = if n == number then line else lines n
+
+abbrev pub begin_with : State → World
+begin_with s = record { state = s; line = λ _. Absent }
+
+-- a live connection goes on with its longer stream; where the reading has come to an end it has ended
+abbrev pub line_after : List ℕ → Place → Line
+line_after stream (Open rest) = Live stream
+line_after stream Shut = Ended
+
+-- the items that are complete with the piece and not before: those that the stream spells with it, less those that
+-- it spelled without
+abbrev pub ReadsBeyond : ℕ → List ℕ → List ℕ → List Item → Place → Type 0
+ReadsBeyond limit stream piece items at =
+    (earlier : List Item) × (left : Place) × Spells limit stream earlier left
+    × Reads limit (Open (stream ++ piece)) (earlier ++ items) at
+
+-- an arrival at a connection: what is sent, what is kept, what becomes of it, what is answered
+pub data Arrives (config : Config) (piece : List ℕ) (moment : ℕ)
+    : Line → State → (sent : List ℕ) → State → Line → Arrived → Type 0 where
+  at_live : {stream sent : List ℕ} {s left : State} {at : Place} {answer : Arrived}
+      → Serves config (ReadsBeyond config.max_upload stream piece) s moment sent left at answer
+      → Arrives config piece moment (Live stream) s sent left (line_after (stream ++ piece) at) answer
+  at_ended : {s : State} → Arrives config piece moment Ended s [] s Ended Closed
+
+-- what may happen to the machine
+pub data Happens (config : Config) (w : World) : Event → List ℕ → World → Type 0 where
+  connects : {n : ℕ} → Happens config w (Connect n) [] (record w { line = put n (Live []) w.line })
+  closes : {n : ℕ} → Happens config w (Close n) [] (record w { line = put n Absent w.line })
+  arrives : {n moment : ℕ} {piece sent : List ℕ} {left : State} {line : Line} {answer : Arrived}
+      → Arrives config piece moment (w.line n) w.state sent left line answer
+      → Happens config w (Arrive n piece moment) sent (record { state = left; line = put n line w.line })
+  unknown : {n moment : ℕ} {piece : List ℕ} → w.line n ≡ Absent → Happens config w (Arrive n piece moment) [] w
+
+-- the machine may be there after these records, from a state and no connection
+pub data Run (config : Config) (first : State) : List Record → World → Type 0 where
+  begins : Run config first [] (begin_with first)
+  goes_on : {records : List Record} {event : Event} {sent : List ℕ} {w w' : World}
+      → Run config first records w → Happens config w event sent w'
+      → Run config first (records ++ record { event = event; sent = sent } ∷ []) w'

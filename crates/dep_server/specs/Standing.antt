@@ -1,0 +1,83 @@
+-- What a hub stands for: the lists of records that may have led to what it keeps.
+use Rattle.std.specs.Prelude.{◌≡◌, ◌<◌, ◌≤◌, ◌+◌, ◌==◌, ℕ, List, [], ◌∷◌, ◌++◌, if◌then◌else◌, Option, None, Some}
+use Rattle.std.specs.Io.KnownBytes.{Appends, Keeps}
+use Rattle.dep_types.specs.State.{State}
+use Rattle.dep_types.specs.declared.config.Config.{Config}
+use Rattle.dep_server.specs.Places.{Place, Shut, Reading, IsOpen}
+use Rattle.dep_server.specs.Stream.{Item, Spells}
+use Rattle.dep_server.specs.Records.{Event, Arrive, Record, Line, Absent, Live, Ended, World, Run, put, Arrives, Happens}
+use Rattle.dep_server.specs.declared.arrived.Arrived.{Arrived}
+use Rattle.dep_server.specs.declared.arrived.Arrived.TheVariants.{Open as StaysOpen, Closed, Cut, NoSuch}
+use Rattle.dep_server.specs.declared.connections.Connection.{Connection}
+use Rattle.dep_server.specs.declared.hub.Hub.{Hub}
+
+-- the intake of a connection, if it is there
+abbrev pub intake_of : List Connection → ℕ → Option Reading
+intake_of [] number = None
+intake_of (c ∷ connections) number = if c.number == number then Some c.intake else intake_of connections number
+
+-- the numbers ascend, from one and below the other
+abbrev pub Ascends : ℕ → List Connection → ℕ → Type 0
+Ascends low [] high = low ≤ high
+Ascends low (c ∷ connections) high = (low ≤ c.number) × Ascends (c.number + 1) connections high
+
+-- a live connection keeps what its stream has left
+pub record KeepsRest (limit : ℕ) (stream : List ℕ) (reading : Reading) : Type 0 where
+  pub items : List Item
+  pub same_limit : reading.limit ≡ limit
+  pub spells : Spells limit stream items reading.place
+  pub is_open : IsOpen reading.place
+
+-- an ended connection reads no more
+pub record IsShut (limit : ℕ) (reading : Reading) : Type 0 where
+  pub same_limit : reading.limit ≡ limit
+  pub shut : reading.place ≡ Shut
+
+-- how a connection of the machine is kept
+abbrev pub IsKeptAs : ℕ → Line → Option Reading → Type 0
+IsKeptAs limit Absent None = Unit {0}
+IsKeptAs limit Absent (Some reading) = ⊥
+IsKeptAs limit (Live stream) None = ⊥
+IsKeptAs limit (Live stream) (Some reading) = KeepsRest limit stream reading
+IsKeptAs limit Ended None = ⊥
+IsKeptAs limit Ended (Some reading) = IsShut limit reading
+
+-- the hub keeps what the machine is
+pub record StandsAt (hub : Hub) (w : World) : Type 0 where
+  pub state : hub.store ≡ w.state
+  pub kept : (number : ℕ) → IsKeptAs hub.config.max_upload (w.line number) (intake_of hub.connections.items number)
+  pub numbers : Ascends 0 hub.connections.items hub.next
+
+-- the machine may be there after these records
+pub record StandsFor (hub : Hub) (first : State) (records : List Record) : Type 0 where
+  pub world : World
+  pub run : Run hub.config first records world
+  pub at : StandsAt hub world
+
+-- for all records that it stood for, the hub stands for them with one more
+abbrev pub Adds : Hub → Hub → Event → List ℕ → Type 0
+Adds old new event sent = (first : State) (records : List Record) → StandsFor old first records
+    → StandsFor new first (records ++ record { event = event; sent = sent } ∷ [])
+
+-- whatever machine the hub kept, it keeps what the event makes of that machine
+abbrev pub Moves : Hub → Hub → Event → List ℕ → Type 0
+Moves old new event sent = (w : World) → StandsAt old w
+    → (w' : World) × Happens old.config w event sent w' × StandsAt new w'
+
+-- an arrival at a connection that is there: what is sent for it is a run's, and so is the answer
+pub record IsArrival (old new : Hub) (number : ℕ) (piece : List ℕ) (moment : ℕ) (sent : List ℕ) (answer : Arrived) : Type 0 where
+  pub adds : Adds old new (Arrive number piece moment) sent
+  pub answers : (w : World) → StandsAt old w → (left : State) × (line : Line)
+      × Arrives old.config piece moment (w.line number) w.state sent left line answer
+      × StandsAt new (record { state = left; line = put number line w.line })
+
+-- what an arrival comes to, over an outlet
+abbrev pub ArrivesOver : Option (List ℕ) → Option (List ℕ) → Hub → Hub → ℕ → List ℕ → ℕ → Arrived → Type 0
+ArrivesOver held holds old new number piece moment NoSuch =
+    (intake_of old.connections.items number ≡ None) × (new ≡ old) × Keeps held holds
+ArrivesOver held holds old new number piece moment StaysOpen =
+    (sent : List ℕ) × Appends held holds sent × IsArrival old new number piece moment sent StaysOpen
+ArrivesOver held holds old new number piece moment Closed =
+    (sent : List ℕ) × Appends held holds sent × IsArrival old new number piece moment sent Closed
+ArrivesOver held holds old new number piece moment Cut =
+    (sent : List ℕ) × Appends held holds sent × IsArrival old new number piece moment sent Cut

@@ -1,0 +1,159 @@
+//! All connections, and the one store that they share.
+ghost use Rattle.std.specs.Prelude.{◌+◌, ◌≡◌, ◌<◌, ◌≤◌, ℕ, [], ◌∷◌, ◌++◌, List, length, IfOk, IfErr, OnErr, IfSome, None, IsErrOf, IsSome, ◌⊎◌, ◌≢◌};
+ghost use Rattle.dep_types.specs.Writing.{HasRisen};
+ghost use Rattle.dep_types.specs.State.{State};
+ghost use Rattle.dep_types.specs.Config.{IsChecked};
+ghost use Rattle.dep_server.specs.Records.{Connect, Close, Record, World, Run, Absent};
+ghost use Rattle.dep_server.specs.Standing.{StandsFor, StandsAt, Adds, Moves, ArrivesOver, intake_of};
+
+use crate::arrived::Arrived;
+use crate::connections::{ConnId, Connection, index_among};
+use crate::intake::Intake;
+use crate::serving::serve;
+use crate::store::Store;
+use dep_moment::Moment;
+use dep_types::{Config, ConfigFault, Outlet};
+use std::alloc::Global;
+
+/// All connections, and the one store that they share.
+#[derive(Drop)]
+pub struct Hub {
+    alloc: Global,
+    config: Config,
+    store: Store,
+    connections: Vec<Connection>,
+    next: u64,
+}
+
+const MOST_CONNECTIONS: usize = 1;
+
+const LAST_NUMBER: u64 = 4_000_000_000_000_000_000;
+
+/// Why a hub is refused.
+#[derive(Clone, Copy, Debug, PartialEq, Eq)]
+pub enum HubFault {
+    /// The configuration breaks a rule of its check.
+    Config,
+    /// There was no memory for the check.
+    Memory,
+}
+
+/// Why a connection is refused.
+#[derive(Clone, Copy, Debug, PartialEq, Eq)]
+pub enum ConnectFault {
+    /// There are as many connections as there may be, or their numbers have ended.
+    Full,
+    /// There was no memory for it.
+    Memory,
+}
+
+impl Hub {
+    /// A hub over the store, without connections. A refusal hands the store back.
+    pub fn new(alloc: Global, config: Config, store: Store) -> Result<Hub, (HubFault, Store)>
+        ensures stands { IfOk result (λ hub. (first : State) → store ≡ first → StandsFor hub first []) }
+        // Also after a stop.
+        ensures again { IfOk result (λ hub. (first : State) (records : List Record) (w : World) → Run config first records w → ((n : ℕ) → w.line n ≡ Absent) → store ≡ w.state → StandsFor hub first records) }
+        ensures config { IfOk result (λ hub. hub.config ≡ config) }
+        ensures checked { IfOk result (λ _. IsChecked config) }
+        ensures refused { IfErr result (λ fault. fault.0 ≡ HubFault.Config → ¬ IsChecked config) }
+        ensures store { IfErr result (λ fault. fault.1 ≡ store) }
+    {
+        match config.check(alloc) {
+            Ok(()) => Ok(Hub {
+                alloc,
+                config,
+                store,
+                connections: Vec::new(alloc),
+                next: 0,
+            }),
+            Err(ConfigFault::Memory) => Err((HubFault::Memory, store)),
+            Err(ConfigFault::Base | ConfigFault::Limit) => Err((HubFault::Config, store)),
+        }
+    }
+
+    /// Opens a connection.
+    pub fn connect(&mut self) -> Result<ConnId, ConnectFault>
+        ensures adds { IfOk result (λ number. Adds self.old self.new (Connect number) []) }
+        ensures moves { IfOk result (λ number. Moves self.old self.new (Connect number) []) }
+        ensures same { OnErr result ((w : World) → StandsAt self.old w → StandsAt self.new w) }
+        ensures config { self.new.config ≡ self.old.config }
+        ensures next { IfOk result (λ number. (number ≡ self.old.next) × (self.new.next ≡ self.old.next + 1)) }
+        // It refuses for a reason.
+        ensures full { IsErrOf result ConnectFault.Full → (MOST_CONNECTIONS ≤ length self.old.connections.items) ⊎ (LAST_NUMBER ≤ self.old.next) }
+        ensures fresh { IfOk result (λ number. intake_of self.old.connections.items number ≡ None) }
+        ensures there { IfOk result (λ number. IsSome (intake_of self.new.connections.items number)) }
+    {
+        if self.connections.len() >= MOST_CONNECTIONS || self.next >= LAST_NUMBER {
+            return Err(ConnectFault::Full);
+        }
+        let number = self.next;
+        let connection = Connection {
+            number,
+            intake: Intake::new(self.alloc, self.config.max_upload),
+        };
+        let Ok(()) = self.connections.push(connection) else {
+            return Err(ConnectFault::Memory);
+        };
+        self.next += 1;
+        Ok(ConnId::new(number))
+    }
+
+    /// Takes a piece of a connection's stream, and sends what it calls for.
+    pub fn arrive<O: Outlet>(
+        &mut self,
+        connection: ConnId,
+        piece: &[u8],
+        moment: Moment,
+        out: &mut O,
+    ) -> Arrived
+        ensures config { self.new.config ≡ self.old.config }
+        ensures next { self.new.next ≡ self.old.next }
+        ensures absent { intake_of self.old.connections.items connection ≡ None → result ≡ Arrived.NoSuch }
+        // A reply is cut only where a write failed.
+        ensures cause { result ≡ Arrived.Cut → HasRisen (O.failures out.old) (O.failures out.new) }
+        // A connection that was there is there.
+        ensures there { IsSome (intake_of self.old.connections.items connection) → (result ≢ Arrived.NoSuch) × IsSome (intake_of self.new.connections.items connection) }
+        ensures arrival { ArrivesOver (O.taken out.old) (O.taken out.new) self.old self.new connection piece.now moment result }
+    {
+        let Some(i) = index_among(self.connections.as_slice(), connection.number()) else {
+            return Arrived::NoSuch;
+        };
+        let kept = &mut self.connections[i];
+        serve(
+            self.alloc,
+            &self.config,
+            &mut self.store,
+            &mut kept.intake,
+            piece,
+            moment,
+            out,
+        )
+    }
+
+    /// Forgets a connection.
+    pub fn close(&mut self, connection: ConnId)
+        ensures adds { Adds self.old self.new (Close connection) [] }
+        ensures moves { Moves self.old self.new (Close connection) [] }
+        ensures gone { (w : World) → StandsAt self.old w → intake_of self.new.connections.items connection ≡ None }
+        ensures config { self.new.config ≡ self.old.config }
+        ensures next { self.new.next ≡ self.old.next }
+    {
+        if let Some(i) = index_among(self.connections.as_slice(), connection.number()) {
+            let _ = self.connections.remove(i);
+        }
+    }
+
+    /// Hands back the store.
+    pub fn into_store(self) -> Store
+        ensures { result ≡ self.store }
+    {
+        let Hub {
+            alloc: _,
+            config: _,
+            store,
+            connections: _,
+            next: _,
+        } = self;
+        store
+    }
+}

@@ -1,0 +1,73 @@
+//! One arrival: the items that are complete now are answered in order.
+ghost use Rattle.std.specs.Prelude.{◌≡◌, ◌≢◌, ℕ, List};
+ghost use Rattle.std.specs.Io.KnownBytes.{Appends};
+ghost use Rattle.dep_types.specs.Writing.{HasRisen};
+ghost use Rattle.dep_server.specs.Machine.{SendsUpTo, want_of_memory};
+ghost use Rattle.dep_server.specs.Places.{Reading, Shut};
+ghost use Rattle.dep_server.specs.Serving.{ServesOver, answer_after};
+
+use crate::arrived::Arrived;
+use crate::intake::{Intake, Step};
+use crate::sending::{Answered, send_want_of_memory};
+use crate::step::{answer_fault, answer_message};
+use crate::store::Store;
+use dep_moment::Moment;
+use dep_types::{Config, Outlet};
+use std::alloc::{AllocError, Global};
+
+/// Takes the piece, and answers each item that is complete with it.
+pub fn serve<O: Outlet>(
+    alloc: Global,
+    config: &Config,
+    store: &mut Store,
+    intake: &mut Intake,
+    piece: &[u8],
+    moment: Moment,
+    out: &mut O,
+) -> Arrived
+    ensures served { ServesOver config.now (O.taken out.old) (O.taken out.new) intake.old piece.now store.old moment store.new intake.new.place result }
+    ensures limit { intake.new.limit ≡ intake.old.limit }
+    ensures there { result ≢ Arrived.NoSuch }
+    ensures cause { result ≡ Arrived.Cut → HasRisen (O.failures out.old) (O.failures out.new) }
+{
+    if let Err(AllocError) = intake.feed(piece) {
+        return give_up(intake, out);
+    }
+    loop {
+        match intake.next() {
+            Err(AllocError) => return give_up(intake, out),
+            Ok(Step::NeedMore) => return Arrived::Open,
+            Ok(Step::Dead) => return Arrived::Closed,
+            Ok(Step::Refused(refusal, bare)) => {
+                let answer = answer_fault(alloc, config, store, refusal, bare, moment, out);
+                return end(intake, answer);
+            }
+            Ok(Step::Message(message)) => {
+                match answer_message(alloc, config, store, message, moment, out) {
+                    Answered::Sent => {}
+                    answer => return end(intake, answer),
+                }
+            }
+        }
+    }
+}
+
+fn give_up<O: Outlet>(intake: &mut Intake, out: &mut O) -> Arrived
+    ensures sent { (sent : List ℕ) × Appends (O.taken out.old) (O.taken out.new) sent × SendsUpTo want_of_memory sent result }
+    ensures shut { intake.new ≡ record intake.old { place = Shut } }
+    ensures cause { result ≡ Arrived.Cut → HasRisen (O.failures out.old) (O.failures out.new) }
+{
+    let answer = send_want_of_memory(out);
+    end(intake, answer)
+}
+
+fn end(intake: &mut Intake, answer: Answered) -> Arrived
+    ensures answer { result ≡ answer_after answer }
+    ensures shut { intake.new ≡ record intake.old { place = Shut } }
+{
+    intake.shut();
+    match answer {
+        Answered::CutShort => Arrived::Cut,
+        _ => Arrived::Closed,
+    }
+}
