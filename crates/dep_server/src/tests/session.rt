@@ -1,7 +1,7 @@
 //! A hub by the example's configuration, and one connection.
 
 use crate::tests::page::Page;
-use crate::tests::texts::WANT_OF_MEMORY;
+use crate::tests::texts::{CUT_WANT_OF_MEMORY, WANT_OF_MEMORY};
 use crate::{Arrived, ConnId, Hub, Store};
 use dep_moment::Moment;
 use dep_types::{Config, GREATEST_MAX_UPLOAD, Text, Through};
@@ -125,9 +125,11 @@ impl Row {
 /// end what was written, and the test fails for want of memory.
 pub fn is_written(rt: &impl Abort, alloc: Global, bytes: &[u8], want: &[&str]) -> Result<(), Fail> {
     let want = want.concat(alloc)?;
-    if let Some(front) = bytes.strip_suffix(WANT_OF_MEMORY.as_bytes()) {
-        assert!(rt; want.as_bytes().starts_with(front));
-        return Err(Fail::from(AllocError));
+    for fixed in [WANT_OF_MEMORY, CUT_WANT_OF_MEMORY] {
+        if let Some(front) = bytes.strip_suffix(fixed.as_bytes()) {
+            assert!(rt; want.as_bytes().starts_with(front));
+            return Err(Fail::from(AllocError));
+        }
     }
     assert_eq!(rt; str::from_utf8(bytes)?, want.as_str());
     Ok(())

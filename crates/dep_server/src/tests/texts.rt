@@ -47,3 +47,6 @@ pub const TOO_LARGE_HEAD: &str =
 /// The reply where there is no memory for another.
 pub const WANT_OF_MEMORY: &str =
     "HTTP/1.1 503 Service Unavailable\r\nContent-Length: 0\r\nConnection: close\r\n\r\n";
+
+/// The same, cut after ten bytes.
+pub const CUT_WANT_OF_MEMORY: &str = "HTTP/1.1 5";
