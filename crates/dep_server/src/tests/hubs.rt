@@ -34,7 +34,7 @@ fn a_refused_configuration_hands_the_store_back(rt: HostRuntime) -> Result<(), F
     let mut segments = example(rt.alloc())?;
     segments.max_segments = 1_001;
     for config in [slash, segments] {
-        let mut store = Store::empty();
+        let mut store = Store::empty(rt.alloc());
         let _ = store.tick(&good, Moment::new(MOMENT));
         match Hub::new(rt.alloc(), config, store) {
             Ok(_) => return Err(Fail::new("accepted")),

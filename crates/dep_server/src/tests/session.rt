@@ -30,7 +30,7 @@ pub fn example(alloc: Global) -> Result<Config, AllocError> {
 
 /// A hub that nobody is connected to.
 pub fn quiet_hub(config: Config, alloc: Global) -> Result<Hub, Fail> {
-    match Hub::new(alloc, config, Store::empty()) {
+    match Hub::new(alloc, config, Store::empty(alloc)) {
         Ok(hub) => Ok(hub),
         Err((fault, _)) => Err(Fail::from(fault)),
     }

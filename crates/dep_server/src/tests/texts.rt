@@ -34,7 +34,7 @@ pub const NOT_FOUND_HEAD: &str =
 
 /// The head of the reply for a method that the service has not.
 pub const NOT_ALLOWED_HEAD: &str =
-    "HTTP/1.1 405 Method Not Allowed\r\nDate: Mon, 16 Apr 2018 00:00:00 GMT\r\nContent-Type: application/json\r\nContent-Length: 185\r\nAllow: GET\r\n\r\n";
+    "HTTP/1.1 405 Method Not Allowed\r\nDate: Mon, 16 Apr 2018 00:00:00 GMT\r\nContent-Type: application/json\r\nContent-Length: 185\r\nAllow: GET, POST\r\n\r\n";
 
 /// The head of the reply to a malformed request.
 pub const BAD_REQUEST_HEAD: &str =
