@@ -1,0 +1,14 @@
+//! Numbers, tokens, white space and comma lists in the values of HTTP fields. Nothing here allocates.
+#![tactic(auto)]
+
+mod lists;
+mod numbers;
+#[cfg(test)]
+mod tests;
+mod tokens;
+mod whitespace;
+
+pub use lists::{SplitList, split_list};
+pub use numbers::{Number, decimal};
+pub use tokens::is_token;
+pub use whitespace::trim_ows;
