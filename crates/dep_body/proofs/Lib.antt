@@ -1,0 +1,4 @@
+pub mod LineEnds
+pub mod Readings
+pub mod BegunLines
+pub mod ChunkLemmas

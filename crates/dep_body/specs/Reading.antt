@@ -1,9 +1,9 @@
 -- How the reader's state follows from the bytes of an unfinished line.
-use Rattle.std.specs.Prelude.{ℕ, ◌+◌, ◌*◌, ◌==◌, ◌&&◌, Bool, nat_le, List, Option, Some, None, option_and_then, if◌then◌else◌}
+use Rattle.std.specs.Prelude.{◌≡◌, ℕ, ◌+◌, ◌*◌, ◌<◌, ◌==◌, ◌&&◌, Bool, true, false, nat_le, List, [], length, Option, Some, None, option_and_then, if◌then◌else◌}
 use Rattle.std.specs.List.{fold}
 use Rattle.std.specs.Char.{digit_value}
 use Rattle.dep_octets.specs.Octets.{capped, is_token_octet}
-use Rattle.dep_body.specs.Lines.{is_hex_octet, begins_extension, is_extension_octet, is_trailer_octet}
+use Rattle.dep_body.specs.Lines.{is_hex_octet, begins_extension, is_extension_octet, is_trailer_octet, is_trailer_line}
 use Rattle.dep_body.specs.declared.size.SizeReading.{SizeReading}
 use Rattle.dep_body.specs.declared.size.SizeReading.TheVariants.{Start, Digits, Extension, Malformed}
 use Rattle.dep_body.specs.declared.trailers.TrailerReading as T
@@ -36,3 +36,17 @@ trailer_after V.Broken b = V.Broken
 -- the reading of a trailer line
 abbrev pub trailer_reading : List ℕ → T.TrailerReading
 trailer_reading line = fold trailer_after V.Empty line
+
+-- what a reading says of the line's value
+abbrev pub Says : ℕ → SizeReading → Option ℕ → Type 0
+Says most Start size = size ≡ None
+Says most (Digits value) size = (n : ℕ) × (size ≡ Some n) × (value ≡ capped most n)
+Says most (Extension value) size = (n : ℕ) × (size ≡ Some n) × (value ≡ capped most n)
+Says most Malformed size = size ≡ None
+
+-- what a reading says of a trailer line
+abbrev pub Tells : T.TrailerReading → List ℕ → Type 0
+Tells V.Empty line = (line ≡ []) × (is_trailer_line line ≡ false)
+Tells V.Name line = (0 < length line) × (is_trailer_line line ≡ false)
+Tells V.Value line = (0 < length line) × (is_trailer_line line ≡ true)
+Tells V.Broken line = (0 < length line) × (is_trailer_line line ≡ false)

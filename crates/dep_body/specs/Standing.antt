@@ -2,11 +2,12 @@
 use Rattle.std.specs.Prelude.{◌≡◌, ℕ, ◌+◌, ◌<◌, ◌≤◌, Bool, true, false, List, [], ◌∷◌, ◌++◌, length, All, Option, Some, None, if◌then◌else◌}
 use Rattle.std.specs.List.{list_all}
 use Rattle.std.specs.Option.{option_to_list}
-use Rattle.dep_body.specs.Lines.{line_end, line_text, is_trailer_line}
+use Rattle.dep_body.specs.Lines.{line_end, line_text, line_size, IsLine, is_trailer_line}
 use Rattle.dep_body.specs.Body.{line_limit, section_limit, IsSizeLine, HasChunks, IsTrailer, lines_text, IsChunkedBody, IsChunkedFault, IsChunkedPart}
-use Rattle.dep_body.specs.Reading.{size_reading, trailer_reading}
+use Rattle.dep_body.specs.Reading.{size_reading, trailer_reading, Says}
 use Rattle.dep_body.specs.declared.frame.FrameFault.{FrameFault}
 use Rattle.dep_body.specs.declared.size.SizeLine.{SizeLine}
+use Rattle.dep_body.specs.declared.size.SizeReading.{SizeReading}
 use Rattle.dep_body.specs.declared.trailers.Trailers.{Trailers}
 use Rattle.dep_body.specs.declared.stage.Stage.{Stage}
 use Rattle.dep_body.specs.declared.stage.Stage.TheVariants as S
@@ -81,3 +82,11 @@ is_settled S.Done = true
 is_settled S.Bad = true
 is_settled S.TooLarge = true
 is_settled _ = false
+
+-- at the end of a chunk line with this reading
+pub record IsAtLineEnd (limit : ℕ) (content : List ℕ) (reading : SizeReading) (text : List ℕ) : Type 0 where
+  pub line : List ℕ
+  pub chunks : HasChunks limit text content (line_text line)
+  pub ends : IsLine line
+  pub short : length line + 2 ≤ line_limit
+  pub said : Says limit reading (line_size line)
