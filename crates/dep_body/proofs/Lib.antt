@@ -2,3 +2,5 @@ pub mod LineEnds
 pub mod Readings
 pub mod BegunLines
 pub mod ChunkLemmas
+pub mod SizeSteps
+pub mod SectionSteps

@@ -26,6 +26,12 @@ size_after most Malformed b = Malformed
 abbrev pub size_reading : ℕ → List ℕ → SizeReading
 size_reading most line = fold (size_after most) Start line
 
+-- the reading of a chunk line without a CR at its end, after one byte more that doesn't end it
+abbrev pub next_size : ℕ → SizeReading → Bool → ℕ → SizeReading
+next_size most reading after_cr b =
+    let all = if after_cr then size_after most reading 13 else reading in
+    if b == 13 then all else size_after most all b
+
 -- the reading of a trailer line after one byte more
 abbrev pub trailer_after : T.TrailerReading → ℕ → T.TrailerReading
 trailer_after V.Empty b = if is_token_octet b then V.Name else V.Broken
@@ -36,6 +42,12 @@ trailer_after V.Broken b = V.Broken
 -- the reading of a trailer line
 abbrev pub trailer_reading : List ℕ → T.TrailerReading
 trailer_reading line = fold trailer_after V.Empty line
+
+-- the reading of a trailer line without a CR at its end, after one byte more that doesn't end it
+abbrev pub next_trailer : T.TrailerReading → Bool → ℕ → T.TrailerReading
+next_trailer reading after_cr b =
+    let all = if after_cr then trailer_after reading 13 else reading in
+    if b == 13 then all else trailer_after all b
 
 -- what a reading says of the line's value
 abbrev pub Says : ℕ → SizeReading → Option ℕ → Type 0

@@ -2,6 +2,7 @@
 use Rattle.std.specs.Prelude.{◌≡◌, ℕ, ◌+◌, ◌<◌, ◌≤◌, Bool, true, false, List, [], ◌∷◌, ◌++◌, length, All, Option, Some, None, if◌then◌else◌}
 use Rattle.std.specs.List.{list_all}
 use Rattle.std.specs.Option.{option_to_list}
+use Rattle.dep_octets.specs.Octets.{capped}
 use Rattle.dep_body.specs.Lines.{line_end, line_text, line_size, IsLine, is_trailer_line}
 use Rattle.dep_body.specs.Body.{line_limit, section_limit, IsSizeLine, HasChunks, IsTrailer, lines_text, IsChunkedBody, IsChunkedFault, IsChunkedPart}
 use Rattle.dep_body.specs.Reading.{size_reading, trailer_reading, Says}
@@ -90,3 +91,20 @@ pub record IsAtLineEnd (limit : ℕ) (content : List ℕ) (reading : SizeReading
   pub ends : IsLine line
   pub short : length line + 2 ≤ line_limit
   pub said : Says limit reading (line_size line)
+
+-- at the end of a chunk line of this value, which is None where it is above the limit
+pub record IsSizedLine (limit : ℕ) (content : List ℕ) (size : ℕ) (value : Option ℕ) (text : List ℕ) : Type 0 where
+  pub line : List ℕ
+  pub chunks : HasChunks limit text content (line_text line)
+  pub size_line : IsSizeLine line size
+  pub value_is : value ≡ capped limit size
+
+-- behind whole trailer lines of so many bytes
+pub record IsBehindLines (limit : ℕ) (content : List ℕ) (size : ℕ) (good : Bool) (text : List ℕ) : Type 0 where
+  pub size_line : List ℕ
+  pub lines : List (List ℕ)
+  pub chunks : HasChunks limit text content (line_text size_line ++ lines_text lines)
+  pub zero : IsSizeLine size_line 0
+  pub are : All IsTrailer lines
+  pub good_is : good ≡ list_all is_trailer_line lines
+  pub size_is : size ≡ length (lines_text lines)

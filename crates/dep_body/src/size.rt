@@ -1,8 +1,8 @@
 //! Chunk lines, byte by byte.
-ghost use Rattle.std.specs.Prelude.{◌≡◌, ◌<◌, ◌&&◌, Some, None, if◌then◌else◌};
+ghost use Rattle.std.specs.Prelude.{◌≡◌, ◌<◌, false, Some, None, if◌then◌else◌};
 ghost use Rattle.std.specs.Char.{digit_value};
 ghost use Rattle.dep_body.specs.Lines.{is_hex_octet, begins_extension, is_extension_octet};
-ghost use Rattle.dep_body.specs.Reading.{with_digit, size_after};
+ghost use Rattle.dep_body.specs.Reading.{with_digit, size_after, next_size};
 
 /// How many bytes a chunk line has at most, with its CR LF.
 pub(crate) const LINE_LIMIT: usize = 1024;
@@ -16,12 +16,39 @@ pub enum SizeReading {
     Malformed,
 }
 
-/// A chunk line whose end has not come.
+/// A chunk line whose end has not come. The reading leaves out a CR at its end.
 #[derive(Clone, Copy)]
 pub struct SizeLine {
     pub length: usize,
     pub after_cr: bool,
     pub reading: SizeReading,
+    ghost short: { length < 1024 },
+}
+
+impl SizeLine {
+    pub fn new() -> SizeLine
+        ensures length { result.length ≡ 0 }
+        ensures after_cr { result.after_cr ≡ false }
+        ensures reading { result.reading ≡ SizeReading.Start }
+    {
+        SizeLine {
+            length: 0,
+            after_cr: false,
+            reading: SizeReading::Start,
+        }
+    }
+
+    /// The reading of the line with this byte, which does not end it.
+    pub fn reading_with(self, byte: u8, limit: u64) -> SizeReading
+        ensures { result ≡ next_size limit self.reading self.after_cr byte }
+    {
+        let reading = if self.after_cr {
+            self.reading.with(b'\r', limit)
+        } else {
+            self.reading
+        };
+        if byte == b'\r' { reading } else { reading.with(byte, limit) }
+    }
 }
 
 impl SizeReading {
