@@ -30,8 +30,14 @@ not_both false n e t is = cc
 pub is_ten : (n : ℕ) → (n == 10) ≡ true → n ≡ 10
 is_ten n e = grind (arith, nat_tests)
 
+pub is_thirteen : (n : ℕ) → (n == 13) ≡ true → n ≡ 13
+is_thirteen n e = grind (arith, nat_tests)
+
+pub both_are : (a b : ℕ) → (a == 13 && b == 10) ≡ false → a ≡ 13 → b ≡ 10 → ⊥
+both_are a b e x y = grind (arith, nat_tests)
+
 -- a line without a CR at its end, after one byte more
-pub next_line : List ℕ → ℕ → List ℕ
+unfoldable pub next_line : List ℕ → ℕ → List ℕ
 next_line bytes b = if b == 13 then bytes else bytes ++ b ∷ []
 
 pub begun_next : (bytes line : List ℕ) (cr : Bool) (b : ℕ) → IsBegunLine bytes line cr → (cr ≡ true → b ≡ 10 → ⊥)

@@ -6,9 +6,11 @@
 
 mod fields;
 mod frame;
+mod reader;
 mod size;
 mod stage;
 mod trailers;
 
 pub use frame::{FrameFault, Framing};
 pub use fields::framing;
+pub use reader::{ChunkReader, Fed};

@@ -82,11 +82,13 @@ pub(crate) fn chunk_end_after(before: Option<u8>, byte: u8) -> Stage
     ensures { (limit : ℕ) (text content : List ℕ) → IsBehindData limit content before text
         → StandsAt limit content result (text ++ byte ∷ []) }
 {
-    match before {
-        None => Stage::ChunkEnd(Some(byte)),
-        Some(b'\r') if byte == b'\n' => Stage::Line(SizeLine::new()),
-        Some(_) => Stage::Bad,
+    let Some(first) = before else {
+        return Stage::ChunkEnd(Some(byte));
+    };
+    if !ends_line(first == b'\r', byte) {
+        return Stage::Bad;
     }
+    Stage::Line(SizeLine::new())
 }
 
 /// One byte more of the trailers.
