@@ -32,7 +32,7 @@ begun_cr bytes line cr h = record {
 }
 
 pub begun_plain : (bytes line : List ℕ) (cr : Bool) (b : ℕ) → IsBegunLine bytes line cr → (b ≡ 13 → ⊥) → (cr ≡ true → b ≡ 10 → ⊥)
-  → IsBegunLine (bytes ++ b ∷ []) (bytes ++ b ∷ []) false
+    → IsBegunLine (bytes ++ b ∷ []) (bytes ++ b ∷ []) false
 begun_plain bytes line cr b h other no_end = record {
   bytes_are = sym (append-nil (bytes ++ b ∷ []));
   plain = λ e front is. other (last_same bytes front b 13 is);
@@ -52,6 +52,6 @@ begun_length bytes line h =
 
 -- what a line's bytes make of a state, its CR included
 pub fold_bytes : {B : Type 0} (f : B → ℕ → B) (a : B) (bytes line : List ℕ) (cr : Bool) → bytes ≡ line ++ (if cr then 13 ∷ [] else [])
-  → fold f a bytes ≡ (if cr then f (fold f a line) 13 else fold f a line)
+    → fold f a bytes ≡ (if cr then f (fold f a line) 13 else fold f a line)
 fold_bytes f a bytes line true e = ap (fold f a) e ∙ fold-append f a line (13 ∷ [])
 fold_bytes f a bytes line false e = ap (fold f a) (e ∙ append-nil line)

@@ -28,17 +28,17 @@ one_only P c p (suc k) d below = absurd (omega arith)
 
 -- a whole chunk joins the chunks
 pub chunks_join : (limit : ℕ) (text content line bytes : List ℕ) → HasChunks limit text content (line_text line ++ (bytes ++ crlf))
-  → IsSizeLine line (length bytes) → 0 < length bytes → length content + length bytes ≤ limit → HasChunks limit text (content ++ bytes) []
+    → IsSizeLine line (length bytes) → 0 < length bytes → length content + length bytes ≤ limit → HasChunks limit text (content ++ bytes) []
 chunks_join limit text content line bytes h size some room =
     let c : Chunk = record { line = line; bytes = bytes } in
     record {
       chunks = h.chunks ++ c ∷ [];
       are = All-append IsChunk h.chunks (c ∷ []) h.are (one_only IsChunk c (record { size = size; some = some }));
       text_is =
-        h.text_is ∙ ap (λ t. chunks_text h.chunks ++ t) (sym (append-nil (chunk_text c)))
-        ∙ sym (flat_map-append chunk_text h.chunks (c ∷ [])) ∙ sym (append-nil (chunks_text (h.chunks ++ c ∷ [])));
+          h.text_is ∙ ap (λ t. chunks_text h.chunks ++ t) (sym (append-nil (chunk_text c)))
+          ∙ sym (flat_map-append chunk_text h.chunks (c ∷ [])) ∙ sym (append-nil (chunks_text (h.chunks ++ c ∷ [])));
       content_is =
-        ap (λ t. t ++ bytes) h.content_is ∙ ap (λ t. chunks_content h.chunks ++ t) (sym (append-nil bytes))
-        ∙ sym (flat_map-append (λ (k : Chunk). k.bytes) h.chunks (c ∷ []));
+          ap (λ t. t ++ bytes) h.content_is ∙ ap (λ t. chunks_content h.chunks ++ t) (sym (append-nil bytes))
+          ∙ sym (flat_map-append (λ (k : Chunk). k.bytes) h.chunks (c ∷ []));
       fits = rw length-append room;
     }

@@ -4,3 +4,5 @@ pub mod BegunLines
 pub mod ChunkLemmas
 pub mod SizeSteps
 pub mod SectionSteps
+pub mod DataSteps
+pub mod FeedLemmas

@@ -53,7 +53,7 @@ unfolding line_end
 end_crlf more = refl
 
 by_test : (t : Bool) (a : ℕ) (bytes : List ℕ) (n : ℕ) → end_if t bytes ≡ Some n → 1 ≤ length bytes
-  → ((m : ℕ) → line_end bytes ≡ Some m → (2 ≤ m) × (m ≤ length bytes)) → (2 ≤ n) × (n ≤ length (a ∷ bytes))
+    → ((m : ℕ) → line_end bytes ≡ Some m → (2 ≤ m) × (m ≤ length bytes)) → (2 ≤ n) × (n ≤ length (a ∷ bytes))
 unfolding end_if
 by_test true a bytes n f l k = let g : 2 ≡ n = cc in (omega arith, omega arith)
 by_test false a bytes n f l k =
@@ -72,7 +72,7 @@ end_within (a ∷ []) n e = let h = end_one a in absurd (some_none n (sym e ∙ 
 end_within (a ∷ b ∷ bytes) n e = by_test (begins (a ∷ b ∷ bytes)) a (b ∷ bytes) n e (omega arith) (end_within (b ∷ bytes))
 
 more_if : (t : Bool) (bytes more : List ℕ) (n : ℕ) → end_if t bytes ≡ Some n
-  → ((m : ℕ) → line_end bytes ≡ Some m → line_end (bytes ++ more) ≡ Some m) → end_if t (bytes ++ more) ≡ Some n
+    → ((m : ℕ) → line_end bytes ≡ Some m → line_end (bytes ++ more) ≡ Some m) → end_if t (bytes ++ more) ≡ Some n
 unfolding end_if
 more_if true bytes more n e k = e
 more_if false bytes more n e k = let m = some_suc (line_end bytes) n e in ap (option_map suc) (k m.0 m.1) ∙ ap (λ j. Some j) (sym m.2)
@@ -85,7 +85,7 @@ end_more (a ∷ []) more n e = let h = end_one a in absurd (some_none n (sym e �
 end_more (a ∷ b ∷ bytes) more n e = more_if (begins (a ∷ b ∷ bytes)) (b ∷ bytes) more n e (end_more (b ∷ bytes) more)
 
 front_if : (t : Bool) (bytes more : List ℕ) (n : ℕ) → end_if t (bytes ++ more) ≡ Some n → n ≤ length bytes + 1
-  → ((m : ℕ) → line_end (bytes ++ more) ≡ Some m → m ≤ length bytes → line_end bytes ≡ Some m) → end_if t bytes ≡ Some n
+    → ((m : ℕ) → line_end (bytes ++ more) ≡ Some m → m ≤ length bytes → line_end bytes ≡ Some m) → end_if t bytes ≡ Some n
 unfolding end_if
 front_if true bytes more n e l k = e
 front_if false bytes more n e l k =
@@ -109,7 +109,7 @@ none_suc (Some m) f = cc
 
 -- one byte more ends a line only where CR LF stands at its end
 none_if : (t : Bool) (bytes : List ℕ) (byte : ℕ) → end_if t bytes ≡ None → (line_end bytes ≡ None → line_end (bytes ++ byte ∷ []) ≡ None)
-  → end_if t (bytes ++ byte ∷ []) ≡ None
+    → end_if t (bytes ++ byte ∷ []) ≡ None
 unfolding end_if
 none_if true bytes byte e k = cc
 none_if false bytes byte e k = ap (option_map suc) (k (none_suc (line_end bytes) e))
@@ -128,7 +128,7 @@ two_plain a byte h =
     ]
 
 pub end_none_byte : (bytes : List ℕ) (byte : ℕ) → line_end bytes ≡ None → ((front : List ℕ) → bytes ≡ front ++ 13 ∷ [] → byte ≡ 10 → ⊥)
-  → line_end (bytes ++ byte ∷ []) ≡ None
+    → line_end (bytes ++ byte ∷ []) ≡ None
 unfolding line_end begins end_if
 end_none_byte [] byte e h = end_one byte
 end_none_byte (a ∷ []) byte e h = ap (λ t. end_if t (byte ∷ [])) (two_plain a byte h) ∙ ap (option_map suc) (end_one byte)
@@ -137,7 +137,7 @@ end_none_byte (a ∷ b ∷ bytes) byte e h =
     (λ n. end_none_byte (b ∷ bytes) byte n (λ front is. h (a ∷ front) (ap (λ l. a ∷ l) is)))
 
 found_if : (t : Bool) (bytes : List ℕ) (n : ℕ) → end_if t (bytes ++ 13 ∷ []) ≡ None
-  → (line_end (bytes ++ 13 ∷ []) ≡ None → line_end (bytes ++ crlf) ≡ Some n) → end_if t (bytes ++ crlf) ≡ Some (suc n)
+    → (line_end (bytes ++ 13 ∷ []) ≡ None → line_end (bytes ++ crlf) ≡ Some n) → end_if t (bytes ++ crlf) ≡ Some (suc n)
 unfolding end_if
 found_if true bytes n e k = cc
 found_if false bytes n e k = ap (option_map suc) (k (none_suc (line_end (bytes ++ 13 ∷ [])) e))

@@ -34,7 +34,7 @@ malformed_stays most [] = refl
 malformed_stays most (b ∷ line) = malformed_stays most line
 
 extension_from : (most : ℕ) (value : Option ℕ) (line : List ℕ)
-  → fold (size_after most) (Extension value) line ≡ (if list_all is_extension_octet line then Extension value else Malformed)
+    → fold (size_after most) (Extension value) line ≡ (if list_all is_extension_octet line then Extension value else Malformed)
 extension_from most value [] = refl
 extension_from most value (b ∷ line) =
     elim (cases_Bool (is_extension_octet b)) [
@@ -62,7 +62,7 @@ size_from-other n b line f = ap (λ k. size_at n k (b ∷ line)) (count_none b l
 
 -- a reading that goes on behind the digits for n with a byte that is none
 other_from : (most n : ℕ) (b : ℕ) (line : List ℕ) (begun : Bool) → begins_extension b ≡ begun
-  → Says most (fold (size_after most) (if begun then Extension (capped most n) else Malformed) line)
+    → Says most (fold (size_after most) (if begun then Extension (capped most n) else Malformed) line)
     (if begun && list_all is_extension_octet line then Some n else None)
 other_from most n b line false e = subst (λ r. Says most r None) (sym (malformed_stays most line)) refl
 other_from most n b line true e =
@@ -109,7 +109,7 @@ unfolding line_size size_from line_at
 line_size-digit b line t =
     ap (λ k. line_at k (b ∷ line)) (count_digit b line t)
     ∙ ap (λ (c : Bool). if c && is_extension (drop (prefix_len is_hex_octet line) line) then Some (digits_value 16 (b ∷ take (prefix_len is_hex_octet line) line)) else None)
-      (lt-ltb 0 (suc (prefix_len is_hex_octet line)) (omega arith))
+    (lt-ltb 0 (suc (prefix_len is_hex_octet line)) (omega arith))
 
 line_size-other : (b : ℕ) (line : List ℕ) → is_hex_octet b ≡ false → line_size (b ∷ line) ≡ None
 unfolding line_size line_at
@@ -160,12 +160,12 @@ count_no_token b line f = ap (λ (c : Bool). cond c (1 + prefix_len is_token_oct
 
 -- the reading behind a token, by what is behind its name
 name_by : (r : T.TrailerReading) (line : List ℕ) (good : Bool) → r ≡ (if good then V.Value else V.Broken)
-  → is_trailer_value (drop (prefix_len is_token_octet line) line) ≡ good → NameSays r line
+    → is_trailer_value (drop (prefix_len is_token_octet line) line) ≡ good → NameSays r line
 name_by r line true e is = subst (λ q. NameSays q line) (sym e) is
 name_by r line false e is = subst (λ q. NameSays q line) (sym e) is
 
 no_token_from : (b : ℕ) (line : List ℕ) (colon : Bool) → (b == 58) ≡ colon
-  → fold trailer_after (if colon then V.Value else V.Broken) line ≡ (if colon && list_all is_trailer_octet line then V.Value else V.Broken)
+    → fold trailer_after (if colon then V.Value else V.Broken) line ≡ (if colon && list_all is_trailer_octet line then V.Value else V.Broken)
 no_token_from b line true e = value_from line
 no_token_from b line false e = broken_stays line
 

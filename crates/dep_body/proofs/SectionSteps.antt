@@ -22,7 +22,7 @@ use Rattle.dep_body.proofs.Readings.{trailer_told}
 use Rattle.dep_body.proofs.SizeSteps.{begun_next, next_line, not_both, capped_some}
 
 reading_next : (bytes line : List ℕ) (cr : Bool) (b : ℕ) → IsBegunLine bytes line cr
-  → next_trailer (trailer_reading line) cr b ≡ trailer_reading (next_line bytes b)
+    → next_trailer (trailer_reading line) cr b ≡ trailer_reading (next_line bytes b)
 unfolding next_line
 reading_next bytes line cr b h =
     let all = fold_bytes trailer_after V.Empty bytes line cr h.bytes_are in
@@ -38,15 +38,15 @@ reading_next bytes line cr b h =
 
 -- the bytes with one more
 with_byte : (limit : ℕ) (content text : List ℕ) (state : Trailers) (b : ℕ) → (h : IsInTrailers limit content state text)
-  → HasChunks limit (text ++ b ∷ []) content (line_text h.size_line ++ (lines_text h.lines ++ (h.rest ++ b ∷ [])))
+    → HasChunks limit (text ++ b ∷ []) content (line_text h.size_line ++ (lines_text h.lines ++ (h.rest ++ b ∷ [])))
 with_byte limit content text state b h =
     chunks_rest limit _ content _ _
     (append_assoc (line_text h.size_line) (lines_text h.lines ++ h.rest) (b ∷ [])
-      ∙ ap (λ t. line_text h.size_line ++ t) (append_assoc (lines_text h.lines) h.rest (b ∷ [])))
+    ∙ ap (λ t. line_text h.size_line ++ t) (append_assoc (lines_text h.lines) h.rest (b ∷ [])))
     (chunks_more limit text content _ (b ∷ []) h.chunks)
 
 one_longer : (limit : ℕ) (content text : List ℕ) (state : Trailers) (b : ℕ) → (h : IsInTrailers limit content state text)
-  → length (lines_text h.lines ++ (h.rest ++ b ∷ [])) ≡ state.length + 1
+    → length (lines_text h.lines ++ (h.rest ++ b ∷ [])) ≡ state.length + 1
 one_longer limit content text state b h =
     let before : state.length ≡ length (lines_text h.lines) + length h.rest = h.length_is ∙ length-append (lines_text h.lines) h.rest in
     let all = length-append (lines_text h.lines) (h.rest ++ b ∷ []) in
@@ -54,8 +54,8 @@ one_longer limit content text state b h =
     omega (arith, before, all, last)
 
 pub section_goes : (limit : ℕ) (content text : List ℕ) (state next : Trailers) (b : ℕ) → IsInTrailers limit content state text
-  → (state.after_cr && b == 10) ≡ false → state.length + 1 < section_limit → next.length ≡ state.length + 1 → next.good ≡ state.good
-  → next.after_cr ≡ (b == 13) → next.reading ≡ next_trailer state.reading state.after_cr b → IsInTrailers limit content next (text ++ b ∷ [])
+    → (state.after_cr && b == 10) ≡ false → state.length + 1 < section_limit → next.length ≡ state.length + 1 → next.good ≡ state.good
+    → next.after_cr ≡ (b == 13) → next.reading ≡ next_trailer state.reading state.after_cr b → IsInTrailers limit content next (text ++ b ∷ [])
 section_goes limit content text state next b h other short length_is good_is cr_is reading_is = record {
   size_line = h.size_line;
   lines = h.lines;
@@ -72,61 +72,61 @@ section_goes limit content text state next b h other short length_is good_is cr_
 }
 
 pub section_long : (limit : ℕ) (content text : List ℕ) (state : Trailers) (b : ℕ) → IsInTrailers limit content state text
-  → (state.after_cr && b == 10) ≡ false → state.length + 1 ≡ section_limit → IsChunkedFault limit (text ++ b ∷ []) Bad content
+    → (state.after_cr && b == 10) ≡ false → state.length + 1 ≡ section_limit → IsChunkedFault limit (text ++ b ∷ []) Bad content
 section_long limit content text state b h other long = record {
   before = content;
   rest = line_text h.size_line ++ (lines_text h.lines ++ (h.rest ++ b ∷ []));
   held = [];
   chunks = with_byte limit content text state b h;
   unit =
-    long_trailers h.size_line (lines_text h.lines ++ (h.rest ++ b ∷ [])) refl h.zero
-    (record {
+      long_trailers h.size_line (lines_text h.lines ++ (h.rest ++ b ∷ [])) refl h.zero
+      (record {
         lines = h.lines;
         last = h.rest ++ b ∷ [];
         are = h.are;
         text_is = refl;
         no_end = (begun_next h.rest h.line state.after_cr b h.begun (not_both state.after_cr b other)).no_end;
       })
-    (one_longer limit content text state b h ∙ long);
+      (one_longer limit content text state b h ∙ long);
   content_is = sym (append-nil content);
 }
 
 -- the bytes with the LF that ends the last line
 ended : (limit : ℕ) (content text : List ℕ) (state : Trailers) → (h : IsInTrailers limit content state text) → state.after_cr ≡ true
-  → HasChunks limit (text ++ 10 ∷ []) content (line_text h.size_line ++ (lines_text h.lines ++ line_text h.line))
+    → HasChunks limit (text ++ 10 ∷ []) content (line_text h.size_line ++ (lines_text h.lines ++ line_text h.line))
 ended limit content text state h cr =
     chunks_rest limit _ content _ _
     (ap (λ t. line_text h.size_line ++ (lines_text h.lines ++ t)) (begun_text h.rest h.line (subst (IsBegunLine h.rest h.line) cr h.begun)))
     (with_byte limit content text state 10 h)
 
 ended_length : (limit : ℕ) (content text : List ℕ) (state : Trailers) → (h : IsInTrailers limit content state text) → state.after_cr ≡ true
-  → length (lines_text h.lines ++ line_text h.line) ≡ state.length + 1
+    → length (lines_text h.lines ++ line_text h.line) ≡ state.length + 1
 ended_length limit content text state h cr =
     ap (λ t. length (lines_text h.lines ++ t)) (sym (begun_text h.rest h.line (subst (IsBegunLine h.rest h.line) cr h.begun)))
     ∙ one_longer limit content text state 10 h
 
 told : (limit : ℕ) (content text : List ℕ) (state : Trailers) (r : T.TrailerReading) → (h : IsInTrailers limit content state text)
-  → state.reading ≡ r → Tells r h.line
+    → state.reading ≡ r → Tells r h.line
 told limit content text state r h e = subst (λ q. Tells q h.line) (sym h.reading_is ∙ e) (trailer_told h.line)
 
 whole : (limit : ℕ) (content text : List ℕ) (state : Trailers) → (h : IsInTrailers limit content state text) → state.after_cr ≡ true
-  → h.line ≡ [] → IsSection (lines_text h.lines ++ crlf) h.lines
+    → h.line ≡ [] → IsSection (lines_text h.lines ++ crlf) h.lines
 whole limit content text state h cr none = record {
   are = h.are;
   text_is = refl;
   small =
-    let e : length (lines_text h.lines ++ crlf) ≡ state.length + 1 =
+      let e : length (lines_text h.lines ++ crlf) ≡ state.length + 1 =
       ap (λ l. length (lines_text h.lines ++ line_text l)) (sym none) ∙ ended_length limit content text state h cr in
-    omega (arith, e, h.short, h.length_is);
+      omega (arith, e, h.short, h.length_is);
 }
 
 last_text : (limit : ℕ) (content text : List ℕ) (state : Trailers) → (h : IsInTrailers limit content state text) → state.after_cr ≡ true
-  → h.line ≡ [] → HasChunks limit (text ++ 10 ∷ []) content (line_text h.size_line ++ (lines_text h.lines ++ crlf))
+    → h.line ≡ [] → HasChunks limit (text ++ 10 ∷ []) content (line_text h.size_line ++ (lines_text h.lines ++ crlf))
 last_text limit content text state h cr none =
     chunks_rest limit _ content _ _ (ap (λ l. line_text h.size_line ++ (lines_text h.lines ++ line_text l)) none) (ended limit content text state h cr)
 
 pub section_done : (limit : ℕ) (content text : List ℕ) (state : Trailers) → IsInTrailers limit content state text → state.after_cr ≡ true
-  → state.reading ≡ V.Empty → state.good ≡ true → IsChunkedBody limit (text ++ 10 ∷ []) content
+    → state.reading ≡ V.Empty → state.good ≡ true → IsChunkedBody limit (text ++ 10 ∷ []) content
 section_done limit content text state h cr empty good =
     let none = (told limit content text state V.Empty h empty).0 in
     record {
@@ -144,7 +144,7 @@ section_done limit content text state h cr empty good =
     }
 
 pub section_bad : (limit : ℕ) (content text : List ℕ) (state : Trailers) → IsInTrailers limit content state text → state.after_cr ≡ true
-  → state.reading ≡ V.Empty → state.good ≡ false → IsChunkedFault limit (text ++ 10 ∷ []) Bad content
+    → state.reading ≡ V.Empty → state.good ≡ false → IsChunkedFault limit (text ++ 10 ∷ []) Bad content
 section_bad limit content text state h cr empty bad =
     let none = (told limit content text state V.Empty h empty).0 in
     record {
@@ -166,7 +166,7 @@ and_true false = refl
 
 -- a line that isn't empty joins the lines
 pub line_joins : (limit : ℕ) (content text : List ℕ) (state : Trailers) (good : Bool) → (h : IsInTrailers limit content state text) → state.after_cr ≡ true
-  → 0 < length h.line → good ≡ (state.good && is_trailer_line h.line) → IsBehindLines limit content (state.length + 1) good (text ++ 10 ∷ [])
+    → 0 < length h.line → good ≡ (state.good && is_trailer_line h.line) → IsBehindLines limit content (state.length + 1) good (text ++ 10 ∷ [])
 line_joins limit content text state good h cr some good_is =
     let begun = subst (IsBegunLine h.rest h.line) cr h.begun in
     let joined : lines_text h.lines ++ line_text h.line ≡ lines_text (h.lines ++ h.line ∷ []) =
@@ -178,14 +178,14 @@ line_joins limit content text state good h cr some good_is =
       zero = h.zero;
       are = All-append IsTrailer h.lines (h.line ∷ []) h.are (one_only IsTrailer h.line (begun_line h.rest h.line begun, some));
       good_is =
-        good_is ∙ ap (λ b. b && is_trailer_line h.line) h.good_is
-        ∙ ap (λ b. list_all is_trailer_line h.lines && b) (sym (and_true (is_trailer_line h.line)))
-        ∙ sym (list_all-append is_trailer_line h.lines (h.line ∷ []));
+          good_is ∙ ap (λ b. b && is_trailer_line h.line) h.good_is
+          ∙ ap (λ b. list_all is_trailer_line h.lines && b) (sym (and_true (is_trailer_line h.line)))
+          ∙ sym (list_all-append is_trailer_line h.lines (h.line ∷ []));
       size_is = sym (ended_length limit content text state h cr) ∙ ap length joined;
     }
 
 pub value_joins : (limit : ℕ) (content text : List ℕ) (state : Trailers) → IsInTrailers limit content state text → state.after_cr ≡ true
-  → state.reading ≡ V.Value → IsBehindLines limit content (state.length + 1) state.good (text ++ 10 ∷ [])
+    → state.reading ≡ V.Value → IsBehindLines limit content (state.length + 1) state.good (text ++ 10 ∷ [])
 value_joins limit content text state h cr value =
     let t = told limit content text state V.Value h value in
     line_joins limit content text state state.good h cr t.0 (sym (and_true state.good) ∙ ap (λ b. state.good && b) (sym t.1))
@@ -195,33 +195,33 @@ and_false true = refl
 and_false false = refl
 
 pub name_joins : (limit : ℕ) (content text : List ℕ) (state : Trailers) → IsInTrailers limit content state text → state.after_cr ≡ true
-  → state.reading ≡ V.Name → IsBehindLines limit content (state.length + 1) false (text ++ 10 ∷ [])
+    → state.reading ≡ V.Name → IsBehindLines limit content (state.length + 1) false (text ++ 10 ∷ [])
 name_joins limit content text state h cr name =
     let t = told limit content text state V.Name h name in
     line_joins limit content text state false h cr t.0 (sym (and_false state.good) ∙ ap (λ b. state.good && b) (sym t.1))
 
 pub broken_joins : (limit : ℕ) (content text : List ℕ) (state : Trailers) → IsInTrailers limit content state text → state.after_cr ≡ true
-  → state.reading ≡ V.Broken → IsBehindLines limit content (state.length + 1) false (text ++ 10 ∷ [])
+    → state.reading ≡ V.Broken → IsBehindLines limit content (state.length + 1) false (text ++ 10 ∷ [])
 broken_joins limit content text state h cr broken =
     let t = told limit content text state V.Broken h broken in
     line_joins limit content text state false h cr t.0 (sym (and_false state.good) ∙ ap (λ b. state.good && b) (sym t.1))
 
 pub lines_long : (limit : ℕ) (content text : List ℕ) (size : ℕ) (good : Bool) → IsBehindLines limit content size good text → size ≡ section_limit
-  → IsChunkedFault limit text Bad content
+    → IsChunkedFault limit text Bad content
 lines_long limit content text size good h long = record {
   before = content;
   rest = line_text h.size_line ++ lines_text h.lines;
   held = [];
   chunks = h.chunks;
   unit =
-    long_trailers h.size_line (lines_text h.lines) refl h.zero
-    (record { lines = h.lines; last = []; are = h.are; text_is = sym (append-nil (lines_text h.lines)); no_end = end_nil })
-    (sym h.size_is ∙ long);
+      long_trailers h.size_line (lines_text h.lines) refl h.zero
+      (record { lines = h.lines; last = []; are = h.are; text_is = sym (append-nil (lines_text h.lines)); no_end = end_nil })
+      (sym h.size_is ∙ long);
   content_is = sym (append-nil content);
 }
 
 pub lines_go : (limit : ℕ) (content text : List ℕ) (size : ℕ) (good : Bool) (next : Trailers) → IsBehindLines limit content size good text → size < section_limit
-  → next.length ≡ size → next.good ≡ good → next.after_cr ≡ false → next.reading ≡ V.Empty → IsInTrailers limit content next text
+    → next.length ≡ size → next.good ≡ good → next.after_cr ≡ false → next.reading ≡ V.Empty → IsInTrailers limit content next text
 lines_go limit content text size good next h short length_is good_is cr_is reading_is =
     let none : lines_text h.lines ≡ lines_text h.lines ++ [] = sym (append-nil (lines_text h.lines)) in
     record {
@@ -241,16 +241,16 @@ lines_go limit content text size good next h short length_is good_is cr_is readi
 
 -- behind a chunk line of value 0 no trailer line has come
 pub sized_zero : (limit : ℕ) (content text : List ℕ) (size : ℕ) (next : Trailers) → IsSizedLine limit content size (Some 0) text
-  → next.length ≡ 0 → next.good ≡ true → next.after_cr ≡ false → next.reading ≡ V.Empty → IsInTrailers limit content next text
+    → next.length ≡ 0 → next.good ≡ true → next.after_cr ≡ false → next.reading ≡ V.Empty → IsInTrailers limit content next text
 sized_zero limit content text size next h length_is good_is cr_is reading_is =
     lines_go limit content text 0 true next
     (record {
-        size_line = h.line;
-        lines = [];
-        chunks = chunks_rest limit text content _ _ (sym (append-nil (line_text h.line))) h.chunks;
-        zero = subst (IsSizeLine h.line) (sym (capped_some limit size 0 h.value_is)) h.size_line;
-        are = λ k d below. absurd (omega arith);
-        good_is = refl;
-        size_is = refl;
-      })
+      size_line = h.line;
+      lines = [];
+      chunks = chunks_rest limit text content _ _ (sym (append-nil (line_text h.line))) h.chunks;
+      zero = subst (IsSizeLine h.line) (sym (capped_some limit size 0 h.value_is)) h.size_line;
+      are = λ k d below. absurd (omega arith);
+      good_is = refl;
+      size_is = refl;
+    })
     (omega arith) length_is good_is cr_is reading_is

@@ -41,7 +41,7 @@ unfoldable pub next_line : List ℕ → ℕ → List ℕ
 next_line bytes b = if b == 13 then bytes else bytes ++ b ∷ []
 
 pub begun_next : (bytes line : List ℕ) (cr : Bool) (b : ℕ) → IsBegunLine bytes line cr → (cr ≡ true → b ≡ 10 → ⊥)
-  → IsBegunLine (bytes ++ b ∷ []) (next_line bytes b) (b == 13)
+    → IsBegunLine (bytes ++ b ∷ []) (next_line bytes b) (b == 13)
 unfolding next_line
 begun_next bytes line cr b h other =
     elim (cases_Bool (b == 13)) [
@@ -55,7 +55,7 @@ begun_next bytes line cr b h other =
     ]
 
 pub reading_next : (most : ℕ) (bytes line : List ℕ) (cr : Bool) (b : ℕ) → IsBegunLine bytes line cr
-  → next_size most (size_reading most line) cr b ≡ size_reading most (next_line bytes b)
+    → next_size most (size_reading most line) cr b ≡ size_reading most (next_line bytes b)
 unfolding next_line
 reading_next most bytes line cr b h =
     let all = fold_bytes (size_after most) Start bytes line cr h.bytes_are in
@@ -70,8 +70,8 @@ reading_next most bytes line cr b h =
     ]
 
 pub line_goes : (limit : ℕ) (content text : List ℕ) (state next : SizeLine) (b : ℕ) → IsInLine limit content state text
-  → (state.after_cr && b == 10) ≡ false → state.length + 1 < line_limit → next.length ≡ state.length + 1 → next.after_cr ≡ (b == 13)
-  → next.reading ≡ next_size limit state.reading state.after_cr b → IsInLine limit content next (text ++ b ∷ [])
+    → (state.after_cr && b == 10) ≡ false → state.length + 1 < line_limit → next.length ≡ state.length + 1 → next.after_cr ≡ (b == 13)
+    → next.reading ≡ next_size limit state.reading state.after_cr b → IsInLine limit content next (text ++ b ∷ [])
 line_goes limit content text state next b h other short length_is cr_is reading_is =
     let same : length (h.rest ++ b ∷ []) ≡ state.length + 1 = length-append h.rest (b ∷ []) ∙ ap (λ n. n + 1) (sym h.length_is) in
     record {
@@ -82,11 +82,11 @@ line_goes limit content text state next b h other short length_is cr_is reading_
       length_is = length_is ∙ sym same;
       short = omega (arith, same, short);
       reading_is =
-        reading_is ∙ ap (λ r. next_size limit r state.after_cr b) h.reading_is ∙ reading_next limit h.rest h.line state.after_cr b h.begun;
+          reading_is ∙ ap (λ r. next_size limit r state.after_cr b) h.reading_is ∙ reading_next limit h.rest h.line state.after_cr b h.begun;
     }
 
 pub line_long : (limit : ℕ) (content text : List ℕ) (state : SizeLine) (b : ℕ) → IsInLine limit content state text
-  → (state.after_cr && b == 10) ≡ false → state.length + 1 ≡ line_limit → IsChunkedFault limit (text ++ b ∷ []) Bad content
+    → (state.after_cr && b == 10) ≡ false → state.length + 1 ≡ line_limit → IsChunkedFault limit (text ++ b ∷ []) Bad content
 line_long limit content text state b h other long =
     let same : length (h.rest ++ b ∷ []) ≡ state.length + 1 = length-append h.rest (b ∷ []) ∙ ap (λ n. n + 1) (sym h.length_is) in
     record {
@@ -99,7 +99,7 @@ line_long limit content text state b h other long =
     }
 
 pub line_ended : (limit : ℕ) (content text : List ℕ) (state : SizeLine) → IsInLine limit content state text → state.after_cr ≡ true
-  → IsAtLineEnd limit content state.reading (text ++ 10 ∷ [])
+    → IsAtLineEnd limit content state.reading (text ++ 10 ∷ [])
 line_ended limit content text state h cr =
     let begun = subst (IsBegunLine h.rest h.line) cr h.begun in
     record {
@@ -112,7 +112,7 @@ line_ended limit content text state h cr =
 
 -- a chunk line that says nothing
 pub line_says_none : (limit : ℕ) (content text : List ℕ) (reading : SizeReading) → (h : IsAtLineEnd limit content reading text) → line_size h.line ≡ None
-  → IsChunkedFault limit text Bad content
+    → IsChunkedFault limit text Bad content
 line_says_none limit content text reading h none = record {
   before = content;
   rest = line_text h.line;
@@ -123,7 +123,7 @@ line_says_none limit content text reading h none = record {
 }
 
 pub line_says : (limit : ℕ) (content text : List ℕ) (reading : SizeReading) (value : Option ℕ) → (h : IsAtLineEnd limit content reading text)
-  → (n : ℕ) → line_size h.line ≡ Some n → value ≡ capped limit n → IsSizedLine limit content n value text
+    → (n : ℕ) → line_size h.line ≡ Some n → value ≡ capped limit n → IsSizedLine limit content n value text
 line_says limit content text reading value h n says value_is = record {
   line = h.line;
   chunks = h.chunks;
@@ -146,7 +146,7 @@ capped_none limit size e =
     ]
 
 pub sized_large : (limit : ℕ) (content text : List ℕ) (size : ℕ) (value : Option ℕ) → IsSizedLine limit content size value text
-  → limit < length content + size → IsChunkedFault limit text TooLarge content
+    → limit < length content + size → IsChunkedFault limit text TooLarge content
 sized_large limit content text size value h large = record {
   before = content;
   rest = line_text h.line;
@@ -160,7 +160,7 @@ pub sized_none : (limit : ℕ) (content text : List ℕ) (size : ℕ) → IsSize
 sized_none limit content text size h = sized_large limit content text size None h (omega (arith, capped_none limit size h.value_is))
 
 pub sized_fits : (limit : ℕ) (content text : List ℕ) (size n : ℕ) → IsSizedLine limit content size (Some n) text → 0 < n → length content + n ≤ limit
-  → IsInData limit content n text
+    → IsInData limit content n text
 sized_fits limit content text size n h some room =
     let same : n ≡ size = capped_some limit size n h.value_is in
     record {
@@ -181,8 +181,8 @@ end_goes limit content text b h = record {
   line = h.line;
   bytes = h.bytes;
   chunks = chunks_rest limit _ h.before _ _
-    (append_assoc (line_text h.line) (h.bytes ++ []) (b ∷ []) ∙ ap (λ t. line_text h.line ++ t) (ap (λ t. t ++ b ∷ []) (append-nil h.bytes)))
-    (chunks_more limit text h.before _ (b ∷ []) h.chunks);
+      (append_assoc (line_text h.line) (h.bytes ++ []) (b ∷ []) ∙ ap (λ t. line_text h.line ++ t) (ap (λ t. t ++ b ∷ []) (append-nil h.bytes)))
+      (chunks_more limit text h.before _ (b ∷ []) h.chunks);
   size = h.size;
   some = h.some;
   room = h.room;
@@ -190,14 +190,14 @@ end_goes limit content text b h = record {
 }
 
 two_behind : (limit : ℕ) (content text : List ℕ) (a b : ℕ) → (h : IsBehindData limit content (Some a) text)
-  → HasChunks limit (text ++ b ∷ []) h.before (line_text h.line ++ (h.bytes ++ a ∷ b ∷ []))
+    → HasChunks limit (text ++ b ∷ []) h.before (line_text h.line ++ (h.bytes ++ a ∷ b ∷ []))
 two_behind limit content text a b h =
     chunks_rest limit _ h.before _ _
     (append_assoc (line_text h.line) (h.bytes ++ a ∷ []) (b ∷ []) ∙ ap (λ t. line_text h.line ++ t) (append_assoc h.bytes (a ∷ []) (b ∷ [])))
     (chunks_more limit text h.before _ (b ∷ []) h.chunks)
 
 pub end_joins : (limit : ℕ) (content text : List ℕ) (next : SizeLine) → IsBehindData limit content (Some 13) text
-  → next.length ≡ 0 → next.after_cr ≡ false → next.reading ≡ Start → IsInLine limit content next (text ++ 10 ∷ [])
+    → next.length ≡ 0 → next.after_cr ≡ false → next.reading ≡ Start → IsInLine limit content next (text ++ 10 ∷ [])
 end_joins limit content text next h length_is cr_is reading_is =
     let joined = chunks_join limit (text ++ 10 ∷ []) h.before h.line h.bytes (two_behind limit content text 13 10 h) h.size h.some h.room in
     record {
@@ -211,7 +211,7 @@ end_joins limit content text next h length_is cr_is reading_is =
     }
 
 pub end_fails : (limit : ℕ) (content text : List ℕ) (a b : ℕ) → IsBehindData limit content (Some a) text → (a ≡ 13 → b ≡ 10 → ⊥)
-  → IsChunkedFault limit (text ++ b ∷ []) Bad content
+    → IsChunkedFault limit (text ++ b ∷ []) Bad content
 end_fails limit content text a b h other = record {
   before = h.before;
   rest = line_text h.line ++ (h.bytes ++ a ∷ b ∷ []);

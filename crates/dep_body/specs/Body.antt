@@ -86,24 +86,24 @@ pub record IsLastPart (rest : List ℕ) : Type 0 where
 pub data IsUnitFault (limit taken : ℕ) (rest : List ℕ) : FrameFault → (held : List ℕ) → Type 0 where
   long_line : line_end rest ≡ None → length rest ≡ line_limit → IsUnitFault limit taken rest Bad []
   bad_line : (line : List ℕ) → rest ≡ line_text line → IsLine line → length line + 2 ≤ line_limit
-    → line_size line ≡ None → IsUnitFault limit taken rest Bad []
+      → line_size line ≡ None → IsUnitFault limit taken rest Bad []
   large_chunk : (line : List ℕ) (size : ℕ) → rest ≡ line_text line → IsSizeLine line size
-    → limit < taken + size → IsUnitFault limit taken rest TooLarge []
+      → limit < taken + size → IsUnitFault limit taken rest TooLarge []
   bad_end : (line bytes two : List ℕ) → rest ≡ line_text line ++ (bytes ++ two) → IsSizeLine line (length bytes)
-    → 0 < length bytes → taken + length bytes ≤ limit → length two ≡ 2 → ¬ (two ≡ crlf)
-    → IsUnitFault limit taken rest Bad bytes
+      → 0 < length bytes → taken + length bytes ≤ limit → length two ≡ 2 → ¬ (two ≡ crlf)
+      → IsUnitFault limit taken rest Bad bytes
   long_trailers : (line section : List ℕ) → rest ≡ line_text line ++ section → IsSizeLine line 0
-    → IsBegunSection section → length section ≡ section_limit → IsUnitFault limit taken rest Bad []
+      → IsBegunSection section → length section ≡ section_limit → IsUnitFault limit taken rest Bad []
   bad_trailers : (line section : List ℕ) (lines : List (List ℕ)) → rest ≡ line_text line ++ section → IsSizeLine line 0
-    → IsSection section lines → list_all is_trailer_line lines ≡ false → IsUnitFault limit taken rest Bad []
+      → IsSection section lines → list_all is_trailer_line lines ≡ false → IsUnitFault limit taken rest Bad []
 
 -- behind chunks of so many bytes the rest is a front of a unit, and no fault yet; held are the bytes of an unfinished chunk
 pub data IsBegunUnit (limit taken : ℕ) (rest : List ℕ) : (held : List ℕ) → Type 0 where
   begun_line : line_end rest ≡ None → length rest < line_limit → IsBegunUnit limit taken rest []
   begun_chunk : (line come : List ℕ) (size : ℕ) → rest ≡ line_text line ++ come → IsSizeLine line size → 0 < size
-    → taken + size ≤ limit → length come < size + 2 → IsBegunUnit limit taken rest (take size come)
+      → taken + size ≤ limit → length come < size + 2 → IsBegunUnit limit taken rest (take size come)
   begun_trailers : (line section : List ℕ) → rest ≡ line_text line ++ section → IsSizeLine line 0
-    → IsBegunSection section → length section < section_limit → IsBegunUnit limit taken rest []
+      → IsBegunSection section → length section < section_limit → IsBegunUnit limit taken rest []
 
 -- chunks, a line of value 0 and trailers
 pub record IsChunkedBody (limit : ℕ) (text content : List ℕ) : Type 0 where

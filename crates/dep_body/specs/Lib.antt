@@ -3,3 +3,5 @@ pub mod Lines
 pub mod Body
 pub mod Reading
 pub mod Standing
+pub mod ReaderValue
+pub mod Feeding

@@ -70,7 +70,7 @@ pub record IsInTrailers (limit : ℕ) (content : List ℕ) (state : Trailers) (t
 -- where the reader stands, with this content, once it has used this text
 abbrev pub StandsAt : ℕ → List ℕ → Stage → List ℕ → Type 0
 StandsAt limit content (S.Line state) text = IsInLine limit content state text
-StandsAt limit content (S.Data left) text = IsInData limit content left text
+StandsAt limit content (S.Data left) text = IsInData limit content left.bytes text
 StandsAt limit content (S.ChunkEnd byte) text = IsBehindData limit content byte text
 StandsAt limit content (S.Section state) text = IsInTrailers limit content state text
 StandsAt limit content S.Done text = IsChunkedBody limit text content

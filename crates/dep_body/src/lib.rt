@@ -6,11 +6,14 @@
 
 mod fields;
 mod frame;
+mod left;
 mod reader;
 mod size;
 mod stage;
+#[cfg(test)]
+mod tests;
 mod trailers;
 
-pub use frame::{FrameFault, Framing};
 pub use fields::framing;
+pub use frame::{FrameFault, Framing};
 pub use reader::{ChunkReader, Fed};

@@ -1,8 +1,9 @@
 //! Reads a chunked body piece by piece.
-ghost use Rattle.std.specs.Prelude.{◌≡◌, ◌<◌, ◌≤◌, ◌++◌, ℕ, List, [], length, take, false, IfOk, OnErr};
-ghost use Rattle.dep_body.specs.Standing.{StandsAt, is_settled};
-ghost use Rattle.dep_body.specs.Feeding.{HasFed, TellsFed};
+ghost use Rattle.std.specs.Prelude.{◌≡◌, ◌<◌, ◌≤◌, ◌++◌, ℕ, List, [], length, take, true, false, IfOk, OnErr};
+ghost use Rattle.dep_body.specs.Standing.{StandsAt, IsInData, is_settled};
+ghost use Rattle.dep_body.specs.Feeding.{HasFed, TellsFed, answer_of};
 
+use crate::left::DataLeft;
 use crate::size::SizeLine;
 use crate::stage::{Stage, chunk_end_after, line_after, section_after};
 use std::alloc::{AllocError, Global};
@@ -61,16 +62,15 @@ impl ChunkReader {
         ensures err { OnErr result (self.new ≡ self.old) }
     {
         let held = self.content.len();
-        match advance(self.stage, self.max_upload, &mut self.content, piece) {
-            Ok((stage, used)) => {
-                self.stage = stage;
-                Ok(answer(stage, used))
-            }
+        let (stage, used) = match advance(self.stage, self.max_upload, &mut self.content, piece) {
+            Ok(advanced) => advanced,
             Err(error) => {
                 self.content.truncate(held);
-                Err(error)
+                return Err(error);
             }
-        }
+        };
+        self.stage = stage;
+        Ok(answer(stage, used))
     }
 
     /// The bytes of the chunks so far, joined. It takes no memory.
@@ -147,20 +147,23 @@ fn step(
 }
 
 // Takes the bytes of a chunk, of which so many are left.
-fn take_data(left: u64, content: &mut Vec<u8>, rest: &[u8]) -> Result<(Stage, usize), AllocError>
+fn take_data(
+    left: DataLeft,
+    content: &mut Vec<u8>,
+    rest: &[u8],
+) -> Result<(Stage, usize), AllocError>
     requires some { 0 < length rest.now }
-    ensures stands { IfOk result (λ r. (limit : ℕ) (text : List ℕ) → IsInData limit content.old.items left text
+    ensures stands { IfOk result (λ r. (limit : ℕ) (text : List ℕ) → IsInData limit content.old.items left.bytes text
         → StandsAt limit content.new.items r.0 (text ++ take r.1 rest.now)) }
     ensures within { IfOk result (λ r. r.1 ≤ length rest.now) }
-    ensures some { IfOk result (λ r. (0 < left → 0 < r.1)) }
+    ensures some { IfOk result (λ r. 0 < r.1) }
     ensures kept { take (length content.old.items) content.new.items ≡ content.old.items }
 {
-    let count = left.min(rest.len() as u64) as usize;
+    let count = left.bytes.min(rest.len() as u64) as usize;
     content.extend_from_slice(&rest[..count])?;
-    let stage = if count as u64 == left {
-        Stage::ChunkEnd(None)
-    } else {
-        Stage::Data(left - count as u64)
-    };
-    Ok((stage, count))
+    let later = left.bytes - count as u64;
+    if later == 0 {
+        return Ok((Stage::ChunkEnd(None), count));
+    }
+    Ok((Stage::Data(DataLeft { bytes: later }), count))
 }

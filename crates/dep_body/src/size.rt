@@ -47,7 +47,11 @@ impl SizeLine {
         } else {
             self.reading
         };
-        if byte == b'\r' { reading } else { reading.with(byte, limit) }
+        if byte == b'\r' {
+            reading
+        } else {
+            reading.with(byte, limit)
+        }
     }
 }
 

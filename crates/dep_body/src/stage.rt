@@ -2,6 +2,7 @@
 ghost use Rattle.std.specs.Prelude.{◌≡◌, ◌≤◌, ◌++◌, ◌∷◌, ◌&&◌, ◌==◌, [], ℕ, List, length, true};
 ghost use Rattle.dep_body.specs.Standing.{StandsAt, IsInLine, IsAtLineEnd, IsBehindData, IsInTrailers, IsSizedLine, IsBehindLines, is_settled};
 
+use crate::left::DataLeft;
 use crate::size::{LINE_LIMIT, SizeLine, SizeReading};
 use crate::trailers::{SECTION_LIMIT, TrailerReading, Trailers};
 
@@ -10,8 +11,8 @@ use crate::trailers::{SECTION_LIMIT, TrailerReading, Trailers};
 pub enum Stage {
     /// In a chunk line.
     Line(SizeLine),
-    /// In a chunk of which so many bytes are to come.
-    Data(u64),
+    /// In a chunk.
+    Data(DataLeft),
     /// Behind a chunk's bytes, with the first byte of its CR LF if it has come.
     ChunkEnd(Option<u8>),
     /// In the trailers.
@@ -55,7 +56,9 @@ fn stage_of(reading: SizeReading, taken: u64, limit: u64) -> Stage
         → StandsAt limit content result text }
 {
     match reading {
-        SizeReading::Digits(value) | SizeReading::Extension(value) => stage_of_size(value, taken, limit),
+        SizeReading::Digits(value) | SizeReading::Extension(value) => stage_of_size(
+            value, taken, limit,
+        ),
         SizeReading::Start | SizeReading::Malformed => Stage::Bad,
     }
 }
@@ -72,7 +75,7 @@ fn stage_of_size(value: Option<u64>, taken: u64, limit: u64) -> Stage
         return Stage::Section(Trailers::new());
     }
     match taken.checked_add(size) {
-        Some(total) if total <= limit => Stage::Data(size),
+        Some(total) if total <= limit => Stage::Data(DataLeft { bytes: size }),
         _ => Stage::TooLarge,
     }
 }

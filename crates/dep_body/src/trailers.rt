@@ -52,7 +52,11 @@ impl Trailers {
         } else {
             self.reading
         };
-        if byte == b'\r' { reading } else { reading.with(byte) }
+        if byte == b'\r' {
+            reading
+        } else {
+            reading.with(byte)
+        }
     }
 }
 
