@@ -6,3 +6,7 @@ pub mod SizeSteps
 pub mod SectionSteps
 pub mod DataSteps
 pub mod FeedLemmas
+pub mod Splits
+pub mod SectionLaws
+pub mod UnitLaws
+pub mod OneBody

@@ -33,7 +33,7 @@ some_suc : (o : Option ℕ) (n : ℕ) → option_map suc o ≡ Some n → (m : �
 some_suc None n e = cc
 some_suc (Some m) n e = (m, refl, cc)
 
-some_none : (n : ℕ) → Some n ≡ None → ⊥
+pub some_none : (n : ℕ) → Some n ≡ None → ⊥
 some_none n e = cc
 
 no_and : (t : Bool) → (t && false) ≡ false

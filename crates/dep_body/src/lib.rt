@@ -6,6 +6,7 @@
 
 mod fields;
 mod frame;
+pub mod laws;
 mod left;
 mod reader;
 mod size;
