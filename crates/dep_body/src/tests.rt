@@ -140,13 +140,25 @@ fn holds_the_limits_of_lines(rt: HostRuntime) -> Result<(), Fail> {
     assert_eq!(rt; answer_to(&rt, 5, &longest)?, Fed::Done(1026));
     let longer = filled(&rt, b"0;", 1021, b"\r\n\r\n")?;
     assert_eq!(rt; answer_to(&rt, 5, &longer)?, Fed::Bad);
-    assert_eq!(rt; answer_to(&rt, 5, &longer[..1023])?, Fed::More);
-    assert_eq!(rt; answer_to(&rt, 5, &longer[..1024])?, Fed::Bad);
     let most = filled(&rt, b"0\r\nT:", 16_378, b"\r\n\r\n")?;
     assert_eq!(rt; answer_to(&rt, 5, &most)?, Fed::Done(16_387));
     let more = filled(&rt, b"0\r\nT:", 16_379, b"\r\n\r\n")?;
-    assert_eq!(rt; answer_to(&rt, 5, &more[..16_386])?, Fed::More);
-    assert_eq!(rt; answer_to(&rt, 5, &more[..16_387])?, Fed::Bad);
+    assert_eq!(rt; answer_to(&rt, 5, &more)?, Fed::Bad);
+    Ok(())
+}
+
+#[test]
+fn judges_units_without_an_end_at_their_limits(rt: HostRuntime) -> Result<(), Fail> {
+    let rows: [(&[u8], usize, Fed); 4] = [
+        (b"0;", 1021, Fed::More),
+        (b"0;", 1022, Fed::Bad),
+        (b"0\r\nT:", 16_381, Fed::More),
+        (b"0\r\nT:", 16_382, Fed::Bad),
+    ];
+    for (front, bytes, fed) in rows {
+        let text = filled(&rt, front, bytes, b"")?;
+        assert_eq!(rt; answer_to(&rt, 5, &text)?, fed, "at {bytes}");
+    }
     Ok(())
 }
 
