@@ -5,10 +5,12 @@ use Rattle.std.proofs.lemmas.Bool.{cases_Bool}
 use Rattle.std.proofs.lemmas.List.{take-append-drop, take-append-le, length-take-le}
 use Rattle.std.proofs.Math.Seq.{take-append_seam, take-append-add, drop-length}
 use Rattle.dep_body.specs.Lines.{line_text}
-use Rattle.dep_body.specs.Body.{IsChunkedPart, IsBegunUnit, begun_line, begun_chunk, begun_trailers, lines_text}
+use Rattle.dep_body.specs.Body.{IsBodyText, IsBodyFault, IsChunkedPart, IsBegunUnit, begun_line, begun_chunk, begun_trailers, lines_text}
 use Rattle.dep_body.specs.Standing.{StandsAt, is_settled, IsInLine, IsInData, IsBehindData, IsInTrailers}
 use Rattle.dep_body.specs.ReaderValue.{ReaderValue}
-use Rattle.dep_body.specs.Feeding.{HasFed, TellsFed, EndsBody, ShowsFault, answer_of}
+use Rattle.dep_body.specs.Feeding.{HasFed, TellsFed, EndsBody, ShowsFault, answer_of, used_by}
+use Rattle.dep_body.specs.declared.frame.Framing.TheVariants.{Chunked}
+use Rattle.dep_body.specs.declared.frame.FrameFault.{FrameFault}
 use Rattle.dep_body.specs.declared.size.SizeLine.{SizeLine}
 use Rattle.dep_body.specs.declared.trailers.Trailers.{Trailers}
 use Rattle.dep_body.specs.declared.stage.Stage.{Stage}
@@ -141,3 +143,28 @@ kept_further first mid last h k =
     let front : take (length first) (take (length mid) last ++ drop (length mid) last) ≡ take (length first) (take (length mid) last) =
     take-append-le _ _ _ (let e : length (take (length mid) last) ≡ length mid = ap length k in omega (arith, e, short)) in
     ap (take (length first)) (sym (take-append-drop (length mid) last)) ∙ front ∙ ap (take (length first)) k ∙ h
+
+pub used_within : (stage : Stage) (used most : ℕ) → used ≤ most → used_by (answer_of stage used) ≤ most
+used_within (Line state) used most h = omega arith
+used_within (Data left) used most h = omega arith
+used_within (ChunkEnd byte) used most h = omega arith
+used_within (Section state) used most h = omega arith
+used_within Done used most h = h
+used_within Bad used most h = omega arith
+used_within TooLarge used most h = omega arith
+
+-- the front of a stream that is fed to a reader as its first piece
+pub ends_front : (limit : ℕ) (content piece : List ℕ) (used : ℕ) → EndsBody limit content [] piece used
+    → (used ≤ length piece) × IsBodyText limit Chunked (take used piece) content
+ends_front limit content piece used h =
+    let size : used ≡ length h.text = omega (arith, h.used_is) in
+    let all : length piece ≡ length h.text + length h.behind = ap length h.stream_is ∙ length-append h.text h.behind in
+    let front : take used piece ≡ h.text = ap (λ n. take n piece) size ∙ ap (take (length h.text)) h.stream_is ∙ take-append_seam h.text h.behind in
+    (omega arith, subst (λ t. IsBodyText limit Chunked t content) (sym front) h.body)
+
+pub fault_front : (limit : ℕ) (content piece : List ℕ) (fault : FrameFault) → ShowsFault limit content [] piece fault
+    → (used : ℕ) × (used ≤ length piece) × IsBodyFault limit Chunked (take used piece) fault
+fault_front limit content piece fault h =
+    let all : length piece ≡ length h.text + length h.behind = ap length h.stream_is ∙ length-append h.text h.behind in
+    let front : take (length h.text) piece ≡ h.text = ap (take (length h.text)) h.stream_is ∙ take-append_seam h.text h.behind in
+    (length h.text, omega arith, subst (λ t. IsBodyFault limit Chunked t fault) (sym front) (content, h.shown))

@@ -10,3 +10,4 @@ pub mod Splits
 pub mod SectionLaws
 pub mod UnitLaws
 pub mod OneBody
+pub mod SectionEnds

@@ -50,3 +50,10 @@ answer_of (S.Line state) used = A.More
 answer_of (S.Data left) used = A.More
 answer_of (S.ChunkEnd byte) used = A.More
 answer_of (S.Section state) used = A.More
+
+-- how many bytes of the piece an answer counts
+abbrev pub used_by : Fed → ℕ
+used_by (A.Done used) = used
+used_by A.More = 0
+used_by A.Bad = 0
+used_by A.TooLarge = 0

@@ -5,3 +5,4 @@ pub mod Reading
 pub mod Standing
 pub mod ReaderValue
 pub mod Feeding
+pub mod Trailers

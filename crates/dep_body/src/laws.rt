@@ -1,7 +1,8 @@
 //! Laws of the definitions, apart from any code. What a stream begins with stays when more bytes follow, since
 //! each law speaks of a text and any bytes behind it.
-ghost use Rattle.std.specs.Prelude.{◌≡◌, ℕ, List, ◌++◌};
-ghost use Rattle.dep_body.specs.Body.{IsBodyText, IsBodyFault, IsPartOfBody};
+ghost use Rattle.std.specs.Prelude.{◌≡◌, ℕ, List, ◌++◌, length, Some, None};
+ghost use Rattle.dep_body.specs.Body.{IsBodyText, IsBodyFault, IsPartOfBody, IsSection, IsBegunSection};
+ghost use Rattle.dep_body.specs.Trailers.{section_end};
 ghost use Rattle.dep_body.specs.declared.frame.Framing.{Framing as Frame};
 ghost use Rattle.dep_body.specs.declared.frame.FrameFault.{FrameFault as Fault};
 
@@ -33,4 +34,11 @@ pub fn part_or_body()
 pub fn part_or_fault()
     ensures { (limit : ℕ) (framing : Frame) (a x : List ℕ) (f : Fault) → IsBodyFault limit framing a f
         → ¬ IsPartOfBody limit framing (a ++ x) }
+{}
+
+/// Trailer lines and a CR LF behind them end at that CR LF, and where no line is empty yet they have no end: so the
+/// end is the first CR LF CR LF, or the CR LF at the front.
+pub fn sections_end()
+    ensures whole { (text : List ℕ) (lines : List (List ℕ)) → IsSection text lines → section_end text ≡ Some (length text) }
+    ensures begun { (text : List ℕ) → IsBegunSection text → section_end text ≡ None }
 {}

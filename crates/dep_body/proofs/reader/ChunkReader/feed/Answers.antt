@@ -1,7 +1,7 @@
-use Rattle.std.proofs.Common.{◌≡◌, ◌++◌, ℕ, List, subst, sym, ap}
+use Rattle.std.proofs.Common.{◌≡◌, ◌≤◌, ◌++◌, ℕ, List, length, subst, sym, ap}
 use Rattle.dep_body.specs.ReaderValue.{ReaderValue}
-use Rattle.dep_body.specs.Feeding.{HasFed, TellsFed}
-use Rattle.dep_body.proofs.FeedLemmas.{feeds, feeds_fed, tells}
+use Rattle.dep_body.specs.Feeding.{HasFed, TellsFed, used_by}
+use Rattle.dep_body.proofs.FeedLemmas.{feeds, feeds_fed, tells, used_within}
 use Rattle.dep_body.proofs.reader.ChunkReader.feed.Goals as goal
 
 pub returns-clause-fed : goal.returns-clause-fed
@@ -20,3 +20,8 @@ returns-clause-told c = λ fed h.
     subst (TellsFed new fed c.args.piece.now) (sym c.answer.ensures)
     (tells c.self.inside.max_upload c.advance.new.content.items fed c.args.piece.now c.in-Ok.advanced.0 c.in-Ok.advanced.1
     (feeds old new fed c.args.piece.now c.in-Ok.advanced.1 was c.in-Ok.ensures.stands c.in-Ok.ensures.within c.in-Ok.ensures.all c.in-Ok.ensures.settled))
+
+pub returns-clause-within : goal.returns-clause-within
+returns-clause-within c =
+    subst (λ a. used_by a ≤ length c.args.piece.now) (sym c.answer.ensures)
+    (used_within c.in-Ok.advanced.0 c.in-Ok.advanced.1 (length c.args.piece.now) c.in-Ok.ensures.within)
