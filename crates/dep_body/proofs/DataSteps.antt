@@ -1,7 +1,7 @@
 -- Some bytes more of a chunk.
-use Rattle.std.proofs.Common.{◌≡◌, ℕ, ◌+◌, ◌-◌, ◌<◌, ◌≤◌, List, [], ◌∷◌, ◌++◌, length, Some, None, refl, sym, ap, subst, ◌∙◌, arith, append_assoc, append-nil, length-append}
+use Rattle.std.proofs.Common.{◌≡◌, ℕ, ◌+◌, ◌-◌, ◌<◌, List, ◌++◌, length, None, sym, ap, subst, ◌∙◌, arith, append_assoc, append-nil, length-append}
 use Rattle.dep_body.specs.Lines.{line_text}
-use Rattle.dep_body.specs.Body.{IsSizeLine, HasChunks}
+use Rattle.dep_body.specs.Body.{IsSizeLine}
 use Rattle.dep_body.specs.Standing.{IsInData, IsBehindData}
 use Rattle.dep_body.proofs.ChunkLemmas.{chunks_more, chunks_rest}
 

@@ -1,11 +1,11 @@
 -- What a reader was fed, and what its answer says.
-use Rattle.std.proofs.Common.{◌≡◌, ℕ, ◌+◌, ◌-◌, ◌<◌, ◌≤◌, Bool, true, false, List, [], ◌∷◌, ◌++◌, length, take, drop, Option, Some, None, refl, sym, ap, subst, ◌∙◌, arith, append_assoc, append-nil, length-append, length-take, take_all, inl, inr}
+use Rattle.std.proofs.Common.{◌≡◌, ℕ, ◌+◌, ◌-◌, ◌≤◌, true, false, List, [], ◌++◌, length, take, drop, Option, Some, None, refl, sym, ap, subst, ◌∙◌, arith, append_assoc, append-nil, length-append, length-take, take_all, inl, inr}
 use Rattle.std.specs.Option.{option_to_list}
 use Rattle.std.proofs.lemmas.Bool.{cases_Bool}
 use Rattle.std.proofs.lemmas.List.{take-append-drop, take-append-le, length-take-le}
 use Rattle.std.proofs.Math.Seq.{take-append_seam, take-append-add, drop-length}
 use Rattle.dep_body.specs.Lines.{line_text}
-use Rattle.dep_body.specs.Body.{IsBodyText, IsBodyFault, IsChunkedPart, IsBegunUnit, begun_line, begun_chunk, begun_trailers, lines_text}
+use Rattle.dep_body.specs.Body.{IsBodyText, IsBodyFault, IsChunkedPart, begun_line, begun_chunk, begun_trailers, lines_text}
 use Rattle.dep_body.specs.Standing.{StandsAt, is_settled, IsInLine, IsInData, IsBehindData, IsInTrailers}
 use Rattle.dep_body.specs.ReaderValue.{ReaderValue}
 use Rattle.dep_body.specs.Feeding.{HasFed, TellsFed, EndsBody, ShowsFault, answer_of, used_by}

@@ -1,12 +1,10 @@
 -- Where the first CR LF of bytes ends.
-use Rattle.std.proofs.Common.{◌≡◌, ℕ, suc, zero, ◌+◌, ◌<◌, ◌≤◌, Bool, true, false, ◌&&◌, List, [], ◌∷◌, ◌++◌, take, drop, length, Option, Some, None, if◌then◌else◌, nat_eq, refl, sym, ap, length-take, length-append, subst, ◌∙◌, arith, inl, inr, append_assoc, append-nil}
-use Rattle.std.proofs.lemmas.List.{take-append-drop}
+use Rattle.std.proofs.Common.{◌≡◌, ℕ, suc, ◌+◌, ◌<◌, ◌≤◌, Bool, true, false, ◌&&◌, List, [], ◌∷◌, ◌++◌, length, Option, Some, None, if◌then◌else◌, nat_eq, refl, sym, ap, ◌∙◌, arith, inl, inr}
 use Rattle.std.proofs.lemmas.Bool.{cases_Bool}
 use Rattle.std.proofs.lemmas.Bool.Decides.{nat_tests}
 use Rattle.std.specs.List.{starts_with}
 use Rattle.std.specs.Option.{option_map}
-use Rattle.dep_body.specs.Lines.{line_end, crlf, line_text, IsLine}
-use Rattle.dep_body.specs.Standing.{IsBegunLine}
+use Rattle.dep_body.specs.Lines.{line_end, crlf, IsLine}
 
 -- whether bytes begin with CR LF
 begins : List ℕ → Bool

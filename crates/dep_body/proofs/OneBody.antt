@@ -1,5 +1,5 @@
 -- A stream begins with one body, one fault, or a part of a body.
-use Rattle.std.proofs.Common.{◌≡◌, ℕ, suc, zero, ◌+◌, ◌<◌, ◌≤◌, List, [], ◌∷◌, ◌++◌, length, All, refl, sym, ap, subst, ◌∙◌, arith, append_assoc, append-nil, length-append, add_assoc, zero-add}
+use Rattle.std.proofs.Common.{◌≡◌, ℕ, suc, ◌+◌, ◌≤◌, List, [], ◌∷◌, ◌++◌, length, All, refl, sym, ap, subst, ◌∙◌, arith, append_assoc, append-nil, length-append, add_assoc, zero-add}
 use Rattle.dep_body.specs.Lines.{crlf, line_text, line_size}
 use Rattle.dep_body.specs.Body.{Chunk, IsChunk, chunk_text, chunks_text, chunks_content, HasChunks, IsChunkedBody, IsChunkedFault, IsChunkedPart, IsBodyText, IsBodyFault, IsPartOfBody}
 use Rattle.dep_body.specs.declared.frame.Framing.{Framing}

@@ -1,10 +1,9 @@
 -- Trailers end at their first empty line.
-use Rattle.std.proofs.Common.{◌≡◌, ℕ, suc, zero, ◌+◌, ◌<◌, ◌≤◌, Bool, true, false, ◌&&◌, List, [], ◌∷◌, ◌++◌, length, All, Option, Some, None, nat_eq, if◌then◌else◌, refl, sym, ap, subst, ◌∙◌, arith, append_assoc, append-nil, length-append, inl, inr}
-use Rattle.std.proofs.lemmas.Bool.{cases_Bool}
+use Rattle.std.proofs.Common.{◌≡◌, ℕ, suc, zero, ◌+◌, ◌<◌, ◌≤◌, Bool, true, false, ◌&&◌, List, [], ◌∷◌, ◌++◌, length, All, Option, Some, None, nat_eq, if◌then◌else◌, refl, sym, ap, ◌∙◌, arith, append_assoc, length-append}
 use Rattle.std.specs.List.{starts_with}
 use Rattle.std.specs.Option.{option_map}
 use Rattle.dep_head.specs.Head.{head_end, empty_line}
-use Rattle.dep_body.specs.Lines.{crlf, line_text, line_end, IsLine}
+use Rattle.dep_body.specs.Lines.{crlf, line_text, line_end}
 use Rattle.dep_body.specs.Body.{IsTrailer, lines_text, IsSection, IsBegunSection}
 use Rattle.dep_body.specs.Trailers.{section_end}
 use Rattle.dep_body.proofs.LineEnds.{some_none}

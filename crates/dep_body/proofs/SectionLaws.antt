@@ -1,10 +1,8 @@
 -- What stands first in bytes behind the line of value 0: trailers of one kind at most.
-use Rattle.std.proofs.Common.{◌≡◌, ℕ, suc, zero, ◌+◌, ◌-◌, ◌<◌, ◌≤◌, Bool, true, false, List, [], ◌∷◌, ◌++◌, length, All, Some, None, if◌then◌else◌, refl, sym, ap, subst, ◌∙◌, arith, append_assoc, length-append}
-use Rattle.std.specs.List.{list_all}
-use Rattle.dep_body.specs.Lines.{crlf, line_text, line_end, IsLine, is_trailer_line}
+use Rattle.std.proofs.Common.{◌≡◌, ℕ, suc, ◌+◌, ◌-◌, ◌<◌, ◌≤◌, List, [], ◌∷◌, ◌++◌, length, All, Some, None, refl, sym, ap, ◌∙◌, arith, append_assoc, length-append}
+use Rattle.dep_body.specs.Lines.{crlf, line_text, line_end}
 use Rattle.dep_body.specs.Body.{IsTrailer, lines_text, section_limit}
 use Rattle.dep_body.specs.declared.frame.FrameFault.{FrameFault}
-use Rattle.dep_body.specs.declared.frame.FrameFault.TheVariants.{Bad, TooLarge}
 use Rattle.dep_body.proofs.LineEnds.{end_crlf, end_front, some_none}
 use Rattle.dep_body.proofs.Splits.{lines_same, rests_same, no_line, no_line_all, no_line_crlf}
 

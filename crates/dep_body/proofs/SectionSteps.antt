@@ -1,22 +1,21 @@
 -- One byte more of the trailers.
-use Rattle.std.proofs.Common.{◌≡◌, ℕ, suc, zero, ◌+◌, ◌<◌, ◌≤◌, ◌==◌, ◌&&◌, Bool, true, false, List, [], ◌∷◌, ◌++◌, length, All, Some, None, if◌then◌else◌, refl, sym, ap, subst, ◌∙◌, arith, append_assoc, append-nil, length-append, inl, inr}
+use Rattle.std.proofs.Common.{◌≡◌, ℕ, suc, zero, ◌+◌, ◌<◌, ◌==◌, ◌&&◌, Bool, true, false, List, [], ◌∷◌, ◌++◌, length, All, Some, if◌then◌else◌, refl, sym, ap, subst, ◌∙◌, arith, append_assoc, append-nil, length-append, inl, inr}
 use Rattle.std.specs.List.{list_all}
 use Rattle.std.proofs.lemmas.Bool.{cases_Bool}
-use Rattle.std.proofs.lemmas.Bool.Decides.{nat_tests}
 use Rattle.std.proofs.lemmas.Grind.{flat_map-append}
 use Rattle.std.proofs.lemmas.List.Elements.{All-append}
 use Rattle.std.proofs.lemmas.List.Folds.{list_all-append}
 use Rattle.std.proofs.lemmas.List.Sums.{fold-append}
-use Rattle.dep_body.specs.Lines.{crlf, line_text, line_end, IsLine, is_trailer_line}
-use Rattle.dep_body.specs.Body.{IsSizeLine, HasChunks, IsTrailer, lines_text, IsSection, IsBegunSection, IsLastPart, IsChunkedBody, IsChunkedFault, long_trailers, bad_trailers, section_limit}
+use Rattle.dep_body.specs.Lines.{crlf, line_text, is_trailer_line}
+use Rattle.dep_body.specs.Body.{IsSizeLine, HasChunks, IsTrailer, lines_text, IsSection, IsChunkedBody, IsChunkedFault, long_trailers, bad_trailers, section_limit}
 use Rattle.dep_body.specs.Reading.{trailer_after, trailer_reading, next_trailer, Tells}
 use Rattle.dep_body.specs.Standing.{IsBegunLine, IsInTrailers, IsBehindLines, IsSizedLine}
-use Rattle.dep_body.specs.declared.frame.FrameFault.TheVariants.{Bad, TooLarge}
+use Rattle.dep_body.specs.declared.frame.FrameFault.TheVariants.{Bad}
 use Rattle.dep_body.specs.declared.trailers.Trailers.{Trailers}
 use Rattle.dep_body.specs.declared.trailers.TrailerReading as T
 use Rattle.dep_body.specs.declared.trailers.TrailerReading.TheVariants as V
 use Rattle.dep_body.proofs.LineEnds.{end_nil}
-use Rattle.dep_body.proofs.BegunLines.{begun_none, begun_line, begun_text, begun_length, fold_bytes}
+use Rattle.dep_body.proofs.BegunLines.{begun_none, begun_line, begun_text, fold_bytes}
 use Rattle.dep_body.proofs.ChunkLemmas.{chunks_more, chunks_rest}
 use Rattle.dep_body.proofs.Readings.{trailer_told}
 use Rattle.dep_body.proofs.SizeSteps.{begun_next, next_line, not_both, capped_some}

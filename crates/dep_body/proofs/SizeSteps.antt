@@ -1,18 +1,17 @@
 -- One byte more of a chunk line, and what follows the line.
-use Rattle.std.proofs.Common.{◌≡◌, ℕ, ◌+◌, ◌<◌, ◌≤◌, ◌==◌, ◌&&◌, Bool, true, false, nat_le, List, [], ◌∷◌, ◌++◌, length, All, Option, Some, None, if◌then◌else◌, refl, sym, ap, subst, ◌∙◌, arith, append_assoc, append-nil, zero-add, length-append, inl, inr}
-use Rattle.std.specs.Option.{option_to_list}
+use Rattle.std.proofs.Common.{◌≡◌, ℕ, ◌+◌, ◌<◌, ◌≤◌, ◌==◌, ◌&&◌, Bool, true, false, nat_le, List, [], ◌∷◌, ◌++◌, length, Option, Some, None, if◌then◌else◌, refl, sym, ap, subst, ◌∙◌, arith, append_assoc, append-nil, zero-add, length-append, inl, inr}
 use Rattle.std.proofs.lemmas.Bool.{cases_Bool}
 use Rattle.std.proofs.lemmas.Bool.Decides.{nat_tests}
 use Rattle.std.proofs.lemmas.List.Sums.{fold-append}
 use Rattle.dep_octets.specs.Octets.{capped}
-use Rattle.dep_body.specs.Lines.{crlf, line_text, line_end, line_size, IsLine}
+use Rattle.dep_body.specs.Lines.{line_text, line_size}
 use Rattle.dep_body.specs.Body.{IsSizeLine, HasChunks, IsChunkedFault, long_line, bad_line, large_chunk, bad_end, line_limit}
 use Rattle.dep_body.specs.Reading.{size_after, size_reading, next_size, Says}
 use Rattle.dep_body.specs.Standing.{IsBegunLine, IsInLine, IsAtLineEnd, IsSizedLine, IsInData, IsBehindData}
 use Rattle.dep_body.specs.declared.frame.FrameFault.TheVariants.{Bad, TooLarge}
 use Rattle.dep_body.specs.declared.size.SizeLine.{SizeLine}
 use Rattle.dep_body.specs.declared.size.SizeReading.{SizeReading}
-use Rattle.dep_body.specs.declared.size.SizeReading.TheVariants.{Start, Digits, Extension, Malformed}
+use Rattle.dep_body.specs.declared.size.SizeReading.TheVariants.{Start}
 use Rattle.dep_body.proofs.BegunLines.{begun_none, begun_cr, begun_plain, begun_line, begun_text, begun_length, fold_bytes}
 use Rattle.dep_body.proofs.ChunkLemmas.{chunks_more, chunks_rest, chunks_join}
 use Rattle.dep_body.proofs.Readings.{size_said}

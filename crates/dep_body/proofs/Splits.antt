@@ -1,5 +1,5 @@
 -- Bytes that begin with a line begin with one alone.
-use Rattle.std.proofs.Common.{◌≡◌, ℕ, suc, zero, ◌+◌, ◌<◌, ◌≤◌, List, [], ◌∷◌, ◌++◌, length, take, drop, Some, None, refl, sym, ap, subst, ◌∙◌, arith, append_assoc, length-append}
+use Rattle.std.proofs.Common.{◌≡◌, ℕ, ◌+◌, ◌<◌, ◌≤◌, List, [], ◌∷◌, ◌++◌, length, Some, None, refl, sym, ap, ◌∙◌, arith, append_assoc, length-append}
 use Rattle.dep_body.specs.Lines.{crlf, line_text, line_end, IsLine}
 use Rattle.dep_body.proofs.LineEnds.{end_more, end_front, end_crlf, some_none}
 

@@ -1,13 +1,13 @@
 -- What stands first in bytes behind some chunks: a unit of one kind at most.
-use Rattle.std.proofs.Common.{◌≡◌, ℕ, ◌+◌, ◌-◌, ◌<◌, ◌≤◌, Bool, true, false, nat_lt, nat_le, List, [], ◌∷◌, ◌++◌, length, take, drop, All, Option, Some, None, if◌then◌else◌, bytes_eq, refl, sym, ap, subst, ◌∙◌, arith, append_assoc, append-nil, length-append, length-take, min, take_all, inl, inr, lt-ltb, le-ltb}
+use Rattle.std.proofs.Common.{◌≡◌, ℕ, ◌+◌, ◌-◌, ◌<◌, ◌≤◌, Bool, true, false, nat_lt, nat_le, List, [], ◌∷◌, ◌++◌, length, take, drop, Option, Some, None, if◌then◌else◌, bytes_eq, refl, sym, ap, subst, ◌∙◌, arith, append_assoc, length-append, length-take, min, take_all, inl, inr, lt-ltb}
 use Rattle.std.specs.List.{list_all}
 use Rattle.std.proofs.lemmas.Bool.{cases_Bool}
 use Rattle.std.proofs.lemmas.Bool.Decides.{nat_tests}
-use Rattle.std.proofs.lemmas.List.{take-append-drop, take-append-le}
+use Rattle.std.proofs.lemmas.List.{take-append-drop}
 use Rattle.std.proofs.lemmas.Slice.Eq.{bytes_eq-Decides}
 use Rattle.std.proofs.Math.Seq.{take-append_seam, drop-append_seam}
 use Rattle.dep_body.specs.Lines.{crlf, line_text, line_end, line_size, IsLine, is_trailer_line}
-use Rattle.dep_body.specs.Body.{Chunk, IsChunk, chunk_text, IsSizeLine, IsSection, IsBegunSection, IsLastPart, lines_text, section_limit, line_limit, IsUnitFault, long_line, bad_line, large_chunk, bad_end, long_trailers, bad_trailers, IsBegunUnit, begun_line, begun_chunk, begun_trailers}
+use Rattle.dep_body.specs.Body.{Chunk, IsChunk, chunk_text, IsSizeLine, IsLastPart, lines_text, section_limit, line_limit, IsUnitFault, long_line, bad_line, large_chunk, bad_end, long_trailers, bad_trailers, IsBegunUnit, begun_line, begun_chunk, begun_trailers}
 use Rattle.dep_body.specs.declared.frame.FrameFault.{FrameFault}
 use Rattle.dep_body.specs.declared.frame.FrameFault.TheVariants.{Bad, TooLarge}
 use Rattle.dep_body.proofs.LineEnds.{end_front}

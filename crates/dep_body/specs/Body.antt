@@ -1,5 +1,5 @@
 -- The text of a request's body, by its framing (RFC 9112, sections 6 and 7.1).
-use Rattle.std.specs.Prelude.{◌≡◌, ℕ, ◌+◌, ◌<◌, ◌≤◌, Bool, true, false, List, [], ◌∷◌, ◌++◌, length, take, All, Some, None}
+use Rattle.std.specs.Prelude.{◌≡◌, ℕ, ◌+◌, ◌<◌, ◌≤◌, true, false, List, [], ◌++◌, length, take, All, Some, None}
 use Rattle.std.specs.List.{flat_map, list_all}
 use Rattle.dep_body.specs.Lines.{crlf, line_end, line_text, IsLine, line_size, is_trailer_line}
 use Rattle.dep_body.specs.declared.frame.Framing.{Framing}

@@ -1,5 +1,5 @@
 -- What a chunk reader was fed, and what it answers. Its state doesn't tell the bytes, so these are relations.
-use Rattle.std.specs.Prelude.{◌≡◌, ℕ, ◌-◌, ◌≤◌, Bool, true, false, List, [], ◌++◌, length}
+use Rattle.std.specs.Prelude.{◌≡◌, ℕ, ◌-◌, false, List, [], ◌++◌, length}
 use Rattle.dep_body.specs.Body.{IsBodyText, IsChunkedPart, IsChunkedFault}
 use Rattle.dep_body.specs.Standing.{StandsAt, is_settled}
 use Rattle.dep_body.specs.ReaderValue.{ReaderValue}

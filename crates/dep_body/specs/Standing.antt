@@ -1,12 +1,11 @@
 -- Where a chunk reader stands behind a text.
-use Rattle.std.specs.Prelude.{◌≡◌, ℕ, ◌+◌, ◌<◌, ◌≤◌, Bool, true, false, List, [], ◌∷◌, ◌++◌, length, All, Option, Some, None, if◌then◌else◌}
+use Rattle.std.specs.Prelude.{◌≡◌, ℕ, ◌+◌, ◌<◌, ◌≤◌, Bool, true, false, List, [], ◌∷◌, ◌++◌, length, All, Option, None, if◌then◌else◌}
 use Rattle.std.specs.List.{list_all}
 use Rattle.std.specs.Option.{option_to_list}
 use Rattle.dep_octets.specs.Octets.{capped}
 use Rattle.dep_body.specs.Lines.{line_end, line_text, line_size, IsLine, is_trailer_line}
-use Rattle.dep_body.specs.Body.{line_limit, section_limit, IsSizeLine, HasChunks, IsTrailer, lines_text, IsChunkedBody, IsChunkedFault, IsChunkedPart}
+use Rattle.dep_body.specs.Body.{line_limit, section_limit, IsSizeLine, HasChunks, IsTrailer, lines_text, IsChunkedBody, IsChunkedFault}
 use Rattle.dep_body.specs.Reading.{size_reading, trailer_reading, Says}
-use Rattle.dep_body.specs.declared.frame.FrameFault.{FrameFault}
 use Rattle.dep_body.specs.declared.size.SizeLine.{SizeLine}
 use Rattle.dep_body.specs.declared.size.SizeReading.{SizeReading}
 use Rattle.dep_body.specs.declared.trailers.Trailers.{Trailers}

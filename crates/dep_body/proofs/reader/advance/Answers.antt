@@ -1,4 +1,4 @@
-use Rattle.std.proofs.Common.{◌≡◌, ◌+◌, ◌-◌, ◌<◌, ◌≤◌, ◌++◌, ℕ, List, length, take, drop, Bool, true, false, refl, sym, ap, subst, ◌∙◌, arith, take_all, length-drop}
+use Rattle.std.proofs.Common.{◌≡◌, ◌-◌, ◌≤◌, ◌++◌, length, take, drop, true, false, sym, ap, subst, ◌∙◌, arith, take_all, length-drop}
 use Rattle.dep_body.specs.Standing.{StandsAt, is_settled}
 use Rattle.dep_body.proofs.FeedLemmas.{take_further, kept_further}
 use Rattle.dep_body.proofs.reader.advance.Goals as goal

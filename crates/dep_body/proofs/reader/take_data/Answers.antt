@@ -1,4 +1,4 @@
-use Rattle.std.proofs.Common.{◌≡◌, ◌-◌, ◌++◌, ◌≤◌, ◌<◌, None, length, take, arith, subst, sym, ap, ◌∙◌}
+use Rattle.std.proofs.Common.{◌≡◌, ◌-◌, ◌++◌, ◌<◌, None, length, take, arith, subst, sym}
 use Rattle.std.proofs.lemmas.List.{length-take-le}
 use Rattle.dep_body.specs.Standing.{IsInData, IsBehindData}
 use Rattle.dep_body.proofs.DataSteps.{data_goes, data_ends}

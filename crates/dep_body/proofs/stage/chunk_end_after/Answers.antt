@@ -1,4 +1,4 @@
-use Rattle.std.proofs.Common.{◌≡◌, ◌++◌, ◌∷◌, [], ◌==◌, ◌&&◌, true, ap, subst, sym, ◌∙◌, arith, Some}
+use Rattle.std.proofs.Common.{◌++◌, ◌∷◌, [], ap, subst, sym, ◌∙◌, Some}
 use Rattle.dep_body.specs.Standing.{IsBehindData, IsInLine}
 use Rattle.dep_body.proofs.SizeSteps.{end_joins, end_fails, both_true, is_ten, is_thirteen, both_are}
 use Rattle.dep_body.proofs.stage.chunk_end_after.Goals as goal

@@ -1,4 +1,4 @@
-use Rattle.std.proofs.Common.{◌≡◌, ◌++◌, ◌∷◌, [], refl, sym, ◌∙◌, subst, arith}
+use Rattle.std.proofs.Common.{◌++◌, ◌∷◌, [], refl, sym, ◌∙◌, subst, arith}
 use Rattle.dep_body.specs.Standing.{StandsAt}
 use Rattle.dep_body.proofs.SizeSteps.{both_true, is_ten}
 use Rattle.dep_body.proofs.SectionSteps.{section_long, section_goes}

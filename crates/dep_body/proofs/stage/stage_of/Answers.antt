@@ -3,7 +3,6 @@ use Rattle.dep_body.specs.Lines.{line_size}
 use Rattle.dep_body.specs.Reading.{Says}
 use Rattle.dep_body.specs.declared.size.SizeReading.{SizeReading}
 use Rattle.dep_body.specs.declared.size.SizeReading.TheVariants.{Start, Digits, Extension, Malformed}
-use Rattle.dep_body.specs.Standing.{IsAtLineEnd}
 use Rattle.dep_body.proofs.SizeSteps.{line_says_none, line_says}
 use Rattle.dep_body.proofs.stage.stage_of.Goals as goal
 

@@ -1,6 +1,6 @@
-use Rattle.std.proofs.Common.{◌≡◌, ◌+◌, ◌<◌, subst, sym, ap, ◌∙◌, arith, length, Some}
+use Rattle.std.proofs.Common.{◌+◌, ◌<◌, subst, sym, ap, ◌∙◌, arith, length, Some}
 use Rattle.dep_body.specs.Standing.{IsSizedLine}
-use Rattle.dep_body.proofs.SizeSteps.{sized_none, sized_large, sized_fits, capped_some}
+use Rattle.dep_body.proofs.SizeSteps.{sized_none, sized_large, capped_some}
 use Rattle.dep_body.proofs.SectionSteps.{sized_zero}
 use Rattle.dep_body.proofs.stage.stage_of_size.Goals as goal
 

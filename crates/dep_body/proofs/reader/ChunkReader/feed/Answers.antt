@@ -1,4 +1,4 @@
-use Rattle.std.proofs.Common.{◌≡◌, ◌≤◌, ◌++◌, ℕ, List, length, subst, sym, ap}
+use Rattle.std.proofs.Common.{◌≤◌, length, subst, sym}
 use Rattle.dep_body.specs.ReaderValue.{ReaderValue}
 use Rattle.dep_body.specs.Feeding.{HasFed, TellsFed, used_by}
 use Rattle.dep_body.proofs.FeedLemmas.{feeds, feeds_fed, tells, used_within}

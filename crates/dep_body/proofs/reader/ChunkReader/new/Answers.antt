@@ -1,4 +1,4 @@
-use Rattle.std.proofs.Common.{[], refl, arith, sym, ◌≡◌, subst, false, Bool, List, ℕ}
+use Rattle.std.proofs.Common.{[], refl, arith, sym, subst, List, ℕ}
 use Rattle.dep_body.specs.Body.{HasChunks}
 use Rattle.dep_body.specs.Standing.{IsBegunLine}
 use Rattle.dep_body.proofs.BegunLines.{begun_none}
