@@ -1,0 +1,1 @@
+//! Laws of dispositions, apart from any code.
