@@ -1,8 +1,10 @@
 -- What stands at the front of parameters, and what follows it.
-use Rattle.std.proofs.Common.{◌≡◌, ◌+◌, ◌<◌, ◌≤◌, ◌==◌, ◌||◌, ◌&&◌, ◌∙◌, ◌⊎◌, nat_lt, ℕ, true, false, List, [], ◌∷◌, ◌++◌, length, take, drop, Option, Some, None, refl, sym, ap, subst, arith, inl, inr, append_assoc, append-nil, length-append, length-drop}
+use Rattle.std.proofs.Common.{◌≡◌, ◌+◌, ◌<◌, ◌≤◌, Result, Ok, Err, ◌==◌, ◌||◌, ◌&&◌, ◌∙◌, ◌⊎◌, nat_lt, eq-eqb, ℕ, Bool, true, false, List, [], ◌∷◌, ◌++◌, length, take, drop, Option, Some, None, refl, sym, ap, subst, arith, inl, inr, append_assoc, append-nil, length-append, length-drop}
 use Rattle.std.proofs.lemmas.Bool.{cases_Bool}
 use Rattle.std.proofs.lemmas.List.{take-append-drop}
+use Rattle.std.proofs.lemmas.List.Folds.{length-prefix_len}
 use Rattle.std.specs.List.{list_all, flat_map, filter_map, prefix_len, AllByRecursion}
+use Rattle.std.specs.Result.{IsErrAnd, IfErr}
 use Rattle.std.specs.Str.{str_to_ascii_lowercase}
 use Rattle.dep_octets.specs.Octets.{is_token, is_token_octet, is_blank, trim_start}
 use Rattle.dep_params.specs.Grammar.{NamedValue, Value, is_value, value_text, value_octets, is_bare_octet, Place, Empty, Holds, IsPlace, place_text, place_parameter, are_blanks, AreParameters}
@@ -157,7 +159,7 @@ pub data First (text : List ℕ) (ps : List NamedValue) : Type 0 where
   Takes : (r rest : List ℕ) (p : NamedValue) (more : List NamedValue) → semicolon_read text ≡ Some (Some r) → (token_len r ≡ 0 → ⊥)
       → parameter_read r ≡ Some (p, rest) → ps ≡ p ∷ more → AreParameters rest more → First text ps
 
-name_length : (name rest : List ℕ) → is_token name ≡ true → token_len (name ++ rest) ≡ 0 → ⊥
+pub name_length : (name rest : List ℕ) → is_token name ≡ true → token_len (name ++ rest) ≡ 0 → ⊥
 name_length [] rest h none = cc h
 name_length (b ∷ name) rest h none =
     let all = (and_both (nat_lt 0 (length (b ∷ name))) (list_all is_token_octet (b ∷ name)) h).1 in
@@ -275,7 +277,8 @@ holds-left text r rest p ps h some read is = elim (first text ps is) [
   | Passes a e none _ ↦ absurd (some (ap token_len (sym (same_rest text a r e h)) ∙ none))
   | Takes a tail q more e _ found _ left ↦
       let again : parameter_read r ≡ Some (q, tail) = ap parameter_read (sym (same_rest text a r e h)) ∙ found in
-      let same : tail ≡ rest = cc (again, read) in
+      let pair : ◌≡◌ {A = NamedValue × List ℕ} (q, tail) (p, rest) = cc (again, read) in
+      let same : tail ≡ rest = ap (λ z. z.1) pair in
       (more, subst (λ (t : List ℕ). AreParameters t more) same left)
 ]
 
@@ -317,3 +320,19 @@ refuses-parameter text rest r Malformed left found some h = λ ps is. let more =
 refuses-parameter text rest r Repeated left found some h = h
 refuses-parameter text rest r NoName left found some h = h
 refuses-parameter text rest r Memory left found some h = h
+
+-- whether the first token of a text is empty
+pub is_named : (text first : List ℕ) (empty : Bool) → first ≡ take (token_len text) text → empty ≡ (length first == 0) → empty ≡ false → token_len text ≡ 0 → ⊥
+is_named text first empty is test not_empty none =
+    let size : length first ≡ 0 = ap length is ∙ length-prefix_len is_token_octet text ∙ none in
+    let holds : empty ≡ true = test ∙ eq-eqb _ _ size in
+    cc (holds, not_empty)
+
+pub is_unnamed : (text first : List ℕ) (empty : Bool) → first ≡ take (token_len text) text → empty ≡ (length first == 0) → empty ≡ true → token_len text ≡ 0
+is_unnamed text first empty is test holds =
+    let size : length first ≡ 0 = same_number (length first) 0 (sym test ∙ holds) in
+    sym (length-prefix_len is_token_octet text) ∙ sym (ap length is) ∙ size
+
+pub refused_by : {A : Type 0} (result : Result A ParamFault) (text : List ℕ) (e : ParamFault) → IsErrAnd result (λ f. f ≡ e) → Refuses text e → IfErr result (Refuses text)
+refused_by (Ok a) text e h is = tt
+refused_by (Err f) text e h is = subst (Refuses text) (sym h) is

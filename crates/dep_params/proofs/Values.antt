@@ -117,7 +117,7 @@ pub record IsValue (text octets rest : List ℕ) : Type 0 where
   pub written : text ≡ value_text value ++ rest
   pub told : octets ≡ value_octets value
 
-is_some : (n : ℕ) → (n == 0) ≡ false → nat_lt 0 n ≡ true
+pub is_some : (n : ℕ) → (n == 0) ≡ false → nat_lt 0 n ≡ true
 is_some n h = grind (arith, nat_tests)
 
 bare-sound : (text : List ℕ) (x : List ℕ × List ℕ) → bare text ≡ Some x → IsValue text x.0 x.1

@@ -1,4 +1,5 @@
 ghost use Rattle.std.specs.Prelude.{◌≡◌};
+ghost use Rattle.std.specs.Str.{str_eq_ignore_ascii_case};
 
 use std::alloc::{AllocError, AllocFailed};
 use std::marker::Model;
@@ -64,12 +65,18 @@ impl Disposition {
         ensures { option_copied result ≡ value_of name.now self.now }
     {
         for parameter in &self.parameters {
-            if parameter.name.eq_ignore_ascii_case(name) {
+            if has_name(parameter, name) {
                 return Some(&parameter.value);
             }
         }
         None
     }
+}
+
+fn has_name(parameter: &Parameter, name: &[u8]) -> bool
+    ensures { result ≡ str_eq_ignore_ascii_case parameter.now.name.items name.now }
+{
+    parameter.name.eq_ignore_ascii_case(name)
 }
 
 impl From<AllocError> for ParamFault {

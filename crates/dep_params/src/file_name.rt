@@ -2,7 +2,8 @@ ghost use Rattle.std.specs.Prelude.{◌≡◌, ◌==◌, ◌<◌, ◌↔◌, ◌
 ghost use Rattle.std.specs.List.{list_all};
 ghost use Rattle.percent_encoding.specs.Percent as spec;
 ghost use Rattle.std.specs.Str.{is_utf8, str_eq_ignore_ascii_case};
-ghost use Rattle.dep_params.specs.Names.{HasTwoDigitsAfter, HasWholeEscapes, IsExtended, IsFileName, is_good_name, is_name_octet};
+ghost use Rattle.dep_params.specs.Grammar.{value_of};
+ghost use Rattle.dep_params.specs.Names.{HasTwoDigitsAfter, HasWholeEscapes, IsExtended, IsFileName, IsTold, is_good_name, is_name_octet};
 ghost use Rattle.dep_params.specs.Reading.{cut_at_apostrophe};
 
 use crate::disposition::{Disposition, ParamFault};
@@ -19,19 +20,28 @@ impl Disposition {
         ensures unnamed { result ≡ Err ParamFault.NoName → (name : List ℕ) → ¬ IsFileName self.now name }
         ensures faults { IfErr result (λ e. (e ≡ ParamFault.NoName) ⊎ (e ≡ ParamFault.Memory)) }
     {
-        let name = match self.parameter(b"filename*") {
-            Some(text) => decoded(alloc, text)?,
-            None => match self.parameter(b"filename") {
-                Some(name) => name.to_vec(alloc)?,
-                None => return Err(ParamFault::NoName),
-            },
-        };
+        let name = self.told_name(alloc)?;
         if !is_good_name(&name) {
             return Err(ParamFault::NoName);
         }
         match String::from_utf8(name) {
             Ok(name) => Ok(name),
             Err(_) => Err(ParamFault::NoName),
+        }
+    }
+
+    // The name that the parameters tell, whether it may stand or not.
+    fn told_name(&self, alloc: Global) -> Result<Vec<u8>, ParamFault>
+        ensures told { IfOk result (λ name. IsTold (value_of (codes "filename*") self.now) (value_of (codes "filename") self.now) name.items) }
+        ensures untold { result ≡ Err ParamFault.NoName → (name : List ℕ) → ¬ IsTold (value_of (codes "filename*") self.now) (value_of (codes "filename") self.now) name }
+        ensures faults { IfErr result (λ e. (e ≡ ParamFault.NoName) ⊎ (e ≡ ParamFault.Memory)) }
+    {
+        match self.parameter(b"filename*") {
+            Some(text) => decoded(alloc, text),
+            None => match self.parameter(b"filename") {
+                Some(name) => Ok(name.to_vec(alloc)?),
+                None => Err(ParamFault::NoName),
+            },
         }
     }
 }

@@ -1,37 +1,72 @@
-use Rattle.std.proofs.Common.{rules, ◌≡◌, ◌≢◌, ◌⊎◌, List, not, map, bytes_eq, MatchResult, IfOk, IfErr, ℕ, ◌+◌, ◌-◌, ◌*◌, ◌<◌, ◌≤◌, length, ◌/◌, ◌%◌, Bool, true, false, nat_eq, nat_lt, [], ◌∷◌, ◌++◌, slice_index_or, slice_set, bit_and, bit_or, Fits, w8, w32, w64, Bor, MutBor}
-use Rattle.std.specs.Bool.{Decides}
-use Rattle.std.specs.List.{IsDistinct}
-use Rattle.std.specs.Option.{option_copied}
-use Rattle.std.specs.Str.{str_to_ascii_lowercase}
-use Rattle.dep_params.specs.Grammar.{AreParameters, IsDisposition, NamedValue, Reading, names_of}
-use Rattle.dep_params.specs.Reading.{Fails, Refuses, parameter_read, semicolon_read, value_read}
+use Rattle.std.proofs.Common.{◌≡◌, ◌∙◌, ◌<◌, ℕ, List, [], ◌∷◌, ◌++◌, Some, None, map, length, sym, ap, subst, arith, append_assoc, append-nil}
+use Rattle.std.proofs.lemmas.List.{map-append}
+use Rattle.dep_params.specs.Grammar.{AreParameters, NamedValue}
+use Rattle.dep_params.specs.Reading.{semicolon_read, parameter_read, token_len}
 use Rattle.dep_params.specs.Stored.{view, views}
+use Rattle.dep_params.proofs.Places.{semicolon-shorter, parameter-shorter, parameters-end, parameters-empty, parameters-holds, empty-left, holds-left, refuses-semicolon, refuses-parameter, is_named, is_unnamed, refused_by}
+use Rattle.dep_params.proofs.Values.{parameter_read-sound}
 use Rattle.dep_params.proofs.reader.read_parameters.Goals as goal
 
--- src/reader.rt:44:29
 pub returns-in_err-after-clause-refused : goal.returns-in_err-after-clause-refused
-returns-in_err-after-clause-refused c = ?
+returns-in_err-after-clause-refused c =
+    let refused = refuses-semicolon c.args.text.now c.loop-parameters.rest.now c.in_err-after.field-0.0 c.loop-parameters.invariant.left c.in_err-after.ensures in
+    refused_by _ c.args.text.now c.in_err-after.field-0.0 c.from_residual.ensures.1 refused
 
--- src/reader.rt:47:38
 pub returns-in_err-parameter-clause-refused : goal.returns-in_err-parameter-clause-refused
-returns-in_err-parameter-clause-refused c = ?
+returns-in_err-parameter-clause-refused c =
+    let rest = c.loop-parameters.rest.now in
+    let after = c.in-Some.after.now in
+    let found : semicolon_read rest ≡ Some (Some after) = rw c.in-Some.is at c.in_ok-after.ensures in
+    let named = is_named after _ _ c.split_token.ensures.token c.is_empty.ensures c.if-not-is_empty.true in
+    let refused = refuses-parameter c.args.text.now rest after c.in_err-parameter.field-0.0 c.loop-parameters.invariant.left found named c.in_err-parameter.ensures in
+    refused_by _ c.args.text.now c.in_err-parameter.field-0.0 c.from_residual-in_err-parameter.ensures.1 refused
 
--- src/reader.rt:44:5
 pub loop-parameters-smaller-then-not-is_empty : goal.loop-parameters-smaller-then-not-is_empty
-loop-parameters-smaller-then-not-is_empty c = ?
+loop-parameters-smaller-then-not-is_empty c =
+    let rest = c.loop-parameters.rest.now in
+    let after = c.in-Some.after.now in
+    let found : semicolon_read rest ≡ Some (Some after) = rw c.in-Some.is at c.in_ok-after.ensures in
+    let named = is_named after _ _ c.split_token.ensures.token c.is_empty.ensures c.if-not-is_empty.true in
+    let first = semicolon-shorter rest after found in
+    let second = parameter-shorter after c.in_ok-parameter.after.now _ named c.in_ok-parameter.ensures in
+    omega (arith, first, second)
 
--- src/reader.rt:44:5
 pub loop-parameters-preserved-then-not-is_empty : goal.loop-parameters-preserved-then-not-is_empty
-loop-parameters-preserved-then-not-is_empty c = ?
+loop-parameters-preserved-then-not-is_empty c =
+    let rest = c.loop-parameters.rest.now in
+    let after = c.in-Some.after.now in
+    let tail = c.in_ok-parameter.after.now in
+    let p = view c.in_ok-parameter.parameter in
+    let found : semicolon_read rest ≡ Some (Some after) = rw c.in-Some.is at c.in_ok-after.ensures in
+    let named = is_named after _ _ c.split_token.ensures.token c.is_empty.ensures c.if-not-is_empty.true in
+    let is = parameter_read-sound after (p, tail) named c.in_ok-parameter.ensures in
+    let more : views c.push.new.self.items ≡ views c.loop-parameters.parameters.items ++ p ∷ [] =
+    ap views c.in_ok-push.ensures.items ∙ map-append view c.loop-parameters.parameters.items _ in
+    record {
+      joined = λ ps behind. rw (more, append_assoc) (c.loop-parameters.invariant.joined (p ∷ ps) (parameters-holds rest after tail p ps found is behind));
+      left = λ ps whole. let left = c.loop-parameters.invariant.left ps whole in holds-left rest after tail p left.0 found named c.in_ok-parameter.ensures left.1;
+    }
 
--- src/reader.rt:44:5
 pub loop-parameters-smaller : goal.loop-parameters-smaller
-loop-parameters-smaller c = ?
+loop-parameters-smaller c =
+    let rest = c.loop-parameters.rest.now in
+    let after = c.in-Some.after.now in
+    let found : semicolon_read rest ≡ Some (Some after) = rw c.in-Some.is at c.in_ok-after.ensures in
+    semicolon-shorter rest after found
 
--- src/reader.rt:44:5
 pub loop-parameters-preserved : goal.loop-parameters-preserved
-loop-parameters-preserved c = ?
+loop-parameters-preserved c =
+    let rest = c.loop-parameters.rest.now in
+    let after = c.in-Some.after.now in
+    let found : semicolon_read rest ≡ Some (Some after) = rw c.in-Some.is at c.in_ok-after.ensures in
+    let none = is_unnamed after _ _ c.split_token.ensures.token c.is_empty.ensures c.if-not-is_empty.false in
+    record {
+      joined = λ ps behind. c.loop-parameters.invariant.joined ps (parameters-empty rest after ps found behind);
+      left = λ ps whole. let left = c.loop-parameters.invariant.left ps whole in empty-left rest after left.0 found none left.1;
+    }
 
--- src/reader.rt:38:1
 pub returns-clause-read : goal.returns-clause-read
-returns-clause-read c = ?
+returns-clause-read c =
+    let rest = c.loop-parameters.rest.now in
+    let found : semicolon_read rest ≡ Some None = rw c.in_default.is at c.in_ok-after.ensures in
+    subst (AreParameters c.args.text.now) (append-nil _) (c.loop-parameters.invariant.joined [] (parameters-end rest found))
