@@ -8,7 +8,7 @@ use Rattle.std.specs.Result.{IsErrAnd, IfErr}
 use Rattle.std.specs.Str.{str_to_ascii_lowercase}
 use Rattle.dep_octets.specs.Octets.{is_token, is_token_octet, is_blank, trim_start}
 use Rattle.dep_params.specs.Grammar.{NamedValue, Value, is_value, value_text, value_octets, is_bare_octet, Place, Empty, Holds, IsPlace, place_text, place_parameter, are_blanks, AreParameters}
-use Rattle.dep_params.specs.Reading.{Fails, Refuses, at_semicolon, semicolon_read, token_len, parameter_read}
+use Rattle.dep_params.specs.Reading.{Fails, Refuses, at_semicolon, semicolon_read, token_len, parameter_read, named, behind_name}
 use Rattle.dep_params.specs.declared.disposition.ParamFault.{ParamFault}
 use Rattle.dep_params.specs.declared.disposition.ParamFault.TheVariants.{Malformed, Repeated, NoName, Memory}
 use Rattle.dep_params.proofs.Runs.{and_both, same_number, chosen, drop-run, run-passes}
@@ -332,6 +332,13 @@ pub is_unnamed : (text first : List ℕ) (empty : Bool) → first ≡ take (toke
 is_unnamed text first empty is test holds =
     let size : length first ≡ 0 = same_number (length first) 0 (sym test ∙ holds) in
     sym (length-prefix_len is_token_octet text) ∙ sym (ap length is) ∙ size
+
+-- a parameter is read behind the token that is its name
+pub parameter-behind : (text name behind : List ℕ) → name ≡ take (token_len text) text → behind ≡ drop (token_len text) text
+    → named name (behind_name behind) ≡ parameter_read text
+unfolding parameter_read
+parameter-behind text name behind is rest =
+    ap (λ (n : List ℕ). named n (behind_name behind)) is ∙ ap (λ (d : List ℕ). named (take (token_len text) text) (behind_name d)) rest
 
 pub refused_by : {A : Type 0} (result : Result A ParamFault) (text : List ℕ) (e : ParamFault) → IsErrAnd result (λ f. f ≡ e) → Refuses text e → IfErr result (Refuses text)
 refused_by (Ok a) text e h is = tt

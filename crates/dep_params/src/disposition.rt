@@ -45,7 +45,7 @@ impl Disposition {
     ghost use Rattle.dep_params.specs.Grammar.{Reading, value_of};
     ghost use Rattle.dep_params.specs.Stored.{views};
 
-    pub fn of(form: Vec<u8>, parameters: Vec<Parameter>) -> Disposition
+    pub(crate) fn of(form: Vec<u8>, parameters: Vec<Parameter>) -> Disposition
         ensures form { result.form ≡ form.items }
         ensures parameters { result.parameters ≡ views parameters.items }
     {

@@ -4,7 +4,7 @@ ghost use Rattle.std.specs.List.{IsDistinct};
 ghost use Rattle.std.specs.Option.{option_copied};
 ghost use Rattle.std.specs.Str.{str_to_ascii_lowercase};
 ghost use Rattle.dep_params.specs.Grammar.{AreParameters, IsDisposition, NamedValue, Reading, names_of};
-ghost use Rattle.dep_params.specs.Reading.{Fails, Refuses, parameter_read, semicolon_read, value_read};
+ghost use Rattle.dep_params.specs.Reading.{Fails, Refuses, behind_name, named, semicolon_read, value_read};
 ghost use Rattle.dep_params.specs.Stored.{view, views};
 
 use crate::disposition::{Disposition, ParamFault, Parameter};
@@ -43,8 +43,9 @@ fn read_parameters(alloc: Global, text: &[u8]) -> Result<Vec<Parameter>, ParamFa
     let mut rest = text;
     while let Some(after) = behind_semicolon(rest)? {
         rest = after;
-        if !split_token(rest).0.is_empty() {
-            let (parameter, after) = read_parameter(alloc, rest)?;
+        let (name, behind) = split_token(rest);
+        if !name.is_empty() {
+            let (parameter, after) = read_parameter(alloc, name, behind)?;
             parameters.push(parameter)?;
             rest = after;
         }
@@ -64,13 +65,15 @@ fn behind_semicolon(text: &[u8]) -> Result<Option<&[u8]>, ParamFault>
     }
 }
 
-// The parameter at the front, and what follows it.
-#[tactic(auto, unfolding(crate::specs::Reading::parameter_read))]
-fn read_parameter(alloc: Global, text: &[u8]) -> Result<(Parameter, &[u8]), ParamFault>
-    ensures { MatchResult result (λ x. parameter_read text.now ≡ Some (view x.0, x.1.now)) (λ e. Fails e (parameter_read text.now)) }
+// The parameter with this name in front of the text, and what follows it.
+fn read_parameter<'a>(
+    alloc: Global,
+    name: &[u8],
+    text: &'a [u8],
+) -> Result<(Parameter, &'a [u8]), ParamFault>
+    ensures { MatchResult result (λ x. named name.now (behind_name text.now) ≡ Some (view x.0, x.1.now)) (λ e. Fails e (named name.now (behind_name text.now))) }
 {
-    let (name, rest) = split_token(text);
-    let Some((b'=', rest)) = rest.split_first() else {
+    let Some((b'=', rest)) = text.split_first() else {
         return Err(ParamFault::Malformed);
     };
     let (value, rest) = read_value(alloc, rest)?;

@@ -1,9 +1,9 @@
-use Rattle.std.proofs.Common.{◌≡◌, ◌∙◌, ◌<◌, ℕ, List, [], ◌∷◌, ◌++◌, Some, None, map, length, sym, ap, subst, arith, append_assoc, append-nil}
+use Rattle.std.proofs.Common.{◌≡◌, ◌∙◌, ◌<◌, ℕ, List, [], ◌∷◌, ◌++◌, Some, None, Option, map, length, sym, ap, subst, arith, append_assoc, append-nil}
 use Rattle.std.proofs.lemmas.List.{map-append}
 use Rattle.dep_params.specs.Grammar.{AreParameters, NamedValue}
-use Rattle.dep_params.specs.Reading.{semicolon_read, parameter_read, token_len}
+use Rattle.dep_params.specs.Reading.{Fails, semicolon_read, parameter_read, token_len}
 use Rattle.dep_params.specs.Stored.{view, views}
-use Rattle.dep_params.proofs.Places.{semicolon-shorter, parameter-shorter, parameters-end, parameters-empty, parameters-holds, empty-left, holds-left, refuses-semicolon, refuses-parameter, is_named, is_unnamed, refused_by}
+use Rattle.dep_params.proofs.Places.{semicolon-shorter, parameter-shorter, parameters-end, parameters-empty, parameters-holds, empty-left, holds-left, refuses-semicolon, refuses-parameter, is_named, is_unnamed, refused_by, parameter-behind}
 use Rattle.dep_params.proofs.Values.{parameter_read-sound}
 use Rattle.dep_params.proofs.reader.read_parameters.Goals as goal
 
@@ -18,7 +18,8 @@ returns-in_err-parameter-clause-refused c =
     let after = c.in-Some.after.now in
     let found : semicolon_read rest ≡ Some (Some after) = rw c.in-Some.is at c.in_ok-after.ensures in
     let named = is_named after _ _ c.split_token.ensures.token c.is_empty.ensures c.if-not-is_empty.true in
-    let refused = refuses-parameter c.args.text.now rest after c.in_err-parameter.field-0.0 c.loop-parameters.invariant.left found named c.in_err-parameter.ensures in
+    let fails = subst (λ (o : Option (NamedValue × List ℕ)). Fails c.in_err-parameter.field-0.0 o) (parameter-behind after _ _ c.split_token.ensures.token c.split_token.ensures.rest) c.in_err-parameter.ensures in
+    let refused = refuses-parameter c.args.text.now rest after c.in_err-parameter.field-0.0 c.loop-parameters.invariant.left found named fails in
     refused_by _ c.args.text.now c.in_err-parameter.field-0.0 c.from_residual-in_err-parameter.ensures.1 refused
 
 pub loop-parameters-smaller-then-not-is_empty : goal.loop-parameters-smaller-then-not-is_empty
@@ -28,7 +29,9 @@ loop-parameters-smaller-then-not-is_empty c =
     let found : semicolon_read rest ≡ Some (Some after) = rw c.in-Some.is at c.in_ok-after.ensures in
     let named = is_named after _ _ c.split_token.ensures.token c.is_empty.ensures c.if-not-is_empty.true in
     let first = semicolon-shorter rest after found in
-    let second = parameter-shorter after c.in_ok-parameter.after.now _ named c.in_ok-parameter.ensures in
+    let read : parameter_read after ≡ Some (view c.in_ok-parameter.parameter, c.in_ok-parameter.after.now) =
+    sym (parameter-behind after _ _ c.split_token.ensures.token c.split_token.ensures.rest) ∙ c.in_ok-parameter.ensures in
+    let second = parameter-shorter after c.in_ok-parameter.after.now _ named read in
     omega (arith, first, second)
 
 pub loop-parameters-preserved-then-not-is_empty : goal.loop-parameters-preserved-then-not-is_empty
@@ -39,12 +42,13 @@ loop-parameters-preserved-then-not-is_empty c =
     let p = view c.in_ok-parameter.parameter in
     let found : semicolon_read rest ≡ Some (Some after) = rw c.in-Some.is at c.in_ok-after.ensures in
     let named = is_named after _ _ c.split_token.ensures.token c.is_empty.ensures c.if-not-is_empty.true in
-    let is = parameter_read-sound after (p, tail) named c.in_ok-parameter.ensures in
+    let read : parameter_read after ≡ Some (p, tail) = sym (parameter-behind after _ _ c.split_token.ensures.token c.split_token.ensures.rest) ∙ c.in_ok-parameter.ensures in
+    let is = parameter_read-sound after (p, tail) named read in
     let more : views c.push.new.self.items ≡ views c.loop-parameters.parameters.items ++ p ∷ [] =
     ap views c.in_ok-push.ensures.items ∙ map-append view c.loop-parameters.parameters.items _ in
     record {
       joined = λ ps behind. rw (more, append_assoc) (c.loop-parameters.invariant.joined (p ∷ ps) (parameters-holds rest after tail p ps found is behind));
-      left = λ ps whole. let left = c.loop-parameters.invariant.left ps whole in holds-left rest after tail p left.0 found named c.in_ok-parameter.ensures left.1;
+      left = λ ps whole. let left = c.loop-parameters.invariant.left ps whole in holds-left rest after tail p left.0 found named read left.1;
     }
 
 pub loop-parameters-smaller : goal.loop-parameters-smaller
