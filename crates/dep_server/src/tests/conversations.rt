@@ -14,9 +14,6 @@ use std::io::{ErrorKind, Read};
 use std::process::Abort;
 use std::test::Fail;
 
-const HEAD_OF_GREATEST_BODY: &[u8] =
-    b"POST /service HTTP/1.1\r\nHost: a\r\nContent-Length: 16777216\r\n\r\n";
-
 /// Gives its pieces, one a read, and then fails or is at its end.
 #[derive(Drop)]
 struct Pieces {
@@ -37,30 +34,6 @@ impl Read for Pieces {
         let count = piece.len().min(buffer.len());
         buffer[..count].copy_from_slice(&piece[..count]);
         Ok(count)
-    }
-}
-
-/// Gives a head, and then a body without end, byte by byte.
-#[derive(Drop)]
-struct Drip {
-    head: &'static [u8],
-    reads: u64,
-}
-
-impl Read for Drip {
-    fn read(&mut self, buffer: &mut [u8]) -> io::Result<usize> {
-        let Some(place) = buffer.first_mut() else {
-            return Ok(0);
-        };
-        self.reads = self.reads.saturating_add(1);
-        *place = match self.head.split_first() {
-            Some((byte, rest)) => {
-                self.head = rest;
-                *byte
-            }
-            None => b'x',
-        };
-        Ok(1)
     }
 }
 
@@ -176,17 +149,5 @@ fn a_writer_that_fails_ends_a_connection(rt: HostRuntime) -> Result<(), Fail> {
         Served::WriteFault,
     )?;
     assert_eq!(rt; reader.reads, 1);
-    Ok(())
-}
-
-#[test]
-fn reads_without_end_are_bounded(rt: HostRuntime) -> Result<(), Fail> {
-    let mut reader = Drip {
-        head: HEAD_OF_GREATEST_BODY,
-        reads: 0,
-    };
-    let page = Page::new(rt.alloc())?;
-    serves(&rt, rt.alloc(), &mut reader, page, &[], Served::Bound)?;
-    assert_eq!(rt; reader.reads, 1_048_576);
     Ok(())
 }
