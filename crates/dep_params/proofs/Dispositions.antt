@@ -1,14 +1,14 @@
 -- The type of a disposition, and its parameters behind it.
-use Rattle.std.proofs.Common.{◌≡◌, ◌∙◌, ℕ, List, [], ◌∷◌, ◌++◌, true, nat_lt, length, take, drop, map, bytes_eq, refl, sym, ap, subst, ne_eqb, zero, suc, ◌<◌, arith, Some, None, Option}
+use Rattle.std.proofs.Common.{◌≡◌, ◌∙◌, ℕ, List, [], ◌∷◌, true, nat_lt, length, take, drop, map, refl, sym, ap, subst, ne_eqb, zero, suc, ◌<◌, arith, Some}
 use Rattle.std.proofs.Math.Seq.{drop-append_seam, take-append_seam}
 use Rattle.std.proofs.lemmas.List.{take-append-drop}
 use Rattle.std.proofs.lemmas.List.Folds.{length-prefix_len}
-use Rattle.std.specs.List.{list_all, IsDistinct, prefix_len}
+use Rattle.std.specs.List.{list_all}
 use Rattle.std.specs.Str.{str_to_ascii_lowercase}
-use Rattle.dep_octets.specs.Octets.{is_token, is_token_octet}
-use Rattle.dep_params.specs.Grammar.{AreParameters, IsDisposition, NamedValue, Reading, names_of}
-use Rattle.dep_params.specs.Reading.{token_len, semicolon_read, parameter_read}
-use Rattle.dep_params.specs.Stored.{view, views}
+use Rattle.dep_octets.specs.Octets.{is_token_octet}
+use Rattle.dep_params.specs.Grammar.{AreParameters, IsDisposition, NamedValue, Reading}
+use Rattle.dep_params.specs.Reading.{token_len, parameter_read}
+use Rattle.dep_params.specs.Stored.{views}
 use Rattle.dep_params.specs.declared.disposition.Parameter.{Parameter}
 use Rattle.dep_params.proofs.Runs.{and_both, prefix_len-stopped, run-passes}
 use Rattle.dep_params.proofs.Values.{is_some}

@@ -1,5 +1,5 @@
 -- Extended values, and the one name that they tell.
-use Rattle.std.proofs.Common.{◌≡◌, ◌∙◌, ◌+◌, ◌<◌, ◌==◌, ℕ, Bool, List, [], ◌∷◌, ◌++◌, true, false, not, nat_lt, suc, length, take, drop, get_or, codes, Option, Some, None, option_map, refl, sym, ap, subst, inl, inr, arith, add-one, append_assoc, length-append, lt-ltb, drop-cons}
+use Rattle.std.proofs.Common.{◌≡◌, ◌∙◌, ◌+◌, ◌<◌, ◌==◌, ℕ, Bool, List, ◌∷◌, ◌++◌, true, false, not, nat_lt, suc, length, take, drop, get_or, codes, Option, Some, None, refl, sym, ap, subst, inl, inr, arith, add-one, append_assoc, length-append, lt-ltb, drop-cons}
 use Rattle.std.proofs.Math.Seq.{drop-append-add, take-append_seam}
 use Rattle.std.proofs.lemmas.Bool.{cases_Bool}
 use Rattle.std.proofs.lemmas.Bool.Decides.{nat_tests}
@@ -10,7 +10,7 @@ use Rattle.std.specs.Str.{str_eq_ignore_ascii_case}
 use Rattle.percent_encoding.specs.Percent.{percent_decode}
 use Rattle.dep_params.specs.Names.{HasWholeEscapes, IsExtended, IsTold, has_no_apostrophe}
 use Rattle.dep_params.specs.Reading.{cut_at_apostrophe}
-use Rattle.dep_params.proofs.Runs.{same_number, prefix_len-stopped, run-passes}
+use Rattle.dep_params.proofs.Runs.{prefix_len-stopped, run-passes}
 
 abbrev other : ℕ → Bool
 other b = not (b == 39)

@@ -1,5 +1,5 @@
 -- What stands at the front of parameters, and what follows it.
-use Rattle.std.proofs.Common.{◌≡◌, ◌+◌, ◌<◌, ◌≤◌, Result, Ok, Err, ◌==◌, ◌||◌, ◌&&◌, ◌∙◌, ◌⊎◌, nat_lt, eq-eqb, ℕ, Bool, true, false, List, [], ◌∷◌, ◌++◌, length, take, drop, Option, Some, None, refl, sym, ap, subst, arith, inl, inr, append_assoc, append-nil, length-append, length-drop}
+use Rattle.std.proofs.Common.{◌≡◌, ◌<◌, ◌≤◌, Result, Ok, Err, ◌==◌, ◌∙◌, ◌⊎◌, nat_lt, eq-eqb, ℕ, Bool, true, false, List, [], ◌∷◌, ◌++◌, length, take, drop, Some, None, refl, sym, ap, subst, arith, inl, inr, append_assoc, append-nil, length-append}
 use Rattle.std.proofs.lemmas.Bool.{cases_Bool}
 use Rattle.std.proofs.lemmas.List.{take-append-drop}
 use Rattle.std.proofs.lemmas.List.Folds.{length-prefix_len}
@@ -7,7 +7,7 @@ use Rattle.std.specs.List.{list_all, flat_map, filter_map, prefix_len, AllByRecu
 use Rattle.std.specs.Result.{IsErrAnd, IfErr}
 use Rattle.std.specs.Str.{str_to_ascii_lowercase}
 use Rattle.dep_octets.specs.Octets.{is_token, is_token_octet, is_blank, trim_start}
-use Rattle.dep_params.specs.Grammar.{NamedValue, Value, is_value, value_text, value_octets, is_bare_octet, Place, Empty, Holds, IsPlace, place_text, place_parameter, are_blanks, AreParameters}
+use Rattle.dep_params.specs.Grammar.{NamedValue, value_text, value_octets, is_bare_octet, Place, Empty, Holds, IsPlace, place_text, place_parameter, are_blanks, AreParameters}
 use Rattle.dep_params.specs.Reading.{Fails, Refuses, at_semicolon, semicolon_read, token_len, parameter_read, named, behind_name}
 use Rattle.dep_params.specs.declared.disposition.ParamFault.{ParamFault}
 use Rattle.dep_params.specs.declared.disposition.ParamFault.TheVariants.{Malformed, Repeated, NoName, Memory}

@@ -1,8 +1,7 @@
 -- Whether a name stands twice, as the names come.
-use Rattle.std.proofs.Common.{◌≡◌, ◌<◌, ◌+◌, ◌||◌, ◌∙◌, ℕ, Bool, true, false, List, [], ◌∷◌, ◌++◌, cond, map, take, drop, length, bytes_eq, refl, sym, ap, inl, inr, Bor}
+use Rattle.std.proofs.Common.{◌≡◌, ◌||◌, ◌∙◌, ℕ, Bool, true, false, List, [], ◌∷◌, ◌++◌, cond, bytes_eq, refl, inl, inr}
 use Rattle.std.proofs.lemmas.Bool.{cases_Bool}
 use Rattle.std.proofs.lemmas.Cmp.{nat_list_eq_equiv}
-use Rattle.std.proofs.lemmas.List.{map-append, take_more, take-append-drop}
 use Rattle.std.proofs.lemmas.List.Folds.{list_any-append}
 use Rattle.std.proofs.lemmas.Map.Keys.{IsDistinct-push}
 use Rattle.std.specs.List.{IsDistinct, AllByRecursion, list_any}

@@ -1,5 +1,5 @@
 -- The parameters of a disposition, as lists.
-use Rattle.std.specs.Prelude.{ℕ, List, map}
+use Rattle.std.specs.Prelude.{List, map}
 use Rattle.dep_params.specs.declared.disposition.Parameter.{Parameter}
 use Rattle.dep_params.specs.Grammar.{NamedValue}
 

@@ -1,6 +1,4 @@
-use Rattle.std.proofs.Common.{◌≡◌, ◌∙◌, ℕ, List, Some, None, true, false, refl, sym, ap, subst}
-use Rattle.std.specs.Str.{str_eq_ignore_ascii_case}
-use Rattle.dep_params.specs.Names.{HasWholeEscapes, IsExtended}
+use Rattle.std.proofs.Common.{◌∙◌, refl, sym}
 use Rattle.dep_params.proofs.Extended.{cuts, extended, no_second, as_extended}
 use Rattle.dep_params.proofs.file_name.escaped_part.Goals as goal
 use Rattle.dep_params.proofs.file_name.escaped_part.Goals.{else-is_utf8_charset-via-then-is_utf8_charset+else-has_whole_escapes, else-is_utf8_charset-via-else-is_utf8_charset}

@@ -1,4 +1,4 @@
-use Rattle.std.proofs.Common.{◌≡◌, ◌+◌, ◌-◌, ◌≤◌, drop, length, arith, length-drop, take, refl}
+use Rattle.std.proofs.Common.{◌≡◌, ◌-◌, drop, length, arith, length-drop, take, refl}
 use Rattle.std.proofs.lemmas.List.{take_all}
 use Rattle.std.proofs.lemmas.List.Sums.{prefix_len-drop_no, prefix_len-drop_all}
 use Rattle.std.specs.List.{prefix_len}

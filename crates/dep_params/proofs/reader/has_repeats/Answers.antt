@@ -1,4 +1,4 @@
-use Rattle.std.proofs.Common.{rules, ◌≡◌, ◌<◌, ◌+◌, ◌∙◌, ℕ, suc, List, [], ◌∷◌, ◌++◌, Bool, true, false, not, map, take, drop, length, get_or, bytes_eq, sym, ap, refl, subst, arith, Bor, drop-cons}
+use Rattle.std.proofs.Common.{◌≡◌, ◌<◌, ◌+◌, ◌∙◌, ℕ, suc, List, [], ◌∷◌, ◌++◌, Bool, true, false, not, map, take, drop, length, get_or, bytes_eq, sym, ap, refl, subst, arith, drop-cons}
 use Rattle.std.proofs.lemmas.List.{take_all, take_more, map-append, take-append-drop}
 use Rattle.std.specs.List.{IsDistinct, list_any}
 use Rattle.dep_params.specs.declared.disposition.Parameter.{Parameter}

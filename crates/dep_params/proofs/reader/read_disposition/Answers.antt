@@ -1,10 +1,10 @@
-use Rattle.std.proofs.Common.{◌≡◌, ◌∙◌, ℕ, List, Result, Ok, Err, true, false, not, take, drop, map, bytes_eq, refl, sym, ap, subst}
+use Rattle.std.proofs.Common.{◌≡◌, ◌∙◌, ℕ, List, Result, Ok, Err, true, not, take, drop, map, bytes_eq, refl, sym, ap, subst}
 use Rattle.std.specs.List.{IsDistinct}
 use Rattle.std.specs.Result.{IsErrAnd}
 use Rattle.std.specs.Str.{str_to_ascii_lowercase}
-use Rattle.dep_params.specs.Grammar.{AreParameters, IsDisposition, NamedValue, Reading, names_of}
+use Rattle.dep_params.specs.Grammar.{AreParameters, NamedValue, Reading}
 use Rattle.dep_params.specs.Reading.{Refuses, token_len}
-use Rattle.dep_params.specs.Stored.{view, views}
+use Rattle.dep_params.specs.Stored.{views}
 use Rattle.dep_params.specs.declared.disposition.ParamFault.{ParamFault}
 use Rattle.dep_params.specs.declared.disposition.ParamFault.TheVariants.{Malformed}
 use Rattle.dep_params.specs.declared.disposition.Parameter.{Parameter}

@@ -1,7 +1,7 @@
-use Rattle.std.proofs.Common.{◌≡◌, ◌∙◌, ◌<◌, ℕ, List, [], ◌∷◌, ◌++◌, Some, None, Option, map, length, sym, ap, subst, arith, append_assoc, append-nil}
+use Rattle.std.proofs.Common.{◌≡◌, ◌∙◌, ℕ, List, [], ◌∷◌, ◌++◌, Some, None, Option, sym, ap, subst, arith, append_assoc, append-nil}
 use Rattle.std.proofs.lemmas.List.{map-append}
 use Rattle.dep_params.specs.Grammar.{AreParameters, NamedValue}
-use Rattle.dep_params.specs.Reading.{Fails, semicolon_read, parameter_read, token_len}
+use Rattle.dep_params.specs.Reading.{Fails, semicolon_read, parameter_read}
 use Rattle.dep_params.specs.Stored.{view, views}
 use Rattle.dep_params.proofs.Places.{semicolon-shorter, parameter-shorter, parameters-end, parameters-empty, parameters-holds, empty-left, holds-left, refuses-semicolon, refuses-parameter, is_named, is_unnamed, refused_by, parameter-behind}
 use Rattle.dep_params.proofs.Values.{parameter_read-sound}

@@ -1,4 +1,4 @@
-use Rattle.std.proofs.Common.{◌≡◌, ◌∙◌, ◌+◌, ℕ, List, Option, Some, true, false, length, drop, find, option_map, sym, ap, refl}
+use Rattle.std.proofs.Common.{◌≡◌, ◌∙◌, ◌+◌, Option, Some, drop, option_map, sym, ap}
 use Rattle.std.specs.Str.{str_eq_ignore_ascii_case}
 use Rattle.dep_params.specs.Grammar.{NamedValue, Reading}
 use Rattle.dep_params.specs.Stored.{view, views}
