@@ -11,3 +11,4 @@ pub mod TalkLemmas
 pub mod SendingLemmas
 pub mod PerformLemmas
 pub mod FileFieldLemmas
+pub mod SoundLemmas
