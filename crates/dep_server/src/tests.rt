@@ -2,6 +2,7 @@
 
 mod bodies;
 mod conversations;
+mod file_fields;
 mod heads;
 mod hubs;
 mod memory;

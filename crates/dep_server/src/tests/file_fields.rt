@@ -1,4 +1,4 @@
-use crate::{file_name, media_type};
+use crate::file_fields::{file_name, media_type};
 use dep_head::{Head, read_head};
 use std::test::Fail;
 
