@@ -133,11 +133,9 @@ impl Store {
 impl Store {
     /// An archive that holds nothing, with these numbers next.
     pub(crate) fn numbered(alloc: Global, next: Counters) -> Store {
-        Store {
-            clock: Moment::new(0),
-            next,
-            records: VecDeque::new(alloc),
-        }
+        let mut store = Store::empty(alloc);
+        store.next = next;
+        store
     }
 }
 
