@@ -6,6 +6,8 @@ mod arrived;
 mod connection;
 mod connections;
 mod decide;
+#[cfg(test)]
+mod deposit_tests;
 mod file_fields;
 mod framing;
 mod hub;
@@ -19,6 +21,8 @@ mod sending;
 mod serving;
 mod step;
 mod store;
+#[cfg(test)]
+mod tests;
 
 pub use arrived::Arrived;
 pub use connection::{Served, serve_connection};

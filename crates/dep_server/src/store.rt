@@ -129,6 +129,18 @@ impl Store {
     }
 }
 
+#[cfg(test)]
+impl Store {
+    /// An archive that holds nothing, with these numbers next.
+    pub(crate) fn numbered(alloc: Global, next: Counters) -> Store {
+        Store {
+            clock: Moment::new(0),
+            next,
+            records: VecDeque::new(alloc),
+        }
+    }
+}
+
 // Whether the number may be given.
 fn is_given(number: u64) -> bool
     ensures { result ≡ nat_le (number + 1) greatest_number }

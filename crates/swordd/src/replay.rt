@@ -24,7 +24,7 @@ pub fn replay<R: Read, W: Outlet>(
     let Ok(config) = configuration(alloc, base) else {
         return Outcome::StoreFault;
     };
-    let mut hub = match Hub::new(alloc, config, Store::empty()) {
+    let mut hub = match Hub::new(alloc, config, Store::empty(alloc)) {
         Ok(hub) => hub,
         Err((HubFault::Config, _)) => return Outcome::Usage,
         Err((HubFault::Memory, _)) => return Outcome::StoreFault,

@@ -57,6 +57,27 @@ fn the_service_request_is_answered(rt: HostRuntime) -> Result<(), Fail> {
     Ok(())
 }
 
+const DEPOSIT: &[u8] =
+    b"POST /service HTTP/1.1\r\nHost: 127.0.0.1:8080\r\nContent-Type: text/plain\r\nContent-Disposition: attachment; filename=a.txt\r\nDigest: SHA-256=ungWv48Bz+pBQUDeXa4iI7ADYaOWF3qctBD/YfIAFa0=\r\nContent-Length: 3\r\n\r\nabcGET /objects/1/files/1 HTTP/1.1\r\nHost: 127.0.0.1:8080\r\n\r\n";
+
+const CREATED_HEAD: &str =
+    "HTTP/1.1 201 Created\r\nDate: Mon, 16 Apr 2018 00:00:00 GMT\r\nContent-Type: application/json\r\nContent-Length: 965\r\nETag: \"1\"\r\nLocation: http://127.0.0.1:8080/objects/1\r\n\r\n";
+
+const STATUS: &str =
+    "{\"@context\":\"https://swordapp.github.io/swordv3/swordv3.jsonld\",\"@id\":\"http://127.0.0.1:8080/objects/1\",\"@type\":\"Status\",\"actions\":{\"appendFiles\":true,\"appendMetadata\":true,\"deleteFiles\":true,\"deleteMetadata\":true,\"deleteObject\":true,\"getFiles\":true,\"getMetadata\":true,\"replaceFiles\":true,\"replaceMetadata\":true},\"eTag\":\"1\",\"fileSet\":{\"@id\":\"http://127.0.0.1:8080/objects/1/files\",\"eTag\":\"1\"},\"links\":[{\"@id\":\"http://127.0.0.1:8080/objects/1/files/1\",\"contentType\":\"text/plain\",\"depositedBy\":\"depositor\",\"depositedOn\":\"2018-04-16T00:00:00Z\",\"eTag\":\"1\",\"packaging\":\"http://purl.org/net/sword/3.0/package/Binary\",\"rel\":[\"http://purl.org/net/sword/3.0/terms/originalDeposit\",\"http://purl.org/net/sword/3.0/terms/fileSetFile\"],\"status\":\"http://purl.org/net/sword/3.0/filestate/ingested\"}],\"metadata\":{\"@id\":\"http://127.0.0.1:8080/objects/1/metadata\",\"eTag\":\"1\"},\"service\":\"http://127.0.0.1:8080/service\",\"state\":[{\"@id\":\"http://purl.org/net/sword/3.0/state/ingested\"}]}";
+
+const FILE: &str =
+    "HTTP/1.1 200 OK\r\nDate: Mon, 16 Apr 2018 00:00:00 GMT\r\nContent-Type: text/plain\r\nContent-Length: 3\r\nETag: \"1\"\r\n\r\nabc";
+
+#[test]
+fn a_deposit_and_its_file_in_one_input(rt: HostRuntime) -> Result<(), Fail> {
+    let (outcome, bytes) = replayed(rt.alloc(), BASE, DEPOSIT);
+    let want = [CREATED_HEAD, STATUS, FILE].concat(rt.alloc())?;
+    assert_eq!(rt; bytes.as_slice(), want.as_bytes());
+    assert_eq!(rt; outcome, Outcome::Done);
+    Ok(())
+}
+
 #[test]
 fn an_empty_input_writes_nothing(rt: HostRuntime) {
     let (outcome, bytes) = replayed(rt.alloc(), BASE, b"");
