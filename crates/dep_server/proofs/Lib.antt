@@ -12,3 +12,4 @@ pub mod SendingLemmas
 pub mod PerformLemmas
 pub mod FileFieldLemmas
 pub mod SoundLemmas
+pub mod RunSound

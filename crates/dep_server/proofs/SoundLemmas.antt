@@ -1,5 +1,5 @@
 -- A step of the machine keeps a sound state sound.
-use Rattle.std.proofs.Common.{◌≡◌, ℕ, ◌+◌, ◌<◌, ◌≤◌, ◌&&◌, ◌⊎◌, inl, inr, not, ◌==◌, Bool, true, false, List, [], ◌∷◌, Option, Some, None, refl, sym, ap, subst, ◌∙◌, nat_cmp, arith, le_refl, le-add_right, codes, bytes_eq, option_and_then, unwrap_or, if◌then◌else◌}
+use Rattle.std.proofs.Common.{◌≡◌, ℕ, ◌+◌, ◌<◌, ◌≤◌, ◌&&◌, ◌⊎◌, inl, inr, not, Bool, true, false, List, [], ◌∷◌, Option, Some, None, refl, sym, ap, ◌∙◌, nat_cmp, arith, le_refl, le-add_right, codes, bytes_eq, option_and_then, unwrap_or, if◌then◌else◌}
 use Rattle.std.proofs.lemmas.Bool.Decides.{nat_tests}
 use Rattle.std.proofs.lemmas.Str.{IsUtf8-from_ascii, is_utf8-from_IsUtf8}
 use Rattle.std.proofs.lemmas.Str.Ascii.{IsAscii-nil, IsAscii-cons}
@@ -25,7 +25,7 @@ use Rattle.dep_types.proofs.TickSound.{keeps_sound}
 use Rattle.dep_head.specs.Head.{HeadParts, values_of}
 use Rattle.dep_server.specs.FileFields.{is_unquoted_byte, is_unquoted_name, if_passes, after_front, attachment_front, attachment_name, disposition_name, media_of}
 use Rattle.dep_server.specs.Operations.{Operation, operation_of, Decision, Show, Create, asked, decision, refusal, file_from, object_from, carried_out, effect}
-use Rattle.dep_server.specs.Machine.{Stepped, routed, ruled, step}
+use Rattle.dep_server.specs.Machine.{routed, ruled, step}
 use Rattle.dep_server.specs.Stream.{Item, Fault, Request}
 use Rattle.dep_server.specs.Targets.{target}
 use Rattle.dep_server.specs.declared.message.Message.{Message}

@@ -2,6 +2,7 @@
 ghost use Rattle.std.specs.Prelude.{◌+◌, ◌≡◌, ◌<◌, ◌≤◌, ℕ, [], ◌∷◌, ◌++◌, List, length, IfOk, IfErr, OnErr, IfSome, None, IsErrOf, IsSome, ◌⊎◌, ◌≢◌};
 ghost use Rattle.dep_types.specs.Writing.{HasRisen};
 ghost use Rattle.dep_types.specs.State.{State};
+ghost use Rattle.dep_types.specs.Sound.{IsSound};
 ghost use Rattle.dep_types.specs.Config.{IsChecked};
 ghost use Rattle.dep_server.specs.Records.{Connect, Close, Record, World, Run, Absent};
 ghost use Rattle.dep_server.specs.Numbers.{most_connections, last_number};
@@ -51,9 +52,9 @@ pub enum ConnectFault {
 impl Hub {
     /// A hub over the store, without connections. A refusal hands the store back.
     pub fn new(alloc: Global, config: Config, store: Store) -> Result<Hub, (HubFault, Store)>
-        ensures stands { IfOk result (λ hub. (first : State) → store ≡ first → StandsFor hub first []) }
+        ensures stands { IfOk result (λ hub. (first : State) → store ≡ first → IsSound first → StandsFor hub first []) }
         // Also after a stop.
-        ensures again { IfOk result (λ hub. (first : State) (records : List Record) (w : World) → Run config first records w → ((n : ℕ) → w.line n ≡ Absent) → store ≡ w.state → StandsFor hub first records) }
+        ensures again { IfOk result (λ hub. (first : State) (records : List Record) (w : World) → Run config first records w → ((n : ℕ) → w.line n ≡ Absent) → store ≡ w.state → IsSound w.state → StandsFor hub first records) }
         ensures config { IfOk result (λ hub. hub.config ≡ config) }
         ensures checked { IfOk result (λ _. IsChecked config) }
         ensures refused { IfErr result (λ fault. fault.0 ≡ HubFault.Config → ¬ IsChecked config) }

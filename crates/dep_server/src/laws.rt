@@ -54,3 +54,8 @@ pub fn accepted_keeps_sound()
 pub fn steps_keep_sound()
     ensures { (config : Config) (s : State) (item : Item) (moment : ℕ) → IsSound s → IsSound (step config s item moment).state }
 {}
+
+/// What happens to the machine keeps its state sound, also where a step fails.
+pub fn runs_keep_sound()
+    ensures { (config : Config) (first : State) (records : List Record) (w : World) → Run config first records w → IsSound first → IsSound w.state }
+{}
