@@ -1,0 +1,63 @@
+-- The rows that a query of one table answers.
+use Rattle.std.proofs.Common.{◌≡◌, ℕ, ◌≤◌, ◌<◌, pos, negsuc, length, take, drop, List, [], ◌∷◌, map, filter, Bool, true, false, refl, sym, ap, subst, ◌∙◌, Ordering, Less, arith}
+use Rattle.std.proofs.lemmas.List.{length-map}
+use Rattle.std.proofs.lemmas.List.Sorted.{IsPermutation-map}
+use Rattle.std.specs.List.Sorted.{IsPermutation, IsSorted}
+use Rattle.sqlite.specs.declared.types.Value.TheVariants.{Null, Int}
+use Rattle.sqlite_value.specs.declared.keys.Key.{Key}
+use Rattle.sqlite_value.specs.Order.{value_cmp}
+use Rattle.sqlite_value.proofs.OrderLemmas.{then-Equal}
+use Rattle.sqlite.specs.Order.{Row}
+use Rattle.sqlite.specs.Term.{Term, lit, col, eval_all}
+use Rattle.sqlite.specs.Query.{Query, output, output_cmp, page, Output}
+use Rattle.sqlite_sql.proofs.QueryLemmas.{output_cmp_total}
+use Rattle.sqlite_trees.specs.Tree.{rowid, IsAscending, IsTable}
+use Rattle.sqlite_trees.proofs.ListLemmas.{map-map, ascending-map, ascending_weaker, ascending-filter}
+use Rattle.dep_statements.specs.Query.{one_table, no_limit, rising, passes}
+use Rattle.dep_statements.proofs.Asking.{Picks}
+use Rattle.dep_statements.proofs.Sorted.{short_permutation, sorted_is}
+
+-- what the query shows of a row
+abbrev pub shown_of : Row → List Term → Row → Row
+shown_of params shows row = eval_all shows (params ∷ row ∷ [])
+
+drop-none : {X : Type 0} (xs : List X) → drop 0 xs ≡ xs
+drop-none [] = refl
+drop-none (x ∷ xs) = refl
+
+module _ (tree : ℕ) (tests shows : List Term) (order : List (Term × Key)) (params : Row) (found rows : List Row) where
+  abbrev all : Query
+  all = one_table tree tests shows order no_limit
+
+  -- in some order
+  pub in_any_order : Picks all params found rows → IsPermutation (map (shown_of params shows) found) rows
+  in_any_order h =
+      subst (IsPermutation (map (shown_of params shows) found)) (sym (h.shown ∙ drop-none (map (λ (o : Output). o.1) h.ordered)))
+      (subst (λ xs. IsPermutation xs (map (λ (o : Output). o.1) h.ordered)) (map-map (λ (o : Output). o.1) (λ r. output all (params ∷ r ∷ [])) found) (IsPermutation-map (λ (o : Output). o.1) _ h.ordered h.same))
+
+  -- at most one
+  pub of_few : length found ≤ 1 → Picks all params found rows → rows ≡ map (shown_of params shows) found
+  of_few few h = short_permutation (map (shown_of params shows) found) rows (omega (arith, few, length-map found (shown_of params shows))) (in_any_order h)
+
+abbrev by_rowid : List (Term × Key)
+by_rowid = (col 1 0, rising) ∷ []
+
+module _ (tree : ℕ) (tests shows : List Term) (params : Row) (found rows : List Row) (up : IsTable found) where
+  ordered_is : (limit : Term) (ordered : List Output) → let q = one_table tree tests shows by_rowid limit in IsPermutation (map (λ r. output q (params ∷ r ∷ [])) found) ordered → IsSorted (output_cmp q) ordered
+      → ordered ≡ map (λ r. output q (params ∷ r ∷ [])) found
+  ordered_is limit ordered same sorted =
+      let q = one_table tree tests shows by_rowid limit in
+      sorted_is (output_cmp q) (output_cmp_total q) _ ordered
+      (ascending-map (λ a b. output_cmp q a b ≡ Less) (λ r. output q (params ∷ r ∷ [])) found (ascending_weaker _ _ (λ a b h. then-Equal (value_cmp (rowid a) (rowid b)) ∙ h) found up)) same sorted
+
+  -- in the order of the rowids
+  pub in_key_order : Picks (one_table tree tests shows by_rowid no_limit) params found rows → rows ≡ map (shown_of params shows) found
+  in_key_order h =
+      h.shown ∙ drop-none (map (λ (o : Output). o.1) h.ordered) ∙ ap (map (λ (o : Output). o.1)) (ordered_is no_limit h.ordered h.same h.sorted)
+      ∙ map-map (λ (o : Output). o.1) (λ r. output (one_table tree tests shows by_rowid no_limit) (params ∷ r ∷ [])) found
+
+  -- the first of them
+  pub first_in_key_order : Picks (one_table tree tests shows by_rowid (lit (Int (pos 1)))) params found rows → rows ≡ take 1 (map (shown_of params shows) found)
+  first_in_key_order h =
+      let q = one_table tree tests shows by_rowid (lit (Int (pos 1))) in
+      h.shown ∙ ap (take 1) (drop-none (map (λ (o : Output). o.1) h.ordered) ∙ ap (map (λ (o : Output). o.1)) (ordered_is (lit (Int (pos 1))) h.ordered h.same h.sorted) ∙ map-map (λ (o : Output). o.1) (λ r. output q (params ∷ r ∷ [])) found)
