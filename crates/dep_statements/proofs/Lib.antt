@@ -10,3 +10,4 @@ pub mod Sorted
 pub mod Answered
 pub mod Statements
 pub mod Results
+pub mod Tests

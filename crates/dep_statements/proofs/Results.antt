@@ -10,7 +10,7 @@ use Rattle.sqlite.specs.Schema.{Schema}
 use Rattle.sqlite.specs.Rowids.TheVariants.{Chosen, Given}
 use Rattle.sqlite.specs.Effect.{IsDatabase}
 use Rattle.sqlite.specs.State.{State, Shows}
-use Rattle.sqlite_trees.specs.Tree.{rowid}
+use Rattle.sqlite_trees.specs.Tree.{rowid, has_rowid}
 use Rattle.sqlite_trees.proofs.ListLemmas.{map-map}
 use Rattle.sqlite_value.specs.declared.keys.Key.{Key}
 use Rattle.sqlite_rules.specs.Lists.{Has}
@@ -19,10 +19,11 @@ use Rattle.sqlite_rules.specs.Edit.{Edit, edit_of, id_in, numbered, without_all,
 use Rattle.sqlite_rules.specs.Calls.{ids_of}
 use Rattle.sqlite_rules.proofs.PlaceLemmas.{given}
 use Rattle.dep_statements.specs.Query.{one_table, no_limit, passes}
-use Rattle.dep_statements.specs.Rows.{IsOrdered}
+use Rattle.dep_statements.specs.Rows.{IsOrdered, replaced}
 use Rattle.dep_statements.proofs.Asking.{Picks}
 use Rattle.dep_statements.proofs.Answered.{shown_of, in_any_order}
 use Rattle.dep_statements.proofs.Edits.{key_of, has_its_key, left_rows, changed_rows}
+use Rattle.dep_statements.proofs.Keys.{row_key, replaces}
 use Rattle.dep_statements.proofs.Statements.{Wrote}
 
 -- the transaction goes on with these rows in this table, and each tree but its indexes is as it was
@@ -36,6 +37,10 @@ pub record Made (schema : Schema) (old new : State) (tree : ℕ) (rows : List Ro
 free_if : (b : Bool) → (not b && true) ≡ true → b ≡ false
 free_if true h = absurd cc
 free_if false h = refl
+
+-- what an UPDATE makes of a row
+abbrev pub changed_by : Table → List Term → Row → Row → Row
+changed_by table shows params r = cast_row table (drop 1 (shown_of params shows r))
 
 module _ (schema : Schema) (old new : State) (table : Table) where
   abbrev rows_before : List Row
@@ -67,12 +72,12 @@ module _ (schema : Schema) (old new : State) (table : Table) where
     pub takes : Wrote schema old new (edit_of old.now.trees table (ids_of rows) Given 0 []) → Made schema old new table.tree (filter (λ r. not (p r)) rows_before)
     takes w = record { shows = w.shows; schema_is = w.schema_is; sound = w.sound; rows_are = w.applies.rows ∙ left; others = w.applies.others }
 
-    abbrev pub change : Row → Row
-    change r = cast_row table (drop 1 (shown_of params shows r))
+    abbrev change : Row → Row
+    change = changed_by table shows params
 
     -- the rows that pass are changed
-    pub changes : ((r : Row) → Has rows_before r → p r ≡ true → rowid (change r) ≡ rowid r) → Wrote schema old new (edit_of old.now.trees table (ids_of rows) Given 1 rows)
-        → Made schema old new table.tree (map (λ r. if p r then change r else r) rows_before)
+    pub changes : ((r : Row) → Has rows_before r → p r ≡ true → rowid (changed_by table shows params r) ≡ rowid r) → Wrote schema old new (edit_of old.now.trees table (ids_of rows) Given 1 rows)
+        → Made schema old new table.tree (map (λ r. if passes params tests r then changed_by table shows params r else r) rows_before)
     changes keeps w =
         let cut = λ (s : Row). cast_row table (drop 1 s) in
         let news = map cut rows in
@@ -87,3 +92,12 @@ module _ (schema : Schema) (old new : State) (table : Table) where
           rows_are = w.applies.rows ∙ ap (put_all (without_all rows_before (ids_of rows))) numbers ∙ ap (λ xs. put_all xs news) left ∙ changed_rows p change rows_before up keeps news same fresh;
           others = w.applies.others;
         }
+
+    -- the row with this key is changed to this one
+    pub replaces_row : (id : ℤ) (row : Row) → ((r : Row) → passes params tests r ≡ has_rowid id r) → rowid row ≡ Int id → ((r : Row) → rowid r ≡ Int id → changed_by table shows params r ≡ row)
+        → Wrote schema old new (edit_of old.now.trees table (ids_of rows) Given 1 rows) → Made schema old new table.tree (replaced row rows_before)
+    replaces_row id row by_key keyed is w =
+        let each = λ (r : Row) (h : Has rows_before r) (passing : p r ≡ true).
+        let has : rowid r ≡ Int id = row_key rows_before r id up h (sym (by_key r) ∙ passing) in ap rowid (is r has) ∙ keyed ∙ sym has in
+        let made = changes each w in
+        record { shows = made.shows; schema_is = made.schema_is; sound = made.sound; rows_are = made.rows_are ∙ replaces id p change row rows_before up keyed by_key is; others = made.others }

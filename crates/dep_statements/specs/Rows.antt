@@ -1,6 +1,6 @@
 -- The rows of a table as a map from rowids.
 use Rattle.std.specs.Prelude.{ℕ, pos, Bool, if◌then◌else◌, Option, find, List, map}
-use Rattle.std.specs.Ordering.{is_eq, is_lt}
+use Rattle.std.specs.Ordering.{is_eq, is_gt}
 use Rattle.sqlite.specs.declared.types.Value.TheVariants.{Int}
 use Rattle.sqlite.specs.Order.{Row}
 use Rattle.sqlite_value.specs.Order.{value_cmp}
@@ -22,4 +22,4 @@ replaced new = map (λ row. if is_eq (value_cmp (rowid row) (rowid new)) then ne
 
 -- the key is above this number
 abbrev pub is_after : ℕ → Row → Bool
-is_after key row = is_lt (value_cmp (Int (pos key)) (rowid row))
+is_after key row = is_gt (value_cmp (rowid row) (Int (pos key)))

@@ -1,0 +1,5 @@
+pub mod Schema
+pub mod Texts
+pub mod Rows
+pub mod Tables
+pub mod Faults
