@@ -1,3 +1,5 @@
 pub mod Results
 pub mod Leading
 pub mod StateTable
+pub mod NewTables
+pub mod Version

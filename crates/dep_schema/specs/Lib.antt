@@ -3,3 +3,4 @@ pub mod Texts
 pub mod Rows
 pub mod Tables
 pub mod Faults
+pub mod OpenFaults

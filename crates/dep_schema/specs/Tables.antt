@@ -1,11 +1,16 @@
 -- The rows of all tables, and the trees and connections that have them.
-use Rattle.std.specs.Prelude.{◌≡◌, ℕ, true, false, List, [], ◌∷◌}
-use Rattle.sqlite.specs.Order.{Row}
+use Rattle.std.specs.Prelude.{◌≡◌, ℕ, pos, true, false, List, [], ◌∷◌, map}
+use Rattle.std.specs.List.{AllByRecursion}
+use Rattle.sqlite.specs.declared.types.Value.TheVariants.{Int}
+use Rattle.sqlite.specs.Schema.{Schema}
+use Rattle.sqlite.specs.Order.{Row, column}
 use Rattle.sqlite.specs.Tree.{Trees}
 use Rattle.sqlite.specs.State.{State, Shows}
 use Rattle.sqlite_catalog.specs.Listing.{IsSound}
 use Rattle.dep_statements.specs.Rows.{IsOrdered}
 use Rattle.dep_schema.specs.Schema.{our_schema, no_schema}
+use Rattle.dep_schema.specs.Rows.{format_row, state_row}
+use Rattle.dep_schema.specs.declared.rows.StateRow.{StateRow}
 
 pub record Tables : Type 0 where
   pub format : List Row
@@ -44,6 +49,16 @@ pub record IsOurs (s : State) : Type 0 where
   pub schema : s.now.schema ≡ our_schema
   pub trees : AreOurs s.now.trees
 
+-- the connection sees our schema and these tables
+pub record Sees (s : State) (tables : Tables) : Type 0 where
+  pub ours : IsOurs s
+  pub rows : tables_of s ≡ tables
+
+-- the connection sees this schema, and no row in its tables
+pub record IsBlank (schema : Schema) (s : State) : Type 0 where
+  pub schema_is : s.now.schema ≡ schema
+  pub empty : AllByRecursion (λ t. s.now.trees t.tree ≡ []) schema.tables
+
 -- the transaction goes on with these tables
 pub record Leads (old new : State) (tables : Tables) : Type 0 where
   pub shows : Shows old new new.now old.committed true
@@ -56,3 +71,22 @@ pub record Stands (s : State) (tables : Tables) : Type 0 where
   pub committed : s.now ≡ s.committed
   pub ours : IsOurs s
   pub rows : tables_of s ≡ tables
+
+abbrev pub no_rows : Tables
+no_rows = record { format = []; state = []; objects = []; metadata = []; files = [] }
+
+abbrev pub first_state : StateRow
+first_state = record { clock = 0; next_object = 1; next_file = 1; next_upload = 1; next_change = 1 }
+
+-- the tables of a new store
+abbrev pub first_tables : Tables
+first_tables = record no_rows { format = format_row 0 ∷ []; state = state_row first_state ∷ [] }
+
+-- `format` has one row, of id 1, and this version
+abbrev pub HasVersion : ℕ → Tables → Type 0
+HasVersion version tables = map (λ r. column r 0 ∷ column r 2 ∷ []) tables.format ≡ (Int (pos 1) ∷ Int (pos version) ∷ []) ∷ []
+
+-- what `open` may commit: what is there where our schema is there, and the tables of a new store in an empty database
+pub record CommitsOpen (s : State) (trees : Trees) : Type 0 where
+  pub found : IsOurs s → trees ≡ s.now.trees
+  pub new : s.now.schema ≡ no_schema → Holds trees first_tables

@@ -6,3 +6,27 @@ read_state_text = codes "SELECT clock, next_object, next_file, next_upload, next
 
 abbrev pub write_state_text : List ℕ
 write_state_text = codes "UPDATE state SET clock = ?1, next_object = ?2, next_file = ?3, next_upload = ?4, next_change = ?5 WHERE id = 1"
+
+abbrev pub create_format_text : List ℕ
+create_format_text = codes "CREATE TABLE format (id INTEGER PRIMARY KEY, version INTEGER NOT NULL) STRICT"
+
+abbrev pub create_state_text : List ℕ
+create_state_text = codes "CREATE TABLE state (id INTEGER PRIMARY KEY, clock INTEGER NOT NULL, next_object INTEGER NOT NULL, next_file INTEGER NOT NULL, next_upload INTEGER NOT NULL, next_change INTEGER NOT NULL) STRICT"
+
+abbrev pub create_objects_text : List ℕ
+create_objects_text = codes "CREATE TABLE objects (object INTEGER PRIMARY KEY, ingested INTEGER NOT NULL, object_tag INTEGER NOT NULL, metadata_tag INTEGER NOT NULL, files_tag INTEGER NOT NULL, changed INTEGER NOT NULL) STRICT"
+
+abbrev pub create_metadata_text : List ℕ
+create_metadata_text = codes "CREATE TABLE metadata (object INTEGER NOT NULL, name TEXT NOT NULL, place INTEGER NOT NULL, value TEXT NOT NULL, PRIMARY KEY (object, name, place)) STRICT"
+
+abbrev pub create_files_text : List ℕ
+create_files_text = codes "CREATE TABLE files (file INTEGER PRIMARY KEY, object INTEGER NOT NULL, name TEXT NOT NULL, media TEXT NOT NULL, size INTEGER NOT NULL, tag INTEGER NOT NULL, deposited INTEGER NOT NULL, behalf TEXT, by_reference INTEGER NOT NULL, content BLOB NOT NULL) STRICT"
+
+abbrev pub add_format_text : List ℕ
+add_format_text = codes "INSERT INTO format (id, version) VALUES (1, 0)"
+
+abbrev pub add_state_text : List ℕ
+add_state_text = codes "INSERT INTO state (id, clock, next_object, next_file, next_upload, next_change) VALUES (1, 0, 1, 1, 1, 1)"
+
+abbrev pub find_format_text : List ℕ
+find_format_text = codes "SELECT id, version FROM format"

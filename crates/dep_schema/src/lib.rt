@@ -3,9 +3,12 @@
 
 mod calls;
 mod fault;
+mod making;
+mod opening;
 mod rows;
 mod state;
 
-pub use fault::{fault_of, StoreFault};
+pub use fault::{StoreFault, fault_of};
+pub use opening::{OpenFault, Schema, open};
 pub use rows::StateRow;
 pub use state::{read_state, write_state};

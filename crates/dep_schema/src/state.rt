@@ -8,8 +8,8 @@ ghost use Rattle.dep_schema.specs.Rows.{IsStorableState, state_row, state_values
 ghost use Rattle.dep_schema.specs.Tables.{tables_of, IsOurs, Leads};
 
 use crate::calls::{ask, run};
-use crate::fault::{fault_of, StoreFault};
-use crate::rows::{is_storable_state, number, StateRow};
+use crate::fault::{StoreFault, fault_of};
+use crate::rows::{StateRow, is_storable_state, number};
 use sqlite::types::ValueRef;
 use sqlite::{Alter, Error, Row, Transaction};
 
@@ -27,10 +27,7 @@ fn state_params(row: &StateRow) -> [ValueRef<'static>; 5]
 }
 
 /// Sets the row. A number of 2^63 or more is a fault of the store.
-pub fn write_state<S: Alter>(
-    tx: &mut Transaction<'_, S>,
-    row: &StateRow,
-) -> Result<(), StoreFault>
+pub fn write_state<S: Alter>(tx: &mut Transaction<'_, S>, row: &StateRow) -> Result<(), StoreFault>
     ensures ok { HasCleanDisk (state S.Store tx.new.conn.now) → IsTrue (state S.Store tx.old.conn.now).in_transaction → IsOurs (state S.Store tx.old.conn.now)
         → (was : _) → (tables_of (state S.Store tx.old.conn.now)).state ≡ state_row was ∷ []
         → OnOk result (Leads (state S.Store tx.old.conn.now) (state S.Store tx.new.conn.now) (record (tables_of (state S.Store tx.old.conn.now)) { state = state_row row.now ∷ [] })) }

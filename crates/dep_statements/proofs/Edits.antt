@@ -101,10 +101,11 @@ module _ (p : Row → Bool) (change : Row → Row) (rows : List Row) (up : IsOrd
 
   rises : (all : List Row) → ((r : Row) → Has all r → Has rows r) → IsTable all → IsTable (map changed all)
   rises [] within up = tt
-  rises (r ∷ all) within up =
-      (all-map (λ x. value_cmp (rowid (changed r)) (rowid x) ≡ Less) changed all
-      (all_from _ all (λ x h. ap₂ value_cmp (same_id r (within r (inl refl))) (same_id x (within x (inr h))) ∙ all_has _ all x up.0 h)),
-      rises all (λ x h. within x (inr h)) up.1)
+  rises (r ∷ all) within up = (
+    all-map (λ x. value_cmp (rowid (changed r)) (rowid x) ≡ Less) changed all
+        (all_from _ all (λ x h. ap₂ value_cmp (same_id r (within r (inl refl))) (same_id x (within x (inr h))) ∙ all_has _ all x up.0 h)),
+    rises all (λ x h. within x (inr h)) up.1,
+  )
 
   pub changed_ordered : IsOrdered (map changed rows)
   changed_ordered = (rises rows (λ r h. h) up.0, all-map (λ x. IsTrue (is_int (rowid x))) changed rows (all_from _ rows (λ x h. subst (λ v. IsTrue (is_int v)) (sym (same_id x h)) (all_has _ rows x up.1 h))))

@@ -11,3 +11,4 @@ pub mod Answered
 pub mod Statements
 pub mod Results
 pub mod Tests
+pub mod Creating

@@ -10,7 +10,7 @@ use Rattle.sqlite.specs.Schema.{Schema}
 use Rattle.sqlite.specs.Rowids.TheVariants.{Chosen, Given}
 use Rattle.sqlite.specs.Effect.{IsDatabase}
 use Rattle.sqlite.specs.State.{State, Shows}
-use Rattle.sqlite_trees.specs.Tree.{rowid, has_rowid}
+use Rattle.sqlite_trees.specs.Tree.{rowid, has_rowid, put_row}
 use Rattle.sqlite_trees.proofs.ListLemmas.{map-map}
 use Rattle.sqlite_value.specs.declared.keys.Key.{Key}
 use Rattle.sqlite_rules.specs.Lists.{Has}
@@ -47,13 +47,12 @@ module _ (schema : Schema) (old new : State) (table : Table) where
   rows_before = old.now.trees table.tree
 
   -- one row is put in, where its rowid is not taken
-  pub puts : (sources : List Row) (news : List Row) (row : Row) → numbered Chosen rows_before (map (λ s. cast_row table (drop 0 s)) sources) ≡ news → Wrote schema old new (edit_of old.now.trees table [] Chosen 0 sources)
-      → news ≡ row ∷ [] → Made schema old new table.tree (put_all rows_before (row ∷ [])) × (is_taken rows_before row ≡ false)
-  puts sources news row made w is =
-      let all = made ∙ is in (
-        record { shows = w.shows; schema_is = w.schema_is; sound = w.sound; rows_are = w.applies.rows ∙ ap (put_all rows_before) all; others = w.applies.others },
-        free_if (is_taken rows_before row) (subst (λ xs. are_fresh rows_before xs ≡ true) all w.applies.fresh),
-      )
+  pub puts : (sources : List Row) (row : Row) → numbered Chosen rows_before (map (λ s. cast_row table (drop 0 s)) sources) ≡ row ∷ [] → Wrote schema old new (edit_of old.now.trees table [] Chosen 0 sources)
+      → Made schema old new table.tree (put_row row rows_before) × (is_taken rows_before row ≡ false)
+  puts sources row is w = (
+    record { shows = w.shows; schema_is = w.schema_is; sound = w.sound; rows_are = w.applies.rows ∙ ap (put_all rows_before) is; others = w.applies.others },
+    free_if (is_taken rows_before row) (subst (λ xs. are_fresh rows_before xs ≡ true) is w.applies.fresh),
+  )
 
   module _ (tests shows : List Term) (order : List (Term × Key)) (params : Row) (rows : List Row) (up : IsOrdered rows_before) (keyed : (r : Row) → rowid (shown_of params shows r) ≡ rowid r)
       (picked : Picks (one_table table.tree tests shows order no_limit) params (filter (passes params tests) rows_before) rows) where

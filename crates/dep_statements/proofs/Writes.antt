@@ -60,9 +60,10 @@ module _ (limit : Option ℕ) (keys : Keys) (schema : Schema) (params : Row) (na
       let rows : given.0 ≡ value_rows params width (length terms / width) terms = given.1.1 ∙ ap (λ ps. value_rows ps width (length terms / width) terms) (append-nil params) in
       let last = same_value next.2 in
       let trees : w.trees ≡ written.0 = ap (λ (it : Written). it.trees) last ∙ same_value next.1 in
-      let made = subst (λ all. Edited schema keys db (edit_of db table [] Chosen 0 all) (Ok written.0)) rows written.1 in
-      (subst (λ t. Edited schema keys db (edit_of db table [] Chosen 0 (value_rows params width (length terms / width) terms)) (Ok t)) (sym trees) made,
-      ap (λ (it : Written). it.rows) last ∙ ap (λ all. (edit_of db table [] Chosen 0 all).news) rows)
+      let made = subst (λ all. Edited schema keys db (edit_of db table [] Chosen 0 all) (Ok written.0)) rows written.1 in (
+        subst (λ t. Edited schema keys db (edit_of db table [] Chosen 0 (value_rows params width (length terms / width) terms)) (Ok t)) (sym trees) made,
+        ap (λ (it : Written). it.rows) last ∙ ap (λ all. (edit_of db table [] Chosen 0 all).news) rows,
+      )
 
 updates_rows : (task : Task) (q : Program) (given : Row) (db : Trees) (w : Written) → Updates task q given db (Ok w)
     → (rows : List Row) × Answers (record { schema = task.schema; trees = db }) q given rows × (let edit = edit_of db task.table (ids_of rows) Given 1 rows in EditsTo task db edit edit.news w)
