@@ -6,6 +6,7 @@ use Rattle.sqlite.specs.Effect.{Database}
 use Rattle.sqlite.specs.State.{State}
 use Rattle.sqlite_trees.specs.Tree.{with_tree}
 use Rattle.sqlite_catalog.specs.Listing.{IsSound}
+use Rattle.dep_statements.specs.Rows.{IsOrdered}
 use Rattle.dep_statements.proofs.Results.{Made}
 use Rattle.dep_schema.specs.Schema.{our_schema}
 use Rattle.dep_schema.specs.Tables.{Tables, tables_in, tables_of, AreOrdered, IsOurs, Leads}
@@ -36,3 +37,20 @@ module _ (old new : State) (tree : ℕ) (rows : List Row) (made : Made our_schem
         };
         rows = all;
       }
+
+-- the same, table by table
+module _ (old new : State) (rows : List Row) (ours : IsOurs old) (up : IsOrdered rows) where
+  pub objects_lead : Made our_schema old new 2 rows → Leads old new (record (tables_of old) { objects = rows })
+  objects_lead made =
+      let before = ours.trees.ordered in
+      leads old new 2 rows made (record (tables_of old) { objects = rows }) refl (record { format = before.format; state = before.state; objects = up; metadata = before.metadata; files = before.files })
+
+  pub metadata_lead : Made our_schema old new 3 rows → Leads old new (record (tables_of old) { metadata = rows })
+  metadata_lead made =
+      let before = ours.trees.ordered in
+      leads old new 3 rows made (record (tables_of old) { metadata = rows }) refl (record { format = before.format; state = before.state; objects = before.objects; metadata = up; files = before.files })
+
+  pub files_lead : Made our_schema old new 5 rows → Leads old new (record (tables_of old) { files = rows })
+  files_lead made =
+      let before = ours.trees.ordered in
+      leads old new 5 rows made (record (tables_of old) { files = rows }) refl (record { format = before.format; state = before.state; objects = before.objects; metadata = before.metadata; files = up })

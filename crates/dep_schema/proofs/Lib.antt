@@ -3,3 +3,4 @@ pub mod Leading
 pub mod StateTable
 pub mod NewTables
 pub mod Version
+pub mod ObjectsTable

@@ -30,3 +30,18 @@ add_state_text = codes "INSERT INTO state (id, clock, next_object, next_file, ne
 
 abbrev pub find_format_text : List ℕ
 find_format_text = codes "SELECT id, version FROM format"
+
+abbrev pub insert_object_text : List ℕ
+insert_object_text = codes "INSERT INTO objects (object, ingested, object_tag, metadata_tag, files_tag, changed) VALUES (?1, ?2, ?3, ?4, ?5, ?6)"
+
+abbrev pub write_object_text : List ℕ
+write_object_text = codes "UPDATE objects SET ingested = ?2, object_tag = ?3, metadata_tag = ?4, files_tag = ?5, changed = ?6 WHERE object = ?1"
+
+abbrev pub delete_object_text : List ℕ
+delete_object_text = codes "DELETE FROM objects WHERE object = ?1"
+
+abbrev pub find_object_text : List ℕ
+find_object_text = codes "SELECT object, ingested, object_tag, metadata_tag, files_tag, changed FROM objects WHERE object = ?1"
+
+abbrev pub next_object_text : List ℕ
+next_object_text = codes "SELECT object FROM objects WHERE object > ?1 ORDER BY object LIMIT 1"

@@ -39,7 +39,7 @@ module _ (tree : ℕ) (tests shows : List Term) (order : List (Term × Key)) (pa
   pub of_few : length found ≤ 1 → Picks all params found rows → rows ≡ map (shown_of params shows) found
   of_few few h = short_permutation (map (shown_of params shows) found) rows (omega (arith, few, length-map found (shown_of params shows))) (in_any_order h)
 
-abbrev by_rowid : List (Term × Key)
+abbrev pub by_rowid : List (Term × Key)
 by_rowid = (col 1 0, rising) ∷ []
 
 module _ (tree : ℕ) (tests shows : List Term) (params : Row) (found rows : List Row) (up : IsTable found) where

@@ -12,3 +12,4 @@ pub mod Statements
 pub mod Results
 pub mod Tests
 pub mod Creating
+pub mod Looking

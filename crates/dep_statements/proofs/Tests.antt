@@ -43,8 +43,8 @@ pub passes_number : (params : Row) (at : ℕ) (n : ℤ) (row : Row) → passes p
 passes_number params at n row = and_true _ ∙ equals_int (column row at) n
 
 -- WHERE column = ?1, where a number is given
-pub passes_given : (n : ℤ) (more : Row) (at : ℕ) (row : Row) → passes (Int n ∷ more) (equals (col 1 at) (col 0 0) ∷ []) row ≡ is_eq (value_cmp (column row at) (Int n))
-passes_given n more at row = and_true _ ∙ equals_int (column row at) n
+pub passes_given : (params : Row) (n : ℤ) (at : ℕ) (row : Row) → column params 0 ≡ Int n → passes params (equals (col 1 at) (col 0 0) ∷ []) row ≡ is_eq (value_cmp (column row at) (Int n))
+passes_given params n at row is = and_true _ ∙ ap (λ v. is_true (binary (Compare Eq Binary) (column row at) v)) is ∙ equals_int (column row at) n
 
 -- WHERE key > ?1
 pub passes_after : (key : ℕ) (row : Row) → passes (Int (pos key) ∷ []) (exceeds (col 1 0) (col 0 0) ∷ []) row ≡ is_after key row
