@@ -4,3 +4,5 @@ pub mod StateTable
 pub mod NewTables
 pub mod Version
 pub mod ObjectsTable
+pub mod FilesTable
+pub mod MetadataTable

@@ -45,3 +45,30 @@ find_object_text = codes "SELECT object, ingested, object_tag, metadata_tag, fil
 
 abbrev pub next_object_text : List ℕ
 next_object_text = codes "SELECT object FROM objects WHERE object > ?1 ORDER BY object LIMIT 1"
+
+abbrev pub insert_file_text : List ℕ
+insert_file_text = codes "INSERT INTO files (file, object, name, media, size, tag, deposited, behalf, by_reference, content) VALUES (?1, ?2, ?3, ?4, ?5, ?6, ?7, ?8, ?9, ?10)"
+
+abbrev pub delete_file_text : List ℕ
+delete_file_text = codes "DELETE FROM files WHERE file = ?1"
+
+abbrev pub delete_files_text : List ℕ
+delete_files_text = codes "DELETE FROM files WHERE object = ?1"
+
+abbrev pub find_file_text : List ℕ
+find_file_text = codes "SELECT file, object, name, media, size, tag, deposited, behalf, by_reference FROM files WHERE file = ?1"
+
+abbrev pub files_of_text : List ℕ
+files_of_text = codes "SELECT file, object, name, media, size, tag, deposited, behalf, by_reference FROM files WHERE object = ?1 ORDER BY file"
+
+abbrev pub read_content_text : List ℕ
+read_content_text = codes "SELECT content FROM files WHERE file = ?1"
+
+abbrev pub insert_metadata_text : List ℕ
+insert_metadata_text = codes "INSERT INTO metadata (object, name, place, value) VALUES (?1, ?2, ?3, ?4)"
+
+abbrev pub delete_metadata_text : List ℕ
+delete_metadata_text = codes "DELETE FROM metadata WHERE object = ?1"
+
+abbrev pub metadata_of_text : List ℕ
+metadata_of_text = codes "SELECT object, name, place, value FROM metadata WHERE object = ?1 ORDER BY name, place"

@@ -1,9 +1,10 @@
 //! Rows as values of the program.
 
 ghost use Rattle.std.specs.Prelude.{◌≡◌, ◌<◌, ◌^◌, pos, ◌∷◌, [], IsTrue, IfOk, if◌then◌else◌};
-ghost use Rattle.dep_schema.specs.Rows.{flag, IsStorableState, IsStorableObject};
+ghost use Rattle.dep_schema.specs.Rows.{flag, text_of, IsStorableState, IsStorableObject, IsStorableFile, IsStorableMetadata};
 ghost use Rattle.sqlite.specs.Order.{column};
-ghost use Rattle.sqlite.specs.Values.{bound};
+ghost use Rattle.sqlite.specs.Values.{bound, or_null};
+ghost use Rattle.sqlite_value.specs.Value.{owned};
 ghost use Rattle.sqlite.specs.declared.types.Value.TheVariants.{Int};
 
 use sqlite::types::ValueRef;
@@ -88,4 +89,70 @@ pub(crate) fn flag_at(row: &Row, at: usize) -> Result<bool, Error>
         1 => Ok(true),
         _ => Err(Error::IntegralValueOutOfRange(at)),
     }
+}
+
+/// A file, less its content.
+#[derive(Debug, Drop)]
+pub struct FileRow {
+    pub file: u64,
+    pub object: u64,
+    pub name: String,
+    /// Its media type.
+    pub media: String,
+    /// The length of its content, in bytes.
+    pub size: u64,
+    /// The number of a change.
+    pub tag: u64,
+    /// The moment of its deposit, in seconds since 1970.
+    pub deposited: u64,
+    /// On whose behalf it was deposited.
+    pub behalf: Option<String>,
+    pub by_reference: bool,
+}
+
+pub(crate) fn is_storable_file(row: &FileRow) -> bool
+    ensures { IsTrue result → IsStorableFile row.now }
+{
+    row.file < LIMIT
+        && row.object < LIMIT
+        && row.size < LIMIT
+        && row.tag < LIMIT
+        && row.deposited < LIMIT
+}
+
+/// A text as SQL keeps it, or NULL.
+pub(crate) fn text_or_null(text: &Option<String>) -> ValueRef<'_>
+    ensures { owned result ≡ or_null text_of text.now }
+{
+    match text {
+        Some(text) => ValueRef::Text(text.as_bytes()),
+        None => ValueRef::Null,
+    }
+}
+
+/// A text that `text_or_null` wrote.
+pub(crate) fn text_at(row: &Row, at: usize) -> Result<Option<String>, Error>
+    ensures { IfOk result (λ text. column row.now at ≡ or_null text_of text) }
+{
+    let text: Option<String> = row.get(at)?;
+    match text {
+        Some(text) => Ok(Some(text)),
+        None => Ok(None),
+    }
+}
+
+/// One value of an object's metadata.
+#[derive(Debug, Drop)]
+pub struct MetadataRow {
+    pub object: u64,
+    pub name: String,
+    /// The place of the value among those of this name, from 0.
+    pub place: u64,
+    pub value: String,
+}
+
+pub(crate) fn is_storable_metadata(row: &MetadataRow) -> bool
+    ensures { IsTrue result → IsStorableMetadata row.now }
+{
+    row.object < LIMIT && row.place < LIMIT
 }

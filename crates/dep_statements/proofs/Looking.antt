@@ -17,7 +17,7 @@ use Rattle.dep_statements.proofs.Answered.{shown_of, of_few, in_key_order, first
 use Rattle.dep_statements.proofs.Keys.{found_row, find_none, find_head, row_key}
 use Rattle.dep_statements.proofs.Edits.{changed_ordered}
 
-same_filter : (p q : Row → Bool) (rows : List Row) → ((r : Row) → p r ≡ q r) → filter p rows ≡ filter q rows
+pub same_filter : (p q : Row → Bool) (rows : List Row) → ((r : Row) → p r ≡ q r) → filter p rows ≡ filter q rows
 same_filter p q rows h = filter_same p q rows (all_from _ rows (λ r k. h r))
 
 pub same_find : (p q : Row → Bool) (rows : List Row) → ((r : Row) → p r ≡ q r) → find p rows ≡ find q rows

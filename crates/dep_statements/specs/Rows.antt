@@ -2,7 +2,7 @@
 use Rattle.std.specs.Prelude.{ℕ, pos, Bool, if◌then◌else◌, Option, find, List, map}
 use Rattle.std.specs.Ordering.{is_eq, is_gt}
 use Rattle.sqlite.specs.declared.types.Value.TheVariants.{Int}
-use Rattle.sqlite.specs.Order.{Row}
+use Rattle.sqlite.specs.Order.{Row, column}
 use Rattle.sqlite_value.specs.Order.{value_cmp}
 use Rattle.sqlite_trees.specs.Tree.{rowid, has_rowid}
 use Rattle.sqlite_trees.specs.View.{IsShaped}
@@ -23,3 +23,7 @@ replaced new = map (λ row. if is_eq (value_cmp (rowid row) (rowid new)) then ne
 -- the key is above this number
 abbrev pub is_after : ℕ → Row → Bool
 is_after key row = is_gt (value_cmp (rowid row) (Int (pos key)))
+
+-- the column has this number
+abbrev pub has_number : ℕ → ℕ → Row → Bool
+has_number at n row = is_eq (value_cmp (column row at) (Int (pos n)))
