@@ -6,3 +6,4 @@ pub mod Version
 pub mod ObjectsTable
 pub mod FilesTable
 pub mod MetadataTable
+pub mod Again

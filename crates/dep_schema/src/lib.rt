@@ -8,6 +8,7 @@ mod making;
 mod metadata;
 mod objects;
 mod opening;
+mod reopening;
 mod rows;
 mod state;
 
@@ -16,5 +17,9 @@ pub use files::{delete_file, delete_files, files_of, find_file, insert_file, rea
 pub use metadata::{delete_metadata, insert_metadata, metadata_of};
 pub use objects::{delete_object, find_object, insert_object, next_object, write_object};
 pub use opening::{OpenFault, Schema, open};
+pub use reopening::{reopen, sees_again};
 pub use rows::{FileRow, MetadataRow, ObjectRow, StateRow};
 pub use state::{read_state, write_state};
+
+#[cfg(test)]
+mod tests;

@@ -40,6 +40,7 @@ impl From<StoreFault> for OpenFault {
 }
 
 /// A connection over the tables of the store.
+#[derive(Drop)]
 pub struct Schema<S: Alter> {
     pub connection: Connection<S>,
 }
