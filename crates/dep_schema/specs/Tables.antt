@@ -1,5 +1,5 @@
 -- The rows of all tables, and the trees and connections that have them.
-use Rattle.std.specs.Prelude.{◌≡◌, ℕ, pos, true, false, List, [], ◌∷◌, map}
+use Rattle.std.specs.Prelude.{◌≡◌, ◌⊎◌, ℕ, pos, true, false, List, [], ◌∷◌, map}
 use Rattle.std.specs.List.{AllByRecursion}
 use Rattle.sqlite.specs.declared.types.Value.TheVariants.{Int}
 use Rattle.sqlite.specs.Schema.{Schema}
@@ -85,6 +85,10 @@ first_tables = record no_rows { format = format_row 0 ∷ []; state = state_row 
 -- `format` has one row, of id 1, and this version
 abbrev pub HasVersion : ℕ → Tables → Type 0
 HasVersion version tables = map (λ r. column r 0 ∷ column r 2 ∷ []) tables.format ≡ (Int (pos 1) ∷ Int (pos version) ∷ []) ∷ []
+
+-- an empty database, or one with our tables and version 0
+abbrev pub IsOpenable : State → Type 0
+IsOpenable s = (s.now.schema ≡ no_schema) ⊎ (IsOurs s × HasVersion 0 (tables_of s))
 
 -- what `open` may commit: what is there where our schema is there, and the tables of a new store in an empty database
 pub record CommitsOpen (s : State) (trees : Trees) : Type 0 where

@@ -6,7 +6,7 @@ ghost use Rattle.sqlite.specs.Order.{column};
 ghost use Rattle.sqlite.specs.State.{HasCleanDisk, IsUnchanged, KeepsCommit, Survives};
 ghost use Rattle.sqlite.specs.Held.{state};
 ghost use Rattle.dep_schema.specs.Schema.{no_schema};
-ghost use Rattle.dep_schema.specs.Tables.{tables_of, IsOurs, Sees, Stands, HasVersion, CommitsOpen, first_tables};
+ghost use Rattle.dep_schema.specs.Tables.{tables_of, IsOurs, Sees, Stands, HasVersion, IsOpenable, CommitsOpen, first_tables};
 
 use crate::fault::{StoreFault, fault_of};
 use crate::making::make_tables;
@@ -150,8 +150,7 @@ pub fn open<S: Alter>(
     ensures fresh { IfOk result (λ schema. HasCleanDisk (state S.Store schema.connection) → (state S.Store connection).now.schema ≡ no_schema → Stands (state S.Store schema.connection) first_tables) }
     ensures found { IfOk result (λ schema. HasCleanDisk (state S.Store schema.connection) → IsOurs (state S.Store connection)
         → HasVersion 0 (tables_of (state S.Store connection)) × Stands (state S.Store schema.connection) (tables_of (state S.Store connection))) }
-    ensures version { IfErr result (λ e. HasCleanDisk (state S.Store e.1) → e.0 ≡ OpenFault.UnknownVersion
-        → (((state S.Store connection).now.schema ≡ no_schema → ⊥) × (IsOurs (state S.Store connection) → HasVersion 0 (tables_of (state S.Store connection)) → ⊥))) }
+    ensures version { IfErr result (λ e. HasCleanDisk (state S.Store e.1) → e.0 ≡ OpenFault.UnknownVersion → IsOpenable (state S.Store connection) → ⊥) }
     ensures left { IfErr result (λ e. HasCleanDisk (state S.Store e.1) → IsTrue (state S.Store e.1).is_open
         → ((state S.Store e.1).now ≡ (state S.Store connection).committed) × ((state S.Store e.1).committed ≡ (state S.Store connection).committed)) }
     ensures mode { MatchResult result (λ schema. (state S.Store schema.connection).in_transaction ≡ false) (λ e. (state S.Store e.1).in_transaction ≡ false) }
