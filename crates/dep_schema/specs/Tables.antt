@@ -5,6 +5,7 @@ use Rattle.sqlite.specs.declared.types.Value.TheVariants.{Int}
 use Rattle.sqlite.specs.Schema.{Schema}
 use Rattle.sqlite.specs.Order.{Row, column}
 use Rattle.sqlite.specs.Tree.{Trees}
+use Rattle.sqlite.specs.Effect.{Database}
 use Rattle.sqlite.specs.State.{State, Shows}
 use Rattle.sqlite_catalog.specs.Listing.{IsSound}
 use Rattle.dep_statements.specs.Rows.{IsOrdered}
@@ -44,10 +45,14 @@ pub record Holds (trees : Trees) (tables : Tables) : Type 0 where
   pub ours : AreOurs trees
   pub rows : tables_in trees ≡ tables
 
+-- the database has our schema, and its trees list it and obey it
+pub record HasOurTables (db : Database) : Type 0 where
+  pub schema : db.schema ≡ our_schema
+  pub trees : AreOurs db.trees
+
 -- the connection sees our schema
-pub record IsOurs (s : State) : Type 0 where
-  pub schema : s.now.schema ≡ our_schema
-  pub trees : AreOurs s.now.trees
+abbrev pub IsOurs : State → Type 0
+IsOurs s = HasOurTables s.now
 
 -- the connection sees our schema and these tables
 pub record Sees (s : State) (tables : Tables) : Type 0 where

@@ -1,9 +1,10 @@
-//! Writes a store with one object into the file `store.db` of the current folder.
+//! Writes a store with one object into the file that its argument names.
 #![tactic(auto)]
 
 use dep_schema::{FileRow, MetadataRow, ObjectRow, OpenFault, Schema, StoreFault};
 use sqlite::{Alter, Connection, Transaction};
 use std::alloc::Global;
+use std::env;
 
 fn made<S: Alter>(connection: Connection<S>) -> Result<Schema<S>, (OpenFault, Connection<S>)> {
     if !connection.is_autocommit() {
@@ -71,7 +72,11 @@ fn fill<S: Alter>(alloc: Global, connection: &mut Connection<S>) -> anyhow::Resu
 }
 
 fn main(rt: HostRuntime) -> anyhow::Result<()> {
-    let Ok(connection) = Connection::open(&rt, "store.db") else {
+    let Some(path) = env::args(&rt)?.nth(1) else {
+        println!(rt; "usage: store_sample PATH")?;
+        return Ok(());
+    };
+    let Ok(connection) = Connection::open(&rt, path.as_str()) else {
         println!(rt; "not opened")?;
         return Ok(());
     };
