@@ -1,5 +1,5 @@
 -- The rows of the files.
-use Rattle.std.proofs.Common.{◌≡◌, ℕ, pos, List, [], ◌∷◌, ◌++◌, not, map, filter, find, Bool, true, false, if◌then◌else◌, Option, Some, None, Ok, MatchOption, codes, ℤ, take, ◌+◌, ◌<◌, length, get_or, string_bytes, refl, sym, ap, subst, ◌∙◌, arith}
+use Rattle.std.proofs.Common.{◌≡◌, ℕ, pos, List, [], ◌∷◌, ◌++◌, not, map, filter, false, if◌then◌else◌, Option, Some, None, Ok, MatchOption, codes, take, ◌+◌, ◌<◌, length, get_or, string_bytes, refl, sym, ap, subst, ◌∙◌, arith}
 use Rattle.std.specs.Option.{option_to_list, option_map}
 use Rattle.std.proofs.lemmas.List.{get_or-map, length-map, map-append, take_more}
 use Rattle.sqlite_tied.specs.Compute.{everything}
@@ -7,33 +7,31 @@ use Rattle.sqlite.specs.Listing.{understood, reads_listing}
 use Rattle.sqlite.specs.Command.TheVariants.{Insert, Delete, Select}
 use Rattle.sqlite.specs.Source.TheVariants.{Values}
 use Rattle.sqlite.specs.Rowids.TheVariants.{Chosen}
-use Rattle.sqlite.specs.declared.types.Value.{Value}
-use Rattle.sqlite.specs.declared.types.Value.TheVariants.{Null, Int, Text, Blob}
+use Rattle.sqlite.specs.declared.types.Value.TheVariants.{Null, Int, Blob}
 use Rattle.sqlite.specs.Order.{Row, column}
 use Rattle.sqlite.specs.Term.{Term, lit, col}
-use Rattle.sqlite.specs.Values.{or_null}
 use Rattle.sqlite.specs.Effect.{value_rows}
 use Rattle.sqlite.specs.State.{State, ExecutesInside, Shown, IsUnchanged}
-use Rattle.sqlite_trees.specs.Tree.{rowid, has_rowid, put_row, without_rowid}
+use Rattle.sqlite_trees.specs.Tree.{put_row, without_rowid}
 use Rattle.sqlite_trees.specs.declared.store.Shape.TheVariants as shape
 use Rattle.sqlite_trees.proofs.TreeLemmas.{IsShaped-put_row, IsShaped-filter}
 use Rattle.sqlite_rules.specs.Edit.{with_rowid}
 use Rattle.sqlite.proofs.Callers.{IsPlain, command_of}
 use Rattle.dep_statements.specs.Query.{one_table, plainly, equals, no_limit, passes}
-use Rattle.dep_statements.specs.Rows.{IsOrdered, row_at, has_number}
+use Rattle.dep_statements.specs.Rows.{row_at, has_number}
 use Rattle.dep_statements.proofs.Values.{cast_int, cast_null, cast_text_or_null}
 use Rattle.dep_statements.proofs.Asked.{shown_unchanged}
 use Rattle.dep_statements.proofs.Tests.{passes_given}
 use Rattle.dep_statements.proofs.Found.{not_there}
-use Rattle.dep_statements.proofs.Answered.{shown_of, by_rowid}
+use Rattle.dep_statements.proofs.Answered.{by_rowid}
 use Rattle.dep_statements.proofs.Looking.{by_key, by_order, without_key, without_passing}
 use Rattle.dep_statements.proofs.Statements.{selected, inserted, deleted}
 use Rattle.dep_statements.proofs.Results.{puts, takes}
 use Rattle.dep_schema.specs.Schema.{our_schema, files_table}
 use Rattle.dep_schema.specs.Texts.{insert_file_text, delete_file_text, delete_files_text, find_file_text, files_of_text, read_content_text}
-use Rattle.dep_schema.specs.Rows.{flag, text_of, file_row, file_values, shown_file, content_in, IsFile}
+use Rattle.dep_schema.specs.Rows.{text_of, file_row, file_values, shown_file, content_in, IsFile}
 use Rattle.dep_schema.specs.declared.rows.FileRow.{FileRow}
-use Rattle.dep_schema.specs.Tables.{Tables, tables_of, IsOurs, Leads}
+use Rattle.dep_schema.specs.Tables.{tables_of, IsOurs, Leads}
 use Rattle.dep_schema.proofs.Leading.{files_lead}
 
 abbrev terms : List Term

@@ -1,41 +1,35 @@
 -- The rows of the objects' metadata.
-use Rattle.std.proofs.Common.{◌≡◌, ℕ, pos, List, [], ◌∷◌, ◌++◌, not, map, filter, find, Bool, true, false, if◌then◌else◌, Option, Some, None, Ok, MatchOption, codes, ℤ, take, ◌+◌, ◌<◌, length, get_or, string_bytes, refl, sym, ap, subst, ◌∙◌, arith}
-use Rattle.std.specs.Option.{option_to_list, option_map}
-use Rattle.std.proofs.lemmas.List.{get_or-map, length-map, map-append, take_more}
+use Rattle.std.proofs.Common.{◌≡◌, ℕ, pos, List, [], ◌∷◌, ◌++◌, not, map, filter, false, Ok, codes, take, ◌+◌, ◌<◌, length, get_or, refl, sym, ap, subst, ◌∙◌}
+use Rattle.std.proofs.lemmas.List.{map-append, take_more}
 use Rattle.sqlite_tied.specs.Compute.{everything}
 use Rattle.sqlite.specs.Listing.{understood, reads_listing}
 use Rattle.sqlite.specs.Command.TheVariants.{Insert, Delete, Select}
 use Rattle.sqlite.specs.Source.TheVariants.{Values}
 use Rattle.sqlite.specs.Rowids.TheVariants.{Chosen}
-use Rattle.sqlite.specs.declared.types.Value.{Value}
-use Rattle.sqlite.specs.declared.types.Value.TheVariants.{Null, Int, Text, Blob}
+use Rattle.sqlite.specs.declared.types.Value.TheVariants.{Null, Int}
 use Rattle.sqlite.specs.Order.{Row, column}
 use Rattle.sqlite.specs.Term.{Term, lit, col}
-use Rattle.sqlite.specs.Values.{or_null}
 use Rattle.sqlite.specs.Effect.{value_rows}
 use Rattle.sqlite.specs.State.{State, ExecutesInside, Shown, IsUnchanged}
-use Rattle.sqlite_trees.specs.Tree.{rowid, has_rowid, put_row, without_rowid}
+use Rattle.sqlite_trees.specs.Tree.{put_row}
 use Rattle.sqlite_trees.specs.declared.store.Shape.TheVariants as shape
 use Rattle.sqlite_trees.proofs.TreeLemmas.{IsShaped-put_row, IsShaped-filter}
 use Rattle.sqlite_rules.specs.Edit.{with_rowid, next_rowid}
 use Rattle.std.specs.List.Sorted.{IsPermutation, IsSorted}
-use Rattle.std.specs.Cmp.{IsTotalOrder}
 use Rattle.std.proofs.lemmas.Cmp.{on_total, then_total}
 use Rattle.sqlite_value.specs.declared.keys.Key.{Key}
 use Rattle.sqlite_value.specs.Order.{value_cmp}
 use Rattle.sqlite_value.proofs.OrderLemmas.{value_cmp_total, then-Equal}
-use Rattle.sqlite_rules.specs.Lists.{Has}
 use Rattle.sqlite_rules.proofs.ListLemmas.{has_at}
 use Rattle.dep_statements.proofs.Members.{mapped_from, permuted_from}
 use Rattle.std.specs.Ordering.{ordering_then}
 use Rattle.sqlite.proofs.Callers.{IsPlain, command_of}
 use Rattle.dep_statements.specs.Query.{one_table, plainly, equals, no_limit, rising, passes}
-use Rattle.dep_statements.specs.Rows.{IsOrdered, row_at, has_number}
+use Rattle.dep_statements.specs.Rows.{has_number}
 use Rattle.dep_statements.proofs.Values.{cast_int, cast_null}
 use Rattle.dep_statements.proofs.Asked.{shown_unchanged}
 use Rattle.dep_statements.proofs.Tests.{passes_given}
-use Rattle.dep_statements.proofs.Found.{not_there}
-use Rattle.dep_statements.proofs.Answered.{shown_of, in_any_order, in_order}
+use Rattle.dep_statements.proofs.Answered.{in_any_order, in_order}
 use Rattle.dep_statements.proofs.Looking.{without_passing, same_filter}
 use Rattle.dep_statements.proofs.Statements.{selected, inserted, deleted}
 use Rattle.dep_statements.proofs.Results.{puts, takes}
@@ -43,7 +37,7 @@ use Rattle.dep_schema.specs.Schema.{our_schema, metadata_table}
 use Rattle.dep_schema.specs.Texts.{insert_metadata_text, delete_metadata_text, metadata_of_text}
 use Rattle.dep_schema.specs.Rows.{text_of, metadata_row, metadata_values, shown_metadata, by_name_and_place, IsMetadata}
 use Rattle.dep_schema.specs.declared.rows.MetadataRow.{MetadataRow}
-use Rattle.dep_schema.specs.Tables.{Tables, tables_of, IsOurs, Leads}
+use Rattle.dep_schema.specs.Tables.{tables_of, IsOurs, Leads}
 use Rattle.dep_schema.proofs.Leading.{metadata_lead}
 
 abbrev terms : List Term

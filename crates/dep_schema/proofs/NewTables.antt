@@ -1,12 +1,11 @@
 -- The tables of an empty database, and their first rows.
-use Rattle.std.proofs.Common.{◌≡◌, ℕ, pos, List, [], ◌∷◌, Bool, true, false, Ok, codes, refl, sym, ap, subst, ◌∙◌}
+use Rattle.std.proofs.Common.{◌≡◌, ℕ, pos, List, [], ◌∷◌, false, Ok, refl, sym, ap, subst, ◌∙◌}
 use Rattle.std.specs.List.{AllByRecursion}
 use Rattle.sqlite_tied.specs.Compute.{everything}
 use Rattle.sqlite.specs.Listing.{understood}
 use Rattle.sqlite.specs.Command.TheVariants.{CreateTable, Insert}
 use Rattle.sqlite.specs.Source.TheVariants.{Values}
 use Rattle.sqlite.specs.declared.types.Value.TheVariants.{Null, Int}
-use Rattle.sqlite.specs.Order.{Row}
 use Rattle.sqlite.specs.Table.{Table}
 use Rattle.sqlite.specs.Schema.{Schema}
 use Rattle.sqlite.specs.Term.{Term, lit}
@@ -29,8 +28,8 @@ use Rattle.dep_statements.proofs.Results.{puts}
 use Rattle.dep_statements.proofs.Creating.{Created, creates}
 use Rattle.dep_schema.specs.Schema.{our_schema, no_schema, with_format, with_state, with_objects, with_metadata, format_table, state_table, objects_table, metadata_table, files_table}
 use Rattle.dep_schema.specs.Texts.{create_format_text, create_state_text, create_objects_text, create_metadata_text, create_files_text, add_format_text, add_state_text}
-use Rattle.dep_schema.specs.Rows.{format_row, state_row, state_values}
-use Rattle.dep_schema.specs.Tables.{Tables, tables_of, IsOurs, IsBlank, Sees, Leads, no_rows, first_state}
+use Rattle.dep_schema.specs.Rows.{format_row, state_row}
+use Rattle.dep_schema.specs.Tables.{tables_of, IsOurs, IsBlank, Sees, Leads, no_rows, first_state}
 use Rattle.dep_schema.proofs.Leading.{leads}
 
 -- how a text that makes a table is understood

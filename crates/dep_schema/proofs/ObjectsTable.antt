@@ -1,12 +1,11 @@
 -- The rows of the objects.
-use Rattle.std.proofs.Common.{◌≡◌, ℕ, pos, List, [], ◌∷◌, map, filter, find, Bool, true, false, if◌then◌else◌, Option, Some, None, Ok, MatchOption, codes, refl, sym, ap, subst, ◌∙◌, arith}
+use Rattle.std.proofs.Common.{◌≡◌, ℕ, pos, List, [], ◌∷◌, map, find, false, if◌then◌else◌, Option, Some, None, Ok, MatchOption, codes, refl, sym, ap, subst, ◌∙◌}
 use Rattle.std.specs.Option.{option_to_list, option_map}
 use Rattle.sqlite_tied.specs.Compute.{everything}
 use Rattle.sqlite.specs.Listing.{understood, reads_listing}
 use Rattle.sqlite.specs.Command.TheVariants.{Insert, Update, Delete, Select}
 use Rattle.sqlite.specs.Source.TheVariants.{Values}
 use Rattle.sqlite.specs.Rowids.TheVariants.{Chosen}
-use Rattle.sqlite.specs.declared.types.Value.{Value}
 use Rattle.sqlite.specs.declared.types.Value.TheVariants.{Null, Int}
 use Rattle.sqlite.specs.Order.{Row, column}
 use Rattle.sqlite.specs.Term.{Term, lit, col}
@@ -14,26 +13,26 @@ use Rattle.sqlite.specs.Cast.{cast}
 use Rattle.sqlite.specs.Kind.TheVariants.{Integer}
 use Rattle.sqlite.specs.Effect.{value_rows}
 use Rattle.sqlite.specs.State.{State, ExecutesInside, Shown, IsUnchanged}
-use Rattle.sqlite_trees.specs.Tree.{rowid, has_rowid, put_row, without_rowid}
+use Rattle.sqlite_trees.specs.Tree.{rowid, put_row, without_rowid}
 use Rattle.sqlite_trees.specs.declared.store.Shape.TheVariants as shape
 use Rattle.sqlite_trees.proofs.TreeLemmas.{IsShaped-put_row, IsShaped-filter}
 use Rattle.sqlite_rules.specs.Edit.{with_rowid}
 use Rattle.sqlite.proofs.Callers.{IsPlain, command_of}
 use Rattle.dep_statements.specs.Query.{one_table, plainly, equals, exceeds, no_limit, passes}
-use Rattle.dep_statements.specs.Rows.{IsOrdered, row_at, replaced, is_after}
+use Rattle.dep_statements.specs.Rows.{row_at, replaced, is_after}
 use Rattle.dep_statements.proofs.Values.{cast_int, cast_null}
 use Rattle.dep_statements.proofs.Asked.{shown_unchanged}
 use Rattle.dep_statements.proofs.Tests.{passes_given, passes_after}
 use Rattle.dep_statements.proofs.Found.{not_there}
-use Rattle.dep_statements.proofs.Answered.{shown_of, by_rowid}
+use Rattle.dep_statements.proofs.Answered.{by_rowid}
 use Rattle.dep_statements.proofs.Looking.{by_key, by_next, without_key, replaced_ordered}
 use Rattle.dep_statements.proofs.Statements.{selected, inserted, updated, deleted}
 use Rattle.dep_statements.proofs.Results.{changed_by, puts, replaces_row, takes}
 use Rattle.dep_schema.specs.Schema.{our_schema, objects_table}
 use Rattle.dep_schema.specs.Texts.{insert_object_text, write_object_text, delete_object_text, find_object_text, next_object_text}
-use Rattle.dep_schema.specs.Rows.{flag, object_row, object_values, shown_object, IsObject}
+use Rattle.dep_schema.specs.Rows.{object_row, object_values, shown_object, IsObject}
 use Rattle.dep_schema.specs.declared.rows.ObjectRow.{ObjectRow}
-use Rattle.dep_schema.specs.Tables.{Tables, tables_of, IsOurs, Leads}
+use Rattle.dep_schema.specs.Tables.{tables_of, IsOurs, Leads}
 use Rattle.dep_schema.proofs.Leading.{objects_lead}
 
 abbrev terms : List Term

@@ -1,5 +1,5 @@
 -- The one row of the clock and the counters.
-use Rattle.std.proofs.Common.{◌≡◌, ℕ, pos, List, [], ◌∷◌, map, filter, Bool, true, false, if◌then◌else◌, Some, None, Ok, codes, refl, sym, ap, subst, ◌∙◌, arith}
+use Rattle.std.proofs.Common.{◌≡◌, ℕ, pos, List, [], ◌∷◌, map, filter, false, Ok, codes, refl, sym, ap, subst, ◌∙◌, arith}
 use Rattle.sqlite_tied.specs.Compute.{everything}
 use Rattle.sqlite.specs.Listing.{understood, reads_listing}
 use Rattle.sqlite.specs.Command.TheVariants.{Update, Select}
@@ -25,7 +25,7 @@ use Rattle.dep_schema.specs.Schema.{our_schema, state_table}
 use Rattle.dep_schema.specs.Texts.{write_state_text, read_state_text}
 use Rattle.dep_schema.specs.Rows.{state_row, state_values}
 use Rattle.dep_schema.specs.declared.rows.StateRow.{StateRow}
-use Rattle.dep_schema.specs.Tables.{Tables, tables_of, IsOurs, Leads}
+use Rattle.dep_schema.specs.Tables.{tables_of, IsOurs, Leads}
 use Rattle.dep_schema.proofs.Leading.{leads}
 
 abbrev tests : List Term

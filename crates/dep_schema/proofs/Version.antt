@@ -1,5 +1,5 @@
 -- How the version is found.
-use Rattle.std.proofs.Common.{◌≡◌, ◌↔◌, ◌⊎◌, inl, inr, ℕ, pos, List, [], ◌∷◌, map, filter, Bool, true, false, Ok, Err, codes, refl, sym, ap, subst, ◌∙◌, IsTrue}
+use Rattle.std.proofs.Common.{◌≡◌, ◌↔◌, ◌⊎◌, inl, inr, ℕ, pos, List, [], ◌∷◌, map, filter, false, Err, codes, refl, sym, ap, subst, ◌∙◌}
 use Rattle.std.specs.List.Sorted.{IsPermutation}
 use Rattle.std.proofs.lemmas.List.Sorted.{IsPermutation-sym}
 use Rattle.sqlite_tied.specs.Compute.{everything}
@@ -24,7 +24,7 @@ use Rattle.dep_schema.specs.Schema.{our_schema, no_schema}
 use Rattle.dep_schema.specs.Texts.{find_format_text}
 use Rattle.sqlite.specs.Tree.{Trees}
 use Rattle.sqlite.specs.Effect.{Database}
-use Rattle.dep_schema.specs.Tables.{Tables, tables_of, IsOurs, HasVersion, Sees, Holds, CommitsOpen, first_tables}
+use Rattle.dep_schema.specs.Tables.{tables_of, IsOurs, HasVersion, Sees, Holds, CommitsOpen, first_tables}
 use Rattle.dep_schema.specs.OpenFaults.{open_fault_for}
 use Rattle.dep_schema.specs.declared.fault.StoreFault.{StoreFault}
 use Rattle.dep_schema.specs.declared.fault.StoreFault.TheVariants.{Store, Memory}

@@ -1,25 +1,25 @@
 -- The rows that a query of one table answers.
-use Rattle.std.proofs.Common.{◌≡◌, inl, inr, is_gt, ap₂, ℕ, ◌≤◌, ◌<◌, pos, negsuc, length, take, drop, List, [], ◌∷◌, map, filter, Bool, true, false, refl, sym, ap, subst, ◌∙◌, Ordering, Less, arith}
+use Rattle.std.proofs.Common.{◌≡◌, inl, inr, is_gt, ap₂, ℕ, ◌≤◌, pos, length, take, drop, List, [], ◌∷◌, map, false, refl, sym, ap, subst, ◌∙◌, Ordering, Less, arith}
 use Rattle.std.proofs.lemmas.List.{length-map}
 use Rattle.std.proofs.lemmas.List.Sorted.{IsPermutation-map}
 use Rattle.std.specs.List.Sorted.{IsPermutation, IsSorted}
-use Rattle.sqlite.specs.declared.types.Value.TheVariants.{Null, Int}
+use Rattle.sqlite.specs.declared.types.Value.TheVariants.{Int}
 use Rattle.sqlite_value.specs.declared.keys.Key.{Key}
 use Rattle.sqlite_value.specs.Order.{value_cmp}
 use Rattle.sqlite_value.proofs.OrderLemmas.{then-Equal}
 use Rattle.sqlite.specs.Order.{Row}
 use Rattle.sqlite.specs.Term.{Term, lit, col, eval_all}
-use Rattle.sqlite.specs.Query.{Query, output, output_cmp, page, Output}
+use Rattle.sqlite.specs.Query.{Query, output, output_cmp, Output}
 use Rattle.sqlite_sql.proofs.QueryLemmas.{output_cmp_total}
 use Rattle.sqlite_trees.specs.Tree.{rowid, IsAscending, IsTable}
-use Rattle.sqlite_trees.proofs.ListLemmas.{map-map, ascending-map, ascending_weaker, ascending-filter}
+use Rattle.sqlite_trees.proofs.ListLemmas.{map-map, ascending-map, ascending_weaker}
 use Rattle.std.specs.Cmp.{IsTotalOrder}
 use Rattle.sqlite_exec.proofs.PartitionLemmas.{ascending_from_sorted, sorted_from_ascending}
 use Rattle.sqlite_trees.proofs.ListLemmas.{all-map}
 use Rattle.sqlite_rules.specs.Lists.{Has}
 use Rattle.sqlite_rules.proofs.ListLemmas.{all_has, all_from}
 use Rattle.dep_statements.proofs.Members.{mapped_from, permuted_from}
-use Rattle.dep_statements.specs.Query.{one_table, no_limit, rising, passes}
+use Rattle.dep_statements.specs.Query.{one_table, no_limit, rising}
 use Rattle.dep_statements.proofs.Asking.{Picks}
 use Rattle.dep_statements.proofs.Sorted.{short_permutation, sorted_is}
 

@@ -1,14 +1,14 @@
 -- Rows that a query by a key, or by the next greater key, finds.
-use Rattle.std.proofs.Common.{◌≡◌, ◌⊎◌, inl, inr, ℕ, ℤ, pos, ◌≤◌, Bool, true, false, not, cond, if◌then◌else◌, length, List, [], ◌∷◌, map, take, filter, find, Option, Some, None, refl, sym, ap, subst, ◌∙◌, is_eq, is_gt, arith}
+use Rattle.std.proofs.Common.{◌≡◌, inl, inr, ℕ, ℤ, pos, ◌≤◌, Bool, true, false, not, if◌then◌else◌, length, List, [], ◌∷◌, map, take, filter, find, Option, Some, None, refl, sym, ap, subst, ◌∙◌, is_eq, is_lt, Ordering, Less, Equal, Greater, arith}
 use Rattle.std.specs.Option.{option_to_list}
 use Rattle.std.specs.List.{AllByRecursion}
 use Rattle.sqlite.specs.Order.{Row}
 use Rattle.sqlite.specs.Term.{Term, lit}
 use Rattle.sqlite.specs.declared.types.Value.TheVariants.{Int}
 use Rattle.sqlite_value.specs.Order.{value_cmp}
-use Rattle.sqlite_trees.specs.Tree.{rowid, has_rowid, without_rowid, IsTable}
+use Rattle.sqlite_trees.specs.Tree.{rowid, has_rowid, without_rowid, put_row}
+use Rattle.sqlite_trees.proofs.TreeLemmas.{later_rowids}
 use Rattle.sqlite_trees.proofs.ListLemmas.{filter_same, ascending-filter}
-use Rattle.sqlite_rules.specs.Lists.{Has}
 use Rattle.sqlite_rules.proofs.ListLemmas.{all_from}
 use Rattle.dep_statements.specs.Query.{one_table, no_limit, passes}
 use Rattle.dep_statements.specs.Rows.{IsOrdered, replaced}
@@ -81,3 +81,32 @@ without_passing p q rows test = same_filter _ (λ r. not (q r)) rows (λ r. ap n
 pub replaced_ordered : (id : ℤ) (new : Row) (rows : List Row) → rowid new ≡ Int id → IsOrdered rows → IsOrdered (replaced new rows)
 replaced_ordered id new rows keyed up =
     changed_ordered (λ r. is_eq (value_cmp (rowid r) (rowid new))) (λ r. new) rows up (λ r h tied. keyed ∙ sym (row_key rows r id up h (subst (λ v. is_eq (value_cmp (rowid r) v) ≡ true) keyed tied)))
+
+-- no row that does not tie is replaced
+kept_rows : (new : Row) (rows : List Row) → AllByRecursion (λ r. is_eq (value_cmp (rowid r) (rowid new)) ≡ false) rows → replaced new rows ≡ rows
+kept_rows new [] h = refl
+kept_rows new (x ∷ rows) h = rw h.0 (ap (λ xs. x ∷ xs) (kept_rows new rows h.1))
+
+none_tied : (id : ℤ) (rows : List Row) → AllByRecursion (λ r. is_eq (value_cmp (rowid r) (Int id)) ≡ false) rows → find (has_rowid id) rows ≡ None
+none_tied id [] h = refl
+none_tied id (x ∷ rows) h = rw h.0 (none_tied id rows h.1)
+
+-- where the key is there, a row is replaced by being put in
+pub replaced_is_put : (id : ℤ) (new : Row) (rows : List Row) → rowid new ≡ Int id → IsOrdered rows → (r : Row) → find (has_rowid id) rows ≡ Some r → replaced new rows ≡ put_row new rows
+replaced_is_put id new [] keyed up r there = absurd (cc)
+replaced_is_put id new (x ∷ rows) keyed up r there = go (value_cmp (rowid x) (rowid new)) refl (replaced_is_put id new rows keyed (up.0.1, up.1.1) r)
+  where
+    go : (o : Ordering) → value_cmp (rowid x) (rowid new) ≡ o → (find (has_rowid id) rows ≡ Some r → replaced new rows ≡ put_row new rows) → replaced new (x ∷ rows) ≡ put_row new (x ∷ rows)
+    go Less is more =
+        let other : has_rowid id x ≡ false = ap (λ v. is_eq (value_cmp (rowid x) v)) (sym keyed) ∙ ap is_eq is in
+        let later : find (has_rowid id) rows ≡ Some r = rw other at there in
+        rw is (ap (λ xs. x ∷ xs) (more later))
+    go Equal is more =
+        let below : is_lt (value_cmp (rowid x) (rowid new)) ≡ false = ap is_lt is in
+        rw is (ap (λ xs. new ∷ xs) (kept_rows new rows (later_rowids (rowid new) x rows below up.0.0)))
+    go Greater is more =
+        let other : has_rowid id x ≡ false = ap (λ v. is_eq (value_cmp (rowid x) v)) (sym keyed) ∙ ap is_eq is in
+        let below : is_lt (value_cmp (rowid x) (Int id)) ≡ false = ap (λ v. is_lt (value_cmp (rowid x) v)) (sym keyed) ∙ ap is_lt is in
+        let later : find (has_rowid id) rows ≡ Some r = rw other at there in
+        let gone = none_tied id rows (later_rowids (Int id) x rows below up.0.0) in
+        absurd (cc)

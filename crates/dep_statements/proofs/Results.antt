@@ -1,5 +1,5 @@
 -- The rows that a write leaves.
-use Rattle.std.proofs.Common.{◌≡◌, ◌⊎◌, inl, inr, ℕ, ℤ, ◌/◌, List, [], ◌∷◌, length, map, drop, filter, slice_get, Bool, true, false, not, ◌&&◌, if◌then◌else◌, Option, Some, None, Ok, refl, sym, ap, subst, ◌∙◌}
+use Rattle.std.proofs.Common.{◌≡◌, ℕ, ℤ, List, [], ◌∷◌, map, drop, filter, Bool, true, false, not, ◌&&◌, if◌then◌else◌, refl, sym, ap, subst, ◌∙◌}
 use Rattle.std.proofs.lemmas.List.Sorted.{IsPermutation-map}
 use Rattle.std.specs.List.Sorted.{IsPermutation}
 use Rattle.sqlite.specs.declared.types.Value.TheVariants.{Int}
@@ -15,14 +15,14 @@ use Rattle.sqlite_trees.proofs.ListLemmas.{map-map}
 use Rattle.sqlite_value.specs.declared.keys.Key.{Key}
 use Rattle.sqlite_rules.specs.Lists.{Has}
 use Rattle.sqlite_rules.specs.Cast.{cast_row}
-use Rattle.sqlite_rules.specs.Edit.{Edit, edit_of, id_in, numbered, without_all, put_all, are_fresh, is_taken, IsNoIndex}
+use Rattle.sqlite_rules.specs.Edit.{edit_of, id_in, numbered, without_all, put_all, are_fresh, is_taken, IsNoIndex}
 use Rattle.sqlite_rules.specs.Calls.{ids_of}
 use Rattle.sqlite_rules.proofs.PlaceLemmas.{given}
 use Rattle.dep_statements.specs.Query.{one_table, no_limit, passes}
 use Rattle.dep_statements.specs.Rows.{IsOrdered, replaced}
 use Rattle.dep_statements.proofs.Asking.{Picks}
 use Rattle.dep_statements.proofs.Answered.{shown_of, in_any_order}
-use Rattle.dep_statements.proofs.Edits.{key_of, has_its_key, left_rows, changed_rows}
+use Rattle.dep_statements.proofs.Edits.{key_of, left_rows, changed_rows}
 use Rattle.dep_statements.proofs.Keys.{row_key, replaces}
 use Rattle.dep_statements.proofs.Statements.{Wrote}
 

@@ -1,5 +1,5 @@
 -- What an INSERT, an UPDATE and a DELETE of one table leave, where no key refers to another table.
-use Rattle.std.proofs.Common.{◌≡◌, ◌⊎◌, inl, inr, ℕ, ◌/◌, List, [], ◌∷◌, ◌++◌, length, map, drop, slice_get, Bool, true, false, Option, Some, None, Ok, Err, Result, refl, sym, ap, subst, ◌∙◌, append-nil}
+use Rattle.std.proofs.Common.{◌≡◌, ◌⊎◌, inl, inr, ℕ, ◌/◌, List, [], length, slice_get, Option, Some, None, Ok, Err, Result, sym, ap, subst, ◌∙◌, append-nil}
 use Rattle.sqlite.specs.Order.{Row}
 use Rattle.sqlite.specs.Term.{Term}
 use Rattle.sqlite.specs.Table.{Table}
@@ -13,10 +13,9 @@ use Rattle.sqlite_rules.specs.Action.{works}
 use Rattle.sqlite_rules.specs.Calls.{ids_of}
 use Rattle.sqlite.specs.Rowids.TheVariants.{Chosen, Given}
 use Rattle.sqlite.specs.declared.run.Mode.{Mode}
-use Rattle.sqlite.specs.declared.error.Error.{Error}
 use Rattle.sqlite.specs.Effect.{Database, Answers, value_rows}
 use Rattle.sqlite.specs.Does.{Tally, Does, Concludes}
-use Rattle.sqlite.specs.Rows.{Written, Part, Then, Task, Inserts, Updates, Deletes, Edited, stamped}
+use Rattle.sqlite.specs.Rows.{Written, Task, Inserts, Updates, Deletes, Edited}
 use Rattle.sqlite.proofs.Callers.{one_step}
 use Rattle.sqlite.specs.Schema.{Schema}
 use Rattle.sqlite_schema.specs.declared.schema.Column.{Column}

@@ -1,13 +1,13 @@
 -- A query of one table, as its text is understood.
-use Rattle.std.specs.Prelude.{ℕ, pos, negsuc, Option, Some, None, Bool, true, false, List, [], ◌∷◌, map, filter}
+use Rattle.std.specs.Prelude.{ℕ, pos, negsuc, None, Bool, false, List, [], ◌∷◌}
 use Rattle.std.specs.List.{list_all}
-use Rattle.sqlite.specs.declared.types.Value.TheVariants.{Null, Int}
+use Rattle.sqlite.specs.declared.types.Value.TheVariants.{Int}
 use Rattle.sqlite_value.specs.declared.keys.Collation.TheVariants.{Binary}
 use Rattle.sqlite_value.specs.declared.keys.Key.{Key}
 use Rattle.sqlite_sql.specs.declared.ops.BinaryOp.TheVariants.{Compare}
 use Rattle.sqlite_sql.specs.declared.ops.CompareOp.TheVariants.{Eq, Gt}
 use Rattle.sqlite.specs.Order.{Row}
-use Rattle.sqlite.specs.Term.{Term, lit, col, op2, holds}
+use Rattle.sqlite.specs.Term.{Term, lit, op2, holds}
 use Rattle.sqlite.specs.Query.{Query, inner, end}
 use Rattle.sqlite_schema.specs.declared.program.Program.{Program}
 

@@ -1,4 +1,4 @@
-use Rattle.std.proofs.Common.{◌≡◌, ◌∙◌, ◌⊎◌, inl, inr, refl}
+use Rattle.std.proofs.Common.{◌∙◌, inl, inr, refl}
 use Rattle.sqlite.specs.Held.{state}
 use Rattle.dep_statements.proofs.Asked.{shown_keeps, shown_mode, asks_keep, asks_on}
 use Rattle.dep_schema.specs.Texts.{find_format_text}

@@ -1,4 +1,4 @@
-use Rattle.std.proofs.Common.{◌⊎◌, inl, inr, rules}
+use Rattle.std.proofs.Common.{inl, inr, rules}
 use Rattle.dep_schema.proofs.opening.open.Goals as goal
 
 pub returns-in-Err-clause-version : goal.returns-in-Err-clause-version
