@@ -1,5 +1,5 @@
 -- The first place where CR LF CR LF stands tells where a head ends.
-use Rattle.std.proofs.Common.{◌≡◌, ℕ, suc, zero, ◌+◌, ◌<◌, ◌≤◌, Bool, true, false, List, [], ◌∷◌, length, get_or, take, Option, Some, None, if◌then◌else◌, nat_eq, refl, sym, ap, ◌∙◌, subst, arith, length-take, get_or-take, zero-add, inl, inr}
+use Rattle.std.proofs.Common.{◌≡◌, ℕ, suc, zero, ◌+◌, ◌<◌, ◌≤◌, true, false, List, [], ◌∷◌, length, get_or, take, Some, None, if◌then◌else◌, nat_eq, refl, sym, ap, ◌∙◌, arith, length-take, get_or-take, zero-add, inl, inr}
 use Rattle.std.proofs.lemmas.Bool.{cases_Bool}
 use Rattle.std.proofs.lemmas.Grind.{same_number_lists}
 use Rattle.std.proofs.lemmas.Slice.Eq.{bytes_eq-Decides}

@@ -1,12 +1,12 @@
 -- What the first field adds to the values of a name.
-use Rattle.std.proofs.Common.{◌≡◌, ◌↔◌, ℕ, suc, ◌<◌, ◌≤◌, Bool, true, false, cond, List, [], ◌∷◌, length, map, filter, IsTrue, take, refl, sym, ap, ◌∙◌, arith, inl, inr, get_or, All}
+use Rattle.std.proofs.Common.{◌≡◌, ℕ, suc, cond, List, [], ◌∷◌, length, map, filter, refl, ap, arith, inl, inr}
 use Rattle.std.proofs.lemmas.Bool.{cases_Bool}
 use Rattle.std.proofs.lemmas.Slice.Eq.{bytes_eq-Decides}
 use Rattle.std.specs.Char.{to_ascii_lowercase}
-use Rattle.httparse.specs.Spans.{header_bytes, IsHeaderWithin}
+use Rattle.httparse.specs.Spans.{IsHeaderWithin}
 use Rattle.httparse.specs.declared.spans.HeaderSpan.{HeaderSpan}
 use Rattle.dep_head.specs.Head.{values_of, is_named}
-use Rattle.dep_head.specs.Spans.{AreWithin, fields_at}
+use Rattle.dep_head.specs.Spans.{AreWithin}
 
 pub values_of-nil : (name : List ℕ) → values_of [] name ≡ []
 unfolding values_of

@@ -1,5 +1,5 @@
 -- A text is the text of at most one head.
-use Rattle.std.proofs.Common.{◌≡◌, ℕ, List, [], map, not, ◌||◌, ◌==◌, is_some, length, refl, sym, ap, subst, ◌∙◌, if◌then◌else◌}
+use Rattle.std.proofs.Common.{◌≡◌, ℕ, List, [], map, not, ◌||◌, ◌==◌, is_some, length, sym, ap, subst, ◌∙◌, if◌then◌else◌}
 use Rattle.httparse.specs.Grammar.{RequestHead}
 use Rattle.httparse.specs.Spans.{name_and_value}
 use Rattle.httparse.proofs.GrammarLemmas.{request_unique}

@@ -5,7 +5,7 @@ use Rattle.httparse.specs.declared.spans.Span.{Span}
 use Rattle.httparse.specs.declared.spans.HeaderSpan.{HeaderSpan}
 use Rattle.http_uri.specs.Uri.{uri_path}
 use Rattle.http_uri.specs.declared.uri.Uri.{Uri}
-use Rattle.dep_head.specs.Head.{HeadParts, values_of}
+use Rattle.dep_head.specs.Head.{HeadParts}
 
 -- the fields that spans cover
 abbrev pub fields_at : List ℕ → List HeaderSpan → List (List ℕ × List ℕ)

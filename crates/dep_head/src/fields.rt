@@ -45,13 +45,9 @@ impl<'a> Iterator for Values<'a> {
     fn next(&mut self) -> Option<&'a [u8]> {
         while let Some((first, rest)) = self.fields.split_first() {
             self.fields = rest;
-            let field = *first;
-            if field
-                .name
-                .of(self.text)
-                .eq_ignore_ascii_case(self.name.as_bytes())
-            {
-                return Some(field.value.of(self.text));
+            let name = first.name.of(self.text);
+            if name.eq_ignore_ascii_case(self.name.as_bytes()) {
+                return Some(first.value.of(self.text));
             }
         }
         None

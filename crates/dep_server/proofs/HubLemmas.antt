@@ -1,21 +1,23 @@
 -- What a hub stands for, after each of its calls.
-use Rattle.std.proofs.Common.{◌≡◌, ◌≢◌, ℕ, ◌+◌, ◌==◌, Bool, true, false, List, [], ◌∷◌, ◌++◌, get_or, set, length, Option, Some, None, if◌then◌else◌, refl, sym, ap, subst, ◌∙◌, arith, inl, inr}
-use Rattle.std.specs.Io.KnownBytes.{Appends, Keeps}
+use Rattle.std.proofs.Common.{◌≡◌, ◌≢◌, ℕ, ◌+◌, ◌==◌, Bool, true, false, List, [], ◌∷◌, ◌++◌, get_or, set, Option, Some, None, if◌then◌else◌, refl, sym, ap, subst, ◌∙◌, arith, inl}
+use Rattle.std.specs.Io.KnownBytes.{Keeps}
 use Rattle.dep_types.specs.State.{State}
+use Rattle.dep_types.specs.Sound.{IsSound}
 use Rattle.dep_types.specs.declared.config.Config.{Config}
 use Rattle.dep_head.specs.Head.{head_end}
 use Rattle.dep_server.specs.Places.{Place, Open, Shut, Reading, IsOpen, HasBytes, more}
-use Rattle.dep_server.specs.Stream.{Item, FirstAt, Reads, Waits, Spells}
-use Rattle.dep_server.specs.Machine.{Serves, serves_all, step_fails, gives_up, Fails, given_up, cut_short, SendsUpTo, all, cut, answer_at_place}
-use Rattle.dep_server.specs.Records.{Event, Connect, Arrive, Close, Record, Line, Absent, Live, Ended, World, put, line_after, ReadsBeyond, Arrives, at_live, at_ended, Happens, connects, closes, arrives, unknown, Run, goes_on}
+use Rattle.dep_server.specs.Stream.{Item, Reads, Waits}
+use Rattle.dep_server.specs.Machine.{Serves, serves_all, step_fails, gives_up, answer_at_place}
+use Rattle.dep_server.specs.Records.{Event, Connect, Arrive, Close, Record, Line, Absent, Live, Ended, World, put, line_after, ReadsBeyond, Arrives, at_live, at_ended, connects, closes, arrives, Run, goes_on}
 use Rattle.dep_server.specs.Serving.{ServesFrom, ServesOver}
-use Rattle.dep_server.specs.Standing.{intake_of, Ascends, KeepsRest, IsKeptAs, IsShut, StandsAt, StandsFor, Adds, Moves, IsArrival, ArrivesOver}
+use Rattle.dep_server.specs.Standing.{intake_of, Ascends, KeepsRest, IsKeptAs, StandsAt, StandsFor, Adds, Moves, ArrivesOver}
 use Rattle.dep_server.specs.Numbers.{index_of}
 use Rattle.dep_server.specs.declared.arrived.Arrived.{Arrived}
 use Rattle.dep_server.specs.declared.arrived.Arrived.TheVariants.{Open as StaysOpen, Closed, Cut, NoSuch}
 use Rattle.dep_server.specs.declared.connections.Connection.{Connection}
 use Rattle.dep_server.specs.declared.hub.Hub.{Hub}
 use Rattle.dep_server.proofs.Reading.{reads_more, reads_append}
+use Rattle.dep_server.proofs.RunSound.{arrives_sound}
 use Rattle.dep_server.proofs.ConnectionLemmas.{index_some, intake_set, ascends_set, intake_push, ascends_push}
 use Rattle.std.proofs.lemmas.Bool.{eqb-true, eq-eqb}
 use Rattle.std.specs.Prelude.{IsSome}
@@ -145,6 +147,7 @@ module _ (old new : Hub) (n i : ℕ) (piece : List ℕ) (moment : ℕ) (c : Conn
         subst (λ s. Arrives old.config piece moment (w.line n) s v.0 new.store r.becomes answer) at.state r.arrival,
         record {
           state = refl;
+          sound = arrives_sound r.arrival (subst IsSound (sym at.state) at.sound);
           kept = subst (λ (x : _). (m : ℕ) → IsKeptAs x.max_upload (put n r.becomes w.line m) (intake_of new.connections.items m)) (sym config)
               (kept_put old.config.max_upload n r.becomes w.line (Some now) old.connections.items new.connections.items r.kept at.kept
               (λ m. ap (λ cs. intake_of cs m) changed ∙ intake_set n i old.connections.items (record { number = c.number; intake = now }) index found.0 m));
@@ -204,6 +207,7 @@ closes_moves old new n config store gone numbers w at = (
   closes,
   record {
     state = store ∙ at.state;
+    sound = at.sound;
     kept = subst (λ (x : _). (m : ℕ) → IsKeptAs x.max_upload (put n Absent w.line m) (intake_of new.connections.items m)) (sym config)
         (kept_put old.config.max_upload n Absent w.line None old.connections.items new.connections.items tt at.kept (gone at.numbers));
     numbers = numbers at.numbers;
@@ -231,6 +235,7 @@ connects_moves old new n config store this next items w at =
       connects,
       record {
         state = store ∙ at.state;
+        sound = at.sound;
         kept = subst (λ (x : _). (m : ℕ) → IsKeptAs x.max_upload (put n (Live []) w.line m) (intake_of new.connections.items m)) (sym config)
             (kept_put old.config.max_upload n (Live []) w.line (Some d.intake) old.connections.items new.connections.items (kept_fresh old.config.max_upload) at.kept
             (λ m. ap (λ cs. intake_of cs m) items ∙ intake_push 0 old.connections.items d low m));

@@ -11,3 +11,5 @@ pub mod TalkLemmas
 pub mod SendingLemmas
 pub mod PerformLemmas
 pub mod FileFieldLemmas
+pub mod SoundLemmas
+pub mod RunSound

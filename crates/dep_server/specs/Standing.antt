@@ -1,9 +1,9 @@
 -- What a hub stands for: the lists of records that may have led to what it keeps.
-use Rattle.std.specs.Prelude.{◌≡◌, ◌<◌, ◌≤◌, ◌+◌, ◌==◌, ℕ, List, [], ◌∷◌, ◌++◌, if◌then◌else◌, Option, None, Some}
+use Rattle.std.specs.Prelude.{◌≡◌, ◌≤◌, ◌+◌, ◌==◌, ℕ, List, [], ◌∷◌, ◌++◌, if◌then◌else◌, Option, None, Some}
 use Rattle.std.specs.Io.KnownBytes.{Appends, Keeps}
 use Rattle.dep_types.specs.State.{State}
-use Rattle.dep_types.specs.declared.config.Config.{Config}
-use Rattle.dep_server.specs.Places.{Place, Shut, Reading, IsOpen}
+use Rattle.dep_types.specs.Sound.{IsSound}
+use Rattle.dep_server.specs.Places.{Shut, Reading, IsOpen}
 use Rattle.dep_server.specs.Stream.{Item, Spells}
 use Rattle.dep_server.specs.Records.{Event, Arrive, Record, Line, Absent, Live, Ended, World, Run, put, Arrives, Happens}
 use Rattle.dep_server.specs.declared.arrived.Arrived.{Arrived}
@@ -42,9 +42,10 @@ IsKeptAs limit (Live stream) (Some reading) = KeepsRest limit stream reading
 IsKeptAs limit Ended None = ⊥
 IsKeptAs limit Ended (Some reading) = IsShut limit reading
 
--- the hub keeps what the machine is
+-- the hub keeps what the machine is, and that is sound
 pub record StandsAt (hub : Hub) (w : World) : Type 0 where
   pub state : hub.store ≡ w.state
+  pub sound : IsSound w.state
   pub kept : (number : ℕ) → IsKeptAs hub.config.max_upload (w.line number) (intake_of hub.connections.items number)
   pub numbers : Ascends 0 hub.connections.items hub.next
 

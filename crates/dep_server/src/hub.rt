@@ -2,8 +2,10 @@
 ghost use Rattle.std.specs.Prelude.{◌+◌, ◌≡◌, ◌<◌, ◌≤◌, ℕ, [], ◌∷◌, ◌++◌, List, length, IfOk, IfErr, OnErr, IfSome, None, IsErrOf, IsSome, ◌⊎◌, ◌≢◌};
 ghost use Rattle.dep_types.specs.Writing.{HasRisen};
 ghost use Rattle.dep_types.specs.State.{State};
+ghost use Rattle.dep_types.specs.Sound.{IsSound};
 ghost use Rattle.dep_types.specs.Config.{IsChecked};
 ghost use Rattle.dep_server.specs.Records.{Connect, Close, Record, World, Run, Absent};
+ghost use Rattle.dep_server.specs.Numbers.{most_connections, last_number};
 ghost use Rattle.dep_server.specs.Standing.{StandsFor, StandsAt, Adds, Moves, ArrivesOver, intake_of};
 
 use crate::arrived::Arrived;
@@ -50,12 +52,13 @@ pub enum ConnectFault {
 impl Hub {
     /// A hub over the store, without connections. A refusal hands the store back.
     pub fn new(alloc: Global, config: Config, store: Store) -> Result<Hub, (HubFault, Store)>
-        ensures stands { IfOk result (λ hub. (first : State) → store ≡ first → StandsFor hub first []) }
+        ensures stands { IfOk result (λ hub. (first : State) → store ≡ first → IsSound first → StandsFor hub first []) }
         // Also after a stop.
-        ensures again { IfOk result (λ hub. (first : State) (records : List Record) (w : World) → Run config first records w → ((n : ℕ) → w.line n ≡ Absent) → store ≡ w.state → StandsFor hub first records) }
+        ensures again { IfOk result (λ hub. (first : State) (records : List Record) (w : World) → Run config first records w → ((n : ℕ) → w.line n ≡ Absent) → store ≡ w.state → IsSound w.state → StandsFor hub first records) }
         ensures config { IfOk result (λ hub. hub.config ≡ config) }
         ensures checked { IfOk result (λ _. IsChecked config) }
         ensures refused { IfErr result (λ fault. fault.0 ≡ HubFault.Config → ¬ IsChecked config) }
+        ensures next { IfOk result (λ hub. hub.next ≡ 0) }
         ensures store { IfErr result (λ fault. fault.1 ≡ store) }
     {
         match config.check(alloc) {
@@ -79,7 +82,10 @@ impl Hub {
         ensures config { self.new.config ≡ self.old.config }
         ensures next { IfOk result (λ number. (number ≡ self.old.next) × (self.new.next ≡ self.old.next + 1)) }
         // It refuses for a reason.
-        ensures full { IsErrOf result ConnectFault.Full → (MOST_CONNECTIONS ≤ length self.old.connections.items) ⊎ (LAST_NUMBER ≤ self.old.next) }
+        ensures full { IsErrOf result ConnectFault.Full → (most_connections ≤ length self.old.connections.items) ⊎ (last_number ≤ self.old.next) }
+        // It takes no connection more than there may be, and a refusal takes no number.
+        ensures room { IfOk result (λ _. (length self.old.connections.items < most_connections) × (self.old.next < last_number)) }
+        ensures kept { OnErr result (self.new.next ≡ self.old.next) }
         ensures fresh { IfOk result (λ number. intake_of self.old.connections.items number ≡ None) }
         ensures there { IfOk result (λ number. IsSome (intake_of self.new.connections.items number)) }
     {

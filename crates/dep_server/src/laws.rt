@@ -1,5 +1,5 @@
 //! Laws of the definitions, apart from any code.
-ghost use Rattle.std.specs.Prelude.{◌≡◌, ℕ, List, ◌++◌};
+ghost use Rattle.std.specs.Prelude.{◌≡◌, ℕ, List, ◌++◌, None};
 ghost use Rattle.dep_server.specs.Places.{Place, more};
 ghost use Rattle.dep_server.specs.Stream.{Item, Reads, IsRequestText, Spells};
 ghost use Rattle.dep_types.specs.State.{State};
@@ -7,6 +7,11 @@ ghost use Rattle.dep_server.specs.Records.{Record, World, Run};
 ghost use Rattle.dep_types.specs.declared.config.Config.{Config};
 ghost use Rattle.dep_server.specs.Calm.{CalmRun, Step, sent_to};
 ghost use Rattle.dep_server.specs.declared.message.Message.{Message};
+ghost use Rattle.dep_types.specs.Sound.{IsSound};
+ghost use Rattle.dep_types.specs.declared.target.Target.{Target};
+ghost use Rattle.dep_head.specs.Head.{HeadParts};
+ghost use Rattle.dep_server.specs.Operations.{operation_of, refusal, effect};
+ghost use Rattle.dep_server.specs.Machine.{step};
 
 /// What was read is read still when more bytes come, and what was left goes on with them.
 pub fn reading_carries_on()
@@ -37,4 +42,20 @@ pub fn cuts_move_moments_of_runs()
     ensures { (config : Config) (first : State) (records others : List Record) (steps : List Step) (v w : World)
         (r : Run config first records v) (q : Run config first others w) → CalmRun records v r steps → CalmRun others w q steps
         → ((n : ℕ) → sent_to n records ≡ sent_to n others) × (v.state ≡ w.state) }
+{}
+
+/// A request that is accepted keeps a sound state sound.
+pub fn accepted_keeps_sound()
+    ensures { (s : State) (head : HeadParts) (t : Target) (content : List ℕ) → refusal s (operation_of head t) ≡ None
+        → IsSound s → IsSound (effect s (operation_of head t) content) }
+{}
+
+/// A step keeps a sound state sound, whatever came and at whatever moment.
+pub fn steps_keep_sound()
+    ensures { (config : Config) (s : State) (item : Item) (moment : ℕ) → IsSound s → IsSound (step config s item moment).state }
+{}
+
+/// What happens to the machine keeps its state sound, also where a step fails.
+pub fn runs_keep_sound()
+    ensures { (config : Config) (first : State) (records : List Record) (w : World) → Run config first records w → IsSound first → IsSound w.state }
 {}

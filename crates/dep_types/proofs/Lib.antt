@@ -2,3 +2,4 @@ pub mod Kept
 pub mod TickLemmas
 pub mod Later
 pub mod TickSound
+pub mod EmptySound

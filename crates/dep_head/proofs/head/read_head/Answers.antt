@@ -1,10 +1,10 @@
-use Rattle.std.proofs.Common.{◌≡◌, ◌≤◌, ℕ, List, [], Some, length, take, drop, map, arith, refl, sym, ap, subst, ◌∙◌, length-take, rules}
+use Rattle.std.proofs.Common.{◌≡◌, [], Some, length, take, drop, map, arith, refl, sym, ap, subst, ◌∙◌, length-take, rules}
 use Rattle.std.proofs.lemmas.List.{length-map}
 use Rattle.std.proofs.Math.Seq.{drop-length}
 use Rattle.httparse.specs.Grammar.{ReadsRequest}
 use Rattle.httparse.specs.Spans.{header_bytes, span_bytes, name_and_value, IsRequestOf}
 use Rattle.http_uri.specs.Uri.{Spells}
-use Rattle.dep_head.specs.Head.{IsHeadText, head_end}
+use Rattle.dep_head.specs.Head.{head_end}
 use Rattle.dep_head.proofs.head.read_head.Goals as goal
 
 pub returns-clause-read : goal.returns-clause-read

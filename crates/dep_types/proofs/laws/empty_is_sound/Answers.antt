@@ -1,18 +1,5 @@
-use Rattle.std.proofs.Common.{nat_cmp, arith}
-use Rattle.std.specs.FinMap as map
-use Rattle.std.specs.FinSet as set
-use Rattle.dep_types.specs.State.{Object, Upload}
+use Rattle.dep_types.proofs.EmptySound.{empty_sound}
 use Rattle.dep_types.proofs.laws.empty_is_sound.Goals as goal
 
 pub returns : goal.returns
-returns c = record {
-  clock = omega arith;
-  next_object = omega arith;
-  next_file = omega arith;
-  next_upload = omega arith;
-  next_change = omega arith;
-  objects = λ n o e. absurd (let none = map.get-empty {X = Object} nat_cmp n in cc);
-  one_place = λ n m f a b e. let none = map.get-empty {X = Object} nat_cmp n in absurd (let gone = rw none at e in cc);
-  uploads = λ n u e. absurd (let none = map.get-empty {X = Upload} nat_cmp n in cc);
-  timed_out = λ n e. absurd (let none = set.contains-empty nat_cmp n in cc);
-}
+returns c = empty_sound

@@ -1,6 +1,7 @@
 use Rattle.std.proofs.Common.{◌≡◌, ◌∙◌, refl, sym, subst, of_calls}
 use Rattle.dep_types.specs.Config.{IsChecked}
 use Rattle.dep_types.specs.declared.config.Config.{Config}
+use Rattle.dep_types.proofs.EmptySound.{empty_sound}
 use Rattle.dep_server.proofs.HubLemmas.{keeps_same}
 use Rattle.swordd.specs.Replays.{Replays, refused, not_begun}
 use Rattle.swordd.specs.declared.outcome.Outcome.{Outcome}
@@ -22,4 +23,4 @@ pub returns : goal.returns
 returns g c =
     subst (λ (o : Outcome). Replays c.args.base.now c.args.moment (g.R.Read.remaining c.args.reader.now) (g.R.Read.remaining c.serve_connection.new.reader) (g.W.Outlet.taken c.args.writer.now) (g.W.Outlet.taken c.serve_connection.new.writer) o) (sym c.outcome_of.ensures)
     (comes_to _ c.args.moment (λ f. f.0 ≡ c.args.moment) (λ before after m p e. ((search of_calls), (search of_calls))) c.args.base.now c.in-Ok-new.hub c.serve_connection.new.hub _ _ _ _ _
-    (c.in-Ok-new.ensures.stands _ c.empty.ensures) (c.serve_connection.ensures.config ∙ (c.in-Ok-new.ensures.config ∙ c.in-Ok.ensures)) refl c.serve_connection.result c.serve_connection.ensures.converses)
+    (c.in-Ok-new.ensures.stands _ c.empty.ensures empty_sound) (c.serve_connection.ensures.config ∙ (c.in-Ok-new.ensures.config ∙ c.in-Ok.ensures)) refl c.serve_connection.result c.serve_connection.ensures.converses)

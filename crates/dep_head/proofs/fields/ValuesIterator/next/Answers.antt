@@ -1,4 +1,4 @@
-use Rattle.std.proofs.Common.{◌≡◌, ◌∷◌, ◌∙◌, ◌<◌, ℕ, List, [], length, map, sym, ap, arith, rules, subst, refl}
+use Rattle.std.proofs.Common.{◌≡◌, ◌∷◌, ◌∙◌, List, [], length, map, sym, ap, arith, rules, subst, refl}
 use Rattle.std.specs.Char.{to_ascii_lowercase}
 use Rattle.httparse.specs.Spans.{header_bytes}
 use Rattle.httparse.specs.declared.spans.HeaderSpan.{HeaderSpan}
@@ -22,10 +22,10 @@ returns-then-eq_ignore_ascii_case-clause-steps c =
     let name = c.loop-first.self-inside.name.now in
     let spans = c.in-Some.ensures.cases.0 in
     let same : map to_ascii_lowercase (header_bytes text c.in-Some.first.now).0 ≡ map to_ascii_lowercase name =
-    ap (map to_ascii_lowercase) (sym c.of.ensures) ∙ c.eq_ignore_ascii_case.ensures.test.0 c.if-eq_ignore_ascii_case.true ∙ ap (map to_ascii_lowercase) c.as_bytes.ensures.value in
+    ap (map to_ascii_lowercase) (sym c.of-name.ensures) ∙ c.eq_ignore_ascii_case.ensures.test.0 c.if-eq_ignore_ascii_case.true ∙ ap (map to_ascii_lowercase) c.as_bytes.ensures.value in
     sym c.self.view_is ∙ c.loop-first.invariant.same ∙ ap (λ s. values_of (fields_at text s) name) spans
     ∙ values_of-named (header_bytes text c.in-Some.first.now) (fields_at text c.in-Some.rest.now) name same
-    ∙ ap (λ v. v ∷ values_of (fields_at text c.in-Some.rest.now) name) (sym c.of-then-eq_ignore_ascii_case.ensures)
+    ∙ ap (λ v. v ∷ values_of (fields_at text c.in-Some.rest.now) name) (sym c.of.ensures)
 
 pub returns-then-eq_ignore_ascii_case-clause-goes : goal.returns-then-eq_ignore_ascii_case-clause-goes
 returns-then-eq_ignore_ascii_case-clause-goes c =
@@ -38,7 +38,7 @@ loop-first-preserved c =
     let name = c.loop-first.self-inside.name.now in
     let spans = c.in-Some.ensures.cases.0 in
     let other : map to_ascii_lowercase (header_bytes text c.in-Some.first.now).0 ≡ map to_ascii_lowercase name → ⊥ =
-    λ e. let found = c.eq_ignore_ascii_case.ensures.test.1 (ap (map to_ascii_lowercase) c.of.ensures ∙ e ∙ ap (map to_ascii_lowercase) (sym c.as_bytes.ensures.value)) in cc in
+    λ e. let found = c.eq_ignore_ascii_case.ensures.test.1 (ap (map to_ascii_lowercase) c.of-name.ensures ∙ e ∙ ap (map to_ascii_lowercase) (sym c.as_bytes.ensures.value)) in cc in
     record {
       fit = AreWithin-rest text c.in-Some.first.now c.in-Some.rest.now (subst (AreWithin text) spans c.loop-first.invariant.fit);
       same = c.loop-first.invariant.same ∙ ap (λ s. values_of (fields_at text s) name) spans

@@ -1,15 +1,16 @@
-use Rattle.std.proofs.Common.{refl, sym, ap, subst, ◌∙◌, ℕ, List, [], arith}
-use Rattle.dep_server.specs.Records.{Line, World, begins, begin_with, Absent, put}
+use Rattle.std.proofs.Common.{refl, sym, subst, List, [], arith}
+use Rattle.dep_server.specs.Records.{Line, begins, begin_with}
 use Rattle.dep_server.specs.Standing.{IsKeptAs, Ascends, intake_of}
 use Rattle.dep_server.specs.declared.connections.Connection.{Connection}
 use Rattle.dep_server.proofs.hub.Hub.new.Goals as goal
 
 pub returns-in-Ok-clause-again : goal.returns-in-Ok-clause-again
-returns-in-Ok-clause-again c = λ first records w run absent e. record {
+returns-in-Ok-clause-again c = λ first records w run absent e sound. record {
   world = w;
   run = run;
   at = record {
     state = e;
+    sound = sound;
     kept = λ n. subst (λ (cs : List Connection). IsKeptAs c.args.config.max_upload (w.line n) (intake_of cs n)) (sym c.new.ensures.items)
         (subst (λ (l : Line). IsKeptAs c.args.config.max_upload l (intake_of [] n)) (sym (absent n)) tt);
     numbers = subst (λ (cs : List Connection). Ascends 0 cs 0) (sym c.new.ensures.items) (omega arith);
@@ -17,4 +18,4 @@ returns-in-Ok-clause-again c = λ first records w run absent e. record {
 }
 
 pub returns-in-Ok-clause-stands : goal.returns-in-Ok-clause-stands
-returns-in-Ok-clause-stands c = λ first e. returns-in-Ok-clause-again c first [] (begin_with first) begins (λ n. refl) e
+returns-in-Ok-clause-stands c = λ first e sound. returns-in-Ok-clause-again c first [] (begin_with first) begins (λ n. refl) e sound

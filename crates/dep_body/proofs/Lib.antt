@@ -1,0 +1,13 @@
+pub mod LineEnds
+pub mod Readings
+pub mod BegunLines
+pub mod ChunkLemmas
+pub mod SizeSteps
+pub mod SectionSteps
+pub mod DataSteps
+pub mod FeedLemmas
+pub mod Splits
+pub mod SectionLaws
+pub mod UnitLaws
+pub mod OneBody
+pub mod SectionEnds

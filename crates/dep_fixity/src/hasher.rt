@@ -1,0 +1,44 @@
+use sha2::{Digest, Sha256};
+
+/// The digests of one message, an algorithm each.
+#[derive(Clone, Copy, Debug, PartialEq, Eq)]
+pub struct Digests {
+    /// Its SHA-256 (FIPS 180-4).
+    pub sha256: [u8; 32],
+}
+
+/// Computes the digests of a message that comes in pieces.
+#[derive(Drop)]
+pub struct Hasher {
+    sha256: Sha256,
+}
+
+impl Hasher {
+    ghost use Rattle.std.specs.Prelude.{◌≡◌, ℕ, List, [], ◌++◌};
+    ghost use Rattle.dep_fixity.specs.Fixity.{Holds, digests_of};
+
+    /// A hasher of the message of no octets.
+    pub fn new() -> Hasher
+        ensures { Holds result [] }
+    {
+        Hasher {
+            sha256: Sha256::new(),
+        }
+    }
+
+    /// Adds a piece to the end of the message. However the message is cut into pieces, its digests are the same.
+    pub fn update(&mut self, piece: &[u8])
+        ensures { (message : List ℕ) → Holds self.old message → Holds self.new (message ++ piece.now) }
+    {
+        self.sha256.update(piece);
+    }
+
+    /// The digests of the pieces so far, joined in their order.
+    pub fn finish(self) -> Digests
+        ensures { (message : List ℕ) → Holds self message → result ≡ digests_of message }
+    {
+        Digests {
+            sha256: self.sha256.finalize(),
+        }
+    }
+}

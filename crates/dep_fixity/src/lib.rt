@@ -1,0 +1,12 @@
+//! Digests that a request promises, the digests of what came, and how a digest is written. Nothing here allocates.
+#![tactic(auto)]
+
+mod field;
+mod hasher;
+mod spelling;
+#[cfg(test)]
+mod tests;
+
+pub use field::{DigestFault, DigestList, check, read_digest_field};
+pub use hasher::{Digests, Hasher};
+pub use spelling::{to_base64, to_hex};

@@ -1,0 +1,5 @@
+use Rattle.dep_params.proofs.Dispositions.{same_reading}
+use Rattle.dep_params.proofs.laws.one_reading.Goals as goal
+
+pub returns : goal.returns
+returns c = same_reading

@@ -1,0 +1,106 @@
+-- The grammar of Content-Disposition (RFC 6266 section 4.1).
+use Rattle.std.specs.Prelude.{◌≡◌, ℕ, ◌==◌, ◌&&◌, ◌||◌, not, nat_le, nat_lt, Bool, true, List, [], ◌∷◌, ◌++◌, length, Option, Some, None, option_map, find, map}
+use Rattle.std.specs.List.{list_all, flat_map, filter_map, AllByRecursion}
+use Rattle.std.specs.Str.{str_to_ascii_lowercase, str_eq_ignore_ascii_case}
+use Rattle.dep_octets.specs.Octets.{is_token, is_blank}
+
+-- a parameter: its name in lower case, and its value
+pub record NamedValue : Type 0 where
+  pub name : List ℕ
+  pub value : List ℕ
+
+-- what a disposition says: its type in lower case, and its parameters in their order
+pub record Reading : Type 0 where
+  pub form : List ℕ
+  pub parameters : List NamedValue
+
+-- the controls of ASCII
+abbrev pub is_control : ℕ → Bool
+is_control b = nat_lt b 32 || b == 127
+
+-- a piece of a quoted string: an octet that stands for itself, or one behind a backslash
+pub data Piece : Type 0 where
+  Plain : ℕ → Piece
+  Escaped : ℕ → Piece
+
+abbrev pub is_piece : Piece → Bool
+is_piece (Plain b) = (not (is_control b) || b == 9) && not (b == 34) && not (b == 92)
+is_piece (Escaped b) = not (is_control b)
+
+abbrev pub piece_text : Piece → List ℕ
+piece_text (Plain b) = b ∷ []
+piece_text (Escaped b) = 92 ∷ b ∷ []
+
+abbrev pub piece_octet : Piece → ℕ
+piece_octet (Plain b) = b
+piece_octet (Escaped b) = b
+
+-- what a bare value is made of
+abbrev pub is_bare_octet : ℕ → Bool
+is_bare_octet b = nat_le 33 b && nat_le b 126 && not (b == 59) && not (b == 34)
+
+-- a value as it is written
+pub data Value : Type 0 where
+  Bare : List ℕ → Value
+  Quoted : List Piece → Value
+
+abbrev pub is_value : Value → Bool
+is_value (Bare text) = nat_lt 0 (length text) && list_all is_bare_octet text
+is_value (Quoted pieces) = list_all is_piece pieces
+
+abbrev pub value_text : Value → List ℕ
+value_text (Bare text) = text
+value_text (Quoted pieces) = 34 ∷ flat_map piece_text pieces ++ 34 ∷ []
+
+abbrev pub value_octets : Value → List ℕ
+value_octets (Bare text) = text
+value_octets (Quoted pieces) = map piece_octet pieces
+
+-- a semicolon with the blanks about it, and behind it a parameter or nothing
+pub data Place : Type 0 where
+  Empty : (before after : List ℕ) → Place
+  Holds : (before after name : List ℕ) → Value → Place
+
+abbrev pub are_blanks : List ℕ → Bool
+are_blanks text = list_all is_blank text
+
+abbrev pub IsPlace : Place → Type 0
+IsPlace (Empty before after) = (are_blanks before ≡ true) × (are_blanks after ≡ true)
+IsPlace (Holds before after name value) =
+    (are_blanks before ≡ true) × (are_blanks after ≡ true) × (is_token name ≡ true) × (is_value value ≡ true)
+
+abbrev pub place_text : Place → List ℕ
+place_text (Empty before after) = before ++ 59 ∷ after
+place_text (Holds before after name value) = before ++ 59 ∷ after ++ name ++ 61 ∷ value_text value
+
+abbrev pub place_parameter : Place → Option NamedValue
+place_parameter (Empty before after) = None
+place_parameter (Holds before after name value) =
+    Some (record { name = str_to_ascii_lowercase name; value = value_octets value })
+
+-- the text is places and then blanks, and holds these parameters
+pub record AreParameters (text : List ℕ) (parameters : List NamedValue) : Type 0 where
+  pub places : List Place
+  pub last : List ℕ
+  pub well_formed : AllByRecursion IsPlace places
+  pub blank : are_blanks last ≡ true
+  pub written : text ≡ flat_map place_text places ++ last
+  pub told : parameters ≡ filter_map place_parameter places
+
+-- the text is a type and then parameters, and says this
+pub record IsDisposition (text : List ℕ) (reading : Reading) : Type 0 where
+  pub form : List ℕ
+  pub rest : List ℕ
+  pub token : is_token form ≡ true
+  pub written : text ≡ form ++ rest
+  pub told : reading.form ≡ str_to_ascii_lowercase form
+  pub parameters : AreParameters rest reading.parameters
+
+-- the names of its parameters
+abbrev pub names_of : Reading → List (List ℕ)
+names_of reading = map (λ p. p.name) reading.parameters
+
+-- the value of the parameter with this name, in any letter case
+abbrev pub value_of : List ℕ → Reading → Option (List ℕ)
+value_of name reading =
+    option_map (λ p. p.value) (find (λ p. str_eq_ignore_ascii_case p.name name) reading.parameters)

@@ -1,0 +1,4 @@
+pub mod Grammar
+pub mod Names
+pub mod Reading
+pub mod Stored

@@ -1,0 +1,52 @@
+-- The file name that a disposition gives (RFC 6266 section 4.3, RFC 8187 section 3.2).
+use Rattle.std.specs.Prelude.{◌≡◌, ℕ, ◌+◌, ◌<◌, ◌==◌, ◌&&◌, not, nat_le, Bool, true, IsTrue, List, ◌∷◌, ◌++◌, length, slice_index, Option, Some, None, codes, bytes_eq}
+use Rattle.std.specs.List.{list_all}
+use Rattle.std.specs.Char.{is_ascii_hexdigit}
+use Rattle.std.specs.Str.{is_utf8, str_eq_ignore_ascii_case}
+use Rattle.percent_encoding.specs.Percent.{percent_decode}
+use Rattle.dep_params.specs.Grammar.{Reading, is_control, value_of}
+
+-- two hexadecimal digits stand behind the place
+abbrev pub HasTwoDigitsAfter : List ℕ → ℕ → Type 0
+HasTwoDigitsAfter text i =
+    (i + 2 < length text) × IsTrue (is_ascii_hexdigit (slice_index text (i + 1))) × IsTrue (is_ascii_hexdigit (slice_index text (i + 2)))
+
+-- each `%` stands before two hexadecimal digits
+abbrev pub HasWholeEscapes : List ℕ → Type 0
+HasWholeEscapes text = (i : ℕ) → i < length text → slice_index text i ≡ 37 → HasTwoDigitsAfter text i
+
+abbrev pub has_no_apostrophe : List ℕ → Bool
+has_no_apostrophe text = list_all (λ b. not (b == 39)) text
+
+-- the text tells the name, as `UTF-8'LANGUAGE'ESCAPED`
+pub record IsExtended (text name : List ℕ) : Type 0 where
+  pub charset : List ℕ
+  pub language : List ℕ
+  pub escaped : List ℕ
+  pub written : text ≡ charset ++ 39 ∷ language ++ 39 ∷ escaped
+  pub utf8 : str_eq_ignore_ascii_case charset (codes "UTF-8") ≡ true
+  pub before_language : has_no_apostrophe charset ≡ true
+  pub in_language : has_no_apostrophe language ≡ true
+  pub whole : HasWholeEscapes escaped
+  pub told : name ≡ percent_decode escaped
+
+-- an extended name goes before a plain one
+abbrev pub IsTold : Option (List ℕ) → Option (List ℕ) → List ℕ → Type 0
+IsTold (Some text) plain name = IsExtended text name
+IsTold None (Some plain) name = name ≡ plain
+IsTold None None name = ⊥
+
+-- what a name is made of: no control of ASCII, no slash and no backslash
+abbrev pub is_name_octet : ℕ → Bool
+is_name_octet b = not (is_control b) && not (b == 47) && not (b == 92)
+
+-- a name of a file that may stand
+abbrev pub is_good_name : List ℕ → Bool
+is_good_name name =
+    nat_le 1 (length name) && nat_le (length name) 255 && is_utf8 name && list_all is_name_octet name
+    && not (bytes_eq name (codes ".")) && not (bytes_eq name (codes ".."))
+
+-- the disposition gives this file name
+pub record IsFileName (reading : Reading) (name : List ℕ) : Type 0 where
+  pub told : IsTold (value_of (codes "filename*") reading) (value_of (codes "filename") reading) name
+  pub good : is_good_name name ≡ true

@@ -1,0 +1,10 @@
+-- The parameters of a disposition, as lists.
+use Rattle.std.specs.Prelude.{List, map}
+use Rattle.dep_params.specs.declared.disposition.Parameter.{Parameter}
+use Rattle.dep_params.specs.Grammar.{NamedValue}
+
+abbrev pub view : Parameter → NamedValue
+view p = record { name = p.name.items; value = p.value.items }
+
+abbrev pub views : List Parameter → List NamedValue
+views ps = map view ps

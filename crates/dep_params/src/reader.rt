@@ -1,0 +1,119 @@
+ghost use Rattle.std.specs.Prelude.{◌≡◌, ◌≢◌, ◌⊎◌, List, not, map, bytes_eq, MatchResult, IfOk, IfErr};
+ghost use Rattle.std.specs.Bool.{Decides};
+ghost use Rattle.std.specs.List.{IsDistinct};
+ghost use Rattle.std.specs.Option.{option_copied};
+ghost use Rattle.std.specs.Str.{str_to_ascii_lowercase};
+ghost use Rattle.dep_params.specs.Grammar.{AreParameters, IsDisposition, NamedValue, Reading, names_of};
+ghost use Rattle.dep_params.specs.Reading.{Fails, Refuses, behind_name, named, semicolon_read, value_read};
+ghost use Rattle.dep_params.specs.Stored.{view, views};
+
+use crate::disposition::{Disposition, ParamFault, Parameter};
+use crate::parts::{skip_blanks, split_bare, split_token};
+use crate::quoted::read_quoted;
+use std::alloc::Global;
+use std::collections::BTreeSet;
+
+/// Reads the value of a Content-Disposition field (RFC 6266 section 4.1): a type, and parameters behind semicolons.
+/// White space may stand about a semicolon and at the end, not in front and not about a `=`. Nothing need stand behind a
+/// semicolon. A value is a quoted string (RFC 9110 section 5.6.4), in which a backslash stands before any octet that is
+/// no control, or one or more visible ASCII octets other than `;` and `"`.
+pub fn read_disposition(alloc: Global, text: &[u8]) -> Result<Disposition, ParamFault>
+    ensures read { IfOk result (λ reading. IsDisposition text.now reading × IsDistinct bytes_eq (names_of reading)) }
+    ensures malformed { result ≡ Err ParamFault.Malformed → (reading : Reading) → ¬ IsDisposition text.now reading }
+    ensures repeated { result ≡ Err ParamFault.Repeated → (reading : Reading) × IsDisposition text.now reading × ¬ IsDistinct bytes_eq (names_of reading) }
+    ensures never_of_names { result ≢ Err ParamFault.NoName }
+{
+    let (form, rest) = split_token(text);
+    if form.is_empty() {
+        return Err(ParamFault::Malformed);
+    }
+    let parameters = read_parameters(alloc, rest)?;
+    if has_repeats(alloc, &parameters)? {
+        return Err(ParamFault::Repeated);
+    }
+    let form = lower_case(alloc, form)?;
+    Ok(Disposition::of(form, parameters))
+}
+
+fn read_parameters(alloc: Global, text: &[u8]) -> Result<Vec<Parameter>, ParamFault>
+    ensures read { IfOk result (λ ps. AreParameters text.now (views ps.items)) }
+    ensures refused { IfErr result (Refuses text.now) }
+{
+    let mut parameters = Vec::new(alloc);
+    let mut rest = text;
+    while let Some(after) = behind_semicolon(rest)? {
+        rest = after;
+        let (name, behind) = split_token(rest);
+        if !name.is_empty() {
+            let (parameter, after) = read_parameter(alloc, name, behind)?;
+            parameters.push(parameter)?;
+            rest = after;
+        }
+    }
+    Ok(parameters)
+}
+
+// What follows the next semicolon and the blanks about it, or nothing at the end.
+#[tactic(auto, unfolding(crate::specs::Reading::semicolon_read))]
+fn behind_semicolon(text: &[u8]) -> Result<Option<&[u8]>, ParamFault>
+    ensures { MatchResult result (λ after. semicolon_read text.now ≡ Some (option_copied after)) (λ e. Fails e (semicolon_read text.now)) }
+{
+    match skip_blanks(text).split_first() {
+        None => Ok(None),
+        Some((b';', after)) => Ok(Some(skip_blanks(after))),
+        Some(_) => Err(ParamFault::Malformed),
+    }
+}
+
+// The parameter with this name in front of the text, and what follows it.
+fn read_parameter<'a>(
+    alloc: Global,
+    name: &[u8],
+    text: &'a [u8],
+) -> Result<(Parameter, &'a [u8]), ParamFault>
+    ensures { MatchResult result (λ x. named name.now (behind_name text.now) ≡ Some (view x.0, x.1.now)) (λ e. Fails e (named name.now (behind_name text.now))) }
+{
+    let Some((b'=', rest)) = text.split_first() else {
+        return Err(ParamFault::Malformed);
+    };
+    let (value, rest) = read_value(alloc, rest)?;
+    let name = lower_case(alloc, name)?;
+    Ok((Parameter { name, value }, rest))
+}
+
+// The value at the front, and what follows it.
+#[tactic(auto, unfolding(crate::specs::Reading::value_read))]
+fn read_value(alloc: Global, text: &[u8]) -> Result<(Vec<u8>, &[u8]), ParamFault>
+    ensures { MatchResult result (λ x. value_read text.now ≡ Some (x.0.items, x.1.now)) (λ e. Fails e (value_read text.now)) }
+{
+    if let Some((b'"', rest)) = text.split_first() {
+        return read_quoted(alloc, rest);
+    }
+    let (value, rest) = split_bare(text);
+    if value.is_empty() {
+        return Err(ParamFault::Malformed);
+    }
+    Ok((value.to_vec(alloc)?, rest))
+}
+
+fn lower_case(alloc: Global, text: &[u8]) -> Result<Vec<u8>, ParamFault>
+    ensures { MatchResult result (λ lower. lower.items ≡ str_to_ascii_lowercase text.now) (λ e. e ≡ ParamFault.Memory) }
+{
+    let mut lower = text.to_vec(alloc)?;
+    lower.make_ascii_lowercase();
+    Ok(lower)
+}
+
+// Whether two parameters have one name.
+fn has_repeats(alloc: Global, parameters: &[Parameter]) -> Result<bool, ParamFault>
+    ensures read { IfOk result (λ repeats. Decides (not repeats) (IsDistinct bytes_eq (map (λ p. p.name.items) parameters.now))) }
+    ensures faults { IfErr result (λ e. e ≡ ParamFault.Memory) }
+{
+    let mut names: BTreeSet<&[u8]> = BTreeSet::new(alloc);
+    for parameter in parameters {
+        if !names.insert(&parameter.name)? {
+            return Ok(true);
+        }
+    }
+    Ok(false)
+}

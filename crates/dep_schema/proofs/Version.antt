@@ -1,0 +1,118 @@
+-- How the version is found.
+use Rattle.std.proofs.Common.{◌≡◌, ◌↔◌, ◌⊎◌, inl, inr, ℕ, pos, List, [], ◌∷◌, map, filter, false, Err, codes, refl, sym, ap, subst, ◌∙◌}
+use Rattle.std.specs.List.Sorted.{IsPermutation}
+use Rattle.std.proofs.lemmas.List.Sorted.{IsPermutation-sym}
+use Rattle.sqlite_tied.specs.Compute.{everything}
+use Rattle.sqlite.specs.Listing.{understood, reads_listing, listing_schema}
+use Rattle.sqlite.specs.Command.TheVariants.{Select}
+use Rattle.sqlite.specs.declared.types.Value.TheVariants.{Int}
+use Rattle.sqlite.specs.Order.{Row, column}
+use Rattle.sqlite.specs.Term.{Term, col}
+use Rattle.sqlite.specs.State.{State, Shown, IsUnchanged, FailsToQuery, IsTooLate, store_error}
+use Rattle.sqlite.specs.declared.error.Error.{Error}
+use Rattle.sqlite.specs.declared.error.Error.TheVariants.{SqlInputError}
+use Rattle.sqlite_trees.specs.declared.error.StoreError.{StoreError}
+use Rattle.sqlite_resolve.specs.declared.error.CompileError.{CompileError}
+use Rattle.sqlite_resolve.specs.declared.error.CompileError.TheVariants.{NoSuchTable}
+use Rattle.sqlite_schema.specs.declared.program.Program.{Program}
+use Rattle.sqlite.proofs.Callers.{IsPlain, command_of, one_permutation}
+use Rattle.dep_statements.specs.Query.{one_table, plainly, no_limit, passes}
+use Rattle.dep_statements.proofs.Answered.{shown_of, in_any_order}
+use Rattle.dep_statements.proofs.Asked.{store_only, shown_unchanged, unread, unread_as, understood_asks}
+use Rattle.dep_statements.proofs.Statements.{selected}
+use Rattle.dep_schema.specs.Schema.{our_schema, no_schema}
+use Rattle.dep_schema.specs.Texts.{find_format_text}
+use Rattle.sqlite.specs.Tree.{Trees}
+use Rattle.sqlite.specs.Effect.{Database}
+use Rattle.dep_schema.specs.Tables.{tables_of, IsOurs, HasVersion, Sees, Holds, CommitsOpen, first_tables}
+use Rattle.dep_schema.specs.OpenFaults.{open_fault_for}
+use Rattle.dep_schema.specs.declared.fault.StoreFault.{StoreFault}
+use Rattle.dep_schema.specs.declared.fault.StoreFault.TheVariants.{Store, Memory}
+use Rattle.dep_schema.specs.declared.opening.OpenFault.{OpenFault}
+use Rattle.dep_schema.specs.declared.opening.OpenFault.TheVariants.{UnknownVersion}
+
+abbrev shows : List Term
+shows = col 1 0 ∷ col 1 2 ∷ []
+
+abbrev asked : Program
+asked = plainly (one_table 0 [] shows [] no_limit)
+
+abbrev names : List (List ℕ)
+names = codes "id" ∷ codes "version" ∷ []
+
+find_is : (command_of (understood our_schema find_format_text) ≡ Select asked names) × (reads_listing our_schema find_format_text ≡ false)
+unfolding understood everything
+find_is = (refl, refl)
+
+find_plain : IsPlain (understood our_schema find_format_text)
+unfolding understood everything
+find_plain = (refl, refl)
+
+find_none : understood no_schema find_format_text ≡ Err NoSuchTable
+unfolding understood listing_schema everything
+find_none = refl
+
+all_pass : (params : Row) (rows : List Row) → filter (passes params []) rows ≡ rows
+all_pass params [] = refl
+all_pass params (r ∷ rows) = ap (λ xs. r ∷ xs) (all_pass params rows)
+
+abbrev pub told : List Row → List Row
+told rows = map (λ r. column r 0 ∷ column r 2 ∷ []) rows
+
+finds_rows : (old new : State) (rows : List Row) → IsOurs old → Shown find_format_text [] old new rows → IsPermutation (told (tables_of old).format) rows
+finds_rows old new rows ours h =
+    let picked = selected our_schema find_format_text [] old new ours.schema find_plain 0 [] shows [] no_limit names find_is.0 find_is.1 refl rows h in
+    subst (λ xs. IsPermutation (map (shown_of [] shows) xs) rows) (all_pass [] (old.now.trees 0)) (in_any_order 0 [] shows [] [] (filter (passes [] []) (old.now.trees 0)) rows picked)
+
+abbrev pub IsKnown : List Row → Type 0
+IsKnown rows = (row : Row) × (rows ≡ row ∷ []) × (column row 0 ≡ Int (pos 1)) × (column row 1 ≡ Int (pos 0))
+
+known_told : (format rows : List Row) → IsPermutation (told format) rows → IsKnown rows → told format ≡ (Int (pos 1) ∷ Int (pos 0) ∷ []) ∷ []
+known_told format rows same known =
+    let one = one_permutation known.0 (told format) (IsPermutation-sym (told format) (known.0 ∷ []) (subst (IsPermutation (told format)) known.1 same)) in
+    go format one
+  where
+    go : (all : List Row) → told all ≡ known.0 ∷ [] → told all ≡ (Int (pos 1) ∷ Int (pos 0) ∷ []) ∷ []
+    go [] e = absurd (cc)
+    go (r ∷ []) e =
+        let is : column r 0 ∷ column r 2 ∷ [] ≡ known.0 = cc in
+        let first : column r 0 ≡ Int (pos 1) = ap (λ x. column x 0) is ∙ known.2 in
+        let second : column r 2 ≡ Int (pos 0) = ap (λ x. column x 1) is ∙ known.3 in
+        λ i. (first i ∷ second i ∷ []) ∷ []
+    go (r ∷ x ∷ more) e = absurd (cc)
+
+told_known : (format rows : List Row) → IsPermutation (told format) rows → told format ≡ (Int (pos 1) ∷ Int (pos 0) ∷ []) ∷ [] → IsKnown rows
+told_known format rows same is = (Int (pos 1) ∷ Int (pos 0) ∷ [], one_permutation (Int (pos 1) ∷ Int (pos 0) ∷ []) rows (subst (λ xs. IsPermutation xs rows) is same), refl, refl)
+
+pub found_version : (old new : State) (rows : List Row) → IsOurs old → Shown find_format_text [] old new rows → IsKnown rows ↔ HasVersion 0 (tables_of old)
+found_version old new rows ours h = (known_told (tables_of old).format rows (finds_rows old new rows ours h), told_known (tables_of old).format rows (finds_rows old new rows ours h))
+
+pub find_stays : (old new : State) (rows : List Row) → IsOurs old → Shown find_format_text [] old new rows → IsUnchanged old new
+find_stays old new rows ours h = shown_unchanged find_format_text [] old new (subst (λ s. IsPlain (understood s find_format_text)) (sym ours.schema) find_plain) rows h
+
+pub none_shown : (old new : State) (rows : List Row) → old.now.schema ≡ no_schema → Shown find_format_text [] old new rows → ⊥
+none_shown old new rows empty h = unread find_format_text [] old new NoSuchTable (ap (λ s. understood s find_format_text) empty ∙ find_none) rows h
+
+pub none_asked : (old new : State) (e : Error) → old.now.schema ≡ no_schema → FailsToQuery find_format_text [] old new e ⊎ IsTooLate find_format_text [] old new e → (e ≡ SqlInputError NoSuchTable) ⊎ ((cause : StoreError) × (e ≡ store_error cause))
+none_asked old new e empty h = unread_as find_format_text [] old new NoSuchTable (ap (λ s. understood s find_format_text) empty ∙ find_none) e h
+
+pub ours_asked : (old new : State) (e : Error) (fault : CompileError) → IsOurs old → FailsToQuery find_format_text [] old new e ⊎ IsTooLate find_format_text [] old new e → e ≡ SqlInputError fault → ⊥
+ours_asked old new e fault ours h said =
+    understood_asks find_format_text [] old new asked names (ap (λ s. command_of (understood s find_format_text)) ours.schema ∙ find_is.0) (subst (λ s. IsPlain (understood s find_format_text)) (sym ours.schema) find_plain) e fault h said
+
+pub missing_only : (old new : State) (e : Error) (fault : CompileError) → old.now.schema ≡ no_schema → FailsToQuery find_format_text [] old new e ⊎ IsTooLate find_format_text [] old new e → e ≡ SqlInputError fault → fault ≡ NoSuchTable
+missing_only old new e fault empty h is = elim (none_asked old new e empty h) [
+  | inl told ↦ let met = sym is ∙ told in cc
+  | inr stopped ↦ absurd (store_only stopped.0 fault (sym stopped.1 ∙ is))
+]
+
+pub named_fault : (fault : StoreFault) (made : OpenFault) → made ≡ open_fault_for fault → made ≡ UnknownVersion → ⊥
+named_fault Store made is said = let met = sym is ∙ said in cc
+named_fault Memory made is said = let met = sym is ∙ said in cc
+
+-- what is committed at the end
+pub commits_open : (old last : State) → (old.now.schema ≡ no_schema → Sees last first_tables) → (IsOurs old → last.now ≡ old.now) → (db : Trees) → db ≡ last.now.trees → CommitsOpen old db
+commits_open old last made there db is = record {
+  found = λ ours. is ∙ ap (λ (d : Database). d.trees) (there ours);
+  new = λ empty. let sees = made empty in subst (λ trees. Holds trees first_tables) (sym is) (record { ours = sees.ours.trees; rows = sees.rows });
+}

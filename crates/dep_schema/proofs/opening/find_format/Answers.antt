@@ -1,0 +1,77 @@
+use Rattle.std.proofs.Common.{◌∙◌, inl, inr, refl}
+use Rattle.sqlite.specs.Held.{state}
+use Rattle.dep_statements.proofs.Asked.{shown_keeps, shown_mode, asks_keep, asks_on}
+use Rattle.dep_schema.specs.Texts.{find_format_text}
+use Rattle.dep_schema.proofs.Version.{found_version, find_stays, none_shown, ours_asked, missing_only, named_fault}
+use Rattle.dep_schema.proofs.opening.find_format.Goals as goal
+
+pub returns-then-are_known-clause-empty : goal.returns-then-are_known-clause-empty
+returns-then-are_known-clause-empty g c clean empty = absurd (none_shown (state g.S.Store c.args.tx.now.conn.now) (state g.S.Store c.query_all.new.self.conn.now) _ empty (c.in-Ok.ensures.ok clean))
+
+pub returns-then-are_known-clause-ours : goal.returns-then-are_known-clause-ours
+returns-then-are_known-clause-ours g c clean ours =
+    (refl, (found_version (state g.S.Store c.args.tx.now.conn.now) (state g.S.Store c.query_all.new.self.conn.now) _ ours (c.in-Ok.ensures.ok clean)).0 (rw c.as_slice.ensures.value at (c.are_known.ensures.0 c.if-are_known.true)))
+
+pub returns-then-are_known-clause-same : goal.returns-then-are_known-clause-same
+returns-then-are_known-clause-same g c clean either = elim either [
+  | inl ours ↦ find_stays (state g.S.Store c.args.tx.now.conn.now) (state g.S.Store c.query_all.new.self.conn.now) _ ours (c.in-Ok.ensures.ok clean)
+  | inr empty ↦ absurd (none_shown (state g.S.Store c.args.tx.now.conn.now) (state g.S.Store c.query_all.new.self.conn.now) _ empty (c.in-Ok.ensures.ok clean))
+]
+
+pub returns-then-are_known-clause-inside : goal.returns-then-are_known-clause-inside
+returns-then-are_known-clause-inside g c clean inside = shown_mode find_format_text _ (state g.S.Store c.args.tx.now.conn.now) (state g.S.Store c.query_all.new.self.conn.now) _ (c.in-Ok.ensures.ok clean) ∙ inside
+
+pub returns-then-are_known-clause-kept : goal.returns-then-are_known-clause-kept
+returns-then-are_known-clause-kept g c clean inside = shown_keeps find_format_text _ (state g.S.Store c.args.tx.now.conn.now) (state g.S.Store c.query_all.new.self.conn.now) inside _ (c.in-Ok.ensures.ok clean)
+
+pub returns-in-Ok-clause-empty : goal.returns-in-Ok-clause-empty
+returns-in-Ok-clause-empty g c clean empty said = none_shown (state g.S.Store c.args.tx.now.conn.now) (state g.S.Store c.query_all.new.self.conn.now) _ empty (c.in-Ok.ensures.ok clean)
+
+pub returns-in-Ok-clause-ours : goal.returns-in-Ok-clause-ours
+returns-in-Ok-clause-ours g c clean ours said version =
+    let known = (found_version (state g.S.Store c.args.tx.now.conn.now) (state g.S.Store c.query_all.new.self.conn.now) _ ours (c.in-Ok.ensures.ok clean)).1 version in
+    let met = c.are_known.ensures.1 (rw c.as_slice.ensures.value known) in
+    let not = c.if-are_known.false in
+    cc
+
+pub returns-in-Ok-clause-kept : goal.returns-in-Ok-clause-kept
+returns-in-Ok-clause-kept g c clean inside = shown_keeps find_format_text _ (state g.S.Store c.args.tx.now.conn.now) (state g.S.Store c.query_all.new.self.conn.now) inside _ (c.in-Ok.ensures.ok clean)
+
+pub returns-then-is_missing-clause-ours : goal.returns-then-is_missing-clause-ours
+returns-then-is_missing-clause-ours g c clean ours =
+    absurd (ours_asked (state g.S.Store c.args.tx.now.conn.now) (state g.S.Store c.query_all.new.self.conn.now) _ _ ours (c.in-Err-SqlInputError.ensures.err clean) c.in-Err-SqlInputError.field-0-is)
+
+pub returns-then-is_missing-clause-same : goal.returns-then-is_missing-clause-same
+returns-then-is_missing-clause-same g c clean either =
+    asks_on find_format_text _ (state g.S.Store c.args.tx.now.conn.now) (state g.S.Store c.query_all.new.self.conn.now) _ _ c.in-Err-SqlInputError.field-0-is (c.in-Err-SqlInputError.ensures.err clean)
+
+pub returns-then-is_missing-clause-inside : goal.returns-then-is_missing-clause-inside
+returns-then-is_missing-clause-inside g c clean inside =
+    (asks_on find_format_text _ (state g.S.Store c.args.tx.now.conn.now) (state g.S.Store c.query_all.new.self.conn.now) _ _ c.in-Err-SqlInputError.field-0-is (c.in-Err-SqlInputError.ensures.err clean)).0.mode ∙ inside
+
+pub returns-then-is_missing-clause-kept : goal.returns-then-is_missing-clause-kept
+returns-then-is_missing-clause-kept g c clean inside = asks_keep find_format_text _ (state g.S.Store c.args.tx.now.conn.now) (state g.S.Store c.query_all.new.self.conn.now) inside _ (c.in-Err-SqlInputError.ensures.err clean)
+
+pub returns-in-Err-SqlInputError-clause-empty : goal.returns-in-Err-SqlInputError-clause-empty
+returns-in-Err-SqlInputError-clause-empty g c clean empty said =
+    let missing = c.is_missing.ensures.1 (missing_only (state g.S.Store c.args.tx.now.conn.now) (state g.S.Store c.query_all.new.self.conn.now) _ _ empty (c.in-Err-SqlInputError.ensures.err clean) c.in-Err-SqlInputError.field-0-is) in
+    let not = c.if-is_missing.false in
+    cc
+
+pub returns-in-Err-SqlInputError-clause-ours : goal.returns-in-Err-SqlInputError-clause-ours
+returns-in-Err-SqlInputError-clause-ours g c clean ours said version =
+    ours_asked (state g.S.Store c.args.tx.now.conn.now) (state g.S.Store c.query_all.new.self.conn.now) _ _ ours (c.in-Err-SqlInputError.ensures.err clean) c.in-Err-SqlInputError.field-0-is
+
+pub returns-in-Err-SqlInputError-clause-kept : goal.returns-in-Err-SqlInputError-clause-kept
+returns-in-Err-SqlInputError-clause-kept g c clean inside = asks_keep find_format_text _ (state g.S.Store c.args.tx.now.conn.now) (state g.S.Store c.query_all.new.self.conn.now) inside _ (c.in-Err-SqlInputError.ensures.err clean)
+
+pub returns : goal.returns
+returns g c = record {
+  empty = λ clean empty said. named_fault c.fault_of.result c.from.result c.from.ensures said;
+  ours = λ clean ours said version. named_fault c.fault_of.result c.from.result c.from.ensures said;
+  same = λ clean either. tt;
+  inside = λ clean inside. tt;
+  kept = λ clean inside. asks_keep find_format_text _ (state g.S.Store c.args.tx.now.conn.now) (state g.S.Store c.query_all.new.self.conn.now) inside _ (c.in-Err.ensures.err clean);
+  same_reference = c.query_all.ensures.same_reference;
+  survives = c.query_all.ensures.survives;
+}

@@ -1,0 +1,101 @@
+-- The rows of all tables, and the trees and connections that have them.
+use Rattle.std.specs.Prelude.{◌≡◌, ◌⊎◌, ℕ, pos, true, false, List, [], ◌∷◌, map}
+use Rattle.std.specs.List.{AllByRecursion}
+use Rattle.sqlite.specs.declared.types.Value.TheVariants.{Int}
+use Rattle.sqlite.specs.Schema.{Schema}
+use Rattle.sqlite.specs.Order.{Row, column}
+use Rattle.sqlite.specs.Tree.{Trees}
+use Rattle.sqlite.specs.Effect.{Database}
+use Rattle.sqlite.specs.State.{State, Shows}
+use Rattle.sqlite_catalog.specs.Listing.{IsSound}
+use Rattle.dep_statements.specs.Rows.{IsOrdered}
+use Rattle.dep_schema.specs.Schema.{our_schema, no_schema}
+use Rattle.dep_schema.specs.Rows.{format_row, state_row}
+use Rattle.dep_schema.specs.declared.rows.StateRow.{StateRow}
+
+pub record Tables : Type 0 where
+  pub format : List Row
+  pub state : List Row
+  pub objects : List Row
+  pub metadata : List Row
+  pub files : List Row
+
+-- tree 4 is the index of `metadata`
+abbrev pub tables_in : Trees → Tables
+tables_in trees = record { format = trees 0; state = trees 1; objects = trees 2; metadata = trees 3; files = trees 5 }
+
+abbrev pub tables_of : State → Tables
+tables_of s = tables_in s.now.trees
+
+-- in each table the rowids rise
+pub record AreOrdered (tables : Tables) : Type 0 where
+  pub format : IsOrdered tables.format
+  pub state : IsOrdered tables.state
+  pub objects : IsOrdered tables.objects
+  pub metadata : IsOrdered tables.metadata
+  pub files : IsOrdered tables.files
+
+-- the trees list our schema and obey it
+pub record AreOurs (trees : Trees) : Type 0 where
+  pub sound : IsSound our_schema trees
+  pub ordered : AreOrdered (tables_in trees)
+
+-- what a crash may leave, and the next `open` find
+pub record Holds (trees : Trees) (tables : Tables) : Type 0 where
+  pub ours : AreOurs trees
+  pub rows : tables_in trees ≡ tables
+
+-- the database has our schema, and its trees list it and obey it
+pub record HasOurTables (db : Database) : Type 0 where
+  pub schema : db.schema ≡ our_schema
+  pub trees : AreOurs db.trees
+
+-- the connection sees our schema
+abbrev pub IsOurs : State → Type 0
+IsOurs s = HasOurTables s.now
+
+-- the connection sees our schema and these tables
+pub record Sees (s : State) (tables : Tables) : Type 0 where
+  pub ours : IsOurs s
+  pub rows : tables_of s ≡ tables
+
+-- the connection sees this schema, and no row in its tables
+pub record IsBlank (schema : Schema) (s : State) : Type 0 where
+  pub schema_is : s.now.schema ≡ schema
+  pub empty : AllByRecursion (λ t. s.now.trees t.tree ≡ []) schema.tables
+
+-- the transaction goes on with these tables
+pub record Leads (old new : State) (tables : Tables) : Type 0 where
+  pub shows : Shows old new new.now old.committed true
+  pub ours : IsOurs new
+  pub rows : tables_of new ≡ tables
+
+-- between transactions, with these tables
+pub record Stands (s : State) (tables : Tables) : Type 0 where
+  pub settled : s.in_transaction ≡ false
+  pub committed : s.now ≡ s.committed
+  pub ours : IsOurs s
+  pub rows : tables_of s ≡ tables
+
+abbrev pub no_rows : Tables
+no_rows = record { format = []; state = []; objects = []; metadata = []; files = [] }
+
+abbrev pub first_state : StateRow
+first_state = record { clock = 0; next_object = 1; next_file = 1; next_upload = 1; next_change = 1 }
+
+-- the tables of a new store
+abbrev pub first_tables : Tables
+first_tables = record no_rows { format = format_row 0 ∷ []; state = state_row first_state ∷ [] }
+
+-- `format` has one row, of id 1, and this version
+abbrev pub HasVersion : ℕ → Tables → Type 0
+HasVersion version tables = map (λ r. column r 0 ∷ column r 2 ∷ []) tables.format ≡ (Int (pos 1) ∷ Int (pos version) ∷ []) ∷ []
+
+-- an empty database, or one with our tables and version 0
+abbrev pub IsOpenable : State → Type 0
+IsOpenable s = (s.now.schema ≡ no_schema) ⊎ (IsOurs s × HasVersion 0 (tables_of s))
+
+-- what `open` may commit: what is there where our schema is there, and the tables of a new store in an empty database
+pub record CommitsOpen (s : State) (trees : Trees) : Type 0 where
+  pub found : IsOurs s → trees ≡ s.now.trees
+  pub new : s.now.schema ≡ no_schema → Holds trees first_tables

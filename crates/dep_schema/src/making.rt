@@ -1,0 +1,175 @@
+//! The tables of an empty database, and their first rows.
+
+ghost use Rattle.std.specs.Prelude.{◌≡◌, IsTrue, OnOk};
+ghost use Rattle.sqlite.specs.State.{HasCleanDisk, KeepsCommit, Survives};
+ghost use Rattle.sqlite.specs.Held.{state};
+ghost use Rattle.sqlite_trees.specs.Tree.{put_row};
+ghost use Rattle.dep_schema.specs.Schema.{no_schema, with_format, with_state, with_objects, with_metadata};
+ghost use Rattle.dep_schema.specs.Rows.{format_row, state_row};
+ghost use Rattle.dep_schema.specs.Tables.{tables_of, IsOurs, IsBlank, Sees, Leads, no_rows, first_tables, first_state};
+
+use crate::calls::run;
+use crate::fault::StoreFault;
+use sqlite::{Alter, Transaction};
+
+/// The version of the tables.
+fn create_format<S: Alter>(tx: &mut Transaction<'_, S>) -> Result<(), StoreFault>
+    ensures ok { HasCleanDisk (state S.Store tx.new.conn.now) → IsTrue (state S.Store tx.old.conn.now).in_transaction → IsBlank no_schema (state S.Store tx.old.conn.now)
+        → OnOk result (IsBlank with_format (state S.Store tx.new.conn.now)) }
+    ensures inside { HasCleanDisk (state S.Store tx.new.conn.now) → IsTrue (state S.Store tx.old.conn.now).in_transaction → OnOk result (IsTrue (state S.Store tx.new.conn.now).in_transaction) }
+    ensures kept { HasCleanDisk (state S.Store tx.new.conn.now) → IsTrue (state S.Store tx.old.conn.now).in_transaction → KeepsCommit (state S.Store tx.old.conn.now) (state S.Store tx.new.conn.now) }
+    ensures same_reference { tx.new.conn.ghost_name ≡ tx.old.conn.ghost_name }
+    ensures survives { Survives (state S.Store tx.old.conn.now) (state S.Store tx.new.conn.now) (λ _. ⊥) }
+{
+    run(
+        tx,
+        "CREATE TABLE format (id INTEGER PRIMARY KEY, version INTEGER NOT NULL) STRICT",
+        &[],
+    )
+}
+
+/// The clock and the counters.
+fn create_state<S: Alter>(tx: &mut Transaction<'_, S>) -> Result<(), StoreFault>
+    ensures ok { HasCleanDisk (state S.Store tx.new.conn.now) → IsTrue (state S.Store tx.old.conn.now).in_transaction → IsBlank with_format (state S.Store tx.old.conn.now)
+        → OnOk result (IsBlank with_state (state S.Store tx.new.conn.now)) }
+    ensures inside { HasCleanDisk (state S.Store tx.new.conn.now) → IsTrue (state S.Store tx.old.conn.now).in_transaction → OnOk result (IsTrue (state S.Store tx.new.conn.now).in_transaction) }
+    ensures kept { HasCleanDisk (state S.Store tx.new.conn.now) → IsTrue (state S.Store tx.old.conn.now).in_transaction → KeepsCommit (state S.Store tx.old.conn.now) (state S.Store tx.new.conn.now) }
+    ensures same_reference { tx.new.conn.ghost_name ≡ tx.old.conn.ghost_name }
+    ensures survives { Survives (state S.Store tx.old.conn.now) (state S.Store tx.new.conn.now) (λ _. ⊥) }
+{
+    run(
+        tx,
+        "CREATE TABLE state (id INTEGER PRIMARY KEY, clock INTEGER NOT NULL, next_object INTEGER NOT NULL, next_file INTEGER NOT NULL, next_upload INTEGER NOT NULL, next_change INTEGER NOT NULL) STRICT",
+        &[],
+    )
+}
+
+/// One row for each object.
+fn create_objects<S: Alter>(tx: &mut Transaction<'_, S>) -> Result<(), StoreFault>
+    ensures ok { HasCleanDisk (state S.Store tx.new.conn.now) → IsTrue (state S.Store tx.old.conn.now).in_transaction → IsBlank with_state (state S.Store tx.old.conn.now)
+        → OnOk result (IsBlank with_objects (state S.Store tx.new.conn.now)) }
+    ensures inside { HasCleanDisk (state S.Store tx.new.conn.now) → IsTrue (state S.Store tx.old.conn.now).in_transaction → OnOk result (IsTrue (state S.Store tx.new.conn.now).in_transaction) }
+    ensures kept { HasCleanDisk (state S.Store tx.new.conn.now) → IsTrue (state S.Store tx.old.conn.now).in_transaction → KeepsCommit (state S.Store tx.old.conn.now) (state S.Store tx.new.conn.now) }
+    ensures same_reference { tx.new.conn.ghost_name ≡ tx.old.conn.ghost_name }
+    ensures survives { Survives (state S.Store tx.old.conn.now) (state S.Store tx.new.conn.now) (λ _. ⊥) }
+{
+    run(
+        tx,
+        "CREATE TABLE objects (object INTEGER PRIMARY KEY, ingested INTEGER NOT NULL, object_tag INTEGER NOT NULL, metadata_tag INTEGER NOT NULL, files_tag INTEGER NOT NULL, changed INTEGER NOT NULL) STRICT",
+        &[],
+    )
+}
+
+/// One row for each value of an object's metadata.
+fn create_metadata<S: Alter>(tx: &mut Transaction<'_, S>) -> Result<(), StoreFault>
+    ensures ok { HasCleanDisk (state S.Store tx.new.conn.now) → IsTrue (state S.Store tx.old.conn.now).in_transaction → IsBlank with_objects (state S.Store tx.old.conn.now)
+        → OnOk result (IsBlank with_metadata (state S.Store tx.new.conn.now)) }
+    ensures inside { HasCleanDisk (state S.Store tx.new.conn.now) → IsTrue (state S.Store tx.old.conn.now).in_transaction → OnOk result (IsTrue (state S.Store tx.new.conn.now).in_transaction) }
+    ensures kept { HasCleanDisk (state S.Store tx.new.conn.now) → IsTrue (state S.Store tx.old.conn.now).in_transaction → KeepsCommit (state S.Store tx.old.conn.now) (state S.Store tx.new.conn.now) }
+    ensures same_reference { tx.new.conn.ghost_name ≡ tx.old.conn.ghost_name }
+    ensures survives { Survives (state S.Store tx.old.conn.now) (state S.Store tx.new.conn.now) (λ _. ⊥) }
+{
+    run(
+        tx,
+        "CREATE TABLE metadata (object INTEGER NOT NULL, name TEXT NOT NULL, place INTEGER NOT NULL, value TEXT NOT NULL, PRIMARY KEY (object, name, place)) STRICT",
+        &[],
+    )
+}
+
+/// One row for each file.
+fn create_files<S: Alter>(tx: &mut Transaction<'_, S>) -> Result<(), StoreFault>
+    ensures ok { HasCleanDisk (state S.Store tx.new.conn.now) → IsTrue (state S.Store tx.old.conn.now).in_transaction → IsBlank with_metadata (state S.Store tx.old.conn.now)
+        → OnOk result (Sees (state S.Store tx.new.conn.now) no_rows) }
+    ensures inside { HasCleanDisk (state S.Store tx.new.conn.now) → IsTrue (state S.Store tx.old.conn.now).in_transaction → OnOk result (IsTrue (state S.Store tx.new.conn.now).in_transaction) }
+    ensures kept { HasCleanDisk (state S.Store tx.new.conn.now) → IsTrue (state S.Store tx.old.conn.now).in_transaction → KeepsCommit (state S.Store tx.old.conn.now) (state S.Store tx.new.conn.now) }
+    ensures same_reference { tx.new.conn.ghost_name ≡ tx.old.conn.ghost_name }
+    ensures survives { Survives (state S.Store tx.old.conn.now) (state S.Store tx.new.conn.now) (λ _. ⊥) }
+{
+    run(
+        tx,
+        "CREATE TABLE files (file INTEGER PRIMARY KEY, object INTEGER NOT NULL, name TEXT NOT NULL, media TEXT NOT NULL, size INTEGER NOT NULL, tag INTEGER NOT NULL, deposited INTEGER NOT NULL, behalf TEXT, by_reference INTEGER NOT NULL, content BLOB NOT NULL) STRICT",
+        &[],
+    )
+}
+
+/// Version 0.
+fn add_format<S: Alter>(tx: &mut Transaction<'_, S>) -> Result<(), StoreFault>
+    ensures ok { HasCleanDisk (state S.Store tx.new.conn.now) → IsTrue (state S.Store tx.old.conn.now).in_transaction → IsOurs (state S.Store tx.old.conn.now)
+        → OnOk result (Leads (state S.Store tx.old.conn.now) (state S.Store tx.new.conn.now) (record (tables_of (state S.Store tx.old.conn.now)) { format = put_row (format_row 0) (tables_of (state S.Store tx.old.conn.now)).format })) }
+    ensures inside { HasCleanDisk (state S.Store tx.new.conn.now) → IsTrue (state S.Store tx.old.conn.now).in_transaction → OnOk result (IsTrue (state S.Store tx.new.conn.now).in_transaction) }
+    ensures kept { HasCleanDisk (state S.Store tx.new.conn.now) → IsTrue (state S.Store tx.old.conn.now).in_transaction → KeepsCommit (state S.Store tx.old.conn.now) (state S.Store tx.new.conn.now) }
+    ensures same_reference { tx.new.conn.ghost_name ≡ tx.old.conn.ghost_name }
+    ensures survives { Survives (state S.Store tx.old.conn.now) (state S.Store tx.new.conn.now) (λ _. ⊥) }
+{
+    run(tx, "INSERT INTO format (id, version) VALUES (1, 0)", &[])
+}
+
+/// The clock at 0, and each counter at 1.
+fn add_state<S: Alter>(tx: &mut Transaction<'_, S>) -> Result<(), StoreFault>
+    ensures ok { HasCleanDisk (state S.Store tx.new.conn.now) → IsTrue (state S.Store tx.old.conn.now).in_transaction → IsOurs (state S.Store tx.old.conn.now)
+        → OnOk result (Leads (state S.Store tx.old.conn.now) (state S.Store tx.new.conn.now) (record (tables_of (state S.Store tx.old.conn.now)) { state = put_row (state_row first_state) (tables_of (state S.Store tx.old.conn.now)).state })) }
+    ensures inside { HasCleanDisk (state S.Store tx.new.conn.now) → IsTrue (state S.Store tx.old.conn.now).in_transaction → OnOk result (IsTrue (state S.Store tx.new.conn.now).in_transaction) }
+    ensures kept { HasCleanDisk (state S.Store tx.new.conn.now) → IsTrue (state S.Store tx.old.conn.now).in_transaction → KeepsCommit (state S.Store tx.old.conn.now) (state S.Store tx.new.conn.now) }
+    ensures same_reference { tx.new.conn.ghost_name ≡ tx.old.conn.ghost_name }
+    ensures survives { Survives (state S.Store tx.old.conn.now) (state S.Store tx.new.conn.now) (λ _. ⊥) }
+{
+    run(
+        tx,
+        "INSERT INTO state (id, clock, next_object, next_file, next_upload, next_change) VALUES (1, 0, 1, 1, 1, 1)",
+        &[],
+    )
+}
+
+/// The first three tables.
+fn create_first<S: Alter>(tx: &mut Transaction<'_, S>) -> Result<(), StoreFault>
+    ensures ok { HasCleanDisk (state S.Store tx.new.conn.now) → IsTrue (state S.Store tx.old.conn.now).in_transaction → IsBlank no_schema (state S.Store tx.old.conn.now)
+        → OnOk result (IsBlank with_objects (state S.Store tx.new.conn.now)) }
+    ensures inside { HasCleanDisk (state S.Store tx.new.conn.now) → IsTrue (state S.Store tx.old.conn.now).in_transaction → OnOk result (IsTrue (state S.Store tx.new.conn.now).in_transaction) }
+    ensures kept { HasCleanDisk (state S.Store tx.new.conn.now) → IsTrue (state S.Store tx.old.conn.now).in_transaction → KeepsCommit (state S.Store tx.old.conn.now) (state S.Store tx.new.conn.now) }
+    ensures same_reference { tx.new.conn.ghost_name ≡ tx.old.conn.ghost_name }
+    ensures survives { Survives (state S.Store tx.old.conn.now) (state S.Store tx.new.conn.now) (λ _. ⊥) }
+{
+    create_format(tx)?;
+    create_state(tx)?;
+    create_objects(tx)
+}
+
+/// The tables after them.
+fn create_last<S: Alter>(tx: &mut Transaction<'_, S>) -> Result<(), StoreFault>
+    ensures ok { HasCleanDisk (state S.Store tx.new.conn.now) → IsTrue (state S.Store tx.old.conn.now).in_transaction → IsBlank with_objects (state S.Store tx.old.conn.now)
+        → OnOk result (Sees (state S.Store tx.new.conn.now) no_rows) }
+    ensures inside { HasCleanDisk (state S.Store tx.new.conn.now) → IsTrue (state S.Store tx.old.conn.now).in_transaction → OnOk result (IsTrue (state S.Store tx.new.conn.now).in_transaction) }
+    ensures kept { HasCleanDisk (state S.Store tx.new.conn.now) → IsTrue (state S.Store tx.old.conn.now).in_transaction → KeepsCommit (state S.Store tx.old.conn.now) (state S.Store tx.new.conn.now) }
+    ensures same_reference { tx.new.conn.ghost_name ≡ tx.old.conn.ghost_name }
+    ensures survives { Survives (state S.Store tx.old.conn.now) (state S.Store tx.new.conn.now) (λ _. ⊥) }
+{
+    create_metadata(tx)?;
+    create_files(tx)
+}
+
+/// The rows of a new store.
+fn add_rows<S: Alter>(tx: &mut Transaction<'_, S>) -> Result<(), StoreFault>
+    ensures ok { HasCleanDisk (state S.Store tx.new.conn.now) → IsTrue (state S.Store tx.old.conn.now).in_transaction → Sees (state S.Store tx.old.conn.now) no_rows
+        → OnOk result (Sees (state S.Store tx.new.conn.now) first_tables) }
+    ensures inside { HasCleanDisk (state S.Store tx.new.conn.now) → IsTrue (state S.Store tx.old.conn.now).in_transaction → OnOk result (IsTrue (state S.Store tx.new.conn.now).in_transaction) }
+    ensures kept { HasCleanDisk (state S.Store tx.new.conn.now) → IsTrue (state S.Store tx.old.conn.now).in_transaction → KeepsCommit (state S.Store tx.old.conn.now) (state S.Store tx.new.conn.now) }
+    ensures same_reference { tx.new.conn.ghost_name ≡ tx.old.conn.ghost_name }
+    ensures survives { Survives (state S.Store tx.old.conn.now) (state S.Store tx.new.conn.now) (λ _. ⊥) }
+{
+    add_format(tx)?;
+    add_state(tx)
+}
+
+/// The tables of a new store, in an empty database.
+pub(crate) fn make_tables<S: Alter>(tx: &mut Transaction<'_, S>) -> Result<(), StoreFault>
+    ensures ok { HasCleanDisk (state S.Store tx.new.conn.now) → IsTrue (state S.Store tx.old.conn.now).in_transaction → IsBlank no_schema (state S.Store tx.old.conn.now)
+        → OnOk result (Sees (state S.Store tx.new.conn.now) first_tables) }
+    ensures inside { HasCleanDisk (state S.Store tx.new.conn.now) → IsTrue (state S.Store tx.old.conn.now).in_transaction → OnOk result (IsTrue (state S.Store tx.new.conn.now).in_transaction) }
+    ensures kept { HasCleanDisk (state S.Store tx.new.conn.now) → IsTrue (state S.Store tx.old.conn.now).in_transaction → KeepsCommit (state S.Store tx.old.conn.now) (state S.Store tx.new.conn.now) }
+    ensures same_reference { tx.new.conn.ghost_name ≡ tx.old.conn.ghost_name }
+    ensures survives { Survives (state S.Store tx.old.conn.now) (state S.Store tx.new.conn.now) (λ _. ⊥) }
+{
+    create_first(tx)?;
+    create_last(tx)?;
+    add_rows(tx)
+}

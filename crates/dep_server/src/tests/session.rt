@@ -1,0 +1,136 @@
+//! A hub by the example's configuration, and one connection.
+
+use crate::tests::page::Page;
+use crate::tests::texts::{CUT_WANT_OF_MEMORY, WANT_OF_MEMORY};
+use crate::{Arrived, ConnId, Hub, Store};
+use dep_moment::Moment;
+use dep_types::{Config, GREATEST_MAX_UPLOAD, Text, Through};
+use std::alloc::{AllocError, Global};
+use std::process::Abort;
+use std::test::Fail;
+
+/// The moment of the published replies.
+pub const MOMENT: u64 = 1_523_836_800;
+
+/// The example's configuration, with limits as great as they may be.
+pub fn example(alloc: Global) -> Result<Config, AllocError> {
+    Ok(Config {
+        base: Text::copied(alloc, "http://127.0.0.1:8080")?,
+        title: Text::copied(alloc, "swordd")?,
+        abstract_text: Text::copied(alloc, "Deposit service")?,
+        depositor: Text::copied(alloc, "depositor")?,
+        on_behalf_of: false,
+        require_if_match: false,
+        max_upload: GREATEST_MAX_UPLOAD,
+        max_assembled: 536_870_912,
+        max_segments: 1_000,
+        staging_max_idle: 3_600,
+    })
+}
+
+/// A hub that nobody is connected to.
+pub fn quiet_hub(config: Config, alloc: Global) -> Result<Hub, Fail> {
+    match Hub::new(alloc, config, Store::empty(alloc)) {
+        Ok(hub) => Ok(hub),
+        Err((fault, _)) => Err(Fail::from(fault)),
+    }
+}
+
+/// A hub and a connection of it.
+#[derive(Drop)]
+pub struct Session {
+    pub alloc: Global,
+    pub hub: Hub,
+    pub connection: ConnId,
+}
+
+impl Session {
+    pub fn open(alloc: Global) -> Result<Session, Fail> {
+        Session::with_limit(alloc, GREATEST_MAX_UPLOAD)
+    }
+
+    /// With another limit of one content.
+    pub fn with_limit(alloc: Global, max_upload: u64) -> Result<Session, Fail> {
+        let mut config = example(alloc)?;
+        config.max_upload = max_upload;
+        let mut hub = quiet_hub(config, alloc)?;
+        let connection = hub.connect()?;
+        Ok(Session {
+            alloc,
+            hub,
+            connection,
+        })
+    }
+
+    /// One arrival has to be answered so, and just these bytes have to be sent.
+    pub fn arrives(
+        &mut self,
+        rt: &impl Abort,
+        piece: &[u8],
+        moment: u64,
+        want: &[&str],
+        answer: Arrived,
+    ) -> Result<(), Fail> {
+        let mut out = Through::new(Page::new(self.alloc)?);
+        let came = self
+            .hub
+            .arrive(self.connection, piece, Moment::new(moment), &mut out);
+        is_written(rt, self.alloc, out.into_inner().bytes(), want)?;
+        assert_eq!(rt; came, answer);
+        Ok(())
+    }
+
+    /// The stream has to be answered so, in pieces of this many bytes.
+    pub fn takes(
+        &mut self,
+        rt: &impl Abort,
+        stream: &[u8],
+        size: usize,
+        want: &[&str],
+        answer: Arrived,
+    ) -> Result<(), Fail> {
+        let mut out = Through::new(Page::new(self.alloc)?);
+        let mut came = Arrived::Open;
+        for piece in stream.chunks(size.max(1)) {
+            came = self
+                .hub
+                .arrive(self.connection, piece, Moment::new(MOMENT), &mut out);
+        }
+        is_written(rt, self.alloc, out.into_inner().bytes(), want)?;
+        assert_eq!(rt; came, answer, "in pieces of {size}");
+        Ok(())
+    }
+}
+
+/// A stream and what it has to be answered, in one piece and byte by byte.
+#[derive(Clone, Copy)]
+pub struct Row {
+    pub stream: &'static str,
+    pub want: &'static [&'static str],
+    pub answer: Arrived,
+}
+
+impl Row {
+    pub fn holds(&self, rt: &impl Abort, alloc: Global) -> Result<(), Fail> {
+        let stream = self.stream.as_bytes();
+        for size in [stream.len(), 1] {
+            let mut session = Session::open(alloc)?;
+            session.takes(rt, stream, size, self.want, self.answer)?;
+        }
+        Ok(())
+    }
+}
+
+/// Just these texts have to be written. Where there was no memory for them, the reply that says so has to
+/// end what was written, and the test fails for want of memory.
+pub fn is_written(rt: &impl Abort, alloc: Global, bytes: &[u8], want: &[&str]) -> Result<(), Fail> {
+    let want = want.concat(alloc)?;
+    for fixed in [WANT_OF_MEMORY, CUT_WANT_OF_MEMORY] {
+        if let Some(front) = bytes.strip_suffix(fixed.as_bytes()) {
+            assert!(rt; want.as_bytes().starts_with(front));
+            return Err(Fail::from(AllocError));
+        }
+    }
+    assert_eq!(rt; str::from_utf8(bytes)?, want.as_str());
+    Ok(())
+}

@@ -1,0 +1,15 @@
+pub mod Writes
+pub mod Asking
+pub mod Values
+pub mod Asked
+pub mod Found
+pub mod Members
+pub mod Edits
+pub mod Keys
+pub mod Sorted
+pub mod Answered
+pub mod Statements
+pub mod Results
+pub mod Tests
+pub mod Creating
+pub mod Looking

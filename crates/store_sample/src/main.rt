@@ -1,0 +1,91 @@
+//! Writes a store with one object into the file that its argument names.
+#![tactic(auto)]
+
+use dep_schema::{FileRow, MetadataRow, ObjectRow, OpenFault, Schema, StoreFault};
+use sqlite::{Alter, Connection, Transaction};
+use std::alloc::Global;
+use std::env;
+
+fn made<S: Alter>(connection: Connection<S>) -> Result<Schema<S>, (OpenFault, Connection<S>)> {
+    if !connection.is_autocommit() {
+        return Err((OpenFault::Store, connection));
+    }
+    dep_schema::open(connection)
+}
+
+/// Object 7, if it is there already, goes first.
+fn clear<S: Alter>(tx: &mut Transaction<'_, S>) -> Result<(), StoreFault> {
+    dep_schema::delete_files(tx, 7)?;
+    dep_schema::delete_metadata(tx, 7)?;
+    dep_schema::delete_object(tx, 7)
+}
+
+fn add_object<S: Alter>(tx: &mut Transaction<'_, S>) -> Result<(), StoreFault> {
+    let row = ObjectRow {
+        object: 7,
+        ingested: true,
+        object_tag: 1,
+        metadata_tag: 1,
+        files_tag: 1,
+        changed: 1700000000,
+    };
+    dep_schema::insert_object(tx, &row)
+}
+
+fn add_title<S: Alter>(alloc: Global, tx: &mut Transaction<'_, S>) -> anyhow::Result<bool> {
+    let row = MetadataRow {
+        object: 7,
+        name: String::from_str(alloc, "dc:title")?,
+        place: 0,
+        value: String::from_str(alloc, "T")?,
+    };
+    Ok(dep_schema::insert_metadata(tx, &row).is_ok())
+}
+
+fn add_file<S: Alter>(alloc: Global, tx: &mut Transaction<'_, S>) -> anyhow::Result<bool> {
+    let row = FileRow {
+        file: 11,
+        object: 7,
+        name: String::from_str(alloc, "a.txt")?,
+        media: String::from_str(alloc, "text/plain")?,
+        size: 3,
+        tag: 1,
+        deposited: 1700000000,
+        behalf: None,
+        by_reference: false,
+    };
+    Ok(dep_schema::insert_file(tx, &row, b"abc").is_ok())
+}
+
+fn fill<S: Alter>(alloc: Global, connection: &mut Connection<S>) -> anyhow::Result<bool> {
+    if !connection.is_autocommit() {
+        return Ok(false);
+    }
+    let mut tx = connection.transaction();
+    if clear(&mut tx).is_err() || add_object(&mut tx).is_err() {
+        return Ok(false);
+    }
+    if !add_title(alloc, &mut tx)? || !add_file(alloc, &mut tx)? {
+        return Ok(false);
+    }
+    Ok(tx.commit().is_ok())
+}
+
+fn main(rt: HostRuntime) -> anyhow::Result<()> {
+    let Some(path) = env::args(&rt)?.nth(1) else {
+        println!(rt; "usage: store_sample PATH")?;
+        return Ok(());
+    };
+    let Ok(connection) = Connection::open(&rt, path.as_str()) else {
+        println!(rt; "not opened")?;
+        return Ok(());
+    };
+    let Ok(mut schema) = made(connection) else {
+        println!(rt; "no store")?;
+        return Ok(());
+    };
+    let filled = fill(rt.alloc(), &mut schema.connection)?;
+    let closed = schema.connection.close().is_ok();
+    println!(rt; "written: {}", filled && closed)?;
+    Ok(())
+}
