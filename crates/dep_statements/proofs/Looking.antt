@@ -52,7 +52,7 @@ take_one p f (x ∷ rows) = go (p x) refl (take_one p f rows)
     go false is more = rw is more
 
 module _ (tree : ℕ) (tests shows : List Term) (params : Row) (before rows : List Row) (up : IsOrdered before) where
-  -- SELECT .. WHERE key = ?
+  -- SELECT .. by its key
   pub by_key : (id : ℤ) → ((r : Row) → passes params tests r ≡ has_rowid id r) → Picks (one_table tree tests shows [] no_limit) params (filter (passes params tests) before) rows
       → rows ≡ map (shown_of params shows) (option_to_list (find (has_rowid id) before))
   by_key id test h =
