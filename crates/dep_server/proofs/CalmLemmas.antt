@@ -1,12 +1,11 @@
-use Rattle.std.proofs.Common.{◌≡◌, ◌==◌, ℕ, Bool, true, false, List, [], ◌∷◌, ◌++◌, if◌then◌else◌, refl, sym, ap, subst, ◌∙◌, append_assoc, map}
+use Rattle.std.proofs.Common.{◌≡◌, ◌==◌, ℕ, Bool, true, false, List, [], ◌∷◌, ◌++◌, refl, sym, ap, ◌∙◌, append_assoc}
 use Rattle.std.proofs.lemmas.List.{append-nil}
-use Rattle.std.specs.List.{flat_map}
 use Rattle.dep_types.specs.State.{State}
 use Rattle.dep_types.specs.declared.config.Config.{Config}
 use Rattle.dep_server.specs.Places.{Place}
-use Rattle.dep_server.specs.Stream.{Item, Waits}
-use Rattle.dep_server.specs.Machine.{step, replies, state_after, Serves, serves_all}
-use Rattle.dep_server.specs.Records.{Event, Connect, Arrive, Close, Record, Line, World, Run, begins, goes_on, Happens, Arrives}
+use Rattle.dep_server.specs.Stream.{Item}
+use Rattle.dep_server.specs.Machine.{step, replies, state_after, Serves}
+use Rattle.dep_server.specs.Records.{Event, Record, Line, World, Run, Happens, Arrives}
 use Rattle.dep_server.specs.Calm.{Step, steps_of, CalmServes, all_served, CalmArrives, live, ended, Calm, connect, close, arrive, none, CalmRun, nothing, more, number_of, sent_to, only}
 use Rattle.dep_server.specs.declared.arrived.Arrived.{Arrived}
 

@@ -3,7 +3,6 @@ use Rattle.std.proofs.Common.{◌≡◌, ℕ, suc, zero, ◌+◌, ◌<◌, ◌�
 use Rattle.std.specs.List.{remove}
 use Rattle.std.specs.Option.{option_map}
 use Rattle.std.proofs.lemmas.Bool.Decides.{nat_tests}
-use Rattle.dep_server.specs.Places.{Reading}
 use Rattle.dep_server.specs.Numbers.{index_of}
 use Rattle.dep_server.specs.Standing.{intake_of, Ascends}
 use Rattle.dep_server.specs.declared.connections.Connection.{Connection}

@@ -1,17 +1,15 @@
 -- A stream spells one list of items.
-use Rattle.std.proofs.Common.{◌≡◌, ℕ, ◌+◌, ◌<◌, ◌≤◌, Bool, List, [], ◌∷◌, ◌++◌, take, drop, length, Option, Some, None, Result, Ok, Err, refl, sym, ap, subst, ◌∙◌, append_assoc, arith, length-append, inl, inr}
+use Rattle.std.proofs.Common.{◌≡◌, ℕ, ◌+◌, ◌<◌, ◌≤◌, Bool, List, [], ◌∷◌, ◌++◌, take, drop, length, Some, None, Result, Ok, Err, refl, sym, ap, subst, ◌∙◌, append_assoc, arith, length-append, inl, inr}
 use Rattle.std.proofs.lemmas.List.{append-nil}
 use Rattle.std.proofs.Math.Seq.{take-append_seam, drop-append_seam}
 use Rattle.dep_head.specs.Head.{HeadParts, IsHeadText, EndsOnce, head_end, head_limit}
-use Rattle.dep_head.proofs.HeadEnd.{end_more, end_within, end_front, none_front}
+use Rattle.dep_head.proofs.HeadEnd.{end_more, end_front}
 use Rattle.dep_head.proofs.OneHead.{one_head}
 use Rattle.dep_types.specs.declared.refusal.Refusal.{Refusal}
-use Rattle.dep_types.specs.declared.refusal.Refusal.TheVariants.{BadRequest}
 use Rattle.dep_server.specs.Framing.{framing, is_bare}
-use Rattle.dep_server.specs.Places.{Place, Open, Shut, more}
-use Rattle.dep_server.specs.Stream.{Item, Fault, Request, after_item, IsNoHead, IsFaultText, no_head, bad_framing, IsRequestText, IsItemText, First, FirstAt, Reads, HasPartOfBody, Waits, Spells}
+use Rattle.dep_server.specs.Places.{Place, Open, Shut}
+use Rattle.dep_server.specs.Stream.{Item, Fault, Request, after_item, IsNoHead, IsFaultText, no_head, bad_framing, IsRequestText, IsItemText, FirstAt, Reads, HasPartOfBody, Waits, Spells}
 use Rattle.dep_server.specs.declared.message.Message.{Message}
-use Rattle.std.specs.Prelude.{slice_get}
 
 some_same : {m n : ℕ} → Some m ≡ Some n → m ≡ n
 some_same e = cc

@@ -1,5 +1,5 @@
 -- Replies for files and for new objects.
-use Rattle.std.proofs.Common.{◌≡◌, ℕ, ◌+◌, ◌-◌, Bool, true, false, List, [], ◌∷◌, ◌++◌, length, map, Option, Some, None, if◌then◌else◌, refl, sym, ap, subst, ◌∙◌, arith, nat_cmp, codes, decimal, append-nil}
+use Rattle.std.proofs.Common.{◌≡◌, ℕ, ◌+◌, ◌-◌, Bool, true, false, List, [], ◌∷◌, ◌++◌, length, map, Option, Some, None, if◌then◌else◌, refl, sym, ap, subst, ◌∙◌, arith, nat_cmp}
 use Rattle.std.specs.Option.{option_map, option_map_or}
 use Rattle.std.specs.Cmp.{nat_cmp_total}
 use Rattle.std.specs.FinMap as finmap
@@ -21,7 +21,7 @@ use Rattle.dep_types.specs.declared.target.Resource.{Resource}
 use Rattle.dep_types.specs.declared.target.Target.{Target}
 use Rattle.dep_server.specs.Framing.{is_bare}
 use Rattle.dep_server.specs.Stream.{closes}
-use Rattle.dep_server.specs.Machine.{Stepped, routed, ruled, done, turned_down}
+use Rattle.dep_server.specs.Machine.{routed, ruled, done, turned_down}
 use Rattle.dep_server.specs.Targets.{target, allow_text}
 use Rattle.dep_server.specs.declared.message.Message.{Message}
 use Rattle.dep_server.specs.declared.answer.Delivery.{Delivery}

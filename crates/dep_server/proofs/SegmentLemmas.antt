@@ -1,8 +1,8 @@
 -- The segments of a path, from the first slash on.
-use Rattle.std.proofs.Common.{◌≡◌, ◌+◌, ◌<◌, ◌≤◌, ◌∙◌, ◌==◌, ℕ, Bool, true, false, not, List, [], ◌∷◌, length, take, drop, get_or, Option, Some, None, refl, sym, ap, arith, inl, inr, lt-ltb, le-ltb, eq-eqb, ne_eqb, All, rules}
+use Rattle.std.proofs.Common.{◌≡◌, ◌+◌, ◌<◌, ◌≤◌, ◌==◌, ℕ, Bool, false, not, List, [], ◌∷◌, length, take, drop, Some, None, refl, arith, inl, inr, lt-ltb, le-ltb, All, rules}
 use Rattle.std.proofs.lemmas.Bool.{cases_lt, cases_Bool}
 use Rattle.std.proofs.lemmas.List.Splits.{slice_split_first, slice_split_none, length-slice_split}
-use Rattle.std.specs.List.{position, position_or_len, prefix_len, slice_split}
+use Rattle.std.specs.List.{position, position_or_len, prefix_len}
 use Rattle.dep_server.specs.Targets.{segments, resource_of}
 
 none_of : (p : ℕ → Bool) (xs : List ℕ) → length xs ≤ prefix_len (λ x. not (p x)) xs → All (λ x. p x ≡ false) xs

@@ -1,6 +1,5 @@
 -- Replies that are sent in two parts.
-use Rattle.std.proofs.Common.{◌≡◌, ◌≢◌, ℕ, List, [], ◌∷◌, ◌++◌, Option, refl, sym, ap, ◌∙◌, append_assoc}
-use Rattle.std.specs.Io.KnownBytes.{Appends}
+use Rattle.std.proofs.Common.{◌≢◌, ℕ, List, [], ◌∷◌, ◌++◌, Option, refl, sym, ap, ◌∙◌, append_assoc}
 use Rattle.dep_types.specs.Writing.{IsProperPrefix}
 use Rattle.dep_server.specs.Sending.{SendsReply}
 use Rattle.dep_server.specs.declared.sending.Answered.{Answered}

@@ -6,12 +6,12 @@ use Rattle.dep_types.specs.State.{State, tick}
 use Rattle.dep_types.specs.declared.config.Config.{Config}
 use Rattle.dep_types.specs.Writing.{IsProperPrefix, HasRisen}
 use Rattle.dep_server.specs.Places.{Place, Open, Shut, IsOpen, HasBytes, Reading, more}
-use Rattle.dep_server.specs.Stream.{Item, Fault, Request, FirstAt, Reads, Waits, after_item}
-use Rattle.dep_server.specs.Machine.{step, replies, state_after, Fails, given_up, cut_short, Serves, serves_all, step_fails, gives_up, SendsUpTo, all, cut, want_of_memory, answer_at_place}
+use Rattle.dep_server.specs.Stream.{Item, Fault, FirstAt, Reads, Waits}
+use Rattle.dep_server.specs.Machine.{step, replies, state_after, Fails, given_up, cut_short, serves_all, step_fails, gives_up, SendsUpTo, all, cut, want_of_memory, answer_at_place}
 use Rattle.dep_server.specs.Sending.{IsSentUpTo, SendsOver, SendsReply}
 use Rattle.std.proofs.Common.{inl, inr, Bool}
 use Rattle.dep_types.specs.declared.refusal.Refusal.{Refusal}
-use Rattle.dep_server.specs.Serving.{IsAnswer, Answers, Served, ServesFrom, ServesOver, answer_after}
+use Rattle.dep_server.specs.Serving.{Answers, Served, ServesFrom, ServesOver, answer_after}
 use Rattle.dep_server.specs.declared.arrived.Arrived.{Arrived}
 use Rattle.dep_server.specs.declared.arrived.Arrived.TheVariants.{Open as StaysOpen, Closed, Cut, NoSuch}
 use Rattle.dep_server.specs.declared.sending.Answered.{Answered}

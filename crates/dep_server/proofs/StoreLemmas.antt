@@ -1,11 +1,11 @@
 -- Rooms for numbers, and files among records.
-use Rattle.std.proofs.Common.{◌≡◌, ℕ, ◌+◌, ◌<◌, ◌≤◌, ◌^◌, ◌==◌, ◌&&◌, Bool, true, false, cond, List, [], ◌∷◌, Option, Some, None, refl, sym, ap, ◌∙◌, IsTrue, arith, nat_cmp, nat_le, find, map, is_eq, Less, Equal, Greater}
+use Rattle.std.proofs.Common.{◌≡◌, ℕ, ◌+◌, ◌<◌, ◌^◌, ◌==◌, ◌&&◌, Bool, true, false, cond, List, [], ◌∷◌, Option, Some, None, refl, sym, ap, ◌∙◌, IsTrue, arith, nat_cmp, nat_le, find, map, is_eq}
 use Rattle.std.specs.Option.{option_map}
 use Rattle.std.specs.FinMap.Entries as entries
 use Rattle.std.specs.Cmp.{tied_itself}
 use Rattle.std.proofs.lemmas.Bool.{eqb-true, cases_Bool}
-use Rattle.std.proofs.Common.{inl, inr, ◌≢◌, eq-eqb, subst}
-use Rattle.dep_types.specs.State.{State, File, Object, file_at}
+use Rattle.std.proofs.Common.{inl, inr, eq-eqb}
+use Rattle.dep_types.specs.State.{State, File, file_at}
 use Rattle.dep_types.proofs.Kept.{tied}
 use Rattle.dep_server.specs.declared.record.Record.{Record}
 use Rattle.dep_server.specs.Kept.{state_of, file_of, object_of, entry_of}

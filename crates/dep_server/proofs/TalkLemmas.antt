@@ -1,10 +1,10 @@
 -- How a conversation goes on, and how it ends.
-use Rattle.std.proofs.Common.{arith, ◌+◌, ◌<◌, ◌≤◌, length, suc, ◌≡◌, ℕ, List, [], ◌∷◌, ◌++◌, Option, Some, None, map, refl, sym, ap, subst, ◌∙◌, append_assoc}
+use Rattle.std.proofs.Common.{arith, ◌+◌, ◌<◌, ◌≤◌, length, ◌≡◌, ℕ, List, [], ◌∷◌, ◌++◌, Option, Some, None, map, refl, sym, ap, subst, ◌∙◌, append_assoc}
 use Rattle.std.proofs.lemmas.List.{append-nil}
 use Rattle.std.specs.List.{flat_map, FoldsTo}
-use Rattle.std.specs.Io.KnownBytes.{Appends, Consumes, Keeps, IsAtEnd}
+use Rattle.std.specs.Io.KnownBytes.{Appends, Consumes, Keeps}
 use Rattle.dep_types.specs.State.{State}
-use Rattle.dep_server.specs.Records.{World, put, Event, Connect, Arrive, Close, Record}
+use Rattle.dep_server.specs.Records.{World, put, Connect, Close, Record}
 use Rattle.dep_server.specs.Standing.{StandsAt, StandsFor, Adds, Moves, intake_of}
 use Rattle.dep_server.specs.declared.hub.Hub.{Hub}
 use Rattle.dep_server.specs.declared.arrived.Arrived.{Arrived}

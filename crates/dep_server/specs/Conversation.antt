@@ -1,13 +1,13 @@
 -- One connection over a reader and an outlet, from its opening to its close.
-use Rattle.std.specs.Prelude.{◌<◌, ◌≤◌, length, ◌≡◌, ◌≢◌, ℕ, List, [], ◌∷◌, ◌++◌, Option, Some, None, map, IsSome}
+use Rattle.std.specs.Prelude.{◌<◌, ◌≤◌, length, ◌≡◌, ℕ, List, [], ◌∷◌, ◌++◌, Option, Some, None, map}
 use Rattle.std.specs.List.{flat_map, FoldsTo}
 use Rattle.std.specs.Io.KnownBytes.{Appends, Consumes, Keeps, IsAtEnd}
 use Rattle.dep_types.specs.State.{State}
-use Rattle.dep_server.specs.Records.{World, Event, Connect, Arrive, Close, Record}
-use Rattle.dep_server.specs.Standing.{StandsAt, StandsFor, Adds, Moves, IsArrival, intake_of}
+use Rattle.dep_server.specs.Records.{World, Connect, Arrive, Close, Record}
+use Rattle.dep_server.specs.Standing.{StandsAt, StandsFor, Moves, IsArrival, intake_of}
 use Rattle.dep_server.specs.declared.hub.Hub.{Hub}
 use Rattle.dep_server.specs.declared.arrived.Arrived.{Arrived}
-use Rattle.dep_server.specs.declared.arrived.Arrived.TheVariants.{Open as StaysOpen, Closed as HasClosed, Cut, NoSuch}
+use Rattle.dep_server.specs.declared.arrived.Arrived.TheVariants.{Open as StaysOpen, Closed as HasClosed, Cut}
 use Rattle.dep_server.specs.declared.connection.Served.{Served}
 use Rattle.dep_server.specs.declared.connection.Served.TheVariants.{Ended, Closed, Unserved, ReadFault, WriteFault, Bound}
 

@@ -1,5 +1,5 @@
 -- The deposit machine: what one item of a stream does to the state, and what is sent for it.
-use Rattle.std.specs.Prelude.{◌≡◌, ◌⊎◌, ℕ, Bool, true, false, List, [], ◌∷◌, ◌++◌, Option, Some, None, codes}
+use Rattle.std.specs.Prelude.{◌≡◌, ◌⊎◌, ℕ, Bool, true, List, [], ◌∷◌, ◌++◌, Option, Some, None, codes}
 use Rattle.dep_types.specs.State.{State, tick}
 use Rattle.dep_types.specs.Writing.{IsProperPrefix}
 use Rattle.dep_types.specs.declared.config.Config.{Config}

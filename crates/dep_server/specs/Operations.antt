@@ -1,5 +1,5 @@
 -- What a message asks for, where its path names a resource that has its method, and what it makes of the state.
-use Rattle.std.specs.Prelude.{ℕ, ◌+◌, ◌==◌, ◌||◌, ◌&&◌, nat_le, Bool, true, false, not, is_some, List, [], ◌∷◌, ◌++◌, Option, Some, None, option_map, option_and_then, unwrap_or, codes, if◌then◌else◌}
+use Rattle.std.specs.Prelude.{ℕ, ◌+◌, ◌==◌, ◌||◌, ◌&&◌, nat_le, Bool, true, false, not, is_some, List, [], ◌∷◌, Option, Some, None, option_map, option_and_then, unwrap_or, codes, if◌then◌else◌}
 use Rattle.std.specs.FinMap as map
 use Rattle.dep_types.specs.Maps.{first_of}
 use Rattle.dep_types.specs.State.{State, file_at}
@@ -10,7 +10,7 @@ use Rattle.dep_types.specs.declared.refusal.Refusal.TheVariants.{BadRequest, Not
 use Rattle.dep_types.specs.declared.target.Resource.{Resource}
 use Rattle.dep_types.specs.declared.target.Resource.TheVariants.{Service, File}
 use Rattle.dep_types.specs.declared.target.Method.{Method}
-use Rattle.dep_types.specs.declared.target.Method.TheVariants.{Get, Post}
+use Rattle.dep_types.specs.declared.target.Method.TheVariants.{Post}
 use Rattle.dep_types.specs.declared.target.Target.{Target}
 use Rattle.dep_head.specs.Head.{HeadParts, values_of}
 use Rattle.dep_server.specs.FileFields.{disposition_name, media_of}

@@ -4,10 +4,10 @@ use Rattle.std.specs.Io.KnownBytes.{Appends}
 use Rattle.dep_types.specs.State.{State}
 use Rattle.dep_types.specs.declared.config.Config.{Config}
 use Rattle.dep_server.specs.Places.{Place, Reading, more}
-use Rattle.dep_server.specs.Stream.{Item, Fault, Request, Reads}
+use Rattle.dep_server.specs.Stream.{Item, Reads}
 use Rattle.dep_server.specs.Machine.{step, replies, state_after, Fails, Serves}
 use Rattle.dep_server.specs.declared.arrived.Arrived.{Arrived}
-use Rattle.dep_server.specs.declared.arrived.Arrived.TheVariants.{Open as StaysOpen, Closed, Cut, NoSuch}
+use Rattle.dep_server.specs.declared.arrived.Arrived.TheVariants.{Closed, Cut}
 use Rattle.dep_server.specs.declared.sending.Answered.{Answered}
 use Rattle.dep_server.specs.declared.sending.Answered.TheVariants.{Sent, GaveUp, CutShort}
 

@@ -1,14 +1,13 @@
 -- Which resource a path names, and which methods it has (SWORD 3.0; RFC 9110, sections 9.1 and 15.5.6).
-use Rattle.std.specs.Prelude.{ℕ, ◌==◌, ◌&&◌, Bool, true, false, List, [], ◌∷◌, Option, Some, None, option_and_then, option_map, codes, bytes_eq, find, if◌then◌else◌}
+use Rattle.std.specs.Prelude.{ℕ, ◌==◌, ◌&&◌, Bool, false, List, [], ◌∷◌, Option, Some, None, option_and_then, option_map, codes, bytes_eq, find, if◌then◌else◌}
 use Rattle.std.specs.List.{join_by, slice_split}
 use Rattle.dep_octets.specs.Octets.{decimal_number}
 use Rattle.dep_octets.specs.declared.numbers.Number.{Number}
-use Rattle.dep_octets.specs.declared.numbers.Number.TheVariants.{NotDigits, Above, Value}
+use Rattle.dep_octets.specs.declared.numbers.Number.TheVariants.{Value}
 use Rattle.dep_types.specs.declared.target.Resource.{Resource}
 use Rattle.dep_types.specs.declared.target.Resource.TheVariants.{Service, File}
 use Rattle.dep_types.specs.declared.target.Method.{Method}
 use Rattle.dep_types.specs.declared.target.Method.TheVariants.{Get, Head, Post, Put, Delete}
-use Rattle.dep_types.specs.declared.target.Target.{Target}
 use Rattle.dep_server.specs.declared.routing.Routed.{Routed}
 use Rattle.dep_server.specs.declared.routing.Routed.TheVariants.{To, NotFound, NotAllowed}
 

@@ -1,5 +1,4 @@
-use Rattle.std.proofs.Common.{◌≡◌, ◌∙◌, ap, sym, refl, None, Some, rules}
-use Rattle.dep_server.specs.FileFields.{attachment_name, if_passes, is_unquoted_name}
+use Rattle.std.proofs.Common.{◌∙◌, sym, refl, rules}
 use Rattle.dep_server.proofs.FileFieldLemmas.{front_is_missing, front_is_there}
 use Rattle.dep_server.proofs.file_fields.attachment_name.Goals as goal
 

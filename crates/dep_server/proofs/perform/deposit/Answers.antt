@@ -1,4 +1,4 @@
-use Rattle.std.proofs.Common.{◌≡◌, ◌∙◌, ◌++◌, ℕ, length, ap, sym}
+use Rattle.std.proofs.Common.{◌∙◌, length, ap, sym}
 use Rattle.dep_server.specs.Operations.{Create, carried_out}
 use Rattle.dep_server.specs.Answers.{Answer}
 use Rattle.dep_server.specs.Replies.{spelled, created_answer}

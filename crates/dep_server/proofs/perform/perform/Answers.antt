@@ -1,8 +1,7 @@
-use Rattle.std.proofs.Common.{◌≡◌, ◌∙◌, ◌==◌, ℕ, List, Option, Some, None, refl, sym, ap}
+use Rattle.std.proofs.Common.{◌∙◌, ◌==◌, ℕ, Some, ap}
 use Rattle.std.proofs.lemmas.Result.{IfOk-weaker}
 use Rattle.dep_types.specs.declared.refusal.Refusal.TheVariants as why
-use Rattle.dep_server.specs.Targets.{target, allow_text}
-use Rattle.dep_server.specs.Performing.{IsReply}
+use Rattle.dep_server.specs.Targets.{target}
 use Rattle.dep_server.specs.Replies.{refused_answer, spelled}
 use Rattle.dep_server.specs.declared.message.Message.{Message}
 use Rattle.dep_server.specs.declared.answer.Delivery.{Delivery}

@@ -1,4 +1,4 @@
-use Rattle.std.proofs.Common.{◌≡◌, ◌∙◌, ◌++◌, ℕ, Option, Some, None, length, ap}
+use Rattle.std.proofs.Common.{◌∙◌, ◌++◌, ℕ, Option, Some, None, length, ap}
 use Rattle.dep_reply.specs.Head.{head_text}
 use Rattle.dep_server.specs.Kept.{file_of}
 use Rattle.dep_server.specs.Performing.{stored_bytes}

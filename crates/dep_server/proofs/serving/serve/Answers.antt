@@ -1,8 +1,6 @@
-use Rattle.std.proofs.Common.{◌≡◌, ℕ, refl, sym, ap, subst, ◌∙◌, Option, List}
-use Rattle.std.specs.Result.{OnErr}
-use Rattle.dep_server.specs.Places.{Place, Reading, Shut, HasBytes, more}
-use Rattle.dep_server.specs.Stream.{Item, Fault, Request, FirstAt}
-use Rattle.dep_server.specs.Serving.{Served}
+use Rattle.std.proofs.Common.{ℕ, sym, ap, ◌∙◌, Option, List}
+use Rattle.dep_server.specs.Places.{Reading, more}
+use Rattle.dep_server.specs.Stream.{Item, Fault, Request}
 use Rattle.dep_server.proofs.ServingLemmas.{served_none, served_more, serves_open, serves_shut, serves_last, serves_gives_up, first_at, fault_shuts, cut_cause, never_such}
 use Rattle.dep_server.proofs.serving.serve.Goals as goal
 

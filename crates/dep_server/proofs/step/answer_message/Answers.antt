@@ -1,4 +1,4 @@
-use Rattle.std.proofs.Common.{◌≡◌, ◌∙◌, ap}
+use Rattle.std.proofs.Common.{◌∙◌, ap}
 use Rattle.dep_types.specs.State.{State}
 use Rattle.dep_server.specs.Machine.{step, routed}
 use Rattle.dep_server.specs.Stream.{Request}

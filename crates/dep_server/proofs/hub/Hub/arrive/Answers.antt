@@ -1,9 +1,7 @@
-use Rattle.std.proofs.Common.{refl, sym, ap, ◌∙◌, Option, List, ℕ}
+use Rattle.std.proofs.Common.{refl, sym, ◌∙◌}
 use Rattle.std.specs.Vec.{with_item}
-use Rattle.std.specs.Io.KnownBytes.{Keeps}
 use Rattle.dep_server.specs.Numbers.{index_of}
 use Rattle.dep_server.specs.declared.hub.Hub.{Hub}
-use Rattle.dep_server.specs.declared.connections.Connection.{Connection}
 use Rattle.dep_server.proofs.ConnectionLemmas.{index_none}
 use Rattle.dep_server.proofs.HubLemmas.{arrives_over, stays_there, none_there, keeps_same, not_absent}
 use Rattle.dep_server.proofs.hub.Hub.arrive.Goals as goal

@@ -1,5 +1,4 @@
-use Rattle.std.proofs.Common.{Bool, if◌then◌else◌, refl, sym, ap, subst, ◌∙◌, ℕ, List, [], None}
-use Rattle.std.specs.List.{remove}
+use Rattle.std.proofs.Common.{Bool, if◌then◌else◌, refl, sym, ap, subst, ◌∙◌, List, [], None}
 use Rattle.std.proofs.lemmas.Bool.{eq-eqb}
 use Rattle.dep_server.specs.Numbers.{index_of}
 use Rattle.dep_server.specs.Records.{Close}

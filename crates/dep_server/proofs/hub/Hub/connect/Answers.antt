@@ -1,9 +1,8 @@
-use Rattle.std.proofs.Common.{refl, sym, ap, subst, ◌∙◌, ℕ, List, [], ◌∷◌, ◌++◌, ◌+◌}
+use Rattle.std.proofs.Common.{refl, sym, ap, subst, ◌∙◌, ℕ, [], ◌∷◌, ◌++◌, ◌+◌}
 use Rattle.dep_server.specs.Places.{Reading}
 use Rattle.dep_server.specs.Records.{Connect}
 use Rattle.dep_server.specs.Standing.{Moves}
 use Rattle.dep_server.specs.declared.hub.Hub.{Hub}
-use Rattle.dep_server.specs.declared.connections.Connection.{Connection}
 use Rattle.dep_server.proofs.HubLemmas.{connects_moves, moves_adds}
 use Rattle.dep_server.proofs.hub.Hub.connect.Goals as goal
 

@@ -1,4 +1,4 @@
-use Rattle.std.proofs.Common.{◌≡◌, ◌+◌, ◌<◌, ◌^◌, sym, subst, IsTrue, arith}
+use Rattle.std.proofs.Common.{sym, subst, IsTrue, arith}
 use Rattle.dep_types.specs.State.{State}
 use Rattle.dep_server.specs.Operations.{room_for, numbers}
 use Rattle.dep_server.proofs.StoreLemmas.{room_counts}

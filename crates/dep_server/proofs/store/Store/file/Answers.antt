@@ -1,5 +1,4 @@
-use Rattle.std.proofs.Common.{◌≡◌, ◌∙◌, ◌==◌, Bool, cond, Option, Some, None, sym, ap, eq-eqb, ne_eqb}
-use Rattle.dep_types.specs.State.{File}
+use Rattle.std.proofs.Common.{◌∙◌, Bool, cond, Some, None, sym, ap, eq-eqb, ne_eqb}
 use Rattle.dep_server.specs.Kept.{file_of}
 use Rattle.dep_server.proofs.StoreLemmas.{file_known}
 use Rattle.dep_server.proofs.store.Store.file.Goals as goal
