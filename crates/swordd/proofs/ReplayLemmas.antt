@@ -1,10 +1,10 @@
 -- A replay is a run of one connection.
-use Rattle.std.proofs.Common.{◌≡◌, ℕ, zero, suc, ◌<◌, List, [], ◌∷◌, Option, length, refl, sym, ap, subst, ◌∙◌, arith, get_or}
+use Rattle.std.proofs.Common.{◌≡◌, ℕ, zero, suc, List, [], ◌∷◌, Option, subst, arith}
 use Rattle.std.specs.Prelude.{All}
 use Rattle.std.specs.List.{FoldsTo}
-use Rattle.dep_types.specs.State.{State, empty_state}
+use Rattle.dep_types.specs.State.{empty_state}
 use Rattle.dep_types.specs.declared.config.Config.{Config}
-use Rattle.dep_server.specs.Records.{Record, World, Run}
+use Rattle.dep_server.specs.Records.{Run}
 use Rattle.dep_server.specs.Standing.{StandsFor}
 use Rattle.dep_server.specs.Conversation.{Turn, records_of, Converses, ConversesOver}
 use Rattle.dep_server.specs.declared.connection.Served.{Served}

@@ -2,7 +2,7 @@
 use Rattle.std.specs.Prelude.{ℕ, ◌-◌, ◌^◌, List, [], ◌∷◌, Option, Some, None, option_map, codes, bytes_eq, if◌then◌else◌}
 use Rattle.dep_octets.specs.Octets.{decimal_number}
 use Rattle.dep_octets.specs.declared.numbers.Number.{Number}
-use Rattle.dep_octets.specs.declared.numbers.Number.TheVariants.{NotDigits, Above, Value}
+use Rattle.dep_octets.specs.declared.numbers.Number.TheVariants.{Value}
 use Rattle.swordd.specs.declared.command.Command.{Command}
 use Rattle.swordd.specs.declared.command.Command.TheVariants.{Replay}
 
