@@ -6,8 +6,6 @@ mod arrived;
 mod connection;
 mod connections;
 mod decide;
-#[cfg(test)]
-mod deposit_tests;
 mod file_fields;
 mod framing;
 mod hub;

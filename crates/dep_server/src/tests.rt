@@ -1,13 +1,4 @@
-//! Published replies byte by byte, and writers and readers that fail.
+//! What cannot be shown from outside: the reader of fields, and the greatest numbers.
 
-mod bodies;
-mod conversations;
 mod file_fields;
-mod heads;
-mod hubs;
-mod memory;
-mod outlets;
-mod page;
-mod requests;
-mod session;
-mod texts;
+mod numbers;

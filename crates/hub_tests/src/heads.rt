@@ -1,19 +1,17 @@
 //! Heads at their greatest length.
 
-use crate::Arrived;
-use crate::tests::session::{MOMENT, Session};
-use crate::tests::texts::{BAD_REQUEST_DOCUMENT, BAD_REQUEST_HEAD, SERVICE_DOCUMENT, SERVICE_HEAD};
+use crate::requests::letters;
+use crate::session::Session;
+use crate::texts::{CLOSING_BAD_REQUEST, SERVICE};
+use dep_server::Arrived;
 use std::alloc::{AllocError, Global};
 use std::test::Fail;
 
 // A request whose last field has a value of this many bytes.
 fn request_of_value(alloc: Global, bytes: usize) -> Result<Vec<u8>, AllocError> {
-    let mut text = b"GET /service HTTP/1.1\r\nHost: a\r\nX: ".to_vec(alloc)?;
-    for _ in 0..bytes {
-        text.push(b'x')?;
-    }
-    text.extend_from_slice(b"\r\n\r\n")?;
-    Ok(text)
+    let value = letters(alloc, bytes)?;
+    let front: &[u8] = b"GET /service HTTP/1.1\r\nHost: a\r\nX: ";
+    [front, &value, b"\r\n\r\n"].concat(alloc)
 }
 
 #[test]
@@ -22,13 +20,7 @@ fn the_longest_head_is_served(rt: HostRuntime) -> Result<(), Fail> {
     assert_eq!(rt; request.len(), 16_384);
     for size in [16_384, 16_383, 1_000] {
         let mut session = Session::open(rt.alloc())?;
-        session.takes(
-            &rt,
-            &request,
-            size,
-            &[SERVICE_HEAD, SERVICE_DOCUMENT],
-            Arrived::Open,
-        )?;
+        session.takes(&rt, &request, size, SERVICE, Arrived::Open)?;
     }
     Ok(())
 }
@@ -38,13 +30,7 @@ fn one_byte_more_is_refused(rt: HostRuntime) -> Result<(), Fail> {
     let request = request_of_value(rt.alloc(), 16_346)?;
     for size in [16_385, 16_384, 16_383, 1_000] {
         let mut session = Session::open(rt.alloc())?;
-        session.takes(
-            &rt,
-            &request,
-            size,
-            &[BAD_REQUEST_HEAD, BAD_REQUEST_DOCUMENT],
-            Arrived::Closed,
-        )?;
+        session.takes(&rt, &request, size, CLOSING_BAD_REQUEST, Arrived::Closed)?;
     }
     Ok(())
 }
@@ -56,13 +42,7 @@ fn it_is_refused_before_its_end(rt: HostRuntime) -> Result<(), Fail> {
     let (front, end) = request.split_at_checked(16_384).ok_or("short")?;
     let (most, last) = front.split_at_checked(16_383).ok_or("short")?;
     let mut session = Session::open(rt.alloc())?;
-    session.arrives(&rt, most, MOMENT, &[], Arrived::Open)?;
-    session.arrives(
-        &rt,
-        last,
-        MOMENT,
-        &[BAD_REQUEST_HEAD, BAD_REQUEST_DOCUMENT],
-        Arrived::Closed,
-    )?;
-    session.arrives(&rt, end, MOMENT, &[], Arrived::Closed)
+    session.arrives(&rt, most, &[], Arrived::Open)?;
+    session.arrives(&rt, last, CLOSING_BAD_REQUEST, Arrived::Closed)?;
+    session.arrives(&rt, end, &[], Arrived::Closed)
 }

@@ -1,12 +1,12 @@
 //! One connection over readers and writers in memory.
 
-use crate::tests::page::Page;
-use crate::tests::session::{MOMENT, example, is_written, quiet_hub};
-use crate::tests::texts::{
-    CLOSING_SERVICE_HEAD, NOT_FOUND_DOCUMENT, NOT_FOUND_HEAD, SERVICE_DOCUMENT, SERVICE_HEAD,
+use crate::page::Page;
+use crate::session::{MOMENT, example, is_written, quiet_hub};
+use crate::texts::{
+    CLOSING_SERVICE, NOT_FOUND_DOCUMENT, NOT_FOUND_HEAD, SERVICE_DOCUMENT, SERVICE_HEAD,
 };
-use crate::{Served, serve_connection};
 use dep_moment::Moment;
+use dep_server::{Served, Store, serve_connection};
 use dep_types::Through;
 use std::alloc::Global;
 use std::io;
@@ -45,7 +45,7 @@ fn serves<R: Read>(
     want: &[&str],
     answer: Served,
 ) -> Result<(), Fail> {
-    let mut hub = quiet_hub(example(alloc)?, alloc)?;
+    let mut hub = quiet_hub(alloc, example(alloc)?, Store::empty(alloc))?;
     let mut out = Through::new(page);
     let served = serve_connection(alloc, reader, &mut out, &mut hub, || {
         Moment::new(MOMENT)
@@ -114,7 +114,7 @@ fn what_connections_come_to(rt: HostRuntime) -> Result<(), Fail> {
                 b"GET /x HTTP/1.1\r\nHost: a\r\n\r\n",
             ],
             fails: true,
-            want: &[CLOSING_SERVICE_HEAD, SERVICE_DOCUMENT],
+            want: CLOSING_SERVICE,
             answer: Served::Closed,
             reads: 1,
         },

@@ -1,17 +1,11 @@
 //! The file name and the media type of a deposit.
 
-use crate::Arrived;
-use crate::deposit_tests::replies::{Created, Shown};
-use crate::deposit_tests::requests::{
-    GET_FILE, deposit_named, deposit_of_media, deposit_with, letters,
-};
-use crate::deposit_tests::session::Session;
-use crate::deposit_tests::texts::{
-    BAD_REQUEST, CLOSING_BAD_REQUEST, CREATED_HEAD, NOT_FOUND, STATUS_DOCUMENT,
-};
+use crate::replies::{Created, Shown};
+use crate::requests::{GET_FILE, deposit_named, deposit_of_media, deposit_with, letters};
+use crate::session::Session;
+use crate::texts::{BAD_REQUEST, CLOSING_BAD_REQUEST, CREATED, NOT_FOUND};
+use dep_server::Arrived;
 use std::test::Fail;
-
-const CREATED: &[&str] = &[CREATED_HEAD, STATUS_DOCUMENT];
 
 #[test]
 fn names_that_are_accepted(rt: HostRuntime) -> Result<(), Fail> {
@@ -41,9 +35,9 @@ fn names_that_are_refused(rt: HostRuntime) -> Result<(), Fail> {
     let mut session = Session::open(rt.alloc())?;
     for name in names {
         let request = deposit_named(rt.alloc(), name)?;
-        session.arrives(&rt, &request, &[BAD_REQUEST], Arrived::Open)?;
+        session.arrives(&rt, &request, BAD_REQUEST, Arrived::Open)?;
     }
-    session.arrives(&rt, GET_FILE, &[NOT_FOUND], Arrived::Open)
+    session.arrives(&rt, GET_FILE, NOT_FOUND, Arrived::Open)
 }
 
 // No head may have this byte, so the connection is closed.
@@ -51,7 +45,7 @@ fn names_that_are_refused(rt: HostRuntime) -> Result<(), Fail> {
 fn a_name_with_a_delete_character(rt: HostRuntime) -> Result<(), Fail> {
     let request = deposit_named(rt.alloc(), b"a\x7Fb")?;
     let mut session = Session::open(rt.alloc())?;
-    session.arrives(&rt, &request, &[CLOSING_BAD_REQUEST], Arrived::Closed)
+    session.arrives(&rt, &request, CLOSING_BAD_REQUEST, Arrived::Closed)
 }
 
 #[test]
@@ -70,9 +64,9 @@ fn dispositions_that_are_refused(rt: HostRuntime) -> Result<(), Fail> {
     let mut session = Session::open(rt.alloc())?;
     for field in fields {
         let request = deposit_with(rt.alloc(), field)?;
-        session.arrives(&rt, &request, &[BAD_REQUEST], Arrived::Open)?;
+        session.arrives(&rt, &request, BAD_REQUEST, Arrived::Open)?;
     }
-    session.arrives(&rt, GET_FILE, &[NOT_FOUND], Arrived::Open)
+    session.arrives(&rt, GET_FILE, NOT_FOUND, Arrived::Open)
 }
 
 #[test]
@@ -135,7 +129,7 @@ fn media_types_that_are_refused(rt: HostRuntime) -> Result<(), Fail> {
     let mut session = Session::open(rt.alloc())?;
     for value in values {
         let request = deposit_of_media(rt.alloc(), value)?;
-        session.arrives(&rt, &request, &[BAD_REQUEST], Arrived::Open)?;
+        session.arrives(&rt, &request, BAD_REQUEST, Arrived::Open)?;
     }
-    session.arrives(&rt, GET_FILE, &[NOT_FOUND], Arrived::Open)
+    session.arrives(&rt, GET_FILE, NOT_FOUND, Arrived::Open)
 }

@@ -1,9 +1,9 @@
 //! A hub by the example's configuration, and one connection at a time.
 
-use crate::deposit_tests::page::Page;
-use crate::deposit_tests::texts::{CUT_WANT_OF_MEMORY, WANT_OF_MEMORY};
-use crate::{Arrived, ConnId, Hub, Store};
+use crate::page::Page;
+use crate::texts::{CUT_WANT_OF_MEMORY, WANT_OF_MEMORY};
 use dep_moment::Moment;
+use dep_server::{Arrived, ConnId, Hub, Store};
 use dep_types::{Config, GREATEST_MAX_UPLOAD, Text, Through};
 use std::alloc::{AllocError, Global};
 use std::process::Abort;
@@ -12,8 +12,8 @@ use std::test::Fail;
 /// The moment of the published replies.
 pub const MOMENT: u64 = 1_523_836_800;
 
-/// The example's configuration, with limits as great as they may be but for that of one content.
-fn example(alloc: Global, max_upload: u64) -> Result<Config, AllocError> {
+/// The example's configuration, with limits as great as they may be.
+pub fn example(alloc: Global) -> Result<Config, AllocError> {
     Ok(Config {
         base: Text::copied(alloc, "http://127.0.0.1:8080")?,
         title: Text::copied(alloc, "swordd")?,
@@ -21,11 +21,19 @@ fn example(alloc: Global, max_upload: u64) -> Result<Config, AllocError> {
         depositor: Text::copied(alloc, "depositor")?,
         on_behalf_of: false,
         require_if_match: false,
-        max_upload,
+        max_upload: GREATEST_MAX_UPLOAD,
         max_assembled: 536_870_912,
         max_segments: 1_000,
         staging_max_idle: 3_600,
     })
+}
+
+/// A hub that nobody is connected to.
+pub fn quiet_hub(alloc: Global, config: Config, store: Store) -> Result<Hub, Fail> {
+    match Hub::new(alloc, config, store) {
+        Ok(hub) => Ok(hub),
+        Err((fault, _)) => Err(Fail::from(fault)),
+    }
 }
 
 /// A hub and a connection of it.
@@ -39,16 +47,19 @@ pub struct Session {
 impl Session {
     /// Over an archive that holds nothing.
     pub fn open(alloc: Global) -> Result<Session, Fail> {
-        Session::over(alloc, Store::empty(alloc), GREATEST_MAX_UPLOAD)
+        Session::over(alloc, example(alloc)?, Store::empty(alloc))
     }
 
-    /// Over this archive, with this limit of one content in bytes.
-    pub fn over(alloc: Global, store: Store, max_upload: u64) -> Result<Session, Fail> {
-        let config = example(alloc, max_upload)?;
-        let mut hub = match Hub::new(alloc, config, store) {
-            Ok(hub) => hub,
-            Err((fault, _)) => return Err(Fail::from(fault)),
-        };
+    /// The same with another limit of one content, in bytes.
+    pub fn with_limit(alloc: Global, max_upload: u64) -> Result<Session, Fail> {
+        let mut config = example(alloc)?;
+        config.max_upload = max_upload;
+        Session::over(alloc, config, Store::empty(alloc))
+    }
+
+    /// By this configuration, over this archive.
+    fn over(alloc: Global, config: Config, store: Store) -> Result<Session, Fail> {
+        let mut hub = quiet_hub(alloc, config, store)?;
         let connection = hub.connect()?;
         Ok(Session {
             alloc,
@@ -58,29 +69,21 @@ impl Session {
     }
 
     /// On another connection.
-    pub fn reconnected(self) -> Result<Session, Fail> {
-        let Session {
-            alloc,
-            mut hub,
-            connection,
-        } = self;
-        hub.close(connection);
-        let connection = hub.connect()?;
-        Ok(Session {
-            alloc,
-            hub,
-            connection,
-        })
+    pub fn reconnected(mut self) -> Result<Session, Fail> {
+        self.hub.close(self.connection);
+        self.connection = self.hub.connect()?;
+        Ok(self)
     }
 
     /// In another hub, over the same archive.
     pub fn restarted(self) -> Result<Session, Fail> {
-        let Session {
-            alloc,
-            hub,
-            connection: _,
-        } = self;
-        Session::over(alloc, hub.into_store(), GREATEST_MAX_UPLOAD)
+        let alloc = self.alloc;
+        Session::over(alloc, example(alloc)?, self.into_store())
+    }
+
+    /// The archive alone.
+    pub fn into_store(self) -> Store {
+        self.hub.into_store()
     }
 
     /// What is sent for an arrival at this moment, on a page, and what the arrival comes to.
@@ -117,6 +120,42 @@ impl Session {
         assert_eq!(rt; came, answer);
         Ok(())
     }
+
+    /// The stream has to be answered so, in pieces of this many bytes.
+    pub fn takes(
+        &mut self,
+        rt: &impl Abort,
+        stream: &[u8],
+        size: usize,
+        want: &[&str],
+        answer: Arrived,
+    ) -> Result<(), Fail> {
+        let mut out = Through::new(Page::new(self.alloc)?);
+        let mut came = Arrived::Open;
+        for piece in stream.chunks(size.max(1)) {
+            came = self
+                .hub
+                .arrive(self.connection, piece, Moment::new(MOMENT), &mut out);
+        }
+        is_written(rt, self.alloc, out.into_inner().bytes(), want)?;
+        assert_eq!(rt; came, answer, "in pieces of {size}");
+        Ok(())
+    }
+}
+
+/// A stream has to be answered so on a connection of its own, in one piece and byte by byte.
+pub fn is_answered(
+    rt: &impl Abort,
+    alloc: Global,
+    stream: &str,
+    want: &[&str],
+    answer: Arrived,
+) -> Result<(), Fail> {
+    for size in [stream.len(), 1] {
+        let mut session = Session::open(alloc)?;
+        session.takes(rt, stream.as_bytes(), size, want, answer)?;
+    }
+    Ok(())
 }
 
 /// Just these texts have to be written. Where there was no memory for them, the reply that says so has to

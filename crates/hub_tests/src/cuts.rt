@@ -1,13 +1,11 @@
 //! Writers that fail, and one that takes little at a time.
 
-use crate::Arrived;
-use crate::deposit_tests::page::Page;
-use crate::deposit_tests::requests::{DEPOSIT, GET_FILE};
-use crate::deposit_tests::session::{MOMENT, Session, is_written};
-use crate::deposit_tests::texts::{CREATED_HEAD, FILE_REPLY, STATUS_DOCUMENT};
+use crate::page::Page;
+use crate::requests::{DEPOSIT, GET_FILE};
+use crate::session::{MOMENT, Session, is_written};
+use crate::texts::{CREATED, FILE_REPLY};
+use dep_server::Arrived;
 use std::test::Fail;
-
-const CREATED: &[&str] = &[CREATED_HEAD, STATUS_DOCUMENT];
 
 #[test]
 fn a_deposit_that_is_cut_is_kept(rt: HostRuntime) -> Result<(), Fail> {
@@ -40,7 +38,7 @@ fn a_file_is_cut(rt: HostRuntime) -> Result<(), Fail> {
 }
 
 #[test]
-fn one_byte_a_write(rt: HostRuntime) -> Result<(), Fail> {
+fn a_deposit_goes_one_byte_a_write(rt: HostRuntime) -> Result<(), Fail> {
     let mut session = Session::open(rt.alloc())?;
     for (request, want) in [(DEPOSIT, CREATED), (GET_FILE, &[FILE_REPLY] as &[&str])] {
         let page = Page::with_limits(rt.alloc(), 1, usize::MAX)?;

@@ -1,23 +1,19 @@
 //! A deposit, and what its file shows.
 
-use crate::Arrived;
-use crate::deposit_tests::replies::{Created, DATE, STAMP, Shown};
-use crate::deposit_tests::requests::{DEPOSIT, GET_FILE};
-use crate::deposit_tests::session::{MOMENT, Session};
-use crate::deposit_tests::texts::{
-    BAD_REQUEST, CREATED_HEAD, FILE_REPLY, NOT_FOUND, STATUS_DOCUMENT,
+use crate::replies::{Created, DATE, STAMP, Shown};
+use crate::requests::{DEPOSIT, GET_FILE};
+use crate::session::{MOMENT, Session};
+use crate::texts::{
+    BAD_REQUEST_DOCUMENT, BAD_REQUEST_HEAD, CREATED, CREATED_HEAD, FILE_REPLY, NOT_FOUND,
+    STATUS_DOCUMENT,
 };
+use dep_server::Arrived;
 use std::test::Fail;
 
 #[test]
 fn a_deposit_and_its_file(rt: HostRuntime) -> Result<(), Fail> {
     let mut session = Session::open(rt.alloc())?;
-    session.arrives(
-        &rt,
-        DEPOSIT,
-        &[CREATED_HEAD, STATUS_DOCUMENT],
-        Arrived::Open,
-    )?;
+    session.arrives(&rt, DEPOSIT, CREATED, Arrived::Open)?;
     session.arrives(&rt, GET_FILE, &[FILE_REPLY], Arrived::Open)?;
     let mut session = session.reconnected()?;
     session.arrives(&rt, GET_FILE, &[FILE_REPLY], Arrived::Open)?;
@@ -31,9 +27,9 @@ fn without_its_last_byte_nothing_is_stored(rt: HostRuntime) -> Result<(), Fail> 
     let mut session = Session::open(rt.alloc())?;
     session.arrives(&rt, front, &[], Arrived::Open)?;
     let mut session = session.reconnected()?;
-    session.arrives(&rt, GET_FILE, &[NOT_FOUND], Arrived::Open)?;
+    session.arrives(&rt, GET_FILE, NOT_FOUND, Arrived::Open)?;
     let mut session = session.restarted()?;
-    session.arrives(&rt, GET_FILE, &[NOT_FOUND], Arrived::Open)
+    session.arrives(&rt, GET_FILE, NOT_FOUND, Arrived::Open)
 }
 
 #[test]
@@ -41,12 +37,7 @@ fn the_last_byte_makes_the_deposit(rt: HostRuntime) -> Result<(), Fail> {
     let (last, front) = DEPOSIT.split_last().ok_or("empty")?;
     let mut session = Session::open(rt.alloc())?;
     session.arrives(&rt, front, &[], Arrived::Open)?;
-    session.arrives(
-        &rt,
-        &[*last],
-        &[CREATED_HEAD, STATUS_DOCUMENT],
-        Arrived::Open,
-    )?;
+    session.arrives(&rt, &[*last], CREATED, Arrived::Open)?;
     session.arrives(&rt, GET_FILE, &[FILE_REPLY], Arrived::Open)
 }
 
@@ -61,12 +52,7 @@ fn an_empty_file(rt: HostRuntime) -> Result<(), Fail> {
         content: "",
     };
     let mut session = Session::open(rt.alloc())?;
-    session.arrives(
-        &rt,
-        deposit,
-        &[CREATED_HEAD, STATUS_DOCUMENT],
-        Arrived::Open,
-    )?;
+    session.arrives(&rt, deposit, CREATED, Arrived::Open)?;
     let want = shown.reply(rt.alloc())?;
     session.arrives(&rt, GET_FILE, &[want.as_str()], Arrived::Open)
 }
@@ -94,7 +80,13 @@ fn a_refused_deposit_takes_no_number(rt: HostRuntime) -> Result<(), Fail> {
     session.arrives(
         &rt,
         &requests,
-        &[CREATED_HEAD, STATUS_DOCUMENT, BAD_REQUEST, second.as_str()],
+        &[
+            CREATED_HEAD,
+            STATUS_DOCUMENT,
+            BAD_REQUEST_HEAD,
+            BAD_REQUEST_DOCUMENT,
+            second.as_str(),
+        ],
         Arrived::Open,
     )
 }
@@ -118,12 +110,7 @@ fn each_file_has_its_own_content(rt: HostRuntime) -> Result<(), Fail> {
     let created = created.reply(rt.alloc())?;
     let shown = shown.reply(rt.alloc())?;
     let mut session = Session::open(rt.alloc())?;
-    session.arrives(
-        &rt,
-        DEPOSIT,
-        &[CREATED_HEAD, STATUS_DOCUMENT],
-        Arrived::Open,
-    )?;
+    session.arrives(&rt, DEPOSIT, CREATED, Arrived::Open)?;
     session.arrives(&rt, other, &[created.as_str()], Arrived::Open)?;
     session.arrives(&rt, GET_FILE, &[FILE_REPLY], Arrived::Open)?;
     session.arrives(
@@ -145,9 +132,8 @@ fn a_deposit_tells_the_clock(rt: HostRuntime) -> Result<(), Fail> {
     assert_eq!(rt; (back.date, back.stamp), (DATE, STAMP));
     let back = back.reply(rt.alloc())?;
     let later = later.reply(rt.alloc())?;
-    let first: &[&str] = &[CREATED_HEAD, STATUS_DOCUMENT];
     let mut session = Session::open(rt.alloc())?;
-    session.arrives_at(&rt, MOMENT, DEPOSIT, first, Arrived::Open)?;
+    session.arrives_at(&rt, MOMENT, DEPOSIT, CREATED, Arrived::Open)?;
     session.arrives_at(
         &rt,
         MOMENT - 1_000,

@@ -1,16 +1,14 @@
 //! The calls of a hub.
 
-use crate::tests::page::Page;
-use crate::tests::session::{MOMENT, Session, example, is_written, quiet_hub};
-use crate::tests::texts::{NOT_FOUND_DOCUMENT, NOT_FOUND_HEAD};
-use crate::{Arrived, ConnectFault, Hub, HubFault, Store};
+use crate::page::Page;
+use crate::session::{MOMENT, Session, example, is_written, quiet_hub};
+use crate::texts::NOT_FOUND;
 use dep_moment::Moment;
+use dep_server::{Arrived, ConnectFault, Hub, HubFault, Store};
 use dep_types::{Text, Through};
 use std::test::Fail;
 
 const GET_X: &[u8] = b"GET /x HTTP/1.1\r\nHost: a\r\n\r\n";
-
-const NOT_FOUND: &[&str] = &[NOT_FOUND_HEAD, NOT_FOUND_DOCUMENT];
 
 #[test]
 fn the_clock_never_goes_back(rt: HostRuntime) -> Result<(), Fail> {
@@ -19,10 +17,10 @@ fn the_clock_never_goes_back(rt: HostRuntime) -> Result<(), Fail> {
         "{\"@context\":\"https://swordapp.github.io/swordv3/swordv3.jsonld\",\"@type\":\"NotFound\",\"error\":\"There is nothing at this URL\",\"log\":\"refusal 7\",\"timestamp\":\"2018-04-16T01:00:01Z\"}",
     ];
     let mut session = Session::open(rt.alloc())?;
-    session.arrives(&rt, GET_X, MOMENT, NOT_FOUND, Arrived::Open)?;
-    session.arrives(&rt, GET_X, MOMENT - 1_000, NOT_FOUND, Arrived::Open)?;
-    session.arrives(&rt, GET_X, MOMENT + 3_601, later, Arrived::Open)?;
-    session.arrives(&rt, GET_X, MOMENT, later, Arrived::Open)
+    session.arrives_at(&rt, MOMENT, GET_X, NOT_FOUND, Arrived::Open)?;
+    session.arrives_at(&rt, MOMENT - 1_000, GET_X, NOT_FOUND, Arrived::Open)?;
+    session.arrives_at(&rt, MOMENT + 3_601, GET_X, later, Arrived::Open)?;
+    session.arrives_at(&rt, MOMENT, GET_X, later, Arrived::Open)
 }
 
 // The clock of a store is seen by a tick at the moment 0.
@@ -50,8 +48,8 @@ fn a_refused_configuration_hands_the_store_back(rt: HostRuntime) -> Result<(), F
 #[test]
 fn the_store_outlives_the_hub(rt: HostRuntime) -> Result<(), Fail> {
     let mut session = Session::open(rt.alloc())?;
-    session.arrives(&rt, GET_X, MOMENT, NOT_FOUND, Arrived::Open)?;
-    let mut store = session.hub.into_store();
+    session.arrives(&rt, GET_X, NOT_FOUND, Arrived::Open)?;
+    let mut store = session.into_store();
     let config = example(rt.alloc())?;
     assert_eq!(rt; store.tick(&config, Moment::new(0)).secs(), MOMENT);
     Ok(())
@@ -59,7 +57,7 @@ fn the_store_outlives_the_hub(rt: HostRuntime) -> Result<(), Fail> {
 
 #[test]
 fn one_connection_at_a_time(rt: HostRuntime) -> Result<(), Fail> {
-    let mut hub = quiet_hub(example(rt.alloc())?, rt.alloc())?;
+    let mut hub = quiet_hub(rt.alloc(), example(rt.alloc())?, Store::empty(rt.alloc()))?;
     let first = hub.connect()?;
     assert_eq!(rt; hub.connect(), Err(ConnectFault::Full));
     hub.close(first);

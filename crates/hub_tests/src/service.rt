@@ -1,0 +1,83 @@
+//! Requests with good heads and without bodies.
+
+use crate::session::{Session, is_answered};
+use crate::texts::{
+    CLOSING_BAD_REQUEST_HEAD, CLOSING_SERVICE, NOT_FOUND, NOT_FOUND_HEAD, SERVICE,
+    SERVICE_DOCUMENT, SERVICE_HEAD, SERVICE_NOT_ALLOWED, SERVICE_NOT_ALLOWED_HEAD,
+};
+use dep_server::Arrived;
+use std::test::Fail;
+
+const GET_SERVICE: &str = "GET /service HTTP/1.1\r\nHost: 127.0.0.1:8080\r\n\r\n";
+
+#[test]
+fn the_service_document(rt: HostRuntime) -> Result<(), Fail> {
+    is_answered(&rt, rt.alloc(), GET_SERVICE, SERVICE, Arrived::Open)
+}
+
+#[test]
+fn an_old_version_closes(rt: HostRuntime) -> Result<(), Fail> {
+    let stream = "GET /service HTTP/1.0\r\n\r\nGET /service HTTP/1.1\r\nHost: a\r\n\r\n";
+    is_answered(&rt, rt.alloc(), stream, CLOSING_SERVICE, Arrived::Closed)
+}
+
+#[test]
+fn what_is_not_there(rt: HostRuntime) -> Result<(), Fail> {
+    let cases: [(&str, &[&str]); 4] = [
+        ("GET /x HTTP/1.1\r\nHost: 127.0.0.1:8080\r\n\r\n", NOT_FOUND),
+        (
+            "DELETE /service HTTP/1.1\r\nHost: 127.0.0.1:8080\r\n\r\n",
+            SERVICE_NOT_ALLOWED,
+        ),
+        (
+            "HEAD /service HTTP/1.1\r\nHost: 127.0.0.1:8080\r\n\r\n",
+            &[SERVICE_NOT_ALLOWED_HEAD],
+        ),
+        (
+            "HEAD /x HTTP/1.1\r\nHost: 127.0.0.1:8080\r\n\r\n",
+            &[NOT_FOUND_HEAD],
+        ),
+    ];
+    for (stream, want) in cases {
+        is_answered(&rt, rt.alloc(), stream, want, Arrived::Open)?;
+    }
+    Ok(())
+}
+
+#[test]
+fn a_bad_request_for_a_head_has_no_body(rt: HostRuntime) -> Result<(), Fail> {
+    let stream = "HEAD /service HTTP/1.1\r\nHost: a\r\nContent-Length: x\r\n\r\n";
+    is_answered(
+        &rt,
+        rt.alloc(),
+        stream,
+        &[CLOSING_BAD_REQUEST_HEAD],
+        Arrived::Closed,
+    )
+}
+
+#[test]
+fn requests_one_after_another(rt: HostRuntime) -> Result<(), Fail> {
+    let twice = [GET_SERVICE, GET_SERVICE].concat(rt.alloc())?;
+    is_answered(
+        &rt,
+        rt.alloc(),
+        &twice,
+        &[
+            SERVICE_HEAD,
+            SERVICE_DOCUMENT,
+            SERVICE_HEAD,
+            SERVICE_DOCUMENT,
+        ],
+        Arrived::Open,
+    )
+}
+
+#[test]
+fn the_last_byte_asks_for_the_reply(rt: HostRuntime) -> Result<(), Fail> {
+    let (last, front) = GET_SERVICE.as_bytes().split_last().ok_or("empty")?;
+    let mut session = Session::open(rt.alloc())?;
+    session.arrives(&rt, b"", &[], Arrived::Open)?;
+    session.arrives(&rt, front, &[], Arrived::Open)?;
+    session.arrives(&rt, &[*last], SERVICE, Arrived::Open)
+}
