@@ -6,52 +6,80 @@ use crate::texts::{
     CREATED, FILE_NOT_ALLOWED, FILE_NOT_ALLOWED_HEAD, FILE_REPLY, NOT_FOUND, SERVICE_NOT_ALLOWED,
 };
 use dep_server::Arrived;
+use std::alloc::Global;
+use std::process::Abort;
 use std::test::Fail;
 
-/// A method, a path, and what has to be sent.
-type Case = (&'static str, &'static str, &'static [&'static str]);
+/// Over an archive that holds the file `a.txt`, each of these methods and paths has to be answered so, and
+/// the file is still there.
+fn are_answered(
+    rt: &impl Abort,
+    alloc: Global,
+    lines: &[(&str, &str)],
+    want: &[&str],
+) -> Result<(), Fail> {
+    let mut session = Session::open(alloc)?;
+    session.arrives(rt, DEPOSIT, CREATED, Arrived::Open)?;
+    for (method, path) in lines {
+        let request = bare_request(alloc, method, path)?;
+        session.arrives(rt, request.as_bytes(), want, Arrived::Open)?;
+    }
+    session.arrives(rt, GET_FILE, &[FILE_REPLY], Arrived::Open)
+}
 
 #[test]
-fn paths_and_methods(rt: HostRuntime) -> Result<(), Fail> {
-    let cases: [Case; 24] = [
-        ("GET", "/objects/1/files/1", &[FILE_REPLY]),
-        ("GET", "/objects/1/files/1?x=/1", &[FILE_REPLY]),
-        ("GET", "/objects/1/files/9", NOT_FOUND),
-        ("GET", "/objects/9/files/1", NOT_FOUND),
-        ("GET", "/objects/01/files/1", NOT_FOUND),
-        ("GET", "/objects/1/files/01", NOT_FOUND),
-        ("GET", "/objects/0/files/1", NOT_FOUND),
-        ("GET", "/objects/1/files/", NOT_FOUND),
-        ("GET", "/objects//files/1", NOT_FOUND),
-        ("GET", "/objects/1/files/1/", NOT_FOUND),
-        ("GET", "/objects/1/files/%31", NOT_FOUND),
-        ("GET", "/objects/1/files", NOT_FOUND),
-        ("GET", "/objects/1", NOT_FOUND),
-        ("PATCH", "/objects/01/files/1", NOT_FOUND),
-        ("PATCH", "/objects/4000000000000000001/files/1", NOT_FOUND),
-        (
-            "PATCH",
-            "/objects/4000000000000000000/files/1",
-            FILE_NOT_ALLOWED,
-        ),
-        ("PATCH", "/objects/1/files/4000000000000000001", NOT_FOUND),
-        (
-            "PATCH",
-            "/objects/1/files/4000000000000000000",
-            FILE_NOT_ALLOWED,
-        ),
-        ("DELETE", "/objects/1/files/1", FILE_NOT_ALLOWED),
-        ("POST", "/objects/1/files/1", FILE_NOT_ALLOWED),
-        ("PUT", "/objects/9/files/9", FILE_NOT_ALLOWED),
-        ("HEAD", "/objects/1/files/1", &[FILE_NOT_ALLOWED_HEAD]),
-        ("DELETE", "/service", SERVICE_NOT_ALLOWED),
-        ("get", "/service", SERVICE_NOT_ALLOWED),
+fn paths_of_the_file(rt: HostRuntime) -> Result<(), Fail> {
+    let lines = [
+        ("GET", "/objects/1/files/1"),
+        ("GET", "/objects/1/files/1?x=/1"),
     ];
-    let mut session = Session::open(rt.alloc())?;
-    session.arrives(&rt, DEPOSIT, CREATED, Arrived::Open)?;
-    for (method, path, want) in cases {
-        let request = bare_request(rt.alloc(), method, path)?;
-        session.arrives(&rt, request.as_bytes(), want, Arrived::Open)?;
-    }
-    session.arrives(&rt, GET_FILE, &[FILE_REPLY], Arrived::Open)
+    are_answered(&rt, rt.alloc(), &lines, &[FILE_REPLY])
+}
+
+#[test]
+fn paths_that_name_nothing(rt: HostRuntime) -> Result<(), Fail> {
+    let lines = [
+        ("GET", "/objects/1/files/9"),
+        ("GET", "/objects/9/files/1"),
+        ("GET", "/objects/01/files/1"),
+        ("GET", "/objects/1/files/01"),
+        ("GET", "/objects/0/files/1"),
+        ("GET", "/objects/1/files/"),
+        ("GET", "/objects//files/1"),
+        ("GET", "/objects/1/files/1/"),
+        ("GET", "/objects/1/files/%31"),
+        ("GET", "/objects/1/files"),
+        ("GET", "/objects/1"),
+        ("PATCH", "/objects/01/files/1"),
+    ];
+    are_answered(&rt, rt.alloc(), &lines, NOT_FOUND)
+}
+
+#[test]
+fn numbers_beyond_the_greatest(rt: HostRuntime) -> Result<(), Fail> {
+    let lines = [
+        ("PATCH", "/objects/4000000000000000001/files/1"),
+        ("PATCH", "/objects/1/files/4000000000000000001"),
+    ];
+    are_answered(&rt, rt.alloc(), &lines, NOT_FOUND)
+}
+
+#[test]
+fn methods_that_a_file_has_not(rt: HostRuntime) -> Result<(), Fail> {
+    let lines = [
+        ("PATCH", "/objects/4000000000000000000/files/1"),
+        ("PATCH", "/objects/1/files/4000000000000000000"),
+        ("DELETE", "/objects/1/files/1"),
+        ("POST", "/objects/1/files/1"),
+        ("PUT", "/objects/9/files/9"),
+    ];
+    are_answered(&rt, rt.alloc(), &lines, FILE_NOT_ALLOWED)?;
+    let heads = [("HEAD", "/objects/1/files/1")];
+    are_answered(&rt, rt.alloc(), &heads, &[FILE_NOT_ALLOWED_HEAD])
+}
+
+#[test]
+fn methods_that_the_service_has_not(rt: HostRuntime) -> Result<(), Fail> {
+    let lines = [("DELETE", "/service"), ("get", "/service")];
+    are_answered(&rt, rt.alloc(), &lines, SERVICE_NOT_ALLOWED)
 }
