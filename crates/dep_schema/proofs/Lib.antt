@@ -7,3 +7,6 @@ pub mod ObjectsTable
 pub mod FilesTable
 pub mod MetadataTable
 pub mod Again
+pub mod Missing
+pub mod Beside
+pub mod BesideRows

@@ -139,7 +139,7 @@ add_format_is = (refl, (refl, refl))
 
 pub adds_format : (old new : State) (count : ℕ) → IsOurs old → ExecutesInside 0 add_format_text [] old new (Ok count) → Leads old new (record (tables_of old) { format = put_row (format_row 0) (tables_of old).format })
 adds_format old new count ours h =
-    let wrote = inserted our_schema add_format_text [] old new ours.schema add_format_is.1 count h 0 _ _ _ _ _ _ _ refl (λ olds news. refl) format_terms 3 add_format_is.0 in
+    let wrote = inserted our_schema add_format_text [] old new ours.schema add_format_is.1 count h 0 _ _ _ _ _ _ _ refl format_terms 3 add_format_is.0 in
     let before = ours.trees.ordered in
     let made = puts our_schema old new format_table (value_rows [] 3 1 format_terms) (format_row 0) (λ i. with_rowid Chosen (old.now.trees 0) (cast_int (pos 1) i ∷ cast_null i ∷ cast_int (pos 0) i ∷ []) ∷ []) wrote in
     leads old new 0 _ made.0 (record (tables_of old) { format = put_row (format_row 0) (tables_of old).format }) refl
@@ -154,7 +154,7 @@ add_state_is = (refl, (refl, refl))
 
 pub adds_state : (old new : State) (count : ℕ) → IsOurs old → ExecutesInside 0 add_state_text [] old new (Ok count) → Leads old new (record (tables_of old) { state = put_row (state_row first_state) (tables_of old).state })
 adds_state old new count ours h =
-    let wrote = inserted our_schema add_state_text [] old new ours.schema add_state_is.1 count h 1 _ _ _ _ _ _ _ refl (λ olds news. refl) state_terms 7 add_state_is.0 in
+    let wrote = inserted our_schema add_state_text [] old new ours.schema add_state_is.1 count h 1 _ _ _ _ _ _ _ refl state_terms 7 add_state_is.0 in
     let before = ours.trees.ordered in
     let made = puts our_schema old new state_table (value_rows [] 7 1 state_terms) (state_row first_state)
     (λ i. with_rowid Chosen (old.now.trees 1) (cast_int (pos 1) i ∷ cast_null i ∷ cast_int (pos 0) i ∷ cast_int (pos 1) i ∷ cast_int (pos 1) i ∷ cast_int (pos 1) i ∷ cast_int (pos 1) i ∷ []) ∷ []) wrote in

@@ -13,3 +13,4 @@ pub mod Results
 pub mod Tests
 pub mod Creating
 pub mod Looking
+pub mod Adding
