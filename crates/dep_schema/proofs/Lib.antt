@@ -10,3 +10,4 @@ pub mod Again
 pub mod Missing
 pub mod Beside
 pub mod BesideRows
+pub mod MetadataKey

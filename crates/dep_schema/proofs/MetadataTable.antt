@@ -40,10 +40,10 @@ use Rattle.dep_schema.specs.declared.rows.MetadataRow.{MetadataRow}
 use Rattle.dep_schema.specs.Tables.{tables_of, IsOurs, Leads}
 use Rattle.dep_schema.proofs.Leading.{metadata_lead}
 
-abbrev terms : List Term
+abbrev pub terms : List Term
 terms = lit Null ∷ col 0 0 ∷ col 0 1 ∷ col 0 2 ∷ col 0 3 ∷ []
 
-insert_is : (command_of (understood our_schema insert_metadata_text) ≡ Insert 3 (Values terms 5)) × IsPlain (understood our_schema insert_metadata_text)
+pub insert_is : (command_of (understood our_schema insert_metadata_text) ≡ Insert 3 (Values terms 5)) × IsPlain (understood our_schema insert_metadata_text)
 unfolding understood everything
 insert_is = (refl, (refl, refl))
 

@@ -73,7 +73,7 @@ finds_rows old new rows ours h =
     subst (λ xs. IsPermutation (map (shown_of [] shows) xs) rows) (all_pass [] (old.now.trees 0)) (in_any_order 0 [] shows [] [] (filter (passes [] []) (old.now.trees 0)) rows picked)
 
 abbrev pub IsKnown : List Row → Type 0
-IsKnown rows = (row : Row) × (rows ≡ row ∷ []) × (column row 0 ≡ Int (pos 1)) × (column row 1 ≡ Int (pos 0))
+IsKnown rows = (found : Row) × (rows ≡ found ∷ []) × (column found 0 ≡ Int (pos 1)) × (column found 1 ≡ Int (pos 0))
 
 known_told : (format rows : List Row) → IsPermutation (told format) rows → IsKnown rows → told format ≡ (Int (pos 1) ∷ Int (pos 0) ∷ []) ∷ []
 known_told format rows same known =

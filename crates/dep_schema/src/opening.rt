@@ -56,7 +56,7 @@ fn is_known(row: &Row) -> bool
 
 /// Whether it is the one row of id 1 and version 0.
 fn are_known(rows: &[Row]) -> bool
-    ensures { IsTrue result ↔ ((row : _) × (rows.now ≡ row ∷ []) × (column row 0 ≡ Int (pos 1)) × (column row 1 ≡ Int (pos 0))) }
+    ensures { IsTrue result ↔ ((found : _) × (rows.now ≡ found ∷ []) × (column found 0 ≡ Int (pos 1)) × (column found 1 ≡ Int (pos 0))) }
 {
     match rows {
         [row] => is_known(row),
