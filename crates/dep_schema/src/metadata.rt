@@ -41,6 +41,7 @@ pub fn insert_metadata<S: Alter>(
         → OnOk result (Leads (state S.Store tx.old.conn.now) (state S.Store tx.new.conn.now) (record (tables_of (state S.Store tx.old.conn.now)) { metadata = put_row (metadata_row (next_rowid (tables_of (state S.Store tx.old.conn.now)).metadata) row.now) (tables_of (state S.Store tx.old.conn.now)).metadata })) }
     ensures free { HasCleanDisk (state S.Store tx.new.conn.now) → IsTrue (state S.Store tx.old.conn.now).in_transaction → IsOurs (state S.Store tx.old.conn.now)
         → OnOk result (list_any (has_key_of row.now) (tables_of (state S.Store tx.old.conn.now)).metadata ≡ false) }
+    ensures inside { HasCleanDisk (state S.Store tx.new.conn.now) → IsTrue (state S.Store tx.old.conn.now).in_transaction → OnOk result (IsTrue (state S.Store tx.new.conn.now).in_transaction) }
     ensures kept { HasCleanDisk (state S.Store tx.new.conn.now) → IsTrue (state S.Store tx.old.conn.now).in_transaction → KeepsCommit (state S.Store tx.old.conn.now) (state S.Store tx.new.conn.now) }
     ensures same_reference { tx.new.conn.ghost_name ≡ tx.old.conn.ghost_name }
     ensures survives { Survives (state S.Store tx.old.conn.now) (state S.Store tx.new.conn.now) (λ _. ⊥) }
@@ -59,6 +60,7 @@ pub fn insert_metadata<S: Alter>(
 pub fn delete_metadata<S: Alter>(tx: &mut Transaction<'_, S>, object: u64) -> Result<(), StoreFault>
     ensures ok { HasCleanDisk (state S.Store tx.new.conn.now) → IsTrue (state S.Store tx.old.conn.now).in_transaction → IsOurs (state S.Store tx.old.conn.now)
         → OnOk result (Leads (state S.Store tx.old.conn.now) (state S.Store tx.new.conn.now) (record (tables_of (state S.Store tx.old.conn.now)) { metadata = filter (λ row. not (has_number 1 object row)) (tables_of (state S.Store tx.old.conn.now)).metadata })) }
+    ensures inside { HasCleanDisk (state S.Store tx.new.conn.now) → IsTrue (state S.Store tx.old.conn.now).in_transaction → OnOk result (IsTrue (state S.Store tx.new.conn.now).in_transaction) }
     ensures kept { HasCleanDisk (state S.Store tx.new.conn.now) → IsTrue (state S.Store tx.old.conn.now).in_transaction → KeepsCommit (state S.Store tx.old.conn.now) (state S.Store tx.new.conn.now) }
     ensures same_reference { tx.new.conn.ghost_name ≡ tx.old.conn.ghost_name }
     ensures survives { Survives (state S.Store tx.old.conn.now) (state S.Store tx.new.conn.now) (λ _. ⊥) }
@@ -109,6 +111,7 @@ pub fn metadata_of<S: Alter>(
     ensures ok { HasCleanDisk (state S.Store tx.new.conn.now) → IsOurs (state S.Store tx.old.conn.now) → IfOk result (λ found. IsPermutation (map shown_metadata (filter (has_number 1 object) (tables_of (state S.Store tx.old.conn.now)).metadata)) (map metadata_values found.items)) }
     ensures sorted { HasCleanDisk (state S.Store tx.new.conn.now) → IsOurs (state S.Store tx.old.conn.now) → IfOk result (λ found. IsSorted by_name_and_place (map metadata_values found.items)) }
     ensures same { HasCleanDisk (state S.Store tx.new.conn.now) → IsOurs (state S.Store tx.old.conn.now) → OnOk result (IsUnchanged (state S.Store tx.old.conn.now) (state S.Store tx.new.conn.now)) }
+    ensures inside { HasCleanDisk (state S.Store tx.new.conn.now) → IsTrue (state S.Store tx.old.conn.now).in_transaction → OnOk result (IsTrue (state S.Store tx.new.conn.now).in_transaction) }
     ensures kept { HasCleanDisk (state S.Store tx.new.conn.now) → IsTrue (state S.Store tx.old.conn.now).in_transaction → KeepsCommit (state S.Store tx.old.conn.now) (state S.Store tx.new.conn.now) }
     ensures same_reference { tx.new.conn.ghost_name ≡ tx.old.conn.ghost_name }
     ensures survives { Survives (state S.Store tx.old.conn.now) (state S.Store tx.new.conn.now) (λ _. ⊥) }
