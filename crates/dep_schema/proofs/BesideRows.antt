@@ -32,16 +32,16 @@ use Rattle.sqlite_catalog.specs.Listing.{IsSound}
 use Rattle.sqlite_catalog.specs.Change.{created, next_tree, KeepsRows}
 use Rattle.sqlite_catalog.proofs.StepLemmas.{no_table, table_below}
 use Rattle.dep_statements.specs.Adding.{HasCounters, AddsAll, Puts}
-use Rattle.dep_statements.proofs.Adding.{Made, made_all, free_all, adds_append, placed_after, got_after, next_created}
+use Rattle.dep_statements.proofs.Adding.{AllMade, made_all, free_all, adds_append, placed_after, got_after, next_created}
 use Rattle.dep_statements.proofs.Values.{cast_int, cast_null}
 use Rattle.dep_statements.proofs.Statements.{Wrote, inserted}
 use Rattle.dep_statements.proofs.Results.{puts}
 use Rattle.dep_schema.proofs.Results.{ok_then}
-use Rattle.dep_schema.specs.Schema.{format_table, state_table, objects_table, metadata_table, files_table}
+use Rattle.dep_schema.specs.Schema.{our_schema, no_schema, format_table, state_table, objects_table, metadata_table, files_table}
 use Rattle.dep_schema.specs.Texts.{add_format_text, add_state_text}
 use Rattle.dep_schema.specs.Rows.{format_row, state_row}
 use Rattle.dep_schema.specs.Beside.{our_tables, AreFree, with_ours}
-use Rattle.dep_schema.specs.Tables.{first_state, first_tables, tables_from, IsBeside, GainsOurs}
+use Rattle.dep_schema.specs.Tables.{AreOrdered, Sees, tables_of, first_state, first_tables, tables_from, IsBeside, GainsOurs}
 
 -- ---- how an INSERT is understood, by the table that its name finds
 
@@ -186,7 +186,7 @@ module _ (old mid next new : Database) (added : AddsAll our_tables old mid) (has
   abbrev schema : Schema
   schema = old.schema
 
-  made : Made our_tables old mid
+  made : AllMade our_tables old mid
   made = made_all our_tables old mid (refl, (refl, (refl, (refl, (refl, tt))))) has added
 
   abbrev KeepsBut : ℕ → Trees → Trees → List Table → Type 0
@@ -251,3 +251,28 @@ gains r old first mid new begun ended rows =
     let free = (free_all our_tables old mid added).0 in
     gains_if r old new free (λ has.
     ok_then r (rows old.schema free (made_all our_tables old mid (refl, (refl, (refl, (refl, (refl, tt))))) has added).schema) (λ put. stands_beside old mid put.0 new added has put.1 put.2))
+
+-- ---- in an empty database
+
+empty_ours : with_ours no_schema ≡ our_schema
+unfolding everything
+empty_ours = refl
+
+first_ordered : AreOrdered first_tables
+first_ordered = record { format = ((tt, tt), (refl, tt)); state = ((tt, tt), (refl, tt)); objects = (tt, tt); metadata = (tt, tt); files = (tt, tt) }
+
+sees_first : (old new : State) → old.now.schema ≡ no_schema → GainsOurs old.now new.now → Sees new first_tables
+sees_first old new empty gained =
+    let after = gained.made (subst HasCounters (sym empty) refl) in
+    let schema : with_ours old.now.schema ≡ our_schema = ap with_ours empty ∙ empty_ours in
+    let rows : tables_of new ≡ first_tables = subst (λ s. tables_from (next_tree s) new.now.trees ≡ first_tables) empty after.1.rows in
+    record {
+      ours = record {
+        schema = after.0 ∙ schema;
+        trees = record { sound = subst (λ s. IsSound s new.now.trees) schema after.1.sound; ordered = subst AreOrdered (sym rows) first_ordered };
+      };
+      rows = rows;
+    }
+
+pub first_seen : {A E : Type 0} (r : Result A E) (old new : State) → old.now.schema ≡ no_schema → OnOk r (GainsOurs old.now new.now) → OnOk r (Sees new first_tables)
+first_seen r old new empty gained = ok_then r gained (sees_first old new empty)

@@ -1,6 +1,5 @@
 -- The rows of all tables, and the trees and connections that have them.
 use Rattle.std.specs.Prelude.{◌≡◌, ◌⊎◌, ℕ, ◌+◌, pos, true, false, List, [], ◌∷◌, map}
-use Rattle.std.specs.List.{AllByRecursion}
 use Rattle.sqlite.specs.declared.types.Value.TheVariants.{Int}
 use Rattle.sqlite.specs.Schema.{Schema}
 use Rattle.sqlite.specs.Order.{Row, column}
@@ -65,11 +64,6 @@ pub record Sees (s : State) (tables : Tables) : Type 0 where
   pub ours : IsOurs s
   pub rows : tables_of s ≡ tables
 
--- the connection sees this schema, and no row in its tables
-pub record IsBlank (schema : Schema) (s : State) : Type 0 where
-  pub schema_is : s.now.schema ≡ schema
-  pub empty : AllByRecursion (λ t. s.now.trees t.tree ≡ []) schema.tables
-
 -- the transaction goes on with these tables
 pub record Leads (old new : State) (tables : Tables) : Type 0 where
   pub shows : Shows old new new.now old.committed true
@@ -83,15 +77,12 @@ pub record Stands (s : State) (tables : Tables) : Type 0 where
   pub ours : IsOurs s
   pub rows : tables_of s ≡ tables
 
-abbrev pub no_rows : Tables
-no_rows = record { format = []; state = []; objects = []; metadata = []; files = [] }
-
 abbrev pub first_state : StateRow
 first_state = record { clock = 0; next_object = 1; next_file = 1; next_upload = 1; next_change = 1 }
 
 -- the tables of a new store
 abbrev pub first_tables : Tables
-first_tables = record no_rows { format = format_row 0 ∷ []; state = state_row first_state ∷ [] }
+first_tables = record { format = format_row 0 ∷ []; state = state_row first_state ∷ []; objects = []; metadata = []; files = [] }
 
 -- `format` has one row, of id 1, and this version
 abbrev pub HasVersion : ℕ → Tables → Type 0

@@ -184,7 +184,7 @@ abbrev pub trees_for : List Table → Schema → List ℕ
 trees_for [] schema = []
 trees_for (t ∷ tables) schema = next_tree schema ∷ trees_for tables (created schema t)
 
-pub record Made (tables : List Table) (old new : Database) : Type 0 where
+pub record AllMade (tables : List Table) (old new : Database) : Type 0 where
   pub schema : new.schema ≡ created_all tables old.schema
   pub empty : AllByRecursion (λ n. new.trees n ≡ []) (trees_for tables old.schema)
   pub others : KeepsRows old.schema.tables old.trees new.trees
@@ -201,7 +201,7 @@ keeps_all : (tables : List Table) (a : Trees) → KeepsRows tables a a
 keeps_all [] a = tt
 keeps_all (t ∷ tables) a = (refl, keeps_all tables a)
 
-pub made_all : (tables : List Table) (a c : Database) → AllByRecursion (λ t. t.is_counted ≡ false) tables → HasCounters a.schema → AddsAll tables a c → Made tables a c
+pub made_all : (tables : List Table) (a c : Database) → AllByRecursion (λ t. t.is_counted ≡ false) tables → HasCounters a.schema → AddsAll tables a c → AllMade tables a c
 made_all [] a c plain has same = record { schema = ap (λ (d : Database). d.schema) same; empty = tt; others = subst (λ (d : Database). KeepsRows a.schema.tables a.trees d.trees) (sym same) (keeps_all a.schema.tables a.trees) }
 made_all (t ∷ tables) a c plain has h =
     let b = h.0 in
