@@ -1,12 +1,11 @@
 -- No two rows of the metadata have one object, name and place.
-use Rattle.std.proofs.Common.{string_bytes, ◌≡◌, ℕ, ℤ, pos, Bool, true, false, ◌&&◌, not, List, [], ◌∷◌, Ok, refl, sym, ap, subst, ◌∙◌, inl, inr, is_eq}
+use Rattle.std.proofs.Common.{string_bytes, ◌≡◌, ℕ, ℤ, pos, true, false, ◌&&◌, not, List, [], ◌∷◌, Ok, refl, sym, ap, subst, ◌∙◌, inl, inr, is_eq}
 use Rattle.std.specs.List.{list_any}
 use Rattle.std.proofs.lemmas.Bool.{and_parts, and_from, not-true, cases_Bool}
 use Rattle.sqlite_rules.specs.Lists.{Has}
 use Rattle.sqlite_rules.proofs.ListLemmas.{all_has, some_has, some_from}
 use Rattle.sqlite_rules.proofs.TableLemmas.{put_all_keeps, put_all_adds}
-use Rattle.sqlite_rules.specs.Edit.{is_taken, are_fresh, next_rowid, with_rowid}
-use Rattle.sqlite.specs.declared.types.Value.TheVariants.{Int}
+use Rattle.sqlite_rules.specs.Edit.{is_taken, next_rowid, with_rowid}
 use Rattle.sqlite.specs.Order.{Row, column}
 use Rattle.sqlite.specs.State.{State, ExecutesInside}
 use Rattle.sqlite.specs.Effect.{value_rows}
@@ -37,7 +36,7 @@ agrees r id other same =
     let parts = and_parts _ _ same in
     let more = and_parts _ _ parts.0 in
     and_from _ _ (equals_int (column other 1) (pos r.object) ∙ more.0)
-        (and_from _ _ (equals_text (column other 2) (string_bytes r.name) ∙ more.1) (and_from _ _ (equals_int (column other 3) (pos r.place) ∙ parts.1) refl))
+    (and_from _ _ (equals_text (column other 2) (string_bytes r.name) ∙ more.1) (and_from _ _ (equals_int (column other 3) (pos r.place) ∙ parts.1) refl))
 
 module _ (r : MetadataRow) (id : ℤ) (rows : List Row) (up : IsOrdered rows) (fresh : is_taken rows (metadata_row id r) ≡ false) where
   abbrev new : Row
@@ -53,7 +52,7 @@ module _ (r : MetadataRow) (id : ℤ) (rows : List Row) (up : IsOrdered rows) (f
   clash other there same =
       let kept = put_all_keeps (new ∷ []) rows other (and_from _ _ (ap not fresh) refl) there in
       some_from (λ o. agree plain places o places new && differ (rowid o) (rowid new)) (put_row new rows) other kept
-          (and_from _ _ (agrees r id other same) (differs_int (rowid other) id (all_has _ rows other up.1 there) (apart other there)))
+      (and_from _ _ (agrees r id other same) (differs_int (rowid other) id (all_has _ rows other up.1 there) (apart other there)))
 
   no_key : clashes plain places (put_row new rows) new ≡ false → list_any (has_key_of r) rows ≡ false
   no_key none = elim (cases_Bool (list_any (has_key_of r) rows)) [

@@ -1,11 +1,11 @@
 -- A query of a table that is not there.
-use Rattle.std.proofs.Common.{◌≡◌, ℕ, suc, List, [], ◌∷◌, None, Ok, Err, codes, refl, sym, ap, subst, ◌∙◌}
+use Rattle.std.proofs.Common.{◌≡◌, ℕ, suc, List, [], ◌∷◌, None, Ok, Err, codes, refl}
 use Rattle.sqlite_tied.specs.Compute.{everything}
 use Rattle.sqlite.specs.Schema.{Schema}
 use Rattle.sqlite.specs.Term.{Term}
-use Rattle.sqlite.specs.Listing.{understood, reads_listing, listing_schema}
+use Rattle.sqlite.specs.Listing.{understood, listing_schema}
 use Rattle.sqlite_schema.specs.declared.program.Table.{Table as Let}
-use Rattle.sqlite_schema.specs.Names.{table_named, view_named, same_name}
+use Rattle.sqlite_schema.specs.Names.{table_named, view_named}
 use Rattle.sqlite_ast.specs.declared.Statement.TheVariants as written
 use Rattle.sqlite_ast.specs.declared.Sort.{Sort}
 use Rattle.sqlite_ast.specs.declared.Select.{Select, out-Select}

@@ -1,7 +1,6 @@
 -- Tables that are made one after another beside what is there.
-use Rattle.std.proofs.Common.{◌≡◌, ℕ, zero, suc, ◌+◌, ◌<◌, max, Bool, true, false, not, ◌&&◌, ◌||◌, if◌then◌else◌, cond, List, [], ◌∷◌, ◌++◌, length, fold, slice_get, Option, None, Some, is_some, Ok, Err, MatchBool, option_and_then, refl, sym, ap, subst, ◌∙◌, arith, codes, append_assoc}
+use Rattle.std.proofs.Common.{◌≡◌, ℕ, zero, suc, ◌+◌, max, Bool, true, false, not, ◌&&◌, ◌||◌, cond, List, [], ◌∷◌, ◌++◌, length, fold, slice_get, Option, None, Some, is_some, Ok, MatchBool, option_and_then, refl, sym, ap, subst, ◌∙◌, arith, codes}
 use Rattle.std.specs.List.{AllByRecursion, position_from, list_any}
-use Rattle.std.proofs.lemmas.Bool.{cases_Bool}
 use Rattle.std.proofs.lemmas.List.Sums.{fold-append}
 use Rattle.sqlite.specs.Schema.{Schema}
 use Rattle.sqlite.specs.Table.{Table}
@@ -15,14 +14,12 @@ use Rattle.sqlite.specs.Does.{Tally, lacks_sequence, MakesTable, sequence_text}
 use Rattle.sqlite.specs.State.{State, Writes, ExecutesIn, ExecutesInside}
 use Rattle.sqlite.proofs.Callers.{IsPlain, command_of, statement_of, runs_as}
 use Rattle.sqlite_schema.specs.declared.schema.Index.{Index}
-use Rattle.sqlite_schema.specs.Names.{table_named, index_named, view_named, same_name}
+use Rattle.sqlite_schema.specs.Names.{same_name}
 use Rattle.sqlite_resolve.specs.declared.compiled.Compiled.{Compiled}
 use Rattle.sqlite_resolve.specs.Compile.{table_defined_by}
-use Rattle.sqlite_rules.specs.Lists.{Has}
-use Rattle.sqlite_rules.proofs.ListLemmas.{all_from}
 use Rattle.sqlite_catalog.specs.Change.{created, next_tree, past_views, is_used, automatics, KeepsRows}
 use Rattle.dep_statements.proofs.Writes.{went, same_value}
-use Rattle.dep_statements.specs.Adding.{HasCounters, AreFreeFor, created_all, Makes, Adds, AddsAll}
+use Rattle.dep_statements.specs.Adding.{HasCounters, AreFreeFor, created_all, Adds, AddsAll}
 
 -- ---- names
 
@@ -147,13 +144,13 @@ module _ (sql : List ℕ) (table : Table) (old new : State) (count : ℕ) (defin
         free = subst (λ (t : Table). is_used old.now.schema t.name ≡ false) same made.free;
         keeps = λ name free. created_keeps old.now.schema table name (subst (λ s. is_used s name ≡ false) after (before first.0 all.0 name first.2 (subst (λ (d : Database). is_used d.schema name ≡ false) last free)));
         made = λ has.
-          let lacking : lacks_sequence first.0.schema ≡ false = ap lacks_sequence after ∙ created_counters old.now.schema table uncounted has in
-          let now : new.now ≡ first.0 = last ∙ same_value (rw lacking at first.2) in
-          record {
-            schema = ap (λ (d : Database). d.schema) now ∙ after;
-            empty = ap (λ (d : Database). d.trees (next_tree old.now.schema)) now ∙ made.empty;
-            others = subst (λ (d : Database). KeepsRows old.now.schema.tables old.now.trees d.trees) (sym now) made.others;
-          };
+            let lacking : lacks_sequence first.0.schema ≡ false = ap lacks_sequence after ∙ created_counters old.now.schema table uncounted has in
+            let now : new.now ≡ first.0 = last ∙ same_value (rw lacking at first.2) in
+            record {
+              schema = ap (λ (d : Database). d.schema) now ∙ after;
+              empty = ap (λ (d : Database). d.trees (next_tree old.now.schema)) now ∙ made.empty;
+              others = subst (λ (d : Database). KeepsRows old.now.schema.tables old.now.trees d.trees) (sym now) made.others;
+            };
       }
     where
       before : (a b : Database) (name : List ℕ) → MatchBool (lacks_sequence a.schema) (MakesTable sequence_text a (Ok b)) (Gives a (Ok b)) → is_used b.schema name ≡ false → is_used a.schema name ≡ false
