@@ -3,11 +3,11 @@
 
 mod writing;
 
-use writing::deposit;
 use dep_schema::{FileRow, MetadataRow, ObjectRow, OpenFault, Schema, StateRow, StoreFault};
 use sqlite::{Alter, Connection, Transaction};
 use std::alloc::Global;
 use std::env;
+use writing::deposit;
 
 fn made<S: Alter>(connection: Connection<S>) -> Result<Schema<S>, (OpenFault, Connection<S>)> {
     if !connection.is_autocommit() {

@@ -1,7 +1,6 @@
 use Rattle.std.proofs.Common.{arith}
 use Rattle.sqlite.specs.State.{HasCleanDisk}
 use Rattle.sqlite.specs.Held.{state}
-use Rattle.dep_schema.specs.Tables.{Leads}
 use Rattle.store_sample.proofs.Rows.{ok_then, deposits, state_stays}
 use Rattle.store_sample.proofs.writing.write_rows.Goals as goal
 
