@@ -13,7 +13,7 @@ objects
 metadata
 files"
 same "SELECT * FROM format" "1|0"
-same "SELECT * FROM state" "1|0|1|1|1|1"
+same "SELECT * FROM state" "1|1700000000|8|12|1|2"
 same "SELECT * FROM objects" "7|1|1|1|1|1700000000"
 same "SELECT * FROM metadata" "7|dc:title|0|T"
 same "SELECT * FROM files" "11|7|a.txt|text/plain|3|1|1700000000||0|abc"

@@ -46,7 +46,7 @@ pub inserts_file : (old new : State) (r : FileRow) (content : List ℕ) (count :
 inserts_file old new r content count ours h =
     let rows = old.now.trees 5 in
     let params = file_values r ++ Blob content ∷ [] in
-    let wrote = inserted our_schema insert_file_text params old new ours.schema insert_is.1 count h 4 _ _ _ _ _ _ _ refl (λ olds news. refl) terms 11 insert_is.0 in
+    let wrote = inserted our_schema insert_file_text params old new ours.schema insert_is.1 count h 4 _ _ _ _ _ _ _ refl terms 11 insert_is.0 in
     let made = puts our_schema old new files_table (value_rows params 11 1 terms) (file_row r content)
     (λ i. with_rowid Chosen rows (cast_int (pos r.file) i ∷ cast_null i ∷ cast_int (pos r.object) i ∷ text_of r.name ∷ text_of r.media ∷ cast_int (pos r.size) i ∷ cast_int (pos r.tag) i ∷ cast_int (pos r.deposited) i
     ∷ cast_text_or_null string_bytes r.behalf i ∷ cast_int (pos (if r.by_reference then 1 else 0)) i ∷ Blob content ∷ []) ∷ []) wrote in

@@ -9,19 +9,19 @@ use Rattle.dep_statements.proofs.Results.{Made}
 use Rattle.dep_schema.specs.Schema.{our_schema}
 use Rattle.dep_schema.specs.Tables.{Tables, tables_in, tables_of, AreOrdered, IsOurs, Leads}
 
-module _ (old new : State) (tree : ℕ) (rows : List Row) (made : Made our_schema old new tree rows) where
-  at : (t : ℕ) → t < 4 → (b : Bool) → (t == tree) ≡ b → new.now.trees t ≡ with_tree old.now.trees tree rows t
+module _ (old new : State) (tree : ℕ) (after : List Row) (made : Made our_schema old new tree after) where
+  at : (t : ℕ) → t < 4 → (b : Bool) → (t == tree) ≡ b → new.now.trees t ≡ with_tree old.now.trees tree after t
   at t low true e = let same : t ≡ tree = grind (arith, e) in rw e (ap new.now.trees same ∙ made.rows_are)
   at t low false e = rw e (made.others t (λ same. grind (arith, e, same)) (λ four. omega (arith, low, four), tt))
 
-  at_files : (b : Bool) → (5 == tree) ≡ b → new.now.trees 5 ≡ with_tree old.now.trees tree rows 5
+  at_files : (b : Bool) → (5 == tree) ≡ b → new.now.trees 5 ≡ with_tree old.now.trees tree after 5
   at_files true e = let same : 5 ≡ tree = grind (arith, e) in rw e (ap new.now.trees same ∙ made.rows_are)
   at_files false e = rw e (made.others 5 (λ same. grind (arith, e, same)) (λ four. omega (arith, four), tt))
 
-  tables_after : tables_of new ≡ tables_in (with_tree old.now.trees tree rows)
+  tables_after : tables_of new ≡ tables_in (with_tree old.now.trees tree after)
   tables_after = λ i. record { format = at 0 (omega arith) _ refl i; state = at 1 (omega arith) _ refl i; objects = at 2 (omega arith) _ refl i; metadata = at 3 (omega arith) _ refl i; files = at_files _ refl i }
 
-  pub leads : (tables : Tables) → tables_in (with_tree old.now.trees tree rows) ≡ tables → AreOrdered tables → Leads old new tables
+  pub leads : (tables : Tables) → tables_in (with_tree old.now.trees tree after) ≡ tables → AreOrdered tables → Leads old new tables
   leads tables is ordered =
       let all : tables_of new ≡ tables = tables_after ∙ is in
       record {

@@ -1,9 +1,12 @@
 pub mod Results
 pub mod Leading
 pub mod StateTable
-pub mod NewTables
 pub mod Version
 pub mod ObjectsTable
 pub mod FilesTable
 pub mod MetadataTable
 pub mod Again
+pub mod Missing
+pub mod Beside
+pub mod BesideRows
+pub mod MetadataKey

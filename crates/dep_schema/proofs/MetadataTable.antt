@@ -40,10 +40,10 @@ use Rattle.dep_schema.specs.declared.rows.MetadataRow.{MetadataRow}
 use Rattle.dep_schema.specs.Tables.{tables_of, IsOurs, Leads}
 use Rattle.dep_schema.proofs.Leading.{metadata_lead}
 
-abbrev terms : List Term
+abbrev pub terms : List Term
 terms = lit Null ∷ col 0 0 ∷ col 0 1 ∷ col 0 2 ∷ col 0 3 ∷ []
 
-insert_is : (command_of (understood our_schema insert_metadata_text) ≡ Insert 3 (Values terms 5)) × IsPlain (understood our_schema insert_metadata_text)
+pub insert_is : (command_of (understood our_schema insert_metadata_text) ≡ Insert 3 (Values terms 5)) × IsPlain (understood our_schema insert_metadata_text)
 unfolding understood everything
 insert_is = (refl, (refl, refl))
 
@@ -52,7 +52,7 @@ pub inserts_metadata : (old new : State) (r : MetadataRow) (count : ℕ) → IsO
 inserts_metadata old new r count ours h =
     let rows = old.now.trees 3 in
     let row = metadata_row (next_rowid rows) r in
-    let wrote = inserted our_schema insert_metadata_text (metadata_values r) old new ours.schema insert_is.1 count h 3 _ _ _ _ _ _ _ refl (λ olds news. refl) terms 5 insert_is.0 in
+    let wrote = inserted our_schema insert_metadata_text (metadata_values r) old new ours.schema insert_is.1 count h 3 _ _ _ _ _ _ _ refl terms 5 insert_is.0 in
     let made = puts our_schema old new metadata_table (value_rows (metadata_values r) 5 1 terms) row
     (λ i. with_rowid Chosen rows (cast_null i ∷ cast_int (pos r.object) i ∷ text_of r.name ∷ cast_int (pos r.place) i ∷ text_of r.value ∷ []) ∷ []) wrote in
     metadata_lead old new (put_row row rows) ours (IsShaped-put_row row rows refl ours.trees.ordered.metadata) made.0

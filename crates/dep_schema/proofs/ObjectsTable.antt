@@ -46,7 +46,7 @@ pub inserts_object : (old new : State) (r : ObjectRow) (count : ℕ) → IsOurs 
     → Leads old new (record (tables_of old) { objects = put_row (object_row r) (tables_of old).objects }) × (row_at (tables_of old).objects r.object ≡ None)
 inserts_object old new r count ours h =
     let rows = old.now.trees 2 in
-    let wrote = inserted our_schema insert_object_text (object_values r) old new ours.schema insert_is.1 count h 2 _ _ _ _ _ _ _ refl (λ olds news. refl) terms 7 insert_is.0 in
+    let wrote = inserted our_schema insert_object_text (object_values r) old new ours.schema insert_is.1 count h 2 _ _ _ _ _ _ _ refl terms 7 insert_is.0 in
     let made = puts our_schema old new objects_table (value_rows (object_values r) 7 1 terms) (object_row r)
     (λ i. with_rowid Chosen rows (cast_int (pos r.object) i ∷ cast_null i ∷ cast_int (pos (if r.ingested then 1 else 0)) i ∷ cast_int (pos r.object_tag) i ∷ cast_int (pos r.metadata_tag) i ∷ cast_int (pos r.files_tag) i ∷ cast_int (pos r.changed) i ∷ []) ∷ []) wrote in
     (objects_lead old new (put_row (object_row r) rows) ours (IsShaped-put_row (object_row r) rows refl ours.trees.ordered.objects) made.0, not_there rows (pos r.object) made.1)

@@ -1,14 +1,15 @@
 -- How the version is found.
-use Rattle.std.proofs.Common.{◌≡◌, ◌↔◌, ◌⊎◌, inl, inr, ℕ, pos, List, [], ◌∷◌, map, filter, false, Err, codes, refl, sym, ap, subst, ◌∙◌}
+use Rattle.std.proofs.Common.{◌≡◌, ◌↔◌, ◌⊎◌, inl, inr, ℕ, pos, List, [], ◌∷◌, map, filter, false, Err, codes, refl, sym, ap, subst, ◌∙◌, arith}
 use Rattle.std.specs.List.Sorted.{IsPermutation}
 use Rattle.std.proofs.lemmas.List.Sorted.{IsPermutation-sym}
 use Rattle.sqlite_tied.specs.Compute.{everything}
-use Rattle.sqlite.specs.Listing.{understood, reads_listing, listing_schema}
+use Rattle.sqlite.specs.Listing.{understood, reads_listing}
 use Rattle.sqlite.specs.Command.TheVariants.{Select}
 use Rattle.sqlite.specs.declared.types.Value.TheVariants.{Int}
 use Rattle.sqlite.specs.Order.{Row, column}
 use Rattle.sqlite.specs.Term.{Term, col}
-use Rattle.sqlite.specs.State.{State, Shown, IsUnchanged, FailsToQuery, IsTooLate, store_error}
+use Rattle.sqlite.proofs.StateLemmas.{survives_then}
+use Rattle.sqlite.specs.State.{State, HasCleanDisk, Survives, Shown, IsUnchanged, FailsToQuery, IsTooLate, store_error}
 use Rattle.sqlite.specs.declared.error.Error.{Error}
 use Rattle.sqlite.specs.declared.error.Error.TheVariants.{SqlInputError}
 use Rattle.sqlite_trees.specs.declared.error.StoreError.{StoreError}
@@ -24,7 +25,11 @@ use Rattle.dep_schema.specs.Schema.{our_schema, no_schema}
 use Rattle.dep_schema.specs.Texts.{find_format_text}
 use Rattle.sqlite.specs.Tree.{Trees}
 use Rattle.sqlite.specs.Effect.{Database}
-use Rattle.dep_schema.specs.Tables.{tables_of, IsOurs, HasVersion, Sees, Holds, CommitsOpen, first_tables}
+use Rattle.sqlite.specs.Schema.{Schema}
+use Rattle.dep_statements.specs.Adding.{HasCounters}
+use Rattle.dep_schema.specs.Beside.{LacksFormat}
+use Rattle.dep_schema.proofs.Missing.{find_missing}
+use Rattle.dep_schema.specs.Tables.{tables_of, IsOurs, HasVersion, Sees, Holds, IsBeside, GainsOurs, StandsBeside, CommitsOpen, first_tables}
 use Rattle.dep_schema.specs.OpenFaults.{open_fault_for}
 use Rattle.dep_schema.specs.declared.fault.StoreFault.{StoreFault}
 use Rattle.dep_schema.specs.declared.fault.StoreFault.TheVariants.{Store, Memory}
@@ -48,9 +53,12 @@ find_plain : IsPlain (understood our_schema find_format_text)
 unfolding understood everything
 find_plain = (refl, refl)
 
-find_none : understood no_schema find_format_text ≡ Err NoSuchTable
-unfolding understood listing_schema everything
-find_none = refl
+find_none : (s : State) → LacksFormat s.now.schema → understood s.now.schema find_format_text ≡ Err NoSuchTable
+find_none s lacks = find_missing s.now.schema lacks.table lacks.view
+
+-- so it is in an empty database
+pub empty_lacks : (schema : Schema) → schema ≡ no_schema → LacksFormat schema
+empty_lacks schema empty = subst LacksFormat (sym empty) (record { table = refl; view = refl })
 
 all_pass : (params : Row) (rows : List Row) → filter (passes params []) rows ≡ rows
 all_pass params [] = refl
@@ -65,7 +73,7 @@ finds_rows old new rows ours h =
     subst (λ xs. IsPermutation (map (shown_of [] shows) xs) rows) (all_pass [] (old.now.trees 0)) (in_any_order 0 [] shows [] [] (filter (passes [] []) (old.now.trees 0)) rows picked)
 
 abbrev pub IsKnown : List Row → Type 0
-IsKnown rows = (row : Row) × (rows ≡ row ∷ []) × (column row 0 ≡ Int (pos 1)) × (column row 1 ≡ Int (pos 0))
+IsKnown rows = (found : Row) × (rows ≡ found ∷ []) × (column found 0 ≡ Int (pos 1)) × (column found 1 ≡ Int (pos 0))
 
 known_told : (format rows : List Row) → IsPermutation (told format) rows → IsKnown rows → told format ≡ (Int (pos 1) ∷ Int (pos 0) ∷ []) ∷ []
 known_told format rows same known =
@@ -90,18 +98,18 @@ found_version old new rows ours h = (known_told (tables_of old).format rows (fin
 pub find_stays : (old new : State) (rows : List Row) → IsOurs old → Shown find_format_text [] old new rows → IsUnchanged old new
 find_stays old new rows ours h = shown_unchanged find_format_text [] old new (subst (λ s. IsPlain (understood s find_format_text)) (sym ours.schema) find_plain) rows h
 
-pub none_shown : (old new : State) (rows : List Row) → old.now.schema ≡ no_schema → Shown find_format_text [] old new rows → ⊥
-none_shown old new rows empty h = unread find_format_text [] old new NoSuchTable (ap (λ s. understood s find_format_text) empty ∙ find_none) rows h
+pub none_shown : (old new : State) (rows : List Row) → LacksFormat old.now.schema → Shown find_format_text [] old new rows → ⊥
+none_shown old new rows lacks h = unread find_format_text [] old new NoSuchTable (find_none old lacks) rows h
 
-pub none_asked : (old new : State) (e : Error) → old.now.schema ≡ no_schema → FailsToQuery find_format_text [] old new e ⊎ IsTooLate find_format_text [] old new e → (e ≡ SqlInputError NoSuchTable) ⊎ ((cause : StoreError) × (e ≡ store_error cause))
-none_asked old new e empty h = unread_as find_format_text [] old new NoSuchTable (ap (λ s. understood s find_format_text) empty ∙ find_none) e h
+none_asked : (old new : State) (e : Error) → LacksFormat old.now.schema → FailsToQuery find_format_text [] old new e ⊎ IsTooLate find_format_text [] old new e → (e ≡ SqlInputError NoSuchTable) ⊎ ((cause : StoreError) × (e ≡ store_error cause))
+none_asked old new e lacks h = unread_as find_format_text [] old new NoSuchTable (find_none old lacks) e h
 
 pub ours_asked : (old new : State) (e : Error) (fault : CompileError) → IsOurs old → FailsToQuery find_format_text [] old new e ⊎ IsTooLate find_format_text [] old new e → e ≡ SqlInputError fault → ⊥
 ours_asked old new e fault ours h said =
     understood_asks find_format_text [] old new asked names (ap (λ s. command_of (understood s find_format_text)) ours.schema ∙ find_is.0) (subst (λ s. IsPlain (understood s find_format_text)) (sym ours.schema) find_plain) e fault h said
 
-pub missing_only : (old new : State) (e : Error) (fault : CompileError) → old.now.schema ≡ no_schema → FailsToQuery find_format_text [] old new e ⊎ IsTooLate find_format_text [] old new e → e ≡ SqlInputError fault → fault ≡ NoSuchTable
-missing_only old new e fault empty h is = elim (none_asked old new e empty h) [
+pub missing_only : (old new : State) (e : Error) (fault : CompileError) → LacksFormat old.now.schema → FailsToQuery find_format_text [] old new e ⊎ IsTooLate find_format_text [] old new e → e ≡ SqlInputError fault → fault ≡ NoSuchTable
+missing_only old new e fault lacks h is = elim (none_asked old new e lacks h) [
   | inl told ↦ let met = sym is ∙ told in cc
   | inr stopped ↦ absurd (store_only stopped.0 fault (sym stopped.1 ∙ is))
 ]
@@ -111,8 +119,24 @@ named_fault Store made is said = let met = sym is ∙ said in cc
 named_fault Memory made is said = let met = sym is ∙ said in cc
 
 -- what is committed at the end
-pub commits_open : (old last : State) → (old.now.schema ≡ no_schema → Sees last first_tables) → (IsOurs old → last.now ≡ old.now) → (db : Trees) → db ≡ last.now.trees → CommitsOpen old db
-commits_open old last made there db is = record {
+commits_open : (old last : State) → (old.now.schema ≡ no_schema → Sees last first_tables) → (IsOurs old → last.now ≡ old.now) → (LacksFormat old.now.schema → GainsOurs old.now last.now) → (db : Trees) → db ≡ last.now.trees → CommitsOpen old db
+commits_open old last made there gains db is = record {
   found = λ ours. is ∙ ap (λ (d : Database). d.trees) (there ours);
   new = λ empty. let sees = made empty in subst (λ trees. Holds trees first_tables) (sym is) (record { ours = sees.ours.trees; rows = sees.rows });
+  free = λ lacks. (gains lacks).free;
+  beside = λ lacks has. subst (IsBeside old.now) (sym is) ((gains lacks).made has).1;
 }
+
+-- a crash leaves what was there, or what is committed
+pub survives_open : (old last new : State) → Survives old last (λ _. ⊥) → Survives last new (λ db. db ≡ last.now.trees)
+    → (HasCleanDisk last → old.now.schema ≡ no_schema → Sees last first_tables) → (HasCleanDisk last → IsOurs old → last.now ≡ old.now) → (HasCleanDisk last → LacksFormat old.now.schema → GainsOurs old.now last.now) → Survives old new (CommitsOpen old)
+survives_open old last new begun ended made there gains =
+    survives_then old last new (λ _. ⊥) (λ db. db ≡ last.now.trees) (CommitsOpen old) (λ _ db none. absurd none) (λ clean db is.
+    let sure : HasCleanDisk last = omega (arith, clean, ended.clean) in
+    commits_open old last (made sure) (there sure) (gains sure) db is) begun ended
+
+-- our first tables stand once they are committed
+pub stands_committed : (old last new : State) → GainsOurs old.now last.now → HasCounters old.now.schema → new.in_transaction ≡ false → new.now ≡ new.committed → new.now ≡ last.now → StandsBeside old new
+stands_committed old last new gains has settled committed same =
+    let made = gains.made has in
+    record { settled = settled; committed = committed; schema = ap (λ (d : Database). d.schema) same ∙ made.0; trees = subst (λ (d : Database). IsBeside old.now d.trees) (sym same) made.1 }

@@ -1,5 +1,5 @@
 -- Rows of the tables as they are stored, where the column of a key is NULL, and as they are given and shown.
-use Rattle.std.specs.Prelude.{◌≡◌, ℤ, string_bytes, ℕ, ◌<◌, ◌^◌, pos, Bool, if◌then◌else◌, List, [], ◌∷◌}
+use Rattle.std.specs.Prelude.{◌≡◌, ℤ, string_bytes, ℕ, ◌<◌, ◌^◌, pos, Bool, if◌then◌else◌, ◌&&◌, List, [], ◌∷◌}
 use Rattle.sqlite.specs.declared.types.Value.{Value}
 use Rattle.sqlite.specs.declared.types.Value.TheVariants.{Null, Int, Text, Blob}
 use Rattle.sqlite.specs.Order.{Row, column}
@@ -11,7 +11,8 @@ use Rattle.dep_schema.specs.declared.rows.ObjectRow.{ObjectRow}
 use Rattle.dep_schema.specs.declared.rows.FileRow.{FileRow}
 use Rattle.dep_schema.specs.declared.rows.MetadataRow.{MetadataRow}
 use Rattle.std.specs.declared.cmp.Ordering.{Ordering}
-use Rattle.std.specs.Ordering.{ordering_then}
+use Rattle.std.specs.Ordering.{ordering_then, is_eq}
+use Rattle.dep_statements.specs.Rows.{has_number}
 use Rattle.sqlite_value.specs.Order.{value_cmp}
 
 -- the one row of `format`
@@ -43,7 +44,7 @@ object_row r = Int (pos r.object) ∷ Null ∷ flag r.ingested ∷ Int (pos r.ob
 
 -- what a query shows of a stored row
 abbrev pub shown_object : Row → Row
-shown_object row = column row 0 ∷ column row 2 ∷ column row 3 ∷ column row 4 ∷ column row 5 ∷ column row 6 ∷ []
+shown_object stored = column stored 0 ∷ column stored 2 ∷ column stored 3 ∷ column stored 4 ∷ column stored 5 ∷ column stored 6 ∷ []
 
 -- each number is one of SQL's
 pub record IsStorableObject (r : ObjectRow) : Type 0 where
@@ -54,13 +55,13 @@ pub record IsStorableObject (r : ObjectRow) : Type 0 where
   pub changed : r.changed < 2 ^ 63
 
 -- the row that was shown has these values
-pub record IsObject (row : Row) (r : ObjectRow) : Type 0 where
-  pub object : column row 0 ≡ Int (pos r.object)
-  pub ingested : column row 1 ≡ flag r.ingested
-  pub object_tag : column row 2 ≡ Int (pos r.object_tag)
-  pub metadata_tag : column row 3 ≡ Int (pos r.metadata_tag)
-  pub files_tag : column row 4 ≡ Int (pos r.files_tag)
-  pub changed : column row 5 ≡ Int (pos r.changed)
+pub record IsObject (shown : Row) (r : ObjectRow) : Type 0 where
+  pub object : column shown 0 ≡ Int (pos r.object)
+  pub ingested : column shown 1 ≡ flag r.ingested
+  pub object_tag : column shown 2 ≡ Int (pos r.object_tag)
+  pub metadata_tag : column shown 3 ≡ Int (pos r.metadata_tag)
+  pub files_tag : column shown 4 ≡ Int (pos r.files_tag)
+  pub changed : column shown 5 ≡ Int (pos r.changed)
 
 abbrev pub text_of : String Global → Value
 text_of s = Text (string_bytes s)
@@ -74,10 +75,10 @@ file_row r content =
 
 -- what a query shows of a stored row
 abbrev pub shown_file : Row → Row
-shown_file row = column row 0 ∷ column row 2 ∷ column row 3 ∷ column row 4 ∷ column row 5 ∷ column row 6 ∷ column row 7 ∷ column row 8 ∷ column row 9 ∷ []
+shown_file stored = column stored 0 ∷ column stored 2 ∷ column stored 3 ∷ column stored 4 ∷ column stored 5 ∷ column stored 6 ∷ column stored 7 ∷ column stored 8 ∷ column stored 9 ∷ []
 
 abbrev pub content_in : Row → Value
-content_in row = column row 10
+content_in stored = column stored 10
 
 -- each number is one of SQL's
 pub record IsStorableFile (r : FileRow) : Type 0 where
@@ -88,16 +89,16 @@ pub record IsStorableFile (r : FileRow) : Type 0 where
   pub deposited : r.deposited < 2 ^ 63
 
 -- the row that was shown has these values
-pub record IsFile (row : Row) (r : FileRow) : Type 0 where
-  pub file : column row 0 ≡ Int (pos r.file)
-  pub object : column row 1 ≡ Int (pos r.object)
-  pub name : column row 2 ≡ text_of r.name
-  pub media : column row 3 ≡ text_of r.media
-  pub size : column row 4 ≡ Int (pos r.size)
-  pub tag : column row 5 ≡ Int (pos r.tag)
-  pub deposited : column row 6 ≡ Int (pos r.deposited)
-  pub behalf : column row 7 ≡ or_null text_of r.behalf
-  pub by_reference : column row 8 ≡ flag r.by_reference
+pub record IsFile (shown : Row) (r : FileRow) : Type 0 where
+  pub file : column shown 0 ≡ Int (pos r.file)
+  pub object : column shown 1 ≡ Int (pos r.object)
+  pub name : column shown 2 ≡ text_of r.name
+  pub media : column shown 3 ≡ text_of r.media
+  pub size : column shown 4 ≡ Int (pos r.size)
+  pub tag : column shown 5 ≡ Int (pos r.tag)
+  pub deposited : column shown 6 ≡ Int (pos r.deposited)
+  pub behalf : column shown 7 ≡ or_null text_of r.behalf
+  pub by_reference : column shown 8 ≡ flag r.by_reference
 
 abbrev pub metadata_values : MetadataRow → Row
 metadata_values r = Int (pos r.object) ∷ text_of r.name ∷ Int (pos r.place) ∷ text_of r.value ∷ []
@@ -108,11 +109,15 @@ metadata_row id r = Int id ∷ metadata_values r
 
 -- what a query shows of a stored row
 abbrev pub shown_metadata : Row → Row
-shown_metadata row = column row 1 ∷ column row 2 ∷ column row 3 ∷ column row 4 ∷ []
+shown_metadata stored = column stored 1 ∷ column stored 2 ∷ column stored 3 ∷ column stored 4 ∷ []
 
 -- by name and place, of rows as they are shown
 abbrev pub by_name_and_place : Row → Row → Ordering
 by_name_and_place a b = ordering_then (value_cmp (column a 1) (column b 1)) (value_cmp (column a 2) (column b 2))
+
+-- the stored row has this one's object, name and place
+abbrev pub has_key_of : MetadataRow → Row → Bool
+has_key_of r stored = has_number 1 r.object stored && is_eq (value_cmp (column stored 2) (text_of r.name)) && has_number 3 r.place stored
 
 -- each number is one of SQL's
 pub record IsStorableMetadata (r : MetadataRow) : Type 0 where
@@ -120,8 +125,8 @@ pub record IsStorableMetadata (r : MetadataRow) : Type 0 where
   pub place : r.place < 2 ^ 63
 
 -- the row that was shown has these values
-pub record IsMetadata (row : Row) (r : MetadataRow) : Type 0 where
-  pub object : column row 0 ≡ Int (pos r.object)
-  pub name : column row 1 ≡ text_of r.name
-  pub place : column row 2 ≡ Int (pos r.place)
-  pub value : column row 3 ≡ text_of r.value
+pub record IsMetadata (shown : Row) (r : MetadataRow) : Type 0 where
+  pub object : column shown 0 ≡ Int (pos r.object)
+  pub name : column shown 1 ≡ text_of r.name
+  pub place : column shown 2 ≡ Int (pos r.place)
+  pub value : column shown 3 ≡ text_of r.value

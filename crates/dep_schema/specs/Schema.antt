@@ -40,16 +40,3 @@ our_schema = record {
 -- the schema of an empty database
 abbrev pub no_schema : Schema
 no_schema = record { tables = []; indexes = []; views = [] }
-
--- what is there after each of the first four tables is made
-abbrev pub with_format : Schema
-with_format = record { tables = format_table ∷ []; indexes = []; views = [] }
-
-abbrev pub with_state : Schema
-with_state = record { tables = format_table ∷ state_table ∷ []; indexes = []; views = [] }
-
-abbrev pub with_objects : Schema
-with_objects = record { tables = format_table ∷ state_table ∷ objects_table ∷ []; indexes = []; views = [] }
-
-abbrev pub with_metadata : Schema
-with_metadata = record { tables = format_table ∷ state_table ∷ objects_table ∷ metadata_table ∷ []; indexes = index_of (codes "sqlite_autoindex_metadata_1") 4 3 (1 ∷ 2 ∷ 3 ∷ []) ∷ []; views = [] }

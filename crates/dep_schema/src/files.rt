@@ -49,6 +49,7 @@ pub fn insert_file<S: Alter>(
         → OnOk result (Leads (state S.Store tx.old.conn.now) (state S.Store tx.new.conn.now) (record (tables_of (state S.Store tx.old.conn.now)) { files = put_row (file_row row.now content.now) (tables_of (state S.Store tx.old.conn.now)).files })) }
     ensures free { HasCleanDisk (state S.Store tx.new.conn.now) → IsTrue (state S.Store tx.old.conn.now).in_transaction → IsOurs (state S.Store tx.old.conn.now)
         → OnOk result (row_at (tables_of (state S.Store tx.old.conn.now)).files row.now.file ≡ None) }
+    ensures inside { HasCleanDisk (state S.Store tx.new.conn.now) → IsTrue (state S.Store tx.old.conn.now).in_transaction → OnOk result (IsTrue (state S.Store tx.new.conn.now).in_transaction) }
     ensures kept { HasCleanDisk (state S.Store tx.new.conn.now) → IsTrue (state S.Store tx.old.conn.now).in_transaction → KeepsCommit (state S.Store tx.old.conn.now) (state S.Store tx.new.conn.now) }
     ensures same_reference { tx.new.conn.ghost_name ≡ tx.old.conn.ghost_name }
     ensures survives { Survives (state S.Store tx.old.conn.now) (state S.Store tx.new.conn.now) (λ _. ⊥) }
@@ -67,6 +68,7 @@ pub fn insert_file<S: Alter>(
 pub fn delete_file<S: Alter>(tx: &mut Transaction<'_, S>, file: u64) -> Result<(), StoreFault>
     ensures ok { HasCleanDisk (state S.Store tx.new.conn.now) → IsTrue (state S.Store tx.old.conn.now).in_transaction → IsOurs (state S.Store tx.old.conn.now)
         → OnOk result (Leads (state S.Store tx.old.conn.now) (state S.Store tx.new.conn.now) (record (tables_of (state S.Store tx.old.conn.now)) { files = without_rowid (pos file) (tables_of (state S.Store tx.old.conn.now)).files })) }
+    ensures inside { HasCleanDisk (state S.Store tx.new.conn.now) → IsTrue (state S.Store tx.old.conn.now).in_transaction → OnOk result (IsTrue (state S.Store tx.new.conn.now).in_transaction) }
     ensures kept { HasCleanDisk (state S.Store tx.new.conn.now) → IsTrue (state S.Store tx.old.conn.now).in_transaction → KeepsCommit (state S.Store tx.old.conn.now) (state S.Store tx.new.conn.now) }
     ensures same_reference { tx.new.conn.ghost_name ≡ tx.old.conn.ghost_name }
     ensures survives { Survives (state S.Store tx.old.conn.now) (state S.Store tx.new.conn.now) (λ _. ⊥) }
@@ -81,6 +83,7 @@ pub fn delete_file<S: Alter>(tx: &mut Transaction<'_, S>, file: u64) -> Result<(
 pub fn delete_files<S: Alter>(tx: &mut Transaction<'_, S>, object: u64) -> Result<(), StoreFault>
     ensures ok { HasCleanDisk (state S.Store tx.new.conn.now) → IsTrue (state S.Store tx.old.conn.now).in_transaction → IsOurs (state S.Store tx.old.conn.now)
         → OnOk result (Leads (state S.Store tx.old.conn.now) (state S.Store tx.new.conn.now) (record (tables_of (state S.Store tx.old.conn.now)) { files = filter (λ row. not (has_number 2 object row)) (tables_of (state S.Store tx.old.conn.now)).files })) }
+    ensures inside { HasCleanDisk (state S.Store tx.new.conn.now) → IsTrue (state S.Store tx.old.conn.now).in_transaction → OnOk result (IsTrue (state S.Store tx.new.conn.now).in_transaction) }
     ensures kept { HasCleanDisk (state S.Store tx.new.conn.now) → IsTrue (state S.Store tx.old.conn.now).in_transaction → KeepsCommit (state S.Store tx.old.conn.now) (state S.Store tx.new.conn.now) }
     ensures same_reference { tx.new.conn.ghost_name ≡ tx.old.conn.ghost_name }
     ensures survives { Survives (state S.Store tx.old.conn.now) (state S.Store tx.new.conn.now) (λ _. ⊥) }
@@ -131,6 +134,7 @@ pub fn find_file<S: Alter>(
 ) -> Result<Option<FileRow>, StoreFault>
     ensures ok { HasCleanDisk (state S.Store tx.new.conn.now) → IsOurs (state S.Store tx.old.conn.now) → IfOk result (λ found. option_map file_values found ≡ option_map shown_file (row_at (tables_of (state S.Store tx.old.conn.now)).files file)) }
     ensures same { HasCleanDisk (state S.Store tx.new.conn.now) → IsOurs (state S.Store tx.old.conn.now) → OnOk result (IsUnchanged (state S.Store tx.old.conn.now) (state S.Store tx.new.conn.now)) }
+    ensures inside { HasCleanDisk (state S.Store tx.new.conn.now) → IsTrue (state S.Store tx.old.conn.now).in_transaction → OnOk result (IsTrue (state S.Store tx.new.conn.now).in_transaction) }
     ensures kept { HasCleanDisk (state S.Store tx.new.conn.now) → IsTrue (state S.Store tx.old.conn.now).in_transaction → KeepsCommit (state S.Store tx.old.conn.now) (state S.Store tx.new.conn.now) }
     ensures same_reference { tx.new.conn.ghost_name ≡ tx.old.conn.ghost_name }
     ensures survives { Survives (state S.Store tx.old.conn.now) (state S.Store tx.new.conn.now) (λ _. ⊥) }
@@ -170,6 +174,7 @@ pub fn files_of<S: Alter>(
 ) -> Result<Vec<FileRow>, StoreFault>
     ensures ok { HasCleanDisk (state S.Store tx.new.conn.now) → IsOurs (state S.Store tx.old.conn.now) → IfOk result (λ found. map file_values found.items ≡ map shown_file (filter (has_number 2 object) (tables_of (state S.Store tx.old.conn.now)).files)) }
     ensures same { HasCleanDisk (state S.Store tx.new.conn.now) → IsOurs (state S.Store tx.old.conn.now) → OnOk result (IsUnchanged (state S.Store tx.old.conn.now) (state S.Store tx.new.conn.now)) }
+    ensures inside { HasCleanDisk (state S.Store tx.new.conn.now) → IsTrue (state S.Store tx.old.conn.now).in_transaction → OnOk result (IsTrue (state S.Store tx.new.conn.now).in_transaction) }
     ensures kept { HasCleanDisk (state S.Store tx.new.conn.now) → IsTrue (state S.Store tx.old.conn.now).in_transaction → KeepsCommit (state S.Store tx.old.conn.now) (state S.Store tx.new.conn.now) }
     ensures same_reference { tx.new.conn.ghost_name ≡ tx.old.conn.ghost_name }
     ensures survives { Survives (state S.Store tx.old.conn.now) (state S.Store tx.new.conn.now) (λ _. ⊥) }
@@ -205,6 +210,7 @@ pub fn read_content<S: Alter>(
 ) -> Result<Option<Vec<u8>>, StoreFault>
     ensures ok { HasCleanDisk (state S.Store tx.new.conn.now) → IsOurs (state S.Store tx.old.conn.now) → IfOk result (λ found. option_map (λ b. Blob b.items) found ≡ option_map content_in (row_at (tables_of (state S.Store tx.old.conn.now)).files file)) }
     ensures same { HasCleanDisk (state S.Store tx.new.conn.now) → IsOurs (state S.Store tx.old.conn.now) → OnOk result (IsUnchanged (state S.Store tx.old.conn.now) (state S.Store tx.new.conn.now)) }
+    ensures inside { HasCleanDisk (state S.Store tx.new.conn.now) → IsTrue (state S.Store tx.old.conn.now).in_transaction → OnOk result (IsTrue (state S.Store tx.new.conn.now).in_transaction) }
     ensures kept { HasCleanDisk (state S.Store tx.new.conn.now) → IsTrue (state S.Store tx.old.conn.now).in_transaction → KeepsCommit (state S.Store tx.old.conn.now) (state S.Store tx.new.conn.now) }
     ensures same_reference { tx.new.conn.ghost_name ≡ tx.old.conn.ghost_name }
     ensures survives { Survives (state S.Store tx.old.conn.now) (state S.Store tx.new.conn.now) (λ _. ⊥) }

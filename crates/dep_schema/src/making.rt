@@ -1,12 +1,16 @@
-//! The tables of an empty database, and their first rows.
+//! The tables of a new store, and their first rows, beside what is there.
 
-ghost use Rattle.std.specs.Prelude.{◌≡◌, IsTrue, OnOk};
+ghost use Rattle.std.specs.Prelude.{◌≡◌, ◌∷◌, [], IsTrue, OnOk};
 ghost use Rattle.sqlite.specs.State.{HasCleanDisk, KeepsCommit, Survives};
 ghost use Rattle.sqlite.specs.Held.{state};
-ghost use Rattle.sqlite_trees.specs.Tree.{put_row};
-ghost use Rattle.dep_schema.specs.Schema.{no_schema, with_format, with_state, with_objects, with_metadata};
+ghost use Rattle.sqlite.specs.Schema.{Schema};
+ghost use Rattle.sqlite.specs.Effect.{Database};
+ghost use Rattle.sqlite_catalog.specs.Change.{created, next_tree};
+ghost use Rattle.dep_statements.specs.Adding.{Adds, AddsAll, Puts};
+ghost use Rattle.dep_schema.specs.Beside.{AreFree, with_ours};
+ghost use Rattle.dep_schema.specs.Schema.{no_schema, format_table, state_table, objects_table, metadata_table, files_table};
 ghost use Rattle.dep_schema.specs.Rows.{format_row, state_row};
-ghost use Rattle.dep_schema.specs.Tables.{tables_of, IsOurs, IsBlank, Sees, Leads, no_rows, first_tables, first_state};
+ghost use Rattle.dep_schema.specs.Tables.{Sees, GainsOurs, first_tables, first_state};
 
 use crate::calls::run;
 use crate::fault::StoreFault;
@@ -14,8 +18,7 @@ use sqlite::{Alter, Transaction};
 
 /// The version of the tables.
 fn create_format<S: Alter>(tx: &mut Transaction<'_, S>) -> Result<(), StoreFault>
-    ensures ok { HasCleanDisk (state S.Store tx.new.conn.now) → IsTrue (state S.Store tx.old.conn.now).in_transaction → IsBlank no_schema (state S.Store tx.old.conn.now)
-        → OnOk result (IsBlank with_format (state S.Store tx.new.conn.now)) }
+    ensures adds { HasCleanDisk (state S.Store tx.new.conn.now) → IsTrue (state S.Store tx.old.conn.now).in_transaction → OnOk result (Adds format_table (state S.Store tx.old.conn.now).now (state S.Store tx.new.conn.now).now) }
     ensures inside { HasCleanDisk (state S.Store tx.new.conn.now) → IsTrue (state S.Store tx.old.conn.now).in_transaction → OnOk result (IsTrue (state S.Store tx.new.conn.now).in_transaction) }
     ensures kept { HasCleanDisk (state S.Store tx.new.conn.now) → IsTrue (state S.Store tx.old.conn.now).in_transaction → KeepsCommit (state S.Store tx.old.conn.now) (state S.Store tx.new.conn.now) }
     ensures same_reference { tx.new.conn.ghost_name ≡ tx.old.conn.ghost_name }
@@ -30,8 +33,7 @@ fn create_format<S: Alter>(tx: &mut Transaction<'_, S>) -> Result<(), StoreFault
 
 /// The clock and the counters.
 fn create_state<S: Alter>(tx: &mut Transaction<'_, S>) -> Result<(), StoreFault>
-    ensures ok { HasCleanDisk (state S.Store tx.new.conn.now) → IsTrue (state S.Store tx.old.conn.now).in_transaction → IsBlank with_format (state S.Store tx.old.conn.now)
-        → OnOk result (IsBlank with_state (state S.Store tx.new.conn.now)) }
+    ensures adds { HasCleanDisk (state S.Store tx.new.conn.now) → IsTrue (state S.Store tx.old.conn.now).in_transaction → OnOk result (Adds state_table (state S.Store tx.old.conn.now).now (state S.Store tx.new.conn.now).now) }
     ensures inside { HasCleanDisk (state S.Store tx.new.conn.now) → IsTrue (state S.Store tx.old.conn.now).in_transaction → OnOk result (IsTrue (state S.Store tx.new.conn.now).in_transaction) }
     ensures kept { HasCleanDisk (state S.Store tx.new.conn.now) → IsTrue (state S.Store tx.old.conn.now).in_transaction → KeepsCommit (state S.Store tx.old.conn.now) (state S.Store tx.new.conn.now) }
     ensures same_reference { tx.new.conn.ghost_name ≡ tx.old.conn.ghost_name }
@@ -46,8 +48,7 @@ fn create_state<S: Alter>(tx: &mut Transaction<'_, S>) -> Result<(), StoreFault>
 
 /// One row for each object.
 fn create_objects<S: Alter>(tx: &mut Transaction<'_, S>) -> Result<(), StoreFault>
-    ensures ok { HasCleanDisk (state S.Store tx.new.conn.now) → IsTrue (state S.Store tx.old.conn.now).in_transaction → IsBlank with_state (state S.Store tx.old.conn.now)
-        → OnOk result (IsBlank with_objects (state S.Store tx.new.conn.now)) }
+    ensures adds { HasCleanDisk (state S.Store tx.new.conn.now) → IsTrue (state S.Store tx.old.conn.now).in_transaction → OnOk result (Adds objects_table (state S.Store tx.old.conn.now).now (state S.Store tx.new.conn.now).now) }
     ensures inside { HasCleanDisk (state S.Store tx.new.conn.now) → IsTrue (state S.Store tx.old.conn.now).in_transaction → OnOk result (IsTrue (state S.Store tx.new.conn.now).in_transaction) }
     ensures kept { HasCleanDisk (state S.Store tx.new.conn.now) → IsTrue (state S.Store tx.old.conn.now).in_transaction → KeepsCommit (state S.Store tx.old.conn.now) (state S.Store tx.new.conn.now) }
     ensures same_reference { tx.new.conn.ghost_name ≡ tx.old.conn.ghost_name }
@@ -62,8 +63,7 @@ fn create_objects<S: Alter>(tx: &mut Transaction<'_, S>) -> Result<(), StoreFaul
 
 /// One row for each value of an object's metadata.
 fn create_metadata<S: Alter>(tx: &mut Transaction<'_, S>) -> Result<(), StoreFault>
-    ensures ok { HasCleanDisk (state S.Store tx.new.conn.now) → IsTrue (state S.Store tx.old.conn.now).in_transaction → IsBlank with_objects (state S.Store tx.old.conn.now)
-        → OnOk result (IsBlank with_metadata (state S.Store tx.new.conn.now)) }
+    ensures adds { HasCleanDisk (state S.Store tx.new.conn.now) → IsTrue (state S.Store tx.old.conn.now).in_transaction → OnOk result (Adds metadata_table (state S.Store tx.old.conn.now).now (state S.Store tx.new.conn.now).now) }
     ensures inside { HasCleanDisk (state S.Store tx.new.conn.now) → IsTrue (state S.Store tx.old.conn.now).in_transaction → OnOk result (IsTrue (state S.Store tx.new.conn.now).in_transaction) }
     ensures kept { HasCleanDisk (state S.Store tx.new.conn.now) → IsTrue (state S.Store tx.old.conn.now).in_transaction → KeepsCommit (state S.Store tx.old.conn.now) (state S.Store tx.new.conn.now) }
     ensures same_reference { tx.new.conn.ghost_name ≡ tx.old.conn.ghost_name }
@@ -78,8 +78,7 @@ fn create_metadata<S: Alter>(tx: &mut Transaction<'_, S>) -> Result<(), StoreFau
 
 /// One row for each file.
 fn create_files<S: Alter>(tx: &mut Transaction<'_, S>) -> Result<(), StoreFault>
-    ensures ok { HasCleanDisk (state S.Store tx.new.conn.now) → IsTrue (state S.Store tx.old.conn.now).in_transaction → IsBlank with_metadata (state S.Store tx.old.conn.now)
-        → OnOk result (Sees (state S.Store tx.new.conn.now) no_rows) }
+    ensures adds { HasCleanDisk (state S.Store tx.new.conn.now) → IsTrue (state S.Store tx.old.conn.now).in_transaction → OnOk result (Adds files_table (state S.Store tx.old.conn.now).now (state S.Store tx.new.conn.now).now) }
     ensures inside { HasCleanDisk (state S.Store tx.new.conn.now) → IsTrue (state S.Store tx.old.conn.now).in_transaction → OnOk result (IsTrue (state S.Store tx.new.conn.now).in_transaction) }
     ensures kept { HasCleanDisk (state S.Store tx.new.conn.now) → IsTrue (state S.Store tx.old.conn.now).in_transaction → KeepsCommit (state S.Store tx.old.conn.now) (state S.Store tx.new.conn.now) }
     ensures same_reference { tx.new.conn.ghost_name ≡ tx.old.conn.ghost_name }
@@ -94,8 +93,7 @@ fn create_files<S: Alter>(tx: &mut Transaction<'_, S>) -> Result<(), StoreFault>
 
 /// Version 0.
 fn add_format<S: Alter>(tx: &mut Transaction<'_, S>) -> Result<(), StoreFault>
-    ensures ok { HasCleanDisk (state S.Store tx.new.conn.now) → IsTrue (state S.Store tx.old.conn.now).in_transaction → IsOurs (state S.Store tx.old.conn.now)
-        → OnOk result (Leads (state S.Store tx.old.conn.now) (state S.Store tx.new.conn.now) (record (tables_of (state S.Store tx.old.conn.now)) { format = put_row (format_row 0) (tables_of (state S.Store tx.old.conn.now)).format })) }
+    ensures beside { HasCleanDisk (state S.Store tx.new.conn.now) → IsTrue (state S.Store tx.old.conn.now).in_transaction → (others : Schema) → AreFree others → (state S.Store tx.old.conn.now).now.schema ≡ with_ours others → OnOk result (Puts (next_tree others) (format_row 0) (state S.Store tx.old.conn.now).now (state S.Store tx.new.conn.now).now) }
     ensures inside { HasCleanDisk (state S.Store tx.new.conn.now) → IsTrue (state S.Store tx.old.conn.now).in_transaction → OnOk result (IsTrue (state S.Store tx.new.conn.now).in_transaction) }
     ensures kept { HasCleanDisk (state S.Store tx.new.conn.now) → IsTrue (state S.Store tx.old.conn.now).in_transaction → KeepsCommit (state S.Store tx.old.conn.now) (state S.Store tx.new.conn.now) }
     ensures same_reference { tx.new.conn.ghost_name ≡ tx.old.conn.ghost_name }
@@ -106,8 +104,7 @@ fn add_format<S: Alter>(tx: &mut Transaction<'_, S>) -> Result<(), StoreFault>
 
 /// The clock at 0, and each counter at 1.
 fn add_state<S: Alter>(tx: &mut Transaction<'_, S>) -> Result<(), StoreFault>
-    ensures ok { HasCleanDisk (state S.Store tx.new.conn.now) → IsTrue (state S.Store tx.old.conn.now).in_transaction → IsOurs (state S.Store tx.old.conn.now)
-        → OnOk result (Leads (state S.Store tx.old.conn.now) (state S.Store tx.new.conn.now) (record (tables_of (state S.Store tx.old.conn.now)) { state = put_row (state_row first_state) (tables_of (state S.Store tx.old.conn.now)).state })) }
+    ensures beside { HasCleanDisk (state S.Store tx.new.conn.now) → IsTrue (state S.Store tx.old.conn.now).in_transaction → (others : Schema) → AreFree others → (state S.Store tx.old.conn.now).now.schema ≡ with_ours others → OnOk result (Puts (next_tree (created others format_table)) (state_row first_state) (state S.Store tx.old.conn.now).now (state S.Store tx.new.conn.now).now) }
     ensures inside { HasCleanDisk (state S.Store tx.new.conn.now) → IsTrue (state S.Store tx.old.conn.now).in_transaction → OnOk result (IsTrue (state S.Store tx.new.conn.now).in_transaction) }
     ensures kept { HasCleanDisk (state S.Store tx.new.conn.now) → IsTrue (state S.Store tx.old.conn.now).in_transaction → KeepsCommit (state S.Store tx.old.conn.now) (state S.Store tx.new.conn.now) }
     ensures same_reference { tx.new.conn.ghost_name ≡ tx.old.conn.ghost_name }
@@ -122,8 +119,7 @@ fn add_state<S: Alter>(tx: &mut Transaction<'_, S>) -> Result<(), StoreFault>
 
 /// The first three tables.
 fn create_first<S: Alter>(tx: &mut Transaction<'_, S>) -> Result<(), StoreFault>
-    ensures ok { HasCleanDisk (state S.Store tx.new.conn.now) → IsTrue (state S.Store tx.old.conn.now).in_transaction → IsBlank no_schema (state S.Store tx.old.conn.now)
-        → OnOk result (IsBlank with_objects (state S.Store tx.new.conn.now)) }
+    ensures adds { HasCleanDisk (state S.Store tx.new.conn.now) → IsTrue (state S.Store tx.old.conn.now).in_transaction → OnOk result (AddsAll (format_table ∷ state_table ∷ objects_table ∷ []) (state S.Store tx.old.conn.now).now (state S.Store tx.new.conn.now).now) }
     ensures inside { HasCleanDisk (state S.Store tx.new.conn.now) → IsTrue (state S.Store tx.old.conn.now).in_transaction → OnOk result (IsTrue (state S.Store tx.new.conn.now).in_transaction) }
     ensures kept { HasCleanDisk (state S.Store tx.new.conn.now) → IsTrue (state S.Store tx.old.conn.now).in_transaction → KeepsCommit (state S.Store tx.old.conn.now) (state S.Store tx.new.conn.now) }
     ensures same_reference { tx.new.conn.ghost_name ≡ tx.old.conn.ghost_name }
@@ -136,8 +132,7 @@ fn create_first<S: Alter>(tx: &mut Transaction<'_, S>) -> Result<(), StoreFault>
 
 /// The tables after them.
 fn create_last<S: Alter>(tx: &mut Transaction<'_, S>) -> Result<(), StoreFault>
-    ensures ok { HasCleanDisk (state S.Store tx.new.conn.now) → IsTrue (state S.Store tx.old.conn.now).in_transaction → IsBlank with_objects (state S.Store tx.old.conn.now)
-        → OnOk result (Sees (state S.Store tx.new.conn.now) no_rows) }
+    ensures adds { HasCleanDisk (state S.Store tx.new.conn.now) → IsTrue (state S.Store tx.old.conn.now).in_transaction → OnOk result (AddsAll (metadata_table ∷ files_table ∷ []) (state S.Store tx.old.conn.now).now (state S.Store tx.new.conn.now).now) }
     ensures inside { HasCleanDisk (state S.Store tx.new.conn.now) → IsTrue (state S.Store tx.old.conn.now).in_transaction → OnOk result (IsTrue (state S.Store tx.new.conn.now).in_transaction) }
     ensures kept { HasCleanDisk (state S.Store tx.new.conn.now) → IsTrue (state S.Store tx.old.conn.now).in_transaction → KeepsCommit (state S.Store tx.old.conn.now) (state S.Store tx.new.conn.now) }
     ensures same_reference { tx.new.conn.ghost_name ≡ tx.old.conn.ghost_name }
@@ -149,8 +144,8 @@ fn create_last<S: Alter>(tx: &mut Transaction<'_, S>) -> Result<(), StoreFault>
 
 /// The rows of a new store.
 fn add_rows<S: Alter>(tx: &mut Transaction<'_, S>) -> Result<(), StoreFault>
-    ensures ok { HasCleanDisk (state S.Store tx.new.conn.now) → IsTrue (state S.Store tx.old.conn.now).in_transaction → Sees (state S.Store tx.old.conn.now) no_rows
-        → OnOk result (Sees (state S.Store tx.new.conn.now) first_tables) }
+    ensures beside { HasCleanDisk (state S.Store tx.new.conn.now) → IsTrue (state S.Store tx.old.conn.now).in_transaction → (others : Schema) → AreFree others → (state S.Store tx.old.conn.now).now.schema ≡ with_ours others
+        → OnOk result ((next : Database) × Puts (next_tree others) (format_row 0) (state S.Store tx.old.conn.now).now next × Puts (next_tree (created others format_table)) (state_row first_state) next (state S.Store tx.new.conn.now).now) }
     ensures inside { HasCleanDisk (state S.Store tx.new.conn.now) → IsTrue (state S.Store tx.old.conn.now).in_transaction → OnOk result (IsTrue (state S.Store tx.new.conn.now).in_transaction) }
     ensures kept { HasCleanDisk (state S.Store tx.new.conn.now) → IsTrue (state S.Store tx.old.conn.now).in_transaction → KeepsCommit (state S.Store tx.old.conn.now) (state S.Store tx.new.conn.now) }
     ensures same_reference { tx.new.conn.ghost_name ≡ tx.old.conn.ghost_name }
@@ -160,10 +155,11 @@ fn add_rows<S: Alter>(tx: &mut Transaction<'_, S>) -> Result<(), StoreFault>
     add_state(tx)
 }
 
-/// The tables of a new store, in an empty database.
+/// The tables of a new store, where their names are free.
 pub(crate) fn make_tables<S: Alter>(tx: &mut Transaction<'_, S>) -> Result<(), StoreFault>
-    ensures ok { HasCleanDisk (state S.Store tx.new.conn.now) → IsTrue (state S.Store tx.old.conn.now).in_transaction → IsBlank no_schema (state S.Store tx.old.conn.now)
+    ensures ok { HasCleanDisk (state S.Store tx.new.conn.now) → IsTrue (state S.Store tx.old.conn.now).in_transaction → (state S.Store tx.old.conn.now).now.schema ≡ no_schema
         → OnOk result (Sees (state S.Store tx.new.conn.now) first_tables) }
+    ensures gains { HasCleanDisk (state S.Store tx.new.conn.now) → IsTrue (state S.Store tx.old.conn.now).in_transaction → OnOk result (GainsOurs (state S.Store tx.old.conn.now).now (state S.Store tx.new.conn.now).now) }
     ensures inside { HasCleanDisk (state S.Store tx.new.conn.now) → IsTrue (state S.Store tx.old.conn.now).in_transaction → OnOk result (IsTrue (state S.Store tx.new.conn.now).in_transaction) }
     ensures kept { HasCleanDisk (state S.Store tx.new.conn.now) → IsTrue (state S.Store tx.old.conn.now).in_transaction → KeepsCommit (state S.Store tx.old.conn.now) (state S.Store tx.new.conn.now) }
     ensures same_reference { tx.new.conn.ghost_name ≡ tx.old.conn.ghost_name }

@@ -1,6 +1,7 @@
 //! The rows of the objects' metadata.
 
-ghost use Rattle.std.specs.Prelude.{◌≡◌, ◌∷◌, [], pos, not, List, IsTrue, OnOk, IfOk, filter, map};
+ghost use Rattle.std.specs.Prelude.{◌≡◌, ◌∷◌, [], pos, not, false, List, IsTrue, OnOk, IfOk, filter, map};
+ghost use Rattle.std.specs.List.{list_any};
 ghost use Rattle.std.specs.List.Sorted.{IsPermutation, IsSorted};
 ghost use Rattle.sqlite.specs.Order.{Row as Values};
 ghost use Rattle.sqlite.specs.State.{HasCleanDisk, KeepsCommit, Survives, IsUnchanged};
@@ -9,7 +10,7 @@ ghost use Rattle.sqlite.specs.Values.{bound};
 ghost use Rattle.sqlite_trees.specs.Tree.{put_row};
 ghost use Rattle.sqlite_rules.specs.Edit.{next_rowid};
 ghost use Rattle.dep_statements.specs.Rows.{has_number};
-ghost use Rattle.dep_schema.specs.Rows.{IsStorableMetadata, IsMetadata, metadata_row, metadata_values, shown_metadata, by_name_and_place};
+ghost use Rattle.dep_schema.specs.Rows.{has_key_of, IsStorableMetadata, IsMetadata, metadata_row, metadata_values, shown_metadata, by_name_and_place};
 ghost use Rattle.dep_schema.specs.Tables.{tables_of, IsOurs, Leads};
 
 use crate::calls::{ask, run};
@@ -38,6 +39,9 @@ pub fn insert_metadata<S: Alter>(
 ) -> Result<(), StoreFault>
     ensures ok { HasCleanDisk (state S.Store tx.new.conn.now) → IsTrue (state S.Store tx.old.conn.now).in_transaction → IsOurs (state S.Store tx.old.conn.now)
         → OnOk result (Leads (state S.Store tx.old.conn.now) (state S.Store tx.new.conn.now) (record (tables_of (state S.Store tx.old.conn.now)) { metadata = put_row (metadata_row (next_rowid (tables_of (state S.Store tx.old.conn.now)).metadata) row.now) (tables_of (state S.Store tx.old.conn.now)).metadata })) }
+    ensures free { HasCleanDisk (state S.Store tx.new.conn.now) → IsTrue (state S.Store tx.old.conn.now).in_transaction → IsOurs (state S.Store tx.old.conn.now)
+        → OnOk result (list_any (has_key_of row.now) (tables_of (state S.Store tx.old.conn.now)).metadata ≡ false) }
+    ensures inside { HasCleanDisk (state S.Store tx.new.conn.now) → IsTrue (state S.Store tx.old.conn.now).in_transaction → OnOk result (IsTrue (state S.Store tx.new.conn.now).in_transaction) }
     ensures kept { HasCleanDisk (state S.Store tx.new.conn.now) → IsTrue (state S.Store tx.old.conn.now).in_transaction → KeepsCommit (state S.Store tx.old.conn.now) (state S.Store tx.new.conn.now) }
     ensures same_reference { tx.new.conn.ghost_name ≡ tx.old.conn.ghost_name }
     ensures survives { Survives (state S.Store tx.old.conn.now) (state S.Store tx.new.conn.now) (λ _. ⊥) }
@@ -56,6 +60,7 @@ pub fn insert_metadata<S: Alter>(
 pub fn delete_metadata<S: Alter>(tx: &mut Transaction<'_, S>, object: u64) -> Result<(), StoreFault>
     ensures ok { HasCleanDisk (state S.Store tx.new.conn.now) → IsTrue (state S.Store tx.old.conn.now).in_transaction → IsOurs (state S.Store tx.old.conn.now)
         → OnOk result (Leads (state S.Store tx.old.conn.now) (state S.Store tx.new.conn.now) (record (tables_of (state S.Store tx.old.conn.now)) { metadata = filter (λ row. not (has_number 1 object row)) (tables_of (state S.Store tx.old.conn.now)).metadata })) }
+    ensures inside { HasCleanDisk (state S.Store tx.new.conn.now) → IsTrue (state S.Store tx.old.conn.now).in_transaction → OnOk result (IsTrue (state S.Store tx.new.conn.now).in_transaction) }
     ensures kept { HasCleanDisk (state S.Store tx.new.conn.now) → IsTrue (state S.Store tx.old.conn.now).in_transaction → KeepsCommit (state S.Store tx.old.conn.now) (state S.Store tx.new.conn.now) }
     ensures same_reference { tx.new.conn.ghost_name ≡ tx.old.conn.ghost_name }
     ensures survives { Survives (state S.Store tx.old.conn.now) (state S.Store tx.new.conn.now) (λ _. ⊥) }
@@ -106,6 +111,7 @@ pub fn metadata_of<S: Alter>(
     ensures ok { HasCleanDisk (state S.Store tx.new.conn.now) → IsOurs (state S.Store tx.old.conn.now) → IfOk result (λ found. IsPermutation (map shown_metadata (filter (has_number 1 object) (tables_of (state S.Store tx.old.conn.now)).metadata)) (map metadata_values found.items)) }
     ensures sorted { HasCleanDisk (state S.Store tx.new.conn.now) → IsOurs (state S.Store tx.old.conn.now) → IfOk result (λ found. IsSorted by_name_and_place (map metadata_values found.items)) }
     ensures same { HasCleanDisk (state S.Store tx.new.conn.now) → IsOurs (state S.Store tx.old.conn.now) → OnOk result (IsUnchanged (state S.Store tx.old.conn.now) (state S.Store tx.new.conn.now)) }
+    ensures inside { HasCleanDisk (state S.Store tx.new.conn.now) → IsTrue (state S.Store tx.old.conn.now).in_transaction → OnOk result (IsTrue (state S.Store tx.new.conn.now).in_transaction) }
     ensures kept { HasCleanDisk (state S.Store tx.new.conn.now) → IsTrue (state S.Store tx.old.conn.now).in_transaction → KeepsCommit (state S.Store tx.old.conn.now) (state S.Store tx.new.conn.now) }
     ensures same_reference { tx.new.conn.ghost_name ≡ tx.old.conn.ghost_name }
     ensures survives { Survives (state S.Store tx.old.conn.now) (state S.Store tx.new.conn.now) (λ _. ⊥) }

@@ -6,7 +6,9 @@ ghost use Rattle.sqlite.specs.Order.{column};
 ghost use Rattle.sqlite.specs.State.{HasCleanDisk, IsUnchanged, KeepsCommit, Survives};
 ghost use Rattle.sqlite.specs.Held.{state};
 ghost use Rattle.dep_schema.specs.Schema.{no_schema};
-ghost use Rattle.dep_schema.specs.Tables.{tables_of, IsOurs, Sees, Stands, HasVersion, IsOpenable, CommitsOpen, first_tables};
+ghost use Rattle.dep_schema.specs.Tables.{tables_of, IsOurs, Sees, Stands, HasVersion, IsOpenable, CommitsOpen, GainsOurs, StandsBeside, first_tables};
+ghost use Rattle.dep_statements.specs.Adding.{HasCounters};
+ghost use Rattle.dep_schema.specs.Beside.{LacksFormat, AreFree};
 
 use crate::fault::{StoreFault, fault_of};
 use crate::making::make_tables;
@@ -54,7 +56,7 @@ fn is_known(row: &Row) -> bool
 
 /// Whether it is the one row of id 1 and version 0.
 fn are_known(rows: &[Row]) -> bool
-    ensures { IsTrue result ↔ ((row : _) × (rows.now ≡ row ∷ []) × (column row 0 ≡ Int (pos 1)) × (column row 1 ≡ Int (pos 0))) }
+    ensures { IsTrue result ↔ ((found : _) × (rows.now ≡ found ∷ []) × (column found 0 ≡ Int (pos 1)) × (column found 1 ≡ Int (pos 0))) }
 {
     match rows {
         [row] => is_known(row),
@@ -74,7 +76,9 @@ fn find_format<S: Alter>(tx: &mut Transaction<'_, S>) -> Result<bool, OpenFault>
     ensures empty { HasCleanDisk (state S.Store tx.new.conn.now) → (state S.Store tx.old.conn.now).now.schema ≡ no_schema → MatchResult result (λ found. found ≡ false) (λ fault. fault ≢ OpenFault.UnknownVersion) }
     ensures ours { HasCleanDisk (state S.Store tx.new.conn.now) → IsOurs (state S.Store tx.old.conn.now)
         → MatchResult result (λ found. IsTrue found × HasVersion 0 (tables_of (state S.Store tx.old.conn.now))) (λ fault. fault ≡ OpenFault.UnknownVersion → HasVersion 0 (tables_of (state S.Store tx.old.conn.now)) → ⊥) }
+    ensures lacking { HasCleanDisk (state S.Store tx.new.conn.now) → LacksFormat (state S.Store tx.old.conn.now).now.schema → MatchResult result (λ found. found ≡ false) (λ fault. fault ≢ OpenFault.UnknownVersion) }
     ensures same { HasCleanDisk (state S.Store tx.new.conn.now) → IsOurs (state S.Store tx.old.conn.now) ⊎ ((state S.Store tx.old.conn.now).now.schema ≡ no_schema) → OnOk result (IsUnchanged (state S.Store tx.old.conn.now) (state S.Store tx.new.conn.now)) }
+    ensures left { HasCleanDisk (state S.Store tx.new.conn.now) → LacksFormat (state S.Store tx.old.conn.now).now.schema → OnOk result (IsUnchanged (state S.Store tx.old.conn.now) (state S.Store tx.new.conn.now)) }
     ensures inside { HasCleanDisk (state S.Store tx.new.conn.now) → IsTrue (state S.Store tx.old.conn.now).in_transaction → OnOk result (IsTrue (state S.Store tx.new.conn.now).in_transaction) }
     ensures kept { HasCleanDisk (state S.Store tx.new.conn.now) → IsTrue (state S.Store tx.old.conn.now).in_transaction → KeepsCommit (state S.Store tx.old.conn.now) (state S.Store tx.new.conn.now) }
     ensures same_reference { tx.new.conn.ghost_name ≡ tx.old.conn.ghost_name }
@@ -106,6 +110,8 @@ fn find_or_make<S: Alter>(tx: &mut Transaction<'_, S>) -> Result<(), OpenFault>
         → OnOk result (HasVersion 0 (tables_of (state S.Store tx.old.conn.now)) × ((state S.Store tx.new.conn.now).now ≡ (state S.Store tx.old.conn.now).now)) }
     ensures version { HasCleanDisk (state S.Store tx.new.conn.now) → result ≡ Err OpenFault.UnknownVersion
         → (((state S.Store tx.old.conn.now).now.schema ≡ no_schema → ⊥) × (IsOurs (state S.Store tx.old.conn.now) → HasVersion 0 (tables_of (state S.Store tx.old.conn.now)) → ⊥)) }
+    ensures gains { HasCleanDisk (state S.Store tx.new.conn.now) → IsTrue (state S.Store tx.old.conn.now).in_transaction → LacksFormat (state S.Store tx.old.conn.now).now.schema → OnOk result (GainsOurs (state S.Store tx.old.conn.now).now (state S.Store tx.new.conn.now).now) }
+    ensures lacking { HasCleanDisk (state S.Store tx.new.conn.now) → result ≡ Err OpenFault.UnknownVersion → LacksFormat (state S.Store tx.old.conn.now).now.schema → ⊥ }
     ensures inside { HasCleanDisk (state S.Store tx.new.conn.now) → IsTrue (state S.Store tx.old.conn.now).in_transaction → OnOk result (IsTrue (state S.Store tx.new.conn.now).in_transaction) }
     ensures kept { HasCleanDisk (state S.Store tx.new.conn.now) → IsTrue (state S.Store tx.old.conn.now).in_transaction → KeepsCommit (state S.Store tx.old.conn.now) (state S.Store tx.new.conn.now) }
     ensures same_reference { tx.new.conn.ghost_name ≡ tx.old.conn.ghost_name }
@@ -127,6 +133,9 @@ fn prepare<S: Alter>(connection: &mut Connection<S>) -> Result<(), OpenFault>
         → OnOk result (HasVersion 0 (tables_of (state S.Store connection.old)) × Stands (state S.Store connection.new) (tables_of (state S.Store connection.old))) }
     ensures version { HasCleanDisk (state S.Store connection.new) → result ≡ Err OpenFault.UnknownVersion
         → (((state S.Store connection.old).now.schema ≡ no_schema → ⊥) × (IsOurs (state S.Store connection.old) → HasVersion 0 (tables_of (state S.Store connection.old)) → ⊥)) }
+    ensures lacking { HasCleanDisk (state S.Store connection.new) → result ≡ Err OpenFault.UnknownVersion → LacksFormat (state S.Store connection.old).now.schema → ⊥ }
+    ensures free { HasCleanDisk (state S.Store connection.new) → LacksFormat (state S.Store connection.old).now.schema → OnOk result (AreFree (state S.Store connection.old).now.schema) }
+    ensures beside { HasCleanDisk (state S.Store connection.new) → LacksFormat (state S.Store connection.old).now.schema → HasCounters (state S.Store connection.old).now.schema → OnOk result (StandsBeside (state S.Store connection.old) (state S.Store connection.new)) }
     ensures left { HasCleanDisk (state S.Store connection.new) → IsTrue (state S.Store connection.new).is_open
         → OnErr result (((state S.Store connection.new).now ≡ (state S.Store connection.old).committed) × ((state S.Store connection.new).committed ≡ (state S.Store connection.old).committed)) }
     ensures mode { (state S.Store connection.new).in_transaction ≡ false }
@@ -150,6 +159,9 @@ pub fn open<S: Alter>(
     ensures fresh { IfOk result (λ schema. HasCleanDisk (state S.Store schema.connection) → (state S.Store connection).now.schema ≡ no_schema → Stands (state S.Store schema.connection) first_tables) }
     ensures found { IfOk result (λ schema. HasCleanDisk (state S.Store schema.connection) → IsOurs (state S.Store connection)
         → HasVersion 0 (tables_of (state S.Store connection)) × Stands (state S.Store schema.connection) (tables_of (state S.Store connection))) }
+    ensures free { IfOk result (λ schema. HasCleanDisk (state S.Store schema.connection) → LacksFormat (state S.Store connection).now.schema → AreFree (state S.Store connection).now.schema) }
+    ensures beside { IfOk result (λ schema. HasCleanDisk (state S.Store schema.connection) → LacksFormat (state S.Store connection).now.schema → HasCounters (state S.Store connection).now.schema
+        → StandsBeside (state S.Store connection) (state S.Store schema.connection)) }
     ensures version { IfErr result (λ e. HasCleanDisk (state S.Store e.1) → e.0 ≡ OpenFault.UnknownVersion → IsOpenable (state S.Store connection) → ⊥) }
     ensures left { IfErr result (λ e. HasCleanDisk (state S.Store e.1) → IsTrue (state S.Store e.1).is_open
         → ((state S.Store e.1).now ≡ (state S.Store connection).committed) × ((state S.Store e.1).committed ≡ (state S.Store connection).committed)) }

@@ -31,6 +31,7 @@ pub fn write_state<S: Alter>(tx: &mut Transaction<'_, S>, row: &StateRow) -> Res
     ensures ok { HasCleanDisk (state S.Store tx.new.conn.now) → IsTrue (state S.Store tx.old.conn.now).in_transaction → IsOurs (state S.Store tx.old.conn.now)
         → (was : _) → (tables_of (state S.Store tx.old.conn.now)).state ≡ state_row was ∷ []
         → OnOk result (Leads (state S.Store tx.old.conn.now) (state S.Store tx.new.conn.now) (record (tables_of (state S.Store tx.old.conn.now)) { state = state_row row.now ∷ [] })) }
+    ensures inside { HasCleanDisk (state S.Store tx.new.conn.now) → IsTrue (state S.Store tx.old.conn.now).in_transaction → OnOk result (IsTrue (state S.Store tx.new.conn.now).in_transaction) }
     ensures kept { HasCleanDisk (state S.Store tx.new.conn.now) → IsTrue (state S.Store tx.old.conn.now).in_transaction → KeepsCommit (state S.Store tx.old.conn.now) (state S.Store tx.new.conn.now) }
     ensures same_reference { tx.new.conn.ghost_name ≡ tx.old.conn.ghost_name }
     ensures survives { Survives (state S.Store tx.old.conn.now) (state S.Store tx.new.conn.now) (λ _. ⊥) }
@@ -74,6 +75,7 @@ pub fn read_state<S: Alter>(tx: &mut Transaction<'_, S>) -> Result<StateRow, Sto
     ensures ok { HasCleanDisk (state S.Store tx.new.conn.now) → IsOurs (state S.Store tx.old.conn.now)
         → (was : _) → (tables_of (state S.Store tx.old.conn.now)).state ≡ state_row was ∷ [] → IfOk result (λ row. row ≡ was) }
     ensures same { HasCleanDisk (state S.Store tx.new.conn.now) → IsOurs (state S.Store tx.old.conn.now) → OnOk result (IsUnchanged (state S.Store tx.old.conn.now) (state S.Store tx.new.conn.now)) }
+    ensures inside { HasCleanDisk (state S.Store tx.new.conn.now) → IsTrue (state S.Store tx.old.conn.now).in_transaction → OnOk result (IsTrue (state S.Store tx.new.conn.now).in_transaction) }
     ensures kept { HasCleanDisk (state S.Store tx.new.conn.now) → IsTrue (state S.Store tx.old.conn.now).in_transaction → KeepsCommit (state S.Store tx.old.conn.now) (state S.Store tx.new.conn.now) }
     ensures same_reference { tx.new.conn.ghost_name ≡ tx.old.conn.ghost_name }
     ensures survives { Survives (state S.Store tx.old.conn.now) (state S.Store tx.new.conn.now) (λ _. ⊥) }

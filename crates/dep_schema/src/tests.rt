@@ -270,6 +270,28 @@ fn a_taken_name_is_refused(rt: HostRuntime) -> Result<(), Fail> {
     Ok(())
 }
 
+#[test]
+fn tables_are_made_beside_others(rt: HostRuntime) -> Result<(), Fail> {
+    let mut connection = Connection::open_in_memory(rt.alloc())?;
+    batch(
+        &mut connection,
+        "CREATE TABLE notes (x INTEGER); INSERT INTO notes VALUES (5)",
+    )?;
+    let Ok(mut schema) = made(connection) else {
+        return Err("not opened")?;
+    };
+    assert_eq!(rt; number(&mut schema.connection, "SELECT x FROM notes")?, 5);
+    assert_eq!(rt;
+        number(&mut schema.connection, "SELECT next_object FROM state")?,
+        1
+    );
+    assert_eq!(rt;
+        number(&mut schema.connection, "SELECT count(*) FROM sqlite_master")?,
+        7
+    );
+    Ok(())
+}
+
 fn disks(alloc: Global, log_calls: u64, db_calls: u64) -> Files<Fuse<Memory>> {
     Files {
         log: Fuse::new(Memory::new(alloc), log_calls),

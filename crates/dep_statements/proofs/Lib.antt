@@ -11,5 +11,5 @@ pub mod Answered
 pub mod Statements
 pub mod Results
 pub mod Tests
-pub mod Creating
 pub mod Looking
+pub mod Adding

@@ -41,41 +41,42 @@ module _ (schema : Schema) (sql : List ℕ) (params : Row) (old new : State) (ou
 
   module _ (count : ℕ) (h : ExecutesInside 0 sql params old new (Ok count)) (at : ℕ)
       (name : List ℕ) (tree : ℕ) (columns : List Column) (key : Option ℕ) (primary : List ℕ) (uniques : List (List ℕ)) (orders : List Order)
-      (listed : slice_get schema.tables at ≡ Some (plain_table name tree columns key primary uniques orders)) (free : (olds news : List Row) → works schema Enforced 0 tree olds news ≡ []) where
+      (listed : slice_get schema.tables at ≡ Some (plain_table name tree columns key primary uniques orders)) where
     abbrev table : Table
     table = plain_table name tree columns key primary uniques orders
 
     here : slice_get old.now.schema.tables at ≡ Some table
     here = subst (λ (s : Schema). slice_get s.tables at ≡ Some table) (sym ours) listed
 
-    idle : (olds news : List Row) → works old.now.schema Enforced 0 tree olds news ≡ []
-    idle olds news = subst (λ s. works s Enforced 0 tree olds news ≡ []) (sym ours) (free olds news)
-
     pub inserted : (terms : List Term) (width : ℕ) → command_of (understood schema sql) ≡ Insert at (Values terms width)
         → Wrote schema old new (edit_of old.now.trees table [] Chosen 0 (value_rows params width (length terms / width) terms))
     inserted terms width is =
         let w = runs_as sql params old new schema ours (Insert at (Values terms width)) is plain count h.0 in
-        let made = inserts old.step_limit (mode_of old) params old.now (statement_of sql (understood schema sql)) at name tree columns key primary uniques orders here idle terms width w.tally new.now w.changed in
+        let made = inserts old.step_limit (mode_of old) params old.now (statement_of sql (understood schema sql)) at name tree columns key primary uniques orders here terms width w.tally new.now w.changed in
         record { shows = h.1; schema_is = made.schema ∙ ours; applies = subst (λ s. Applies s Enforced old.now.trees (edit_of old.now.trees table [] Chosen 0 (value_rows params width (length terms / width) terms)) new.now.trees) ours made.applies; sound = w.sound }
 
-    pub updated : (tests shows : List Term) (order : List (Term × Key)) (limit : Term) → command_of (understood schema sql) ≡ Update at (plainly (one_table tree tests shows order limit)) → overlay old.now.trees [] tree ≡ old.now.trees tree
-        → (rows : List Row) × Picks (one_table tree tests shows order limit) params (filter (passes params tests) (old.now.trees tree)) rows × Wrote schema old new (edit_of old.now.trees table (ids_of rows) Given 1 rows)
-    updated tests shows order limit is own =
-        let q = plainly (one_table tree tests shows order limit) in
-        let w = runs_as sql params old new schema ours (Update at q) is plain count h.0 in
-        let made = updates old.step_limit (mode_of old) params old.now (statement_of sql (understood schema sql)) at name tree columns key primary uniques orders here idle q w.tally new.now w.changed in (
-          made.0,
-          answers tree tests shows order limit old.now params made.0 own made.1,
-          record { shows = h.1; schema_is = made.2.schema ∙ ours; applies = subst (λ s. Applies s Enforced old.now.trees (edit_of old.now.trees table (ids_of made.0) Given 1 made.0) new.now.trees) ours made.2.applies; sound = w.sound },
-        )
+    module _ (free : (olds news : List Row) → works schema Enforced 0 tree olds news ≡ []) where
+      idle : (olds news : List Row) → works old.now.schema Enforced 0 tree olds news ≡ []
+      idle olds news = subst (λ s. works s Enforced 0 tree olds news ≡ []) (sym ours) (free olds news)
 
-    pub deleted : (tests shows : List Term) (order : List (Term × Key)) (limit : Term) → command_of (understood schema sql) ≡ Delete at (plainly (one_table tree tests shows order limit)) → overlay old.now.trees [] tree ≡ old.now.trees tree
-        → (rows : List Row) × Picks (one_table tree tests shows order limit) params (filter (passes params tests) (old.now.trees tree)) rows × Wrote schema old new (edit_of old.now.trees table (ids_of rows) Given 0 [])
-    deleted tests shows order limit is own =
-        let q = plainly (one_table tree tests shows order limit) in
-        let w = runs_as sql params old new schema ours (Delete at q) is plain count h.0 in
-        let made = deletes old.step_limit (mode_of old) params old.now (statement_of sql (understood schema sql)) at name tree columns key primary uniques orders here idle q w.tally new.now w.changed in (
-          made.0,
-          answers tree tests shows order limit old.now params made.0 own made.1,
-          record { shows = h.1; schema_is = made.2.schema ∙ ours; applies = subst (λ s. Applies s Enforced old.now.trees (edit_of old.now.trees table (ids_of made.0) Given 0 []) new.now.trees) ours made.2.applies; sound = w.sound },
-        )
+      pub updated : (tests shows : List Term) (order : List (Term × Key)) (limit : Term) → command_of (understood schema sql) ≡ Update at (plainly (one_table tree tests shows order limit)) → overlay old.now.trees [] tree ≡ old.now.trees tree
+          → (rows : List Row) × Picks (one_table tree tests shows order limit) params (filter (passes params tests) (old.now.trees tree)) rows × Wrote schema old new (edit_of old.now.trees table (ids_of rows) Given 1 rows)
+      updated tests shows order limit is own =
+          let q = plainly (one_table tree tests shows order limit) in
+          let w = runs_as sql params old new schema ours (Update at q) is plain count h.0 in
+          let made = updates old.step_limit (mode_of old) params old.now (statement_of sql (understood schema sql)) at name tree columns key primary uniques orders here idle q w.tally new.now w.changed in (
+            made.0,
+            answers tree tests shows order limit old.now params made.0 own made.1,
+            record { shows = h.1; schema_is = made.2.schema ∙ ours; applies = subst (λ s. Applies s Enforced old.now.trees (edit_of old.now.trees table (ids_of made.0) Given 1 made.0) new.now.trees) ours made.2.applies; sound = w.sound },
+          )
+
+      pub deleted : (tests shows : List Term) (order : List (Term × Key)) (limit : Term) → command_of (understood schema sql) ≡ Delete at (plainly (one_table tree tests shows order limit)) → overlay old.now.trees [] tree ≡ old.now.trees tree
+          → (rows : List Row) × Picks (one_table tree tests shows order limit) params (filter (passes params tests) (old.now.trees tree)) rows × Wrote schema old new (edit_of old.now.trees table (ids_of rows) Given 0 [])
+      deleted tests shows order limit is own =
+          let q = plainly (one_table tree tests shows order limit) in
+          let w = runs_as sql params old new schema ours (Delete at q) is plain count h.0 in
+          let made = deletes old.step_limit (mode_of old) params old.now (statement_of sql (understood schema sql)) at name tree columns key primary uniques orders here idle q w.tally new.now w.changed in (
+            made.0,
+            answers tree tests shows order limit old.now params made.0 own made.1,
+            record { shows = h.1; schema_is = made.2.schema ∙ ours; applies = subst (λ s. Applies s Enforced old.now.trees (edit_of old.now.trees table (ids_of made.0) Given 0 []) new.now.trees) ours made.2.applies; sound = w.sound },
+          )

@@ -1,5 +1,5 @@
 -- What an INSERT, an UPDATE and a DELETE of one table leave, where no key refers to another table.
-use Rattle.std.proofs.Common.{◌≡◌, ◌⊎◌, inl, inr, ℕ, ◌/◌, List, [], length, slice_get, Option, Some, None, Ok, Err, Result, sym, ap, subst, ◌∙◌, append-nil}
+use Rattle.std.proofs.Common.{◌≡◌, ◌⊎◌, inl, inr, ℕ, ◌/◌, List, [], ◌∷◌, ◌==◌, length, slice_get, Option, Some, None, Ok, Err, Result, refl, sym, ap, subst, ◌∙◌, append-nil}
 use Rattle.sqlite.specs.Order.{Row}
 use Rattle.sqlite.specs.Term.{Term}
 use Rattle.sqlite.specs.Table.{Table}
@@ -9,7 +9,12 @@ use Rattle.sqlite.specs.Command.TheVariants.{Insert, Update, Delete}
 use Rattle.sqlite_schema.specs.declared.program.Program.{Program}
 use Rattle.sqlite_schema.specs.declared.schema.Keys.{Keys}
 use Rattle.sqlite_rules.specs.Edit.{Edit, edit_of, taken_by, Applies}
-use Rattle.sqlite_rules.specs.Action.{works}
+use Rattle.std.specs.List.{filter_map, flat_map}
+use Rattle.std.proofs.lemmas.Bool.{cases_Bool}
+use Rattle.sqlite_schema.specs.declared.schema.Reference.{Reference}
+use Rattle.sqlite_schema.specs.Rules.{ParentKey, parent_key}
+use Rattle.sqlite_rules.specs.declared.action.Deed.{Deed}
+use Rattle.sqlite_rules.specs.Action.{deed_for, work_by, work_for, works}
 use Rattle.sqlite_rules.specs.Calls.{ids_of}
 use Rattle.sqlite.specs.Rowids.TheVariants.{Chosen, Given}
 use Rattle.sqlite.specs.declared.run.Mode.{Mode}
@@ -37,6 +42,24 @@ concludes task mode w tally after h =
     let shown = went tested.2 in
     let e = same_value shown.2 in
     (ap (λ (p : Tally × Database). p.1) e, ap (λ (p : Tally × Database). p.0.rows) e)
+
+-- what puts rows in and takes none out sets off nothing in other tables
+module _ (schema : Schema) (keys : Keys) (depth tree : ℕ) (news : List Row) where
+  no_work : (child : Table) (ref : Reference) (deed : Option Deed) (key : Option ParentKey) → work_by depth tree [] child ref deed key ≡ None
+  no_work child ref None key = refl
+  no_work child ref (Some deed) None = refl
+  no_work child ref (Some deed) (Some key) = elim (cases_Bool (key.0 == tree)) [ inl e ↦ rw e | inr e ↦ rw e ]
+
+  no_references : (child : Table) (refs : List Reference) → filter_map (work_for schema keys depth tree [] news child) refs ≡ []
+  no_references child [] = refl
+  no_references child (ref ∷ refs) = rw (no_work child ref (deed_for keys (length news == 0) ref) (parent_key schema.tables ref)) (no_references child refs)
+
+  no_children : (tables : List Table) → flat_map (λ child. filter_map (work_for schema keys depth tree [] news child) child.references) tables ≡ []
+  no_children [] = refl
+  no_children (t ∷ tables) = rw (no_references t t.references) (no_children tables)
+
+  no_works : works schema keys depth tree [] news ≡ []
+  no_works = no_children schema.tables
 
 -- the trees after one edit, and the rows that the statement counts
 abbrev pub EditsTo : Task → Trees → Edit → List Row → Written → Type 0
@@ -86,7 +109,7 @@ pub record Changed (keys : Keys) (db : Database) (edit : Edit) (rows : List Row)
   pub counted : tally.rows ≡ Some (length rows)
 
 module _ (limit : Option ℕ) (mode : Mode) (params : Row) (db : Database) (text : List ℕ) (at : ℕ) (name : List ℕ) (tree : ℕ) (columns : List Column) (key : Option ℕ) (primary : List ℕ) (uniques : List (List ℕ)) (orders : List Order)
-    (listed : slice_get db.schema.tables at ≡ Some (plain_table name tree columns key primary uniques orders)) (free : (olds news : List Row) → works db.schema mode.keys 0 tree olds news ≡ []) where
+    (listed : slice_get db.schema.tables at ≡ Some (plain_table name tree columns key primary uniques orders)) where
   abbrev the_table : Table
   the_table = plain_table name tree columns key primary uniques orders
 
@@ -108,20 +131,21 @@ module _ (limit : Option ℕ) (mode : Mode) (params : Row) (db : Database) (text
   inserts terms width tally after h =
       let done = went (rw listed at h) in
       let edit = edit_of db.trees the_table [] Chosen 0 (value_rows params width (length terms / width) terms) in
-      ends edit edit.news done.0 tally after (free (taken_by db.trees edit) edit.news) (inserts_rows limit mode.keys db.schema params name tree columns key primary uniques orders db.trees terms width done.0 done.1) done.2
+      ends edit edit.news done.0 tally after (no_works db.schema mode.keys 0 tree edit.news) (inserts_rows limit mode.keys db.schema params name tree columns key primary uniques orders db.trees terms width done.0 done.1) done.2
 
-  pub updates : (q : Program) (tally : Tally) (after : Database) → Does limit mode params db text None (Update at q) (Ok (tally, after))
-      → (rows : List Row) × Answers db q params rows × (let edit = edit_of db.trees the_table (ids_of rows) Given 1 rows in Changed mode.keys db edit edit.news tally after)
-  updates q tally after h =
-      let done = went (rw listed at h) in
-      let made = updates_rows task q params db.trees done.0 done.1 in
-      let edit = edit_of db.trees the_table (ids_of made.0) Given 1 made.0 in
-      (made.0, made.1, ends edit edit.news done.0 tally after (free (taken_by db.trees edit) edit.news) made.2 done.2)
+  module _ (free : (olds news : List Row) → works db.schema mode.keys 0 tree olds news ≡ []) where
+    pub updates : (q : Program) (tally : Tally) (after : Database) → Does limit mode params db text None (Update at q) (Ok (tally, after))
+        → (rows : List Row) × Answers db q params rows × (let edit = edit_of db.trees the_table (ids_of rows) Given 1 rows in Changed mode.keys db edit edit.news tally after)
+    updates q tally after h =
+        let done = went (rw listed at h) in
+        let made = updates_rows task q params db.trees done.0 done.1 in
+        let edit = edit_of db.trees the_table (ids_of made.0) Given 1 made.0 in
+        (made.0, made.1, ends edit edit.news done.0 tally after (free (taken_by db.trees edit) edit.news) made.2 done.2)
 
-  pub deletes : (q : Program) (tally : Tally) (after : Database) → Does limit mode params db text None (Delete at q) (Ok (tally, after))
-      → (rows : List Row) × Answers db q params rows × (let edit = edit_of db.trees the_table (ids_of rows) Given 0 [] in Changed mode.keys db edit (taken_by db.trees edit) tally after)
-  deletes q tally after h =
-      let done = went (rw listed at h) in
-      let made = deletes_rows task q db.trees done.0 done.1 in
-      let edit = edit_of db.trees the_table (ids_of made.0) Given 0 [] in
-      (made.0, made.1, ends edit (taken_by db.trees edit) done.0 tally after (free (taken_by db.trees edit) edit.news) made.2 done.2)
+    pub deletes : (q : Program) (tally : Tally) (after : Database) → Does limit mode params db text None (Delete at q) (Ok (tally, after))
+        → (rows : List Row) × Answers db q params rows × (let edit = edit_of db.trees the_table (ids_of rows) Given 0 [] in Changed mode.keys db edit (taken_by db.trees edit) tally after)
+    deletes q tally after h =
+        let done = went (rw listed at h) in
+        let made = deletes_rows task q db.trees done.0 done.1 in
+        let edit = edit_of db.trees the_table (ids_of made.0) Given 0 [] in
+        (made.0, made.1, ends edit (taken_by db.trees edit) done.0 tally after (free (taken_by db.trees edit) edit.news) made.2 done.2)

@@ -1,3 +1,4 @@
 pub mod Tables
 pub mod Query
 pub mod Rows
+pub mod Adding

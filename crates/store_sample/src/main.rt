@@ -1,10 +1,13 @@
 //! Writes a store with one object into the file that its argument names.
 #![tactic(auto)]
 
-use dep_schema::{FileRow, MetadataRow, ObjectRow, OpenFault, Schema, StoreFault};
+mod writing;
+
+use dep_schema::{FileRow, MetadataRow, ObjectRow, OpenFault, Schema, StateRow, StoreFault};
 use sqlite::{Alter, Connection, Transaction};
 use std::alloc::Global;
 use std::env;
+use writing::deposit;
 
 fn made<S: Alter>(connection: Connection<S>) -> Result<Schema<S>, (OpenFault, Connection<S>)> {
     if !connection.is_autocommit() {
@@ -20,16 +23,25 @@ fn clear<S: Alter>(tx: &mut Transaction<'_, S>) -> Result<(), StoreFault> {
     dep_schema::delete_object(tx, 7)
 }
 
-fn add_object<S: Alter>(tx: &mut Transaction<'_, S>) -> Result<(), StoreFault> {
-    let row = ObjectRow {
+fn sample_object() -> ObjectRow {
+    ObjectRow {
         object: 7,
         ingested: true,
         object_tag: 1,
         metadata_tag: 1,
         files_tag: 1,
         changed: 1700000000,
-    };
-    dep_schema::insert_object(tx, &row)
+    }
+}
+
+fn sample_counters() -> StateRow {
+    StateRow {
+        clock: 1700000000,
+        next_object: 8,
+        next_file: 12,
+        next_upload: 1,
+        next_change: 2,
+    }
 }
 
 fn add_title<S: Alter>(alloc: Global, tx: &mut Transaction<'_, S>) -> anyhow::Result<bool> {
@@ -42,8 +54,8 @@ fn add_title<S: Alter>(alloc: Global, tx: &mut Transaction<'_, S>) -> anyhow::Re
     Ok(dep_schema::insert_metadata(tx, &row).is_ok())
 }
 
-fn add_file<S: Alter>(alloc: Global, tx: &mut Transaction<'_, S>) -> anyhow::Result<bool> {
-    let row = FileRow {
+fn sample_file(alloc: Global) -> anyhow::Result<FileRow> {
+    Ok(FileRow {
         file: 11,
         object: 7,
         name: String::from_str(alloc, "a.txt")?,
@@ -53,22 +65,34 @@ fn add_file<S: Alter>(alloc: Global, tx: &mut Transaction<'_, S>) -> anyhow::Res
         deposited: 1700000000,
         behalf: None,
         by_reference: false,
-    };
-    Ok(dep_schema::insert_file(tx, &row, b"abc").is_ok())
+    })
 }
 
-fn fill<S: Alter>(alloc: Global, connection: &mut Connection<S>) -> anyhow::Result<bool> {
+/// The title alone is left of object 7.
+fn prepare<S: Alter>(alloc: Global, connection: &mut Connection<S>) -> anyhow::Result<bool> {
     if !connection.is_autocommit() {
         return Ok(false);
     }
     let mut tx = connection.transaction();
-    if clear(&mut tx).is_err() || add_object(&mut tx).is_err() {
-        return Ok(false);
-    }
-    if !add_title(alloc, &mut tx)? || !add_file(alloc, &mut tx)? {
+    if clear(&mut tx).is_err() || !add_title(alloc, &mut tx)? {
         return Ok(false);
     }
     Ok(tx.commit().is_ok())
+}
+
+fn fill<S: Alter>(alloc: Global, connection: &mut Connection<S>) -> anyhow::Result<bool> {
+    if !prepare(alloc, connection)? || !connection.is_autocommit() {
+        return Ok(false);
+    }
+    let file = sample_file(alloc)?;
+    let made = deposit(
+        connection,
+        &sample_object(),
+        &file,
+        b"abc",
+        &sample_counters(),
+    );
+    Ok(made.is_ok())
 }
 
 fn main(rt: HostRuntime) -> anyhow::Result<()> {

@@ -1,5 +1,6 @@
+use Rattle.std.proofs.Common.{◌∙◌}
 use Rattle.sqlite.specs.Held.{state}
-use Rattle.dep_statements.proofs.Asked.{shown_keeps, asks_keep}
+use Rattle.dep_statements.proofs.Asked.{shown_keeps, shown_mode, asks_keep}
 use Rattle.dep_schema.proofs.calls.ask.Goals as goal
 
 pub returns-in-Ok-clause-kept : goal.returns-in-Ok-clause-kept
@@ -7,3 +8,6 @@ returns-in-Ok-clause-kept g c clean inside = shown_keeps _ _ (state g.S.Store c.
 
 pub returns-in-Err-clause-kept : goal.returns-in-Err-clause-kept
 returns-in-Err-clause-kept g c clean inside = asks_keep _ _ (state g.S.Store c.args.tx.now.conn.now) (state g.S.Store c.query_all.new.self.conn.now) inside _ (c.in-Err.ensures.err clean)
+
+pub returns-in-Ok-clause-inside : goal.returns-in-Ok-clause-inside
+returns-in-Ok-clause-inside g c clean inside = shown_mode _ _ (state g.S.Store c.args.tx.now.conn.now) (state g.S.Store c.query_all.new.self.conn.now) _ (c.in-Ok.ensures.ok clean) ∙ inside

@@ -1,8 +1,8 @@
 use Rattle.sqlite.specs.Held.{state}
 use Rattle.dep_schema.proofs.Results.{ok_then}
-use Rattle.dep_schema.proofs.NewTables.{creates_objects}
+use Rattle.dep_schema.proofs.Beside.{adds_objects}
 use Rattle.dep_schema.proofs.making.create_objects.Goals as goal
 
-pub returns-clause-ok : goal.returns-clause-ok
-returns-clause-ok g c clean inside blank =
-    ok_then c.run.result (c.run.ensures.runs clean inside) (λ ran. creates_objects (state g.S.Store c.args.tx.now.conn.now) (state g.S.Store c.run.new.tx.conn.now) ran.0 blank ran.1)
+pub returns-clause-adds : goal.returns-clause-adds
+returns-clause-adds g c clean inside =
+    ok_then c.run.result (c.run.ensures.runs clean inside) (λ ran. adds_objects (state g.S.Store c.args.tx.now.conn.now) (state g.S.Store c.run.new.tx.conn.now) ran.0 ran.1)

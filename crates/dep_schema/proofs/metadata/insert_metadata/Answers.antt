@@ -1,7 +1,11 @@
 use Rattle.sqlite.specs.Held.{state}
 use Rattle.dep_schema.proofs.Results.{ok_then}
 use Rattle.dep_schema.proofs.MetadataTable.{inserts_metadata}
+use Rattle.dep_schema.proofs.MetadataKey.{free_key}
 use Rattle.dep_schema.proofs.metadata.insert_metadata.Goals as goal
 
 pub returns-clause-ok : goal.returns-clause-ok
 returns-clause-ok g c clean inside ours = ok_then c.run.result (c.run.ensures.runs clean inside) (λ ran. inserts_metadata (state g.S.Store c.args.tx.now.conn.now) (state g.S.Store c.run.new.tx.conn.now) c.args.row.now ran.0 ours (rw c.metadata_params.ensures at ran.1))
+
+pub returns-clause-free : goal.returns-clause-free
+returns-clause-free g c clean inside ours = ok_then c.run.result (c.run.ensures.runs clean inside) (λ ran. free_key (state g.S.Store c.args.tx.now.conn.now) (state g.S.Store c.run.new.tx.conn.now) c.args.row.now ran.0 ours (rw c.metadata_params.ensures at ran.1))

@@ -2,11 +2,11 @@ use Rattle.std.proofs.Common.{◌∙◌, inl, inr, refl}
 use Rattle.sqlite.specs.Held.{state}
 use Rattle.dep_statements.proofs.Asked.{shown_keeps, shown_mode, asks_keep, asks_on}
 use Rattle.dep_schema.specs.Texts.{find_format_text}
-use Rattle.dep_schema.proofs.Version.{found_version, find_stays, none_shown, ours_asked, missing_only, named_fault}
+use Rattle.dep_schema.proofs.Version.{found_version, find_stays, none_shown, ours_asked, missing_only, named_fault, empty_lacks}
 use Rattle.dep_schema.proofs.opening.find_format.Goals as goal
 
 pub returns-then-are_known-clause-empty : goal.returns-then-are_known-clause-empty
-returns-then-are_known-clause-empty g c clean empty = absurd (none_shown (state g.S.Store c.args.tx.now.conn.now) (state g.S.Store c.query_all.new.self.conn.now) _ empty (c.in-Ok.ensures.ok clean))
+returns-then-are_known-clause-empty g c clean empty = absurd (none_shown (state g.S.Store c.args.tx.now.conn.now) (state g.S.Store c.query_all.new.self.conn.now) _ (empty_lacks _ empty) (c.in-Ok.ensures.ok clean))
 
 pub returns-then-are_known-clause-ours : goal.returns-then-are_known-clause-ours
 returns-then-are_known-clause-ours g c clean ours =
@@ -15,7 +15,7 @@ returns-then-are_known-clause-ours g c clean ours =
 pub returns-then-are_known-clause-same : goal.returns-then-are_known-clause-same
 returns-then-are_known-clause-same g c clean either = elim either [
   | inl ours ↦ find_stays (state g.S.Store c.args.tx.now.conn.now) (state g.S.Store c.query_all.new.self.conn.now) _ ours (c.in-Ok.ensures.ok clean)
-  | inr empty ↦ absurd (none_shown (state g.S.Store c.args.tx.now.conn.now) (state g.S.Store c.query_all.new.self.conn.now) _ empty (c.in-Ok.ensures.ok clean))
+  | inr empty ↦ absurd (none_shown (state g.S.Store c.args.tx.now.conn.now) (state g.S.Store c.query_all.new.self.conn.now) _ (empty_lacks _ empty) (c.in-Ok.ensures.ok clean))
 ]
 
 pub returns-then-are_known-clause-inside : goal.returns-then-are_known-clause-inside
@@ -25,7 +25,7 @@ pub returns-then-are_known-clause-kept : goal.returns-then-are_known-clause-kept
 returns-then-are_known-clause-kept g c clean inside = shown_keeps find_format_text _ (state g.S.Store c.args.tx.now.conn.now) (state g.S.Store c.query_all.new.self.conn.now) inside _ (c.in-Ok.ensures.ok clean)
 
 pub returns-in-Ok-clause-empty : goal.returns-in-Ok-clause-empty
-returns-in-Ok-clause-empty g c clean empty said = none_shown (state g.S.Store c.args.tx.now.conn.now) (state g.S.Store c.query_all.new.self.conn.now) _ empty (c.in-Ok.ensures.ok clean)
+returns-in-Ok-clause-empty g c clean empty said = none_shown (state g.S.Store c.args.tx.now.conn.now) (state g.S.Store c.query_all.new.self.conn.now) _ (empty_lacks _ empty) (c.in-Ok.ensures.ok clean)
 
 pub returns-in-Ok-clause-ours : goal.returns-in-Ok-clause-ours
 returns-in-Ok-clause-ours g c clean ours said version =
@@ -54,7 +54,7 @@ returns-then-is_missing-clause-kept g c clean inside = asks_keep find_format_tex
 
 pub returns-in-Err-SqlInputError-clause-empty : goal.returns-in-Err-SqlInputError-clause-empty
 returns-in-Err-SqlInputError-clause-empty g c clean empty said =
-    let missing = c.is_missing.ensures.1 (missing_only (state g.S.Store c.args.tx.now.conn.now) (state g.S.Store c.query_all.new.self.conn.now) _ _ empty (c.in-Err-SqlInputError.ensures.err clean) c.in-Err-SqlInputError.field-0-is) in
+    let missing = c.is_missing.ensures.1 (missing_only (state g.S.Store c.args.tx.now.conn.now) (state g.S.Store c.query_all.new.self.conn.now) _ _ (empty_lacks _ empty) (c.in-Err-SqlInputError.ensures.err clean) c.in-Err-SqlInputError.field-0-is) in
     let not = c.if-is_missing.false in
     cc
 
@@ -65,11 +65,32 @@ returns-in-Err-SqlInputError-clause-ours g c clean ours said version =
 pub returns-in-Err-SqlInputError-clause-kept : goal.returns-in-Err-SqlInputError-clause-kept
 returns-in-Err-SqlInputError-clause-kept g c clean inside = asks_keep find_format_text _ (state g.S.Store c.args.tx.now.conn.now) (state g.S.Store c.query_all.new.self.conn.now) inside _ (c.in-Err-SqlInputError.ensures.err clean)
 
+pub returns-then-are_known-clause-lacking : goal.returns-then-are_known-clause-lacking
+returns-then-are_known-clause-lacking g c clean lacks = absurd (none_shown (state g.S.Store c.args.tx.now.conn.now) (state g.S.Store c.query_all.new.self.conn.now) _ lacks (c.in-Ok.ensures.ok clean))
+
+pub returns-then-are_known-clause-left : goal.returns-then-are_known-clause-left
+returns-then-are_known-clause-left g c clean lacks = absurd (none_shown (state g.S.Store c.args.tx.now.conn.now) (state g.S.Store c.query_all.new.self.conn.now) _ lacks (c.in-Ok.ensures.ok clean))
+
+pub returns-in-Ok-clause-lacking : goal.returns-in-Ok-clause-lacking
+returns-in-Ok-clause-lacking g c clean lacks said = none_shown (state g.S.Store c.args.tx.now.conn.now) (state g.S.Store c.query_all.new.self.conn.now) _ lacks (c.in-Ok.ensures.ok clean)
+
+pub returns-then-is_missing-clause-left : goal.returns-then-is_missing-clause-left
+returns-then-is_missing-clause-left g c clean lacks =
+    asks_on find_format_text _ (state g.S.Store c.args.tx.now.conn.now) (state g.S.Store c.query_all.new.self.conn.now) _ _ c.in-Err-SqlInputError.field-0-is (c.in-Err-SqlInputError.ensures.err clean)
+
+pub returns-in-Err-SqlInputError-clause-lacking : goal.returns-in-Err-SqlInputError-clause-lacking
+returns-in-Err-SqlInputError-clause-lacking g c clean lacks said =
+    let missing = c.is_missing.ensures.1 (missing_only (state g.S.Store c.args.tx.now.conn.now) (state g.S.Store c.query_all.new.self.conn.now) _ _ lacks (c.in-Err-SqlInputError.ensures.err clean) c.in-Err-SqlInputError.field-0-is) in
+    let not = c.if-is_missing.false in
+    cc
+
 pub returns : goal.returns
 returns g c = record {
   empty = λ clean empty said. named_fault c.fault_of.result c.from.result c.from.ensures said;
   ours = λ clean ours said version. named_fault c.fault_of.result c.from.result c.from.ensures said;
+  lacking = λ clean lacks said. named_fault c.fault_of.result c.from.result c.from.ensures said;
   same = λ clean either. tt;
+  left = λ clean lacks. tt;
   inside = λ clean inside. tt;
   kept = λ clean inside. asks_keep find_format_text _ (state g.S.Store c.args.tx.now.conn.now) (state g.S.Store c.query_all.new.self.conn.now) inside _ (c.in-Err.ensures.err clean);
   same_reference = c.query_all.ensures.same_reference;

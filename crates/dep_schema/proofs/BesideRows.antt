@@ -1,0 +1,277 @@
+-- The first rows, where our tables stand beside those of others.
+use Rattle.std.proofs.Common.{◌≡◌, ℕ, ◌+◌, pos, List, [], ◌∷◌, ◌++◌, if◌then◌else◌, length, slice_get, Option, None, Some, unwrap_or, option_map, option_and_then, Ok, Err, OnOk, Result, codes, refl, sym, ap, subst, ◌∙◌, arith, append_assoc}
+use Rattle.std.specs.List.{AllByRecursion, position_from}
+use Rattle.sqlite_tied.specs.Compute.{everything}
+use Rattle.sqlite.specs.Schema.{Schema}
+use Rattle.sqlite.specs.Table.{Table}
+use Rattle.sqlite.specs.Tree.{Trees}
+use Rattle.sqlite.specs.Listing.{understood, listing_schema, misses_table, if_select}
+use Rattle.sqlite.specs.Command.{Command}
+use Rattle.sqlite.specs.Command.TheVariants.{Insert}
+use Rattle.sqlite.specs.Source.TheVariants.{Values}
+use Rattle.sqlite.specs.Rowids.TheVariants.{Chosen}
+use Rattle.sqlite.specs.declared.types.Value.TheVariants.{Null, Int}
+use Rattle.sqlite.specs.Term.{Term, lit}
+use Rattle.sqlite.specs.Effect.{Database, value_rows}
+use Rattle.sqlite.specs.State.{State, ExecutesInside}
+use Rattle.sqlite.proofs.Callers.{IsPlain, command_of}
+use Rattle.sqlite_schema.specs.Names.{table_named, same_name}
+use Rattle.sqlite_ast.specs.declared.Statement.{Statement}
+use Rattle.sqlite_ast.specs.declared.Statement.TheVariants as written
+use Rattle.sqlite_ast.specs.declared.Conflict.TheVariants as conflict
+use Rattle.sqlite_resolve.specs.declared.error.CompileError.TheVariants.{Misuse, NoSuchTable}
+use Rattle.sqlite_resolve.specs.declared.compiled.Compiled.{Compiled}
+use Rattle.sqlite_resolve.specs.Lowering.{Checked, and_then, or_else}
+use Rattle.sqlite_resolve.specs.Compile.{compiled, first, with_command, new_rows, small}
+use Rattle.sqlite_rules.specs.Lists.{Has}
+use Rattle.sqlite_rules.specs.Edit.{with_rowid}
+use Rattle.sqlite_rules.proofs.ListLemmas.{all_from, all_has}
+use Rattle.sqlite_trees.specs.Tree.{put_row}
+use Rattle.sqlite_catalog.specs.Listing.{IsSound}
+use Rattle.sqlite_catalog.specs.Change.{created, next_tree}
+use Rattle.sqlite_catalog.proofs.StepLemmas.{no_table, table_below}
+use Rattle.dep_statements.specs.Adding.{HasCounters, AddsAll, Puts}
+use Rattle.dep_statements.proofs.Adding.{AllMade, made_all, free_all, adds_append, placed_after, got_after, next_created}
+use Rattle.dep_statements.proofs.Values.{cast_int, cast_null}
+use Rattle.dep_statements.proofs.Statements.{inserted}
+use Rattle.dep_statements.proofs.Results.{puts}
+use Rattle.dep_schema.proofs.Results.{ok_then}
+use Rattle.dep_schema.specs.Schema.{our_schema, no_schema, format_table, state_table, objects_table, metadata_table, files_table}
+use Rattle.dep_schema.specs.Texts.{add_format_text, add_state_text}
+use Rattle.dep_schema.specs.Rows.{format_row, state_row}
+use Rattle.dep_schema.specs.Beside.{our_tables, AreFree, with_ours}
+use Rattle.dep_schema.specs.Tables.{AreOrdered, Sees, tables_of, first_state, first_tables, tables_from, IsBeside, GainsOurs}
+
+-- ---- how an INSERT is understood, by the table that its name finds
+
+abbrev insert_of : Schema → Option ℕ → (ℕ → Option Table) → ℕ → Statement → Checked Command
+insert_of schema named at base (written.Insert conflict.Abort name columns rows clauses shown) =
+    and_then (or_else named NoSuchTable) (λ n. and_then (or_else (at n) NoSuchTable) (λ table. and_then (new_rows schema table base columns rows) (λ s. Ok (Insert n s))))
+insert_of schema named at base _ = Err Misuse
+
+abbrev formats_in : Option Table → List (List ℕ)
+formats_in found = unwrap_or (option_map (λ t. t.stamps.formats) found) []
+
+abbrev insert_by : Schema → Option ℕ → (ℕ → Option Table) → List ℕ → Checked Compiled
+insert_by schema named at text =
+    let formats = formats_in (option_and_then at named) in
+    and_then (first text) (λ p. and_then (and_then (and_then (insert_of schema named at (small p.names + small formats) p.statement) (λ c. Ok (c, None))) (λ found. Ok (formats, found))) (λ plan. Ok (with_command p plan)))
+
+abbrev inserting_by : Schema → Option ℕ → (ℕ → Option Table) → List ℕ → Checked Compiled
+inserting_by schema named at text = if misses_table (insert_by schema named at text) then if_select (compiled listing_schema text) else insert_by schema named at text
+
+abbrev Inserts : ℕ → List Term → ℕ → Checked Compiled → Type 0
+Inserts n terms width r = (command_of r ≡ Insert n (Values terms width)) × IsPlain r
+
+abbrev format_terms : List Term
+format_terms = lit (Int (pos 1)) ∷ lit Null ∷ lit (Int (pos 0)) ∷ []
+
+abbrev state_terms : List Term
+state_terms = lit (Int (pos 1)) ∷ lit Null ∷ lit (Int (pos 0)) ∷ lit (Int (pos 1)) ∷ lit (Int (pos 1)) ∷ lit (Int (pos 1)) ∷ lit (Int (pos 1)) ∷ []
+
+module _ (schema : Schema) (n k : ℕ) where
+  format_by : understood schema add_format_text ≡ inserting_by schema (table_named schema (codes "format")) (slice_get schema.tables) add_format_text
+  unfolding understood everything
+  format_by = refl
+
+  format_at : Inserts n format_terms 3 (inserting_by schema (Some n) (λ _. Some (record format_table { tree = k })) add_format_text)
+  unfolding understood everything
+  format_at = (refl, (refl, refl))
+
+  format_there : slice_get schema.tables n ≡ Some (record format_table { tree = k }) → Inserts n format_terms 3 (inserting_by schema (Some n) (slice_get schema.tables) add_format_text)
+  unfolding understood everything
+  format_there at = subst (λ found. Inserts n format_terms 3 (inserting_by schema (Some n) (λ _. found) add_format_text)) (sym at) format_at
+
+  format_is : table_named schema (codes "format") ≡ Some n → slice_get schema.tables n ≡ Some (record format_table { tree = k }) → Inserts n format_terms 3 (understood schema add_format_text)
+  format_is named at = subst (Inserts n format_terms 3) (sym format_by) (subst (λ o. Inserts n format_terms 3 (inserting_by schema o (slice_get schema.tables) add_format_text)) (sym named) (format_there at))
+
+  state_by : understood schema add_state_text ≡ inserting_by schema (table_named schema (codes "state")) (slice_get schema.tables) add_state_text
+  unfolding understood everything
+  state_by = refl
+
+  state_at : Inserts n state_terms 7 (inserting_by schema (Some n) (λ _. Some (record state_table { tree = k })) add_state_text)
+  unfolding understood everything
+  state_at = (refl, (refl, refl))
+
+  state_there : slice_get schema.tables n ≡ Some (record state_table { tree = k }) → Inserts n state_terms 7 (inserting_by schema (Some n) (slice_get schema.tables) add_state_text)
+  unfolding understood everything
+  state_there at = subst (λ found. Inserts n state_terms 7 (inserting_by schema (Some n) (λ _. found) add_state_text)) (sym at) state_at
+
+  state_is : table_named schema (codes "state") ≡ Some n → slice_get schema.tables n ≡ Some (record state_table { tree = k }) → Inserts n state_terms 7 (understood schema add_state_text)
+  state_is named at = subst (Inserts n state_terms 7) (sym state_by) (subst (λ o. Inserts n state_terms 7 (inserting_by schema o (slice_get schema.tables) add_state_text)) (sym named) (state_there at))
+
+-- ---- where our tables stand
+
+module _ (schema : Schema) where
+  abbrev format_tree : ℕ
+  format_tree = next_tree schema
+
+  abbrev with_format : Schema
+  with_format = created schema format_table
+
+  abbrev with_state : Schema
+  with_state = created with_format state_table
+
+  abbrev with_objects : Schema
+  with_objects = created with_state objects_table
+
+  abbrev with_metadata : Schema
+  with_metadata = created with_objects metadata_table
+
+  abbrev ours : List Table
+  ours =
+      record format_table { tree = next_tree schema } ∷ record state_table { tree = next_tree with_format } ∷ record objects_table { tree = next_tree with_state } ∷ record metadata_table { tree = next_tree with_objects }
+      ∷ record files_table { tree = next_tree with_metadata } ∷ []
+
+  tables_are : (with_ours schema).tables ≡ schema.tables ++ ours
+  tables_are = simp append_assoc
+
+  first_tree : next_tree with_format ≡ next_tree schema + 1
+  first_tree = next_created schema format_table
+
+  second_tree : next_tree with_state ≡ next_tree schema + 2
+  second_tree = omega (arith, next_created with_format state_table, first_tree)
+
+  third_tree : next_tree with_objects ≡ next_tree schema + 3
+  third_tree = omega (arith, next_created with_state objects_table, second_tree)
+
+  fifth_tree : next_tree with_metadata ≡ next_tree schema + 5
+  fifth_tree = omega (arith, next_created with_objects metadata_table, third_tree)
+
+  module _ (free : AreFree schema) where
+    format_named : table_named (with_ours schema) (codes "format") ≡ Some (length schema.tables + 0)
+    unfolding same_name
+    format_named =
+        ap (position_from (λ t. same_name t.name (codes "format")) 0) tables_are ∙ placed_after (λ t. same_name t.name (codes "format")) 0 schema.tables ours (no_table schema (codes "format") free.0)
+        ∙ ap Some (omega arith)
+
+    state_named : table_named (with_ours schema) (codes "state") ≡ Some (length schema.tables + 1)
+    unfolding same_name
+    state_named =
+        ap (position_from (λ t. same_name t.name (codes "state")) 0) tables_are ∙ placed_after (λ t. same_name t.name (codes "state")) 0 schema.tables ours (no_table schema (codes "state") free.1.0)
+        ∙ ap Some (omega arith)
+
+    format_listed : slice_get (with_ours schema).tables (length schema.tables + 0) ≡ Some (record format_table { tree = next_tree schema })
+    format_listed = ap (λ xs. slice_get xs (length schema.tables + 0)) tables_are ∙ got_after schema.tables ours 0
+
+    state_listed : slice_get (with_ours schema).tables (length schema.tables + 1) ≡ Some (record state_table { tree = next_tree with_format })
+    state_listed = ap (λ xs. slice_get xs (length schema.tables + 1)) tables_are ∙ got_after schema.tables ours 1
+
+    module _ (old new : State) (count : ℕ) (here : old.now.schema ≡ with_ours schema) where
+      pub puts_format : ExecutesInside 0 add_format_text [] old new (Ok count) → Puts (next_tree schema) (format_row 0) old.now new.now
+      puts_format h =
+          let is = format_is (with_ours schema) (length schema.tables + 0) (next_tree schema) format_named format_listed in
+          let wrote = inserted (with_ours schema) add_format_text [] old new here is.1 count h (length schema.tables + 0) _ _ _ _ _ _ _ format_listed format_terms 3 is.0 in
+          let made = puts (with_ours schema) old new (record format_table { tree = next_tree schema }) (value_rows [] 3 1 format_terms) (format_row 0)
+          (λ i. with_rowid Chosen (old.now.trees (next_tree schema)) (cast_int (pos 1) i ∷ cast_null i ∷ cast_int (pos 0) i ∷ []) ∷ []) wrote in
+          record { schema = wrote.schema_is ∙ sym here; rows = made.0.rows_are; others = subst (λ (s : Schema). AllByRecursion (λ t. (t.tree ≡ next_tree schema → ⊥) → new.now.trees t.tree ≡ old.now.trees t.tree) s.tables) (sym here) wrote.applies.tables; sound = wrote.sound }
+
+      pub puts_state : ExecutesInside 0 add_state_text [] old new (Ok count) → Puts (next_tree with_format) (state_row first_state) old.now new.now
+      puts_state h =
+          let is = state_is (with_ours schema) (length schema.tables + 1) (next_tree with_format) state_named state_listed in
+          let wrote = inserted (with_ours schema) add_state_text [] old new here is.1 count h (length schema.tables + 1) _ _ _ _ _ _ _ state_listed state_terms 7 is.0 in
+          let made = puts (with_ours schema) old new (record state_table { tree = next_tree with_format }) (value_rows [] 7 1 state_terms) (state_row first_state)
+          (λ i. with_rowid Chosen (old.now.trees (next_tree with_format)) (cast_int (pos 1) i ∷ cast_null i ∷ cast_int (pos 0) i ∷ cast_int (pos 1) i ∷ cast_int (pos 1) i ∷ cast_int (pos 1) i ∷ cast_int (pos 1) i ∷ []) ∷ []) wrote in
+          record { schema = wrote.schema_is ∙ sym here; rows = made.0.rows_are; others = subst (λ (s : Schema). AllByRecursion (λ t. (t.tree ≡ next_tree with_format → ⊥) → new.now.trees t.tree ≡ old.now.trees t.tree) s.tables) (sym here) wrote.applies.tables; sound = wrote.sound }
+
+-- ---- all of it
+
+all_apart : {X : Type 0} (P : X → Type 0) (xs ys : List X) → AllByRecursion P (xs ++ ys) → AllByRecursion P xs × AllByRecursion P ys
+all_apart P [] ys all = (tt, all)
+all_apart P (x ∷ xs) ys all = let rest = all_apart P xs ys all.1 in ((all.0, rest.0), rest.1)
+
+module _ (old mid next new : Database) (added : AddsAll our_tables old mid) (has : HasCounters old.schema) (format_put : Puts (next_tree old.schema) (format_row 0) mid next)
+    (state_put : Puts (next_tree (created old.schema format_table)) (state_row first_state) next new) where
+  abbrev schema : Schema
+  schema = old.schema
+
+  made : AllMade our_tables old mid
+  made = made_all our_tables old mid (refl, (refl, (refl, (refl, (refl, tt))))) has added
+
+  abbrev KeepsBut : ℕ → Trees → Trees → List Table → Type 0
+  KeepsBut n a b tables = AllByRecursion (λ t. (t.tree ≡ n → ⊥) → b t.tree ≡ a t.tree) tables
+
+  listed_mid : mid.schema.tables ≡ schema.tables ++ ours schema
+  listed_mid = ap (λ (s : Schema). s.tables) made.schema ∙ tables_are schema
+
+  listed_next : next.schema.tables ≡ schema.tables ++ ours schema
+  listed_next = ap (λ (s : Schema). s.tables) format_put.schema ∙ listed_mid
+
+  first_kept : KeepsBut (next_tree schema) mid.trees next.trees schema.tables × KeepsBut (next_tree schema) mid.trees next.trees (ours schema)
+  first_kept = all_apart _ schema.tables (ours schema) (subst (KeepsBut (next_tree schema) mid.trees next.trees) listed_mid format_put.others)
+
+  second_kept : KeepsBut (next_tree (with_format schema)) next.trees new.trees schema.tables × KeepsBut (next_tree (with_format schema)) next.trees new.trees (ours schema)
+  second_kept = all_apart _ schema.tables (ours schema) (subst (KeepsBut (next_tree (with_format schema)) next.trees new.trees) listed_next state_put.others)
+
+  schema_is : new.schema ≡ with_ours schema
+  schema_is = state_put.schema ∙ format_put.schema ∙ made.schema
+
+  format_rows : new.trees (next_tree schema) ≡ format_row 0 ∷ []
+  format_rows = second_kept.1.0 (λ e. omega (arith, e, first_tree schema)) ∙ format_put.rows ∙ ap (put_row (format_row 0)) made.empty.0
+
+  state_rows : new.trees (next_tree (with_format schema)) ≡ state_row first_state ∷ []
+  state_rows = state_put.rows ∙ ap (put_row (state_row first_state)) (first_kept.1.1.0 (λ e. omega (arith, e, first_tree schema)) ∙ made.empty.1.0)
+
+  objects_rows : new.trees (next_tree (with_state schema)) ≡ []
+  objects_rows = second_kept.1.1.1.0 (λ e. omega (arith, e, first_tree schema, second_tree schema)) ∙ first_kept.1.1.1.0 (λ e. omega (arith, e, second_tree schema)) ∙ made.empty.1.1.0
+
+  metadata_rows : new.trees (next_tree (with_objects schema)) ≡ []
+  metadata_rows = second_kept.1.1.1.1.0 (λ e. omega (arith, e, first_tree schema, third_tree schema)) ∙ first_kept.1.1.1.1.0 (λ e. omega (arith, e, third_tree schema)) ∙ made.empty.1.1.1.0
+
+  files_rows : new.trees (next_tree (with_metadata schema)) ≡ []
+  files_rows = second_kept.1.1.1.1.1.0 (λ e. omega (arith, e, first_tree schema, fifth_tree schema)) ∙ first_kept.1.1.1.1.1.0 (λ e. omega (arith, e, fifth_tree schema)) ∙ made.empty.1.1.1.1.0
+
+  rows_are : tables_from (next_tree schema) new.trees ≡ first_tables
+  rows_are = λ i. record {
+    format = format_rows i;
+    state = (ap new.trees (sym (first_tree schema)) ∙ state_rows) i;
+    objects = (ap new.trees (sym (second_tree schema)) ∙ objects_rows) i;
+    metadata = (ap new.trees (sym (third_tree schema)) ∙ metadata_rows) i;
+    files = (ap new.trees (sym (fifth_tree schema)) ∙ files_rows) i;
+  }
+
+  each_kept : (t : Table) → Has schema.tables t → new.trees t.tree ≡ old.trees t.tree
+  each_kept t here =
+      let low = table_below schema t here in
+      all_has _ schema.tables t second_kept.0 here (λ e. omega (arith, e, low, first_tree schema)) ∙ all_has _ schema.tables t first_kept.0 here (λ e. omega (arith, e, low)) ∙ all_has _ schema.tables t made.others here
+
+  pub stands_beside : (new.schema ≡ with_ours old.schema) × IsBeside old new.trees
+  stands_beside = (schema_is, record { sound = subst (λ s. IsSound s new.trees) schema_is state_put.sound; rows = rows_are; others = all_from _ schema.tables each_kept })
+
+gains_if : {A E : Type 0} (r : Result A E) (old new : Database) → AreFree old.schema → (HasCounters old.schema → OnOk r ((new.schema ≡ with_ours old.schema) × IsBeside old new.trees)) → OnOk r (GainsOurs old new)
+gains_if (Ok x) old new free after = record { free = free; made = after }
+gains_if (Err e) old new free after = tt
+
+pub gains : {A E : Type 0} (r : Result A E) (old first mid new : Database) → AddsAll (format_table ∷ state_table ∷ objects_table ∷ []) old first → AddsAll (metadata_table ∷ files_table ∷ []) first mid
+    → ((others : Schema) → AreFree others → mid.schema ≡ with_ours others → OnOk r ((next : Database) × Puts (next_tree others) (format_row 0) mid next × Puts (next_tree (created others format_table)) (state_row first_state) next new))
+    → OnOk r (GainsOurs old new)
+gains r old first mid new begun ended rows =
+    let added : AddsAll our_tables old mid = adds_append (format_table ∷ state_table ∷ objects_table ∷ []) (metadata_table ∷ files_table ∷ []) old first mid begun ended in
+    let free = (free_all our_tables old mid added).0 in
+    gains_if r old new free (λ has.
+    ok_then r (rows old.schema free (made_all our_tables old mid (refl, (refl, (refl, (refl, (refl, tt))))) has added).schema) (λ put. stands_beside old mid put.0 new added has put.1 put.2))
+
+-- ---- in an empty database
+
+empty_ours : with_ours no_schema ≡ our_schema
+unfolding everything
+empty_ours = refl
+
+first_ordered : AreOrdered first_tables
+first_ordered = record { format = ((tt, tt), (refl, tt)); state = ((tt, tt), (refl, tt)); objects = (tt, tt); metadata = (tt, tt); files = (tt, tt) }
+
+sees_first : (old new : State) → old.now.schema ≡ no_schema → GainsOurs old.now new.now → Sees new first_tables
+sees_first old new empty gained =
+    let after = gained.made (subst HasCounters (sym empty) refl) in
+    let schema : with_ours old.now.schema ≡ our_schema = ap with_ours empty ∙ empty_ours in
+    let rows : tables_of new ≡ first_tables = subst (λ s. tables_from (next_tree s) new.now.trees ≡ first_tables) empty after.1.rows in
+    record {
+      ours = record {
+        schema = after.0 ∙ schema;
+        trees = record { sound = subst (λ s. IsSound s new.now.trees) schema after.1.sound; ordered = subst AreOrdered (sym rows) first_ordered };
+      };
+      rows = rows;
+    }
+
+pub first_seen : {A E : Type 0} (r : Result A E) (old new : State) → old.now.schema ≡ no_schema → OnOk r (GainsOurs old.now new.now) → OnOk r (Sees new first_tables)
+first_seen r old new empty gained = ok_then r gained (sees_first old new empty)
