@@ -1,6 +1,7 @@
 //! Bodies and their framing.
 
-use crate::session::{Session, is_answered};
+use crate::session::is_answered;
+use crate::steps::{closed, open, plays_with_limit};
 use crate::texts::{
     CLOSING_BAD_REQUEST, NOT_FOUND, NOT_FOUND_DOCUMENT, NOT_FOUND_HEAD, SERVICE_DOCUMENT,
     SERVICE_HEAD, TOO_LARGE,
@@ -65,9 +66,11 @@ fn the_greatest_body_is_awaited(rt: HostRuntime) -> Result<(), Fail> {
 fn a_smaller_limit_holds(rt: HostRuntime) -> Result<(), Fail> {
     let five = b"GET /x HTTP/1.1\r\nHost: a\r\nContent-Length: 5\r\n\r\nabcd";
     let six = b"GET /x HTTP/1.1\r\nHost: a\r\nContent-Length: 6\r\n\r\n";
-    let mut session = Session::with_limit(rt.alloc(), 5)?;
-    session.arrives(&rt, five, &[], Arrived::Open)?;
-    session.arrives(&rt, b"e", NOT_FOUND, Arrived::Open)?;
-    session.arrives(&rt, six, TOO_LARGE, Arrived::Closed)?;
-    session.arrives(&rt, b"abcdef", &[], Arrived::Closed)
+    let steps = [
+        open(five, &[]),
+        open(b"e", NOT_FOUND),
+        closed(six, TOO_LARGE),
+        closed(b"abcdef", &[]),
+    ];
+    plays_with_limit(&rt, rt.alloc(), 5, &steps)
 }

@@ -2,10 +2,23 @@
 
 use crate::replies::{Created, Shown};
 use crate::requests::{GET_FILE, deposit_named, deposit_of_media, deposit_with, letters};
-use crate::session::Session;
+use crate::steps::{closed, open, plays};
 use crate::texts::{BAD_REQUEST, CLOSING_BAD_REQUEST, CREATED, NOT_FOUND};
-use dep_server::Arrived;
+use std::alloc::Global;
+use std::process::Abort;
 use std::test::Fail;
+
+// A deposit under this name is accepted.
+fn is_accepted(rt: &impl Abort, alloc: Global, name: &[u8]) -> Result<(), Fail> {
+    let request = deposit_named(alloc, name)?;
+    plays(rt, alloc, &[open(&request, CREATED)])
+}
+
+// The request is refused, and nothing is stored.
+fn is_refused(rt: &impl Abort, alloc: Global, request: &[u8]) -> Result<(), Fail> {
+    let steps = [open(request, BAD_REQUEST), open(GET_FILE, NOT_FOUND)];
+    plays(rt, alloc, &steps)
+}
 
 #[test]
 fn names_that_are_accepted(rt: HostRuntime) -> Result<(), Fail> {
@@ -19,9 +32,7 @@ fn names_that_are_accepted(rt: HostRuntime) -> Result<(), Fail> {
         b"50%.txt",
     ];
     for name in names {
-        let request = deposit_named(rt.alloc(), name)?;
-        let mut session = Session::open(rt.alloc())?;
-        session.arrives(&rt, &request, CREATED, Arrived::Open)?;
+        is_accepted(&rt, rt.alloc(), name)?;
     }
     Ok(())
 }
@@ -32,20 +43,17 @@ fn names_that_are_refused(rt: HostRuntime) -> Result<(), Fail> {
     let names: [&[u8]; 11] = [
         b"", &too_long, b".", b"..", b"a b", b"a;b", b"a\"b", b"a/b", b"a\\b", b"a\x80b", b"\"a\"",
     ];
-    let mut session = Session::open(rt.alloc())?;
     for name in names {
-        let request = deposit_named(rt.alloc(), name)?;
-        session.arrives(&rt, &request, BAD_REQUEST, Arrived::Open)?;
+        is_refused(&rt, rt.alloc(), &deposit_named(rt.alloc(), name)?)?;
     }
-    session.arrives(&rt, GET_FILE, NOT_FOUND, Arrived::Open)
+    Ok(())
 }
 
 // No head may have this byte, so the connection is closed.
 #[test]
 fn a_name_with_a_delete_character(rt: HostRuntime) -> Result<(), Fail> {
     let request = deposit_named(rt.alloc(), b"a\x7Fb")?;
-    let mut session = Session::open(rt.alloc())?;
-    session.arrives(&rt, &request, CLOSING_BAD_REQUEST, Arrived::Closed)
+    plays(&rt, rt.alloc(), &[closed(&request, CLOSING_BAD_REQUEST)])
 }
 
 #[test]
@@ -61,12 +69,10 @@ fn dispositions_that_are_refused(rt: HostRuntime) -> Result<(), Fail> {
         b"Content-Disposition: attachment; filename=a\r\nContent-Disposition: attachment; filename=a\r\n",
         b"Content-Disposition: attachment; filename=a\r\ncontent-disposition: attachment; filename=b\r\n",
     ];
-    let mut session = Session::open(rt.alloc())?;
     for field in fields {
-        let request = deposit_with(rt.alloc(), field)?;
-        session.arrives(&rt, &request, BAD_REQUEST, Arrived::Open)?;
+        is_refused(&rt, rt.alloc(), &deposit_with(rt.alloc(), field)?)?;
     }
-    session.arrives(&rt, GET_FILE, NOT_FOUND, Arrived::Open)
+    Ok(())
 }
 
 #[test]
@@ -75,32 +81,27 @@ fn no_media_type_is_bytes_of_no_known_type(rt: HostRuntime) -> Result<(), Fail> 
         rt.alloc(),
         b"Content-Disposition: attachment; filename=a.txt\r\n",
     )?;
-    let created = Created {
-        media: "application/octet-stream",
-        length: "979",
-        ..Created::text("1", "1", "1")
-    };
-    let shown = Shown {
-        media: "application/octet-stream",
-        tag: "1",
-        length: "3",
-        content: "abc",
-    };
-    let created = created.reply(rt.alloc())?;
-    let shown = shown.reply(rt.alloc())?;
-    let mut session = Session::open(rt.alloc())?;
-    session.arrives(&rt, &request, &[created.as_str()], Arrived::Open)?;
-    session.arrives(&rt, GET_FILE, &[shown.as_str()], Arrived::Open)
+    shows_media(&rt, rt.alloc(), &request, "application/octet-stream", "979")
 }
 
 #[test]
 fn the_longest_media_type(rt: HostRuntime) -> Result<(), Fail> {
     let media = letters(rt.alloc(), 255)?;
     let request = deposit_of_media(rt.alloc(), &media)?;
-    let media = str::from_utf8(&media)?;
+    shows_media(&rt, rt.alloc(), &request, str::from_utf8(&media)?, "1210")
+}
+
+// A deposit of `abc` gets this media type, with a status document of this length.
+fn shows_media(
+    rt: &impl Abort,
+    alloc: Global,
+    request: &[u8],
+    media: &str,
+    length: &str,
+) -> Result<(), Fail> {
     let created = Created {
         media,
-        length: "1210",
+        length,
         ..Created::text("1", "1", "1")
     };
     let shown = Shown {
@@ -109,11 +110,13 @@ fn the_longest_media_type(rt: HostRuntime) -> Result<(), Fail> {
         length: "3",
         content: "abc",
     };
-    let created = created.reply(rt.alloc())?;
-    let shown = shown.reply(rt.alloc())?;
-    let mut session = Session::open(rt.alloc())?;
-    session.arrives(&rt, &request, &[created.as_str()], Arrived::Open)?;
-    session.arrives(&rt, GET_FILE, &[shown.as_str()], Arrived::Open)
+    let created = created.reply();
+    let shown = shown.reply();
+    plays(
+        rt,
+        alloc,
+        &[open(request, &created), open(GET_FILE, &shown)],
+    )
 }
 
 #[test]
@@ -126,10 +129,8 @@ fn media_types_that_are_refused(rt: HostRuntime) -> Result<(), Fail> {
         b"a\x80b",
         b"text/plain\r\nContent-Type: text/plain",
     ];
-    let mut session = Session::open(rt.alloc())?;
     for value in values {
-        let request = deposit_of_media(rt.alloc(), value)?;
-        session.arrives(&rt, &request, BAD_REQUEST, Arrived::Open)?;
+        is_refused(&rt, rt.alloc(), &deposit_of_media(rt.alloc(), value)?)?;
     }
-    session.arrives(&rt, GET_FILE, NOT_FOUND, Arrived::Open)
+    Ok(())
 }

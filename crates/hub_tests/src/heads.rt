@@ -1,7 +1,8 @@
 //! Heads at their greatest length.
 
 use crate::requests::letters;
-use crate::session::Session;
+use crate::session::is_taken;
+use crate::steps::{closed, open, plays};
 use crate::texts::{CLOSING_BAD_REQUEST, SERVICE};
 use dep_server::Arrived;
 use std::alloc::{AllocError, Global};
@@ -18,21 +19,22 @@ fn request_of_value(alloc: Global, bytes: usize) -> Result<Vec<u8>, AllocError> 
 fn the_longest_head_is_served(rt: HostRuntime) -> Result<(), Fail> {
     let request = request_of_value(rt.alloc(), 16_345)?;
     assert_eq!(rt; request.len(), 16_384);
-    for size in [16_384, 16_383, 1_000] {
-        let mut session = Session::open(rt.alloc())?;
-        session.takes(&rt, &request, size, SERVICE, Arrived::Open)?;
-    }
-    Ok(())
+    let sizes = [16_384, 16_383, 1_000];
+    is_taken(&rt, rt.alloc(), &request, &sizes, SERVICE, Arrived::Open)
 }
 
 #[test]
 fn one_byte_more_is_refused(rt: HostRuntime) -> Result<(), Fail> {
     let request = request_of_value(rt.alloc(), 16_346)?;
-    for size in [16_385, 16_384, 16_383, 1_000] {
-        let mut session = Session::open(rt.alloc())?;
-        session.takes(&rt, &request, size, CLOSING_BAD_REQUEST, Arrived::Closed)?;
-    }
-    Ok(())
+    let sizes = [16_385, 16_384, 16_383, 1_000];
+    is_taken(
+        &rt,
+        rt.alloc(),
+        &request,
+        &sizes,
+        CLOSING_BAD_REQUEST,
+        Arrived::Closed,
+    )
 }
 
 // Once so many bytes stand there without an end.
@@ -41,8 +43,10 @@ fn it_is_refused_before_its_end(rt: HostRuntime) -> Result<(), Fail> {
     let request = request_of_value(rt.alloc(), 16_346)?;
     let (front, end) = request.split_at_checked(16_384).ok_or("short")?;
     let (most, last) = front.split_at_checked(16_383).ok_or("short")?;
-    let mut session = Session::open(rt.alloc())?;
-    session.arrives(&rt, most, &[], Arrived::Open)?;
-    session.arrives(&rt, last, CLOSING_BAD_REQUEST, Arrived::Closed)?;
-    session.arrives(&rt, end, &[], Arrived::Closed)
+    let steps = [
+        open(most, &[]),
+        closed(last, CLOSING_BAD_REQUEST),
+        closed(end, &[]),
+    ];
+    plays(&rt, rt.alloc(), &steps)
 }

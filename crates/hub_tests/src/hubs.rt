@@ -2,10 +2,13 @@
 
 use crate::page::Page;
 use crate::session::{MOMENT, Session, example, is_written, quiet_hub};
+use crate::steps::{at, plays};
 use crate::texts::NOT_FOUND;
 use dep_moment::Moment;
 use dep_server::{Arrived, ConnectFault, Hub, HubFault, Store};
-use dep_types::{Text, Through};
+use dep_types::{Config, GREATEST_MAX_UPLOAD, Text, Through};
+use std::alloc::Global;
+use std::process::Abort;
 use std::test::Fail;
 
 const GET_X: &[u8] = b"GET /x HTTP/1.1\r\nHost: a\r\n\r\n";
@@ -16,55 +19,85 @@ fn the_clock_never_goes_back(rt: HostRuntime) -> Result<(), Fail> {
         "HTTP/1.1 404 Not Found\r\nDate: Mon, 16 Apr 2018 01:00:01 GMT\r\nContent-Type: application/json\r\nContent-Length: 175\r\n\r\n",
         "{\"@context\":\"https://swordapp.github.io/swordv3/swordv3.jsonld\",\"@type\":\"NotFound\",\"error\":\"There is nothing at this URL\",\"log\":\"refusal 7\",\"timestamp\":\"2018-04-16T01:00:01Z\"}",
     ];
-    let mut session = Session::open(rt.alloc())?;
-    session.arrives_at(&rt, MOMENT, GET_X, NOT_FOUND, Arrived::Open)?;
-    session.arrives_at(&rt, MOMENT - 1_000, GET_X, NOT_FOUND, Arrived::Open)?;
-    session.arrives_at(&rt, MOMENT + 3_601, GET_X, later, Arrived::Open)?;
-    session.arrives_at(&rt, MOMENT, GET_X, later, Arrived::Open)
+    let steps = [
+        at(MOMENT, GET_X, NOT_FOUND),
+        at(MOMENT - 1_000, GET_X, NOT_FOUND),
+        at(MOMENT + 3_601, GET_X, later),
+        at(MOMENT, GET_X, later),
+    ];
+    plays(&rt, rt.alloc(), &steps)
 }
 
 // The clock of a store is seen by a tick at the moment 0.
-#[test]
-fn a_refused_configuration_hands_the_store_back(rt: HostRuntime) -> Result<(), Fail> {
-    let good = example(rt.alloc())?;
-    let mut slash = example(rt.alloc())?;
-    slash.base = Text::copied(rt.alloc(), "http://127.0.0.1:8080/")?;
-    let mut segments = example(rt.alloc())?;
-    segments.max_segments = 1_001;
-    for config in [slash, segments] {
-        let mut store = Store::empty(rt.alloc());
-        let _ = store.tick(&good, Moment::new(MOMENT));
-        match Hub::new(rt.alloc(), config, store) {
-            Ok(_) => return Err(Fail::new("accepted")),
-            Err((HubFault::Memory, _)) => return Err(Fail::new("no memory")),
-            Err((HubFault::Config, mut back)) => {
-                assert_eq!(rt; back.tick(&good, Moment::new(0)).secs(), MOMENT);
-            }
+fn clock_of(alloc: Global, mut store: Store) -> Result<u64, Fail> {
+    let config = example(alloc)?;
+    Ok(store.tick(&config, Moment::new(0)).secs())
+}
+
+// A store that has seen the moment of the published replies.
+fn ticked(alloc: Global) -> Result<Store, Fail> {
+    let config = example(alloc)?;
+    let mut store = Store::empty(alloc);
+    let _ = store.tick(&config, Moment::new(MOMENT));
+    Ok(store)
+}
+
+fn is_refused(rt: &impl Abort, alloc: Global, config: Config) -> Result<(), Fail> {
+    match Hub::new(alloc, config, ticked(alloc)?) {
+        Ok(_) => Err(Fail::new("accepted")),
+        Err((HubFault::Memory, _)) => Err(Fail::new("no memory")),
+        Err((HubFault::Config, store)) => {
+            assert_eq!(rt; clock_of(alloc, store)?, MOMENT);
+            Ok(())
         }
     }
-    Ok(())
+}
+
+#[test]
+fn a_base_with_a_slash_hands_the_store_back(rt: HostRuntime) -> Result<(), Fail> {
+    let mut config = example(rt.alloc())?;
+    config.base = Text::copied(rt.alloc(), "http://127.0.0.1:8080/")?;
+    is_refused(&rt, rt.alloc(), config)
+}
+
+#[test]
+fn too_many_segments_hand_the_store_back(rt: HostRuntime) -> Result<(), Fail> {
+    let mut config = example(rt.alloc())?;
+    config.max_segments = 1_001;
+    is_refused(&rt, rt.alloc(), config)
 }
 
 #[test]
 fn the_store_outlives_the_hub(rt: HostRuntime) -> Result<(), Fail> {
-    let mut session = Session::open(rt.alloc())?;
-    session.arrives(&rt, GET_X, NOT_FOUND, Arrived::Open)?;
-    let mut store = session.into_store();
-    let config = example(rt.alloc())?;
-    assert_eq!(rt; store.tick(&config, Moment::new(0)).secs(), MOMENT);
+    let mut session = Session::open(rt.alloc(), GREATEST_MAX_UPLOAD)?;
+    session.takes(&rt, GET_X, GET_X.len(), NOT_FOUND, Arrived::Open)?;
+    assert_eq!(rt; clock_of(rt.alloc(), session.into_store())?, MOMENT);
     Ok(())
+}
+
+fn empty_hub(alloc: Global) -> Result<Hub, Fail> {
+    quiet_hub(alloc, example(alloc)?, Store::empty(alloc))
 }
 
 #[test]
 fn one_connection_at_a_time(rt: HostRuntime) -> Result<(), Fail> {
-    let mut hub = quiet_hub(rt.alloc(), example(rt.alloc())?, Store::empty(rt.alloc()))?;
+    let mut hub = empty_hub(rt.alloc())?;
     let first = hub.connect()?;
     assert_eq!(rt; hub.connect(), Err(ConnectFault::Full));
     hub.close(first);
     let second = hub.connect()?;
     assert_ne!(rt; second, first);
     assert_eq!(rt; hub.connect(), Err(ConnectFault::Full));
+    Ok(())
+}
+
+#[test]
+fn a_closed_connection_is_gone(rt: HostRuntime) -> Result<(), Fail> {
     let mut out = Through::new(Page::new(rt.alloc())?);
+    let mut hub = empty_hub(rt.alloc())?;
+    let first = hub.connect()?;
+    hub.close(first);
+    let second = hub.connect()?;
     let came = hub.arrive(first, GET_X, Moment::new(MOMENT), &mut out);
     assert_eq!(rt; came, Arrived::NoSuch);
     hub.close(first);

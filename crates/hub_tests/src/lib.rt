@@ -34,4 +34,6 @@ mod session;
 #[cfg(test)]
 mod sizes;
 #[cfg(test)]
+mod steps;
+#[cfg(test)]
 mod texts;

@@ -4,6 +4,7 @@ use crate::page::Page;
 use crate::session::{MOMENT, Session, is_written};
 use crate::texts::{SERVICE, WANT_OF_MEMORY};
 use dep_server::Arrived;
+use dep_types::GREATEST_MAX_UPLOAD;
 use std::test::Fail;
 
 const GET_SERVICE: &[u8] = b"GET /service HTTP/1.1\r\nHost: 127.0.0.1:8080\r\n\r\n";
@@ -13,7 +14,7 @@ const GET_SERVICE: &[u8] = b"GET /service HTTP/1.1\r\nHost: 127.0.0.1:8080\r\n\r
 fn the_reply_or_want_of_memory(rt: HostRuntime) -> Result<(), Fail> {
     let first = Page::new(rt.alloc())?;
     let second = Page::new(rt.alloc())?;
-    let mut session = Session::open(rt.alloc())?;
+    let mut session = Session::open(rt.alloc(), GREATEST_MAX_UPLOAD)?;
     let (page, came) = session.sent(GET_SERVICE, MOMENT, first);
     if page.bytes() == WANT_OF_MEMORY.as_bytes() {
         assert_eq!(rt; came, Arrived::Closed);

@@ -1,14 +1,29 @@
 //! Paths and methods of files.
 
 use crate::requests::{DEPOSIT, GET_FILE, bare_request};
-use crate::session::Session;
+use crate::steps::{open, plays};
 use crate::texts::{
     CREATED, FILE_NOT_ALLOWED, FILE_NOT_ALLOWED_HEAD, FILE_REPLY, NOT_FOUND, SERVICE_NOT_ALLOWED,
 };
-use dep_server::Arrived;
 use std::alloc::Global;
 use std::process::Abort;
 use std::test::Fail;
+
+fn is_answered(
+    rt: &impl Abort,
+    alloc: Global,
+    method: &str,
+    path: &str,
+    want: &[&str],
+) -> Result<(), Fail> {
+    let request = bare_request(alloc, method, path)?;
+    let steps = [
+        open(DEPOSIT, CREATED),
+        open(request.as_bytes(), want),
+        open(GET_FILE, &[FILE_REPLY]),
+    ];
+    plays(rt, alloc, &steps)
+}
 
 /// Over an archive that holds the file `a.txt`, each of these methods and paths has to be answered so, and
 /// the file is still there.
@@ -18,13 +33,10 @@ fn are_answered(
     lines: &[(&str, &str)],
     want: &[&str],
 ) -> Result<(), Fail> {
-    let mut session = Session::open(alloc)?;
-    session.arrives(rt, DEPOSIT, CREATED, Arrived::Open)?;
     for (method, path) in lines {
-        let request = bare_request(alloc, method, path)?;
-        session.arrives(rt, request.as_bytes(), want, Arrived::Open)?;
+        is_answered(rt, alloc, method, path, want)?;
     }
-    session.arrives(rt, GET_FILE, &[FILE_REPLY], Arrived::Open)
+    Ok(())
 }
 
 #[test]

@@ -1,12 +1,10 @@
 //! Replies that differ from the published ones in numbers, a media type or a moment.
 
-use std::alloc::{AllocError, Global};
-
 /// The moment of the published replies, as the header tells it.
-pub const DATE: &str = "Mon, 16 Apr 2018 00:00:00 GMT";
+const DATE: &str = "Mon, 16 Apr 2018 00:00:00 GMT";
 
 /// The same moment, as documents tell it.
-pub const STAMP: &str = "2018-04-16T00:00:00Z";
+const STAMP: &str = "2018-04-16T00:00:00Z";
 
 /// What a reply to a deposit says: its numbers, the bytes of its document, the media type and the clock.
 #[derive(Clone, Copy)]
@@ -34,13 +32,8 @@ impl<'a> Created<'a> {
         }
     }
 
-    pub fn reply(&self, alloc: Global) -> Result<String, AllocError> {
-        let head = self.head(alloc)?;
-        let document = self.document(alloc)?;
-        [head.as_str(), document.as_str()].concat(alloc)
-    }
-
-    fn head(&self, alloc: Global) -> Result<String, AllocError> {
+    /// The reply in parts.
+    pub fn reply(&self) -> [&'a str; 32] {
         [
             "HTTP/1.1 201 Created\r\nDate: ",
             self.date,
@@ -51,12 +44,6 @@ impl<'a> Created<'a> {
             "\"\r\nLocation: http://127.0.0.1:8080/objects/",
             self.object,
             "\r\n\r\n",
-        ]
-        .concat(alloc)
-    }
-
-    fn document(&self, alloc: Global) -> Result<String, AllocError> {
-        [
             "{\"@context\":\"https://swordapp.github.io/swordv3/swordv3.jsonld\",\"@id\":\"http://127.0.0.1:8080/objects/",
             self.object,
             "\",\"@type\":\"Status\",\"actions\":{\"appendFiles\":true,\"appendMetadata\":true,\"deleteFiles\":true,\"deleteMetadata\":true,\"deleteObject\":true,\"getFiles\":true,\"getMetadata\":true,\"replaceFiles\":true,\"replaceMetadata\":true},\"eTag\":\"",
@@ -81,7 +68,6 @@ impl<'a> Created<'a> {
             self.tag,
             "\"},\"service\":\"http://127.0.0.1:8080/service\",\"state\":[{\"@id\":\"http://purl.org/net/sword/3.0/state/ingested\"}]}",
         ]
-        .concat(alloc)
     }
 }
 
@@ -94,8 +80,9 @@ pub struct Shown<'a> {
     pub content: &'a str,
 }
 
-impl Shown<'_> {
-    pub fn reply(&self, alloc: Global) -> Result<String, AllocError> {
+impl<'a> Shown<'a> {
+    /// The reply in parts.
+    pub fn reply(&self) -> [&'a str; 8] {
         [
             "HTTP/1.1 200 OK\r\nDate: Mon, 16 Apr 2018 00:00:00 GMT\r\nContent-Type: ",
             self.media,
@@ -106,6 +93,5 @@ impl Shown<'_> {
             "\"\r\n\r\n",
             self.content,
         ]
-        .concat(alloc)
     }
 }

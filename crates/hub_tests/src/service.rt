@@ -1,6 +1,7 @@
 //! Requests with good heads and without bodies.
 
-use crate::session::{Session, is_answered};
+use crate::session::is_answered;
+use crate::steps::{open, plays};
 use crate::texts::{
     CLOSING_BAD_REQUEST_HEAD, CLOSING_SERVICE, NOT_FOUND, NOT_FOUND_HEAD, SERVICE,
     SERVICE_DOCUMENT, SERVICE_HEAD, SERVICE_NOT_ALLOWED, SERVICE_NOT_ALLOWED_HEAD,
@@ -76,8 +77,7 @@ fn requests_one_after_another(rt: HostRuntime) -> Result<(), Fail> {
 #[test]
 fn the_last_byte_asks_for_the_reply(rt: HostRuntime) -> Result<(), Fail> {
     let (last, front) = GET_SERVICE.as_bytes().split_last().ok_or("empty")?;
-    let mut session = Session::open(rt.alloc())?;
-    session.arrives(&rt, b"", &[], Arrived::Open)?;
-    session.arrives(&rt, front, &[], Arrived::Open)?;
-    session.arrives(&rt, &[*last], SERVICE, Arrived::Open)
+    let end = [*last];
+    let steps = [open(b"", &[]), open(front, &[]), open(&end, SERVICE)];
+    plays(&rt, rt.alloc(), &steps)
 }

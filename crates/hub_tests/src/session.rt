@@ -14,11 +14,13 @@ pub const MOMENT: u64 = 1_523_836_800;
 
 /// The example's configuration, with limits as great as they may be.
 pub fn example(alloc: Global) -> Result<Config, AllocError> {
+    let (base, title) = texts(alloc, "http://127.0.0.1:8080", "swordd")?;
+    let (abstract_text, depositor) = texts(alloc, "Deposit service", "depositor")?;
     Ok(Config {
-        base: Text::copied(alloc, "http://127.0.0.1:8080")?,
-        title: Text::copied(alloc, "swordd")?,
-        abstract_text: Text::copied(alloc, "Deposit service")?,
-        depositor: Text::copied(alloc, "depositor")?,
+        base,
+        title,
+        abstract_text,
+        depositor,
         on_behalf_of: false,
         require_if_match: false,
         max_upload: GREATEST_MAX_UPLOAD,
@@ -26,6 +28,10 @@ pub fn example(alloc: Global) -> Result<Config, AllocError> {
         max_segments: 1_000,
         staging_max_idle: 3_600,
     })
+}
+
+fn texts(alloc: Global, first: &str, second: &str) -> Result<(Text, Text), AllocError> {
+    Ok((Text::copied(alloc, first)?, Text::copied(alloc, second)?))
 }
 
 /// A hub that nobody is connected to.
@@ -45,13 +51,8 @@ pub struct Session {
 }
 
 impl Session {
-    /// Over an archive that holds nothing.
-    pub fn open(alloc: Global) -> Result<Session, Fail> {
-        Session::over(alloc, example(alloc)?, Store::empty(alloc))
-    }
-
-    /// The same with another limit of one content, in bytes.
-    pub fn with_limit(alloc: Global, max_upload: u64) -> Result<Session, Fail> {
+    /// Over an archive that holds nothing, with this limit of one content in bytes.
+    pub fn open(alloc: Global, max_upload: u64) -> Result<Session, Fail> {
         let mut config = example(alloc)?;
         config.max_upload = max_upload;
         Session::over(alloc, config, Store::empty(alloc))
@@ -60,12 +61,14 @@ impl Session {
     /// By this configuration, over this archive.
     fn over(alloc: Global, config: Config, store: Store) -> Result<Session, Fail> {
         let mut hub = quiet_hub(alloc, config, store)?;
-        let connection = hub.connect()?;
-        Ok(Session {
-            alloc,
-            hub,
-            connection,
-        })
+        match hub.connect() {
+            Ok(connection) => Ok(Session {
+                alloc,
+                hub,
+                connection,
+            }),
+            Err(fault) => Err(Fail::from(fault)),
+        }
     }
 
     /// On another connection.
@@ -78,7 +81,8 @@ impl Session {
     /// In another hub, over the same archive.
     pub fn restarted(self) -> Result<Session, Fail> {
         let alloc = self.alloc;
-        Session::over(alloc, example(alloc)?, self.into_store())
+        let store = self.into_store();
+        Session::over(alloc, example(alloc)?, store)
     }
 
     /// The archive alone.
@@ -93,32 +97,6 @@ impl Session {
             .hub
             .arrive(self.connection, piece, Moment::new(moment), &mut out);
         (out.into_inner(), came)
-    }
-
-    /// An arrival at the moment of the published replies: just these texts have to be sent.
-    pub fn arrives(
-        &mut self,
-        rt: &impl Abort,
-        piece: &[u8],
-        want: &[&str],
-        answer: Arrived,
-    ) -> Result<(), Fail> {
-        self.arrives_at(rt, MOMENT, piece, want, answer)
-    }
-
-    /// The same at another moment.
-    pub fn arrives_at(
-        &mut self,
-        rt: &impl Abort,
-        moment: u64,
-        piece: &[u8],
-        want: &[&str],
-        answer: Arrived,
-    ) -> Result<(), Fail> {
-        let (page, came) = self.sent(piece, moment, Page::new(self.alloc)?);
-        is_written(rt, self.alloc, page.bytes(), want)?;
-        assert_eq!(rt; came, answer);
-        Ok(())
     }
 
     /// The stream has to be answered so, in pieces of this many bytes.
@@ -143,7 +121,34 @@ impl Session {
     }
 }
 
-/// A stream has to be answered so on a connection of its own, in one piece and byte by byte.
+/// A stream has to be answered so on a connection of its own, in pieces of each of these sizes.
+pub fn is_taken(
+    rt: &impl Abort,
+    alloc: Global,
+    stream: &[u8],
+    sizes: &[usize],
+    want: &[&str],
+    answer: Arrived,
+) -> Result<(), Fail> {
+    for size in sizes {
+        is_taken_by(rt, alloc, stream, *size, want, answer)?;
+    }
+    Ok(())
+}
+
+fn is_taken_by(
+    rt: &impl Abort,
+    alloc: Global,
+    stream: &[u8],
+    size: usize,
+    want: &[&str],
+    answer: Arrived,
+) -> Result<(), Fail> {
+    let mut session = Session::open(alloc, GREATEST_MAX_UPLOAD)?;
+    session.takes(rt, stream, size, want, answer)
+}
+
+/// The same in one piece and byte by byte.
 pub fn is_answered(
     rt: &impl Abort,
     alloc: Global,
@@ -151,11 +156,8 @@ pub fn is_answered(
     want: &[&str],
     answer: Arrived,
 ) -> Result<(), Fail> {
-    for size in [stream.len(), 1] {
-        let mut session = Session::open(alloc)?;
-        session.takes(rt, stream.as_bytes(), size, want, answer)?;
-    }
-    Ok(())
+    let sizes = [stream.len(), 1];
+    is_taken(rt, alloc, stream.as_bytes(), &sizes, want, answer)
 }
 
 /// Just these texts have to be written. Where there was no memory for them, the reply that says so has to

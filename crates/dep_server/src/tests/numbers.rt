@@ -45,11 +45,13 @@ impl Write for Page {
 }
 
 fn example(alloc: Global) -> Result<Config, AllocError> {
+    let (base, title) = texts(alloc, "http://127.0.0.1:8080", "swordd")?;
+    let (abstract_text, depositor) = texts(alloc, "Deposit service", "depositor")?;
     Ok(Config {
-        base: Text::copied(alloc, "http://127.0.0.1:8080")?,
-        title: Text::copied(alloc, "swordd")?,
-        abstract_text: Text::copied(alloc, "Deposit service")?,
-        depositor: Text::copied(alloc, "depositor")?,
+        base,
+        title,
+        abstract_text,
+        depositor,
         on_behalf_of: false,
         require_if_match: false,
         max_upload: GREATEST_MAX_UPLOAD,
@@ -57,6 +59,10 @@ fn example(alloc: Global) -> Result<Config, AllocError> {
         max_segments: 1_000,
         staging_max_idle: 3_600,
     })
+}
+
+fn texts(alloc: Global, first: &str, second: &str) -> Result<(Text, Text), AllocError> {
+    Ok((Text::copied(alloc, first)?, Text::copied(alloc, second)?))
 }
 
 /// A hub over an archive that gives these numbers next, and a connection of it.
