@@ -12,7 +12,7 @@ use std::test::Fail;
 #[test]
 fn a_body_is_read_and_ignored(rt: HostRuntime) -> Result<(), Fail> {
     let stream =
-        "GET /service HTTP/1.1\r\nHost: a\r\nContent-Length: 3\r\n\r\nabcGET /x HTTP/1.1\r\nHost: a\r\n\r\n";
+        b"GET /service HTTP/1.1\r\nHost: a\r\nContent-Length: 3\r\n\r\nabcGET /x HTTP/1.1\r\nHost: a\r\n\r\n";
     is_answered(
         &rt,
         rt.alloc(),
@@ -29,13 +29,13 @@ fn a_body_is_read_and_ignored(rt: HostRuntime) -> Result<(), Fail> {
 
 #[test]
 fn bad_framing_is_refused(rt: HostRuntime) -> Result<(), Fail> {
-    let heads = [
-        "GET /service HTTP/1.1\r\nHost: a\r\nContent-Length: +3\r\n\r\n",
-        "GET /service HTTP/1.1\r\nHost: a\r\nContent-Length: 3, 3\r\n\r\n",
-        "GET /service HTTP/1.1\r\nHost: a\r\nContent-Length: 3\r\nContent-Length: 3\r\n\r\n",
-        "GET /service HTTP/1.1\r\nHost: a\r\nTransfer-Encoding: chunked\r\n\r\n",
-        "GET /service HTTP/1.1\r\nHost: a\r\ntransfer-encoding: identity\r\n\r\n",
-        "GET /service HTTP/1.1\r\nHost: a\r\nContent-Length: 3\r\nTransfer-Encoding: chunked\r\n\r\n",
+    let heads: [&[u8]; 6] = [
+        b"GET /service HTTP/1.1\r\nHost: a\r\nContent-Length: +3\r\n\r\n",
+        b"GET /service HTTP/1.1\r\nHost: a\r\nContent-Length: 3, 3\r\n\r\n",
+        b"GET /service HTTP/1.1\r\nHost: a\r\nContent-Length: 3\r\nContent-Length: 3\r\n\r\n",
+        b"GET /service HTTP/1.1\r\nHost: a\r\nTransfer-Encoding: chunked\r\n\r\n",
+        b"GET /service HTTP/1.1\r\nHost: a\r\ntransfer-encoding: identity\r\n\r\n",
+        b"GET /service HTTP/1.1\r\nHost: a\r\nContent-Length: 3\r\nTransfer-Encoding: chunked\r\n\r\n",
     ];
     for head in heads {
         is_answered(&rt, rt.alloc(), head, CLOSING_BAD_REQUEST, Arrived::Closed)?;
@@ -46,9 +46,9 @@ fn bad_framing_is_refused(rt: HostRuntime) -> Result<(), Fail> {
 // Before a byte of the body.
 #[test]
 fn a_body_above_the_limit_is_refused(rt: HostRuntime) -> Result<(), Fail> {
-    let heads = [
-        "GET /service HTTP/1.1\r\nHost: a\r\nContent-Length: 16777217\r\n\r\n",
-        "GET /service HTTP/1.1\r\nHost: a\r\nContent-Length: 999999999999999999999999999999\r\n\r\n",
+    let heads: [&[u8]; 2] = [
+        b"GET /service HTTP/1.1\r\nHost: a\r\nContent-Length: 16777217\r\n\r\n",
+        b"GET /service HTTP/1.1\r\nHost: a\r\nContent-Length: 999999999999999999999999999999\r\n\r\n",
     ];
     for head in heads {
         is_answered(&rt, rt.alloc(), head, TOO_LARGE, Arrived::Closed)?;
@@ -58,7 +58,7 @@ fn a_body_above_the_limit_is_refused(rt: HostRuntime) -> Result<(), Fail> {
 
 #[test]
 fn the_greatest_body_is_awaited(rt: HostRuntime) -> Result<(), Fail> {
-    let head = "GET /service HTTP/1.1\r\nHost: a\r\nContent-Length: 16777216\r\n\r\n";
+    let head = b"GET /service HTTP/1.1\r\nHost: a\r\nContent-Length: 16777216\r\n\r\n";
     is_answered(&rt, rt.alloc(), head, &[], Arrived::Open)
 }
 

@@ -2,8 +2,11 @@
 
 use crate::replies::{Created, Shown};
 use crate::requests::{GET_FILE, deposit_named, deposit_of_media, deposit_with, letters};
+use crate::session::Session;
 use crate::steps::{closed, open, plays};
 use crate::texts::{BAD_REQUEST, CLOSING_BAD_REQUEST, CREATED, NOT_FOUND};
+use dep_server::Arrived;
+use dep_types::GREATEST_MAX_UPLOAD;
 use std::alloc::Global;
 use std::process::Abort;
 use std::test::Fail;
@@ -92,12 +95,12 @@ fn the_longest_media_type(rt: HostRuntime) -> Result<(), Fail> {
 }
 
 // A deposit of `abc` gets this media type, with a status document of this length.
-fn shows_media(
+fn shows_media<'a>(
     rt: &impl Abort,
     alloc: Global,
     request: &[u8],
-    media: &str,
-    length: &str,
+    media: &'a str,
+    length: &'a str,
 ) -> Result<(), Fail> {
     let created = Created {
         media,
@@ -110,13 +113,9 @@ fn shows_media(
         length: "3",
         content: "abc",
     };
-    let created = created.reply();
-    let shown = shown.reply();
-    plays(
-        rt,
-        alloc,
-        &[open(request, &created), open(GET_FILE, &shown)],
-    )
+    let mut session = Session::open(alloc, GREATEST_MAX_UPLOAD)?;
+    session.takes(rt, request, request.len(), &created.reply(), Arrived::Open)?;
+    session.takes(rt, GET_FILE, GET_FILE.len(), &shown.reply(), Arrived::Open)
 }
 
 #[test]

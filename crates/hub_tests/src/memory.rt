@@ -1,13 +1,12 @@
 //! No memory for a reply.
 
 use crate::page::Page;
+use crate::requests::GET_SERVICE;
 use crate::session::{MOMENT, Session, is_written};
 use crate::texts::{SERVICE, WANT_OF_MEMORY};
 use dep_server::Arrived;
 use dep_types::GREATEST_MAX_UPLOAD;
 use std::test::Fail;
-
-const GET_SERVICE: &[u8] = b"GET /service HTTP/1.1\r\nHost: 127.0.0.1:8080\r\n\r\n";
 
 // It is for runs in which one allocation fails: the connection is closed after the reply that says so.
 #[test]

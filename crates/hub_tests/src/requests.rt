@@ -6,6 +6,8 @@ use std::alloc::{AllocError, Global};
 pub const DEPOSIT: &[u8] =
     b"POST /service HTTP/1.1\r\nHost: 127.0.0.1:8080\r\nContent-Type: text/plain\r\nContent-Disposition: attachment; filename=a.txt\r\nDigest: SHA-256=ungWv48Bz+pBQUDeXa4iI7ADYaOWF3qctBD/YfIAFa0=\r\nContent-Length: 3\r\n\r\nabc";
 
+pub const GET_SERVICE: &[u8] = b"GET /service HTTP/1.1\r\nHost: 127.0.0.1:8080\r\n\r\n";
+
 pub const GET_FILE: &[u8] = b"GET /objects/1/files/1 HTTP/1.1\r\nHost: 127.0.0.1:8080\r\n\r\n";
 
 /// A deposit of `abc` with these fields, each with its line end.

@@ -1,5 +1,6 @@
 //! Requests with good heads and without bodies.
 
+use crate::requests::GET_SERVICE;
 use crate::session::is_answered;
 use crate::steps::{open, plays};
 use crate::texts::{
@@ -9,7 +10,7 @@ use crate::texts::{
 use dep_server::Arrived;
 use std::test::Fail;
 
-const GET_SERVICE: &str = "GET /service HTTP/1.1\r\nHost: 127.0.0.1:8080\r\n\r\n";
+const NOTHING: &[u8] = b"";
 
 #[test]
 fn the_service_document(rt: HostRuntime) -> Result<(), Fail> {
@@ -18,24 +19,27 @@ fn the_service_document(rt: HostRuntime) -> Result<(), Fail> {
 
 #[test]
 fn an_old_version_closes(rt: HostRuntime) -> Result<(), Fail> {
-    let stream = "GET /service HTTP/1.0\r\n\r\nGET /service HTTP/1.1\r\nHost: a\r\n\r\n";
+    let stream = b"GET /service HTTP/1.0\r\n\r\nGET /service HTTP/1.1\r\nHost: a\r\n\r\n";
     is_answered(&rt, rt.alloc(), stream, CLOSING_SERVICE, Arrived::Closed)
 }
 
 #[test]
 fn what_is_not_there(rt: HostRuntime) -> Result<(), Fail> {
-    let cases: [(&str, &[&str]); 4] = [
-        ("GET /x HTTP/1.1\r\nHost: 127.0.0.1:8080\r\n\r\n", NOT_FOUND),
+    let cases: [(&[u8], &[&str]); 4] = [
         (
-            "DELETE /service HTTP/1.1\r\nHost: 127.0.0.1:8080\r\n\r\n",
+            b"GET /x HTTP/1.1\r\nHost: 127.0.0.1:8080\r\n\r\n",
+            NOT_FOUND,
+        ),
+        (
+            b"DELETE /service HTTP/1.1\r\nHost: 127.0.0.1:8080\r\n\r\n",
             SERVICE_NOT_ALLOWED,
         ),
         (
-            "HEAD /service HTTP/1.1\r\nHost: 127.0.0.1:8080\r\n\r\n",
+            b"HEAD /service HTTP/1.1\r\nHost: 127.0.0.1:8080\r\n\r\n",
             &[SERVICE_NOT_ALLOWED_HEAD],
         ),
         (
-            "HEAD /x HTTP/1.1\r\nHost: 127.0.0.1:8080\r\n\r\n",
+            b"HEAD /x HTTP/1.1\r\nHost: 127.0.0.1:8080\r\n\r\n",
             &[NOT_FOUND_HEAD],
         ),
     ];
@@ -47,7 +51,7 @@ fn what_is_not_there(rt: HostRuntime) -> Result<(), Fail> {
 
 #[test]
 fn a_bad_request_for_a_head_has_no_body(rt: HostRuntime) -> Result<(), Fail> {
-    let stream = "HEAD /service HTTP/1.1\r\nHost: a\r\nContent-Length: x\r\n\r\n";
+    let stream = b"HEAD /service HTTP/1.1\r\nHost: a\r\nContent-Length: x\r\n\r\n";
     is_answered(
         &rt,
         rt.alloc(),
@@ -76,8 +80,7 @@ fn requests_one_after_another(rt: HostRuntime) -> Result<(), Fail> {
 
 #[test]
 fn the_last_byte_asks_for_the_reply(rt: HostRuntime) -> Result<(), Fail> {
-    let (last, front) = GET_SERVICE.as_bytes().split_last().ok_or("empty")?;
-    let end = [*last];
-    let steps = [open(b"", &[]), open(front, &[]), open(&end, SERVICE)];
+    let front = b"GET /service HTTP/1.1\r\nHost: 127.0.0.1:8080\r\n\r";
+    let steps = [open(NOTHING, &[]), open(front, &[]), open(b"\n", SERVICE)];
     plays(&rt, rt.alloc(), &steps)
 }

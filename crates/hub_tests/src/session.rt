@@ -152,12 +152,12 @@ fn is_taken_by(
 pub fn is_answered(
     rt: &impl Abort,
     alloc: Global,
-    stream: &str,
+    stream: &[u8],
     want: &[&str],
     answer: Arrived,
 ) -> Result<(), Fail> {
     let sizes = [stream.len(), 1];
-    is_taken(rt, alloc, stream.as_bytes(), &sizes, want, answer)
+    is_taken(rt, alloc, stream, &sizes, want, answer)
 }
 
 /// Just these texts have to be written. Where there was no memory for them, the reply that says so has to
