@@ -20,6 +20,3 @@ pub use opening::{OpenFault, Schema, open};
 pub use reopening::{reopen, sees_again};
 pub use rows::{FileRow, MetadataRow, ObjectRow, StateRow};
 pub use state::{read_state, write_state};
-
-#[cfg(test)]
-mod tests;
