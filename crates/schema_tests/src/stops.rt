@@ -23,7 +23,10 @@ fn set_clock<S: Alter>(connection: &mut Connection<S>) -> Result<(), StoreFault>
     row.clock = 9;
     write_state(&mut tx, &row)?;
     add_object(&mut tx)?;
-    tx.commit().map_err(fault_of)
+    match tx.commit() {
+        Ok(()) => Ok(()),
+        Err(error) => Err(fault_of(error)),
+    }
 }
 
 /// Opens the files and runs one transaction, up to the first fault. It answers whether it was committed, and the files.

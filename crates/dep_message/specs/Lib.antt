@@ -1,0 +1,4 @@
+pub mod Places
+pub mod Heads
+pub mod Stream
+pub mod Steps

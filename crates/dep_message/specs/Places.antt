@@ -1,0 +1,33 @@
+-- Where the reading of a stream stands.
+use Rattle.std.specs.Prelude.{ℕ, ◌+◌, Bool, List, [], ◌∷◌, ◌++◌, length, if◌then◌else◌}
+
+-- before these bytes, or at an end behind which no byte is read; continued: the request that stands first was told
+-- to send its body
+pub data Place : Type 0 where
+  Open : (continued : Bool) (rest : List ℕ) → Place
+  Shut : Place
+
+-- the place once more bytes have come
+abbrev pub more : Place → List ℕ → Place
+more (Open continued rest) piece = Open continued (rest ++ piece)
+more Shut piece = Shut
+
+-- some byte of the next item is there
+abbrev pub HasBytes : Place → Type 0
+HasBytes (Open continued []) = ⊥
+HasBytes (Open continued (byte ∷ bytes)) = Unit {0}
+HasBytes Shut = ⊥
+
+-- what an intake keeps: the greatest content, and where its reading stands
+pub record Reading : Type 0 where
+  pub limit : ℕ
+  pub place : Place
+
+-- how much is left to read: each byte counts twice, and what tells the first request to go on once
+abbrev pub left_to_read : Place → ℕ
+left_to_read (Open continued rest) = length rest + length rest + (if continued then 1 else 2)
+left_to_read Shut = 0
+
+abbrev pub IsOpen : Place → Type 0
+IsOpen (Open continued rest) = Unit {0}
+IsOpen Shut = ⊥

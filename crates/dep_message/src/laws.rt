@@ -1,0 +1,29 @@
+//! Laws of the definitions, apart from any code.
+ghost use Rattle.std.specs.Prelude.{◌≡◌, ℕ, Bool, List, ◌++◌};
+ghost use Rattle.dep_message.specs.Places.{Place, more};
+ghost use Rattle.dep_message.specs.Stream.{Item, Reads, IsRequestText, Spells};
+ghost use Rattle.dep_message.specs.declared.message.Message.{Message};
+
+/// What was read is read still when more bytes come, and what was left goes on with them.
+pub fn reading_carries_on()
+    ensures { (limit : ℕ) (items : List Item) (from to : Place) (piece : List ℕ)
+        → Reads limit from items to → Reads limit (more from piece) items (more to piece) }
+{}
+
+/// Bytes begin with the text of at most one request.
+pub fn one_request()
+    ensures { (limit : ℕ) (continued : Bool) (a b x y : List ℕ) (m k : Message) → a ++ x ≡ b ++ y
+        → IsRequestText limit continued a m → IsRequestText limit continued b k → (m ≡ k) × (x ≡ y) }
+{}
+
+/// A stream spells one list of items, and leaves one place.
+pub fn one_spelling()
+    ensures { (limit : ℕ) (stream : List ℕ) (xs ys : List Item) (p q : Place)
+        → Spells limit stream xs p → Spells limit stream ys q → (xs ≡ ys) × (p ≡ q) }
+{}
+
+/// The items of a prefix are a prefix of the items.
+pub fn items_grow()
+    ensures { (limit : ℕ) (stream piece : List ℕ) (xs ys : List Item) (p q : Place)
+        → Spells limit stream xs p → Spells limit (stream ++ piece) ys q → (more : List Item) × (ys ≡ xs ++ more) }
+{}

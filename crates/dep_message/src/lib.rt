@@ -1,0 +1,15 @@
+//! The messages of a connection: its bytes come in pieces, and whole requests are taken from them (RFC 9112).
+#![tactic(auto)]
+
+mod body;
+mod first;
+mod heads;
+mod intake;
+pub mod laws;
+mod message;
+#[cfg(test)]
+mod tests;
+
+pub use heads::{closes, is_without_body};
+pub use intake::{Intake, Step};
+pub use message::{Content, Message};

@@ -1,0 +1,1 @@
+//! Streams, cut at any place.
