@@ -2,8 +2,8 @@ use Rattle.std.proofs.Common.{◌≡◌, ◌==◌, ℕ, Bool, true, false, List,
 use Rattle.std.proofs.lemmas.List.{append-nil}
 use Rattle.dep_types.specs.State.{State}
 use Rattle.dep_types.specs.declared.config.Config.{Config}
-use Rattle.dep_server.specs.Places.{Place}
-use Rattle.dep_server.specs.Stream.{Item}
+use Rattle.dep_message.specs.Places.{Place}
+use Rattle.dep_message.specs.Stream.{Item}
 use Rattle.dep_server.specs.Machine.{step, replies, state_after, Serves}
 use Rattle.dep_server.specs.Records.{Event, Record, Line, World, Run, Happens, Arrives}
 use Rattle.dep_server.specs.Calm.{Step, steps_of, CalmServes, all_served, CalmArrives, live, ended, Calm, connect, close, arrive, none, CalmRun, nothing, more, number_of, sent_to, only}

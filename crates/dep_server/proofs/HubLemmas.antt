@@ -5,8 +5,8 @@ use Rattle.dep_types.specs.State.{State}
 use Rattle.dep_types.specs.Sound.{IsSound}
 use Rattle.dep_types.specs.declared.config.Config.{Config}
 use Rattle.dep_head.specs.Head.{head_end}
-use Rattle.dep_server.specs.Places.{Place, Open, Shut, Reading, IsOpen, HasBytes, more}
-use Rattle.dep_server.specs.Stream.{Item, Reads, Waits}
+use Rattle.dep_message.specs.Places.{Place, Open, Shut, Reading, IsOpen, HasBytes, more}
+use Rattle.dep_message.specs.Stream.{Item, Reads, Waits}
 use Rattle.dep_server.specs.Machine.{Serves, serves_all, step_fails, gives_up, answer_at_place}
 use Rattle.dep_server.specs.Records.{Event, Connect, Arrive, Close, Record, Line, Absent, Live, Ended, World, put, line_after, ReadsBeyond, Arrives, at_live, at_ended, connects, closes, arrives, Run, goes_on}
 use Rattle.dep_server.specs.Serving.{ServesFrom, ServesOver}
@@ -16,7 +16,7 @@ use Rattle.dep_server.specs.declared.arrived.Arrived.{Arrived}
 use Rattle.dep_server.specs.declared.arrived.Arrived.TheVariants.{Open as StaysOpen, Closed, Cut, NoSuch}
 use Rattle.dep_server.specs.declared.connections.Connection.{Connection}
 use Rattle.dep_server.specs.declared.hub.Hub.{Hub}
-use Rattle.dep_server.proofs.Reading.{reads_more, reads_append}
+use Rattle.dep_message.proofs.Reading.{reads_more, reads_append}
 use Rattle.dep_server.proofs.RunSound.{arrives_sound}
 use Rattle.dep_server.proofs.ConnectionLemmas.{index_some, intake_set, ascends_set, intake_push, ascends_push}
 use Rattle.std.proofs.lemmas.Bool.{eqb-true, eq-eqb}
@@ -37,7 +37,7 @@ kept_put limit n line lines o old new k ks e m =
     (kept_if limit (m == n) line (lines m) o (intake_of old m) k (ks m))
 
 -- a fresh connection
-pub kept_fresh : (limit : ℕ) → KeepsRest limit [] (record { limit = limit; place = Open [] })
+pub kept_fresh : (limit : ℕ) → KeepsRest limit [] (record { limit = limit; place = Open false [] })
 unfolding head_end
 kept_fresh limit = record { items = []; same_limit = refl; spells = record { reads = refl; waits = inl (refl, omega arith) }; is_open = tt }
 
@@ -82,8 +82,8 @@ beyond limit stream piece reading k items at r = (
   k.items,
   reading.place,
   k.spells,
-  reads_append limit k.items items (Open (stream ++ piece)) (more reading.place piece) at
-      (reads_more limit k.items (Open stream) reading.place piece k.spells.reads) r,
+  reads_append limit k.items items (Open false (stream ++ piece)) (more reading.place piece) at
+      (reads_more limit k.items (Open false stream) reading.place piece k.spells.reads) r,
 )
 
 -- what an arrival makes of a line
@@ -94,7 +94,7 @@ pub record NextLine (config : Config) (piece : List ℕ) (moment : ℕ) (line : 
 
 after_live : (config : Config) (stream piece : List ℕ) (s left : State) (moment : ℕ) (sent : List ℕ) (at : Place) (answer : Arrived) (now : ℕ) → now ≡ config.max_upload
     → Serves config (ReadsBeyond config.max_upload stream piece) s moment sent left at answer → IsKeptAs config.max_upload (line_after (stream ++ piece) at) (Some (record { limit = now; place = at }))
-after_live config stream piece s left moment sent (Open rest) answer now l v =
+after_live config stream piece s left moment sent (Open continued rest) answer now l v =
     let r = serves_rest (ReadsBeyond config.max_upload stream piece) v tt in
     record { items = r.1.0 ++ r.0; same_limit = l; spells = record { reads = r.1.3; waits = r.2 }; is_open = tt }
 after_live config stream piece s left moment sent Shut answer now l v = record { same_limit = l; shut = refl }
@@ -226,10 +226,10 @@ moves_adds old new event sent config m first records h =
 
 -- a connection is opened
 pub connects_moves : (old new : Hub) (n : ℕ) → new.config ≡ old.config → new.store ≡ old.store → n ≡ old.next → new.next ≡ old.next + 1
-    → new.connections.items ≡ old.connections.items ++ record { number = n; intake = record { limit = old.config.max_upload; place = Open [] } } ∷ []
+    → new.connections.items ≡ old.connections.items ++ record { number = n; intake = record { limit = old.config.max_upload; place = Open false [] } } ∷ []
     → Moves old new (Connect n) []
 connects_moves old new n config store this next items w at =
-    let d : Connection = record { number = n; intake = record { limit = old.config.max_upload; place = Open [] } } in
+    let d : Connection = record { number = n; intake = record { limit = old.config.max_upload; place = Open false [] } } in
     let low : Ascends 0 old.connections.items n = subst (λ k. Ascends 0 old.connections.items k) (sym this) at.numbers in (
       record { state = w.state; line = put n (Live []) w.line },
       connects,

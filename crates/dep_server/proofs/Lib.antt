@@ -1,8 +1,6 @@
-pub mod Reading
 pub mod Ticks
 pub mod SegmentLemmas
 pub mod StoreLemmas
-pub mod OneReading
 pub mod ServingLemmas
 pub mod CalmLemmas
 pub mod ConnectionLemmas

@@ -19,11 +19,11 @@ use Rattle.dep_types.specs.declared.refusal.Refusal.{Refusal}
 use Rattle.dep_types.specs.declared.refusal.Refusal.TheVariants as why
 use Rattle.dep_types.specs.declared.target.Resource.{Resource}
 use Rattle.dep_types.specs.declared.target.Target.{Target}
-use Rattle.dep_server.specs.Framing.{is_bare}
-use Rattle.dep_server.specs.Stream.{closes}
+use Rattle.dep_message.specs.Heads.{is_bare}
+use Rattle.dep_message.specs.Heads.{closes}
 use Rattle.dep_server.specs.Machine.{routed, ruled, done, turned_down}
 use Rattle.dep_server.specs.Targets.{target, allow_text}
-use Rattle.dep_server.specs.declared.message.Message.{Message}
+use Rattle.dep_message.specs.declared.message.Message.{Message}
 use Rattle.dep_server.specs.declared.answer.Delivery.{Delivery}
 use Rattle.dep_server.specs.declared.perform.Performed.{Performed}
 use Rattle.dep_server.specs.declared.routing.Routed.{Routed}
@@ -105,9 +105,9 @@ made_is config s content name media =
 -- ---- steps
 
 module _ (config : Config) (s : State) (m : Message) (delivery : Delivery) (p : Performed)
-    (clock : delivery.clock ≡ s.clock) (bare : delivery.is_bare ≡ is_bare m.head) (close : delivery.closes ≡ closes m) where
+    (clock : delivery.clock ≡ s.clock) (bare : delivery.is_bare ≡ is_bare m.head) (close : delivery.closes ≡ closes m.head) where
   as_step : (a : ℕ → Answer) (left : State) → IsReply left (a delivery.clock) delivery p
-      → p.bytes.items ++ stored_bytes left p.stored ≡ spelled (a s.clock) s.clock (is_bare m.head) (closes m)
+      → p.bytes.items ++ stored_bytes left p.stored ≡ spelled (a s.clock) s.clock (is_bare m.head) (closes m.head)
   as_step a left e = e ∙ (λ i. spelled (a (clock i)) (clock i) (bare i) (close i))
 
   turned : (r : Refusal) (allow : Option (List ℕ)) → ((t : State) → IsReply t (refused_answer delivery.clock r allow) delivery p) → Performs (turned_down s m r allow) s p
@@ -142,7 +142,7 @@ module _ (config : Config) (s : State) (m : Message) (delivery : Delivery) (p : 
     performs_show ruling shows e = accepted s ruling (record {
       state = ap (carried_out s m.content) shows;
       sent = as_step (λ n. answer_to config s t.resource t.method Show) s e
-          ∙ (λ i. spelled (answer_to config (carried_out s m.content (shows i)) t.resource t.method (shows i)) s.clock (is_bare m.head) (closes m));
+          ∙ (λ i. spelled (answer_to config (carried_out s m.content (shows i)) t.resource t.method (shows i)) s.clock (is_bare m.head) (closes m.head));
     })
 
     pub performs_deposit : (name media : List ℕ) (left : State) → refusal s (operation_of m.head t) ≡ None → Create name media ≡ decision (operation_of m.head t)
@@ -152,5 +152,5 @@ module _ (config : Config) (s : State) (m : Message) (delivery : Delivery) (p : 
     performs_deposit name media left ruling creates d = accepted left ruling (record {
       state = d.state ∙ ap (carried_out s m.content) creates;
       sent = as_step (λ n. made_answer config (carried_out s m.content (Create name media)) (last_object (carried_out s m.content (Create name media)))) left d.reply
-          ∙ (λ i. spelled (answer_to config (carried_out s m.content (creates i)) t.resource t.method (creates i)) s.clock (is_bare m.head) (closes m));
+          ∙ (λ i. spelled (answer_to config (carried_out s m.content (creates i)) t.resource t.method (creates i)) s.clock (is_bare m.head) (closes m.head));
     })

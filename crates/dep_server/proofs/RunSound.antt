@@ -1,12 +1,12 @@
 -- What happens to the machine keeps its state sound.
 use Rattle.std.proofs.Common.{◌≡◌, ℕ, ◌⊎◌, inl, inr, List, [], ◌∷◌, sym, subst}
-use Rattle.dep_types.specs.State.{State, tick}
+use Rattle.dep_types.specs.State.{State}
 use Rattle.dep_types.specs.Sound.{IsSound}
 use Rattle.dep_types.specs.declared.config.Config.{Config}
 use Rattle.dep_types.proofs.TickSound.{keeps_sound}
-use Rattle.dep_server.specs.Places.{Place}
-use Rattle.dep_server.specs.Stream.{Item}
-use Rattle.dep_server.specs.Machine.{step, state_after, Serves, serves_all, step_fails, gives_up, Fails, given_up, cut_short}
+use Rattle.dep_message.specs.Places.{Place}
+use Rattle.dep_message.specs.Stream.{Item, Fault, Continue, Request}
+use Rattle.dep_server.specs.Machine.{ticked, step, state_after, Serves, serves_all, step_fails, gives_up, Fails, given_up, cut_short}
 use Rattle.dep_server.specs.Records.{Event, Record, Line, World, Arrives, at_live, at_ended, ReadsBeyond, Happens, connects, closes, arrives, unknown, Run, begins, goes_on}
 use Rattle.dep_server.specs.declared.arrived.Arrived.{Arrived}
 use Rattle.dep_server.proofs.SoundLemmas.{step_sound}
@@ -16,14 +16,19 @@ state_after_sound config s [] moment sound = sound
 state_after_sound config s (item ∷ items) moment sound =
     state_after_sound config (step config s item moment).state items moment (step_sound config s item moment sound)
 
--- the state of before, or of the tick
-left_sound : (config : Config) (s left : State) (moment : ℕ) → (left ≡ s) ⊎ (left ≡ tick config s moment) → IsSound s → IsSound left
-left_sound config s left moment (inl e) sound = subst IsSound (sym e) sound
-left_sound config s left moment (inr e) sound = subst IsSound (sym e) (keeps_sound config s moment sound)
+ticked_sound : (config : Config) (s : State) (item : Item) (moment : ℕ) → IsSound s → IsSound (ticked config s item moment)
+ticked_sound config s (Fault r bare) moment sound = keeps_sound config s moment sound
+ticked_sound config s Continue moment sound = sound
+ticked_sound config s (Request m) moment sound = keeps_sound config s moment sound
+
+-- the state of before, or that with which the step begins
+left_sound : (config : Config) (s left : State) (item : Item) (moment : ℕ) → (left ≡ s) ⊎ (left ≡ ticked config s item moment) → IsSound s → IsSound left
+left_sound config s left item moment (inl e) sound = subst IsSound (sym e) sound
+left_sound config s left item moment (inr e) sound = subst IsSound (sym e) (ticked_sound config s item moment sound)
 
 fails_sound : {config : Config} {s left : State} {item : Item} {moment : ℕ} {sent : List ℕ} {answer : Arrived}
     → Fails config s item moment sent left answer → IsSound s → IsSound left
-fails_sound {config} {s} {left} {moment = moment} (given_up fixed sends leaves) sound = left_sound config s left moment leaves sound
+fails_sound {config} {s} {left} {item} {moment} (given_up fixed sends leaves) sound = left_sound config s left item moment leaves sound
 fails_sound {config} {s} {item = item} {moment = moment} (cut_short part e) sound = subst IsSound (sym e) (step_sound config s item moment sound)
 
 serves_sound : {config : Config} {s left : State} {moment : ℕ} {sent : List ℕ} {at : Place} {answer : Arrived} (p : List Item → Place → Type 0)

@@ -2,12 +2,12 @@
 use Rattle.std.proofs.Common.{◌≡◌, ◌≢◌, ℕ, List, [], ◌∷◌, ◌++◌, refl, sym, ap, subst, ◌∙◌, append_assoc, Option, Some, None}
 use Rattle.std.proofs.lemmas.List.{append-nil}
 use Rattle.std.specs.Io.KnownBytes.{Appends}
-use Rattle.dep_types.specs.State.{State, tick}
+use Rattle.dep_types.specs.State.{State}
 use Rattle.dep_types.specs.declared.config.Config.{Config}
 use Rattle.dep_types.specs.Writing.{IsProperPrefix, HasRisen}
-use Rattle.dep_server.specs.Places.{Place, Open, Shut, IsOpen, HasBytes, Reading, more}
-use Rattle.dep_server.specs.Stream.{Item, Fault, FirstAt, Reads, Waits}
-use Rattle.dep_server.specs.Machine.{step, replies, state_after, Fails, given_up, cut_short, serves_all, step_fails, gives_up, SendsUpTo, all, cut, want_of_memory, answer_at_place}
+use Rattle.dep_message.specs.Places.{Place, Open, Shut, IsOpen, HasBytes, Reading, more}
+use Rattle.dep_message.specs.Stream.{Item, Fault, FirstAt, Reads, Waits}
+use Rattle.dep_server.specs.Machine.{ticked, step, replies, state_after, Fails, given_up, cut_short, serves_all, step_fails, gives_up, SendsUpTo, all, cut, want_of_memory, answer_at_place}
 use Rattle.dep_server.specs.Sending.{IsSentUpTo, SendsOver, SendsReply}
 use Rattle.std.proofs.Common.{inl, inr, Bool}
 use Rattle.dep_types.specs.declared.refusal.Refusal.{Refusal}
@@ -16,7 +16,7 @@ use Rattle.dep_server.specs.declared.arrived.Arrived.{Arrived}
 use Rattle.dep_server.specs.declared.arrived.Arrived.TheVariants.{Open as StaysOpen, Closed, Cut, NoSuch}
 use Rattle.dep_server.specs.declared.sending.Answered.{Answered}
 use Rattle.dep_server.specs.declared.sending.Answered.TheVariants.{Sent, GaveUp, CutShort}
-use Rattle.dep_server.proofs.Reading.{reads_one}
+use Rattle.dep_message.proofs.Reading.{reads_one}
 
 -- what is sent for one item more
 pub replies_more : (config : Config) (s : State) (items : List Item) (item : Item) (moment : ℕ)
@@ -68,7 +68,7 @@ sends_up_to whole sent CutShort h = cut h
 
 -- a fixed reply in place of the step's
 pub answers_fixed : (config : Config) (held holds : Option (List ℕ)) (s left : State) (item : Item) (moment : ℕ) (answer : Answered)
-    → left ≡ tick config s moment → SendsOver held holds want_of_memory answer → Answers config held holds s item moment left answer
+    → left ≡ ticked config s item moment → SendsOver held holds want_of_memory answer → Answers config held holds s item moment left answer
 answers_fixed config held holds s left item moment Sent e a = absurd a.2
 answers_fixed config held holds s left item moment GaveUp e a = (a.0, a.1, given_up (inl refl) (sends_up_to want_of_memory a.0 GaveUp a.2) (inr e))
 answers_fixed config held holds s left item moment CutShort e a = (a.0, a.1, given_up (inl refl) (sends_up_to want_of_memory a.0 CutShort a.2) (inr e))
@@ -81,7 +81,7 @@ answers_reply config held holds s left item moment GaveUp whole e f a = absurd a
 answers_reply config held holds s left item moment CutShort whole e f a = (a.0, a.1, cut_short (subst (λ (bytes : List ℕ). IsProperPrefix a.0 bytes) f a.2) e)
 
 answer_open : (at : Place) → IsOpen at → answer_at_place at ≡ StaysOpen
-answer_open (Open rest) o = refl
+answer_open (Open continued rest) o = refl
 answer_open Shut o = absurd o
 
 -- where the reading has come to its end
@@ -164,7 +164,7 @@ first_at old limit at next item e f = subst (λ n. FirstAt n at item next) e f
 
 -- a fault is the end of a stream
 pub fault_shuts : (limit : ℕ) (at next : Place) (refusal : Refusal) (bare : Bool) → FirstAt limit at (Fault refusal bare) next → next ≡ Shut
-fault_shuts limit (Open bytes) next refusal bare f = f.goes_on
+fault_shuts limit (Open continued bytes) next refusal bare f = f.goes_on
 fault_shuts limit Shut next refusal bare f = absurd f
 
 cut_only : (answer : Answered) → answer_after answer ≡ Cut → answer ≡ CutShort

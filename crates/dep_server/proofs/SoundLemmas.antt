@@ -26,9 +26,9 @@ use Rattle.dep_head.specs.Head.{HeadParts, values_of}
 use Rattle.dep_server.specs.FileFields.{is_unquoted_byte, is_unquoted_name, if_passes, after_front, attachment_front, attachment_name, disposition_name, media_of}
 use Rattle.dep_server.specs.Operations.{Operation, operation_of, Decision, Show, Create, asked, decision, refusal, file_from, object_from, carried_out, effect}
 use Rattle.dep_server.specs.Machine.{routed, ruled, step}
-use Rattle.dep_server.specs.Stream.{Item, Fault, Request}
+use Rattle.dep_message.specs.Stream.{Item, Fault, Continue, Request}
 use Rattle.dep_server.specs.Targets.{target}
-use Rattle.dep_server.specs.declared.message.Message.{Message}
+use Rattle.dep_message.specs.declared.message.Message.{Message}
 use Rattle.dep_server.specs.declared.routing.Routed.{Routed}
 use Rattle.dep_server.specs.declared.routing.Routed.TheVariants.{To, NotFound, NotAllowed}
 
@@ -261,5 +261,6 @@ routed_sound config s m (To t) sound = ruled_sound config s m t (refusal s (oper
 pub step_sound : (config : Config) (s : State) (item : Item) (moment : ℕ) → IsSound s → IsSound (step config s item moment).state
 unfolding step
 step_sound config s (Fault r bare) moment sound = keeps_sound config s moment sound
+step_sound config s Continue moment sound = sound
 step_sound config s (Request m) moment sound =
     routed_sound config (tick config s moment) m (target m.head.method m.head.path) (keeps_sound config s moment sound)

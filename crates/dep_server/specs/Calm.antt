@@ -3,8 +3,8 @@ use Rattle.std.specs.Prelude.{Bool, ◌≡◌, ◌==◌, ℕ, List, [], ◌++◌
 use Rattle.std.specs.List.{flat_map}
 use Rattle.dep_types.specs.State.{State}
 use Rattle.dep_types.specs.declared.config.Config.{Config}
-use Rattle.dep_server.specs.Places.{Place}
-use Rattle.dep_server.specs.Stream.{Item, Waits}
+use Rattle.dep_message.specs.Places.{Place}
+use Rattle.dep_message.specs.Stream.{Item, Waits}
 use Rattle.dep_server.specs.Machine.{Serves, serves_all}
 use Rattle.dep_server.specs.Records.{Event, Connect, Arrive, Close, Record, Line, Absent, World, Run, begins, goes_on, Happens, connects, closes, arrives, unknown, Arrives, at_live, at_ended, ReadsBeyond}
 use Rattle.dep_server.specs.declared.arrived.Arrived.{Arrived}

@@ -1,6 +1,3 @@
-pub mod Places
-pub mod Framing
-pub mod Stream
 pub mod Targets
 pub mod FileFields
 pub mod Operations
@@ -11,7 +8,6 @@ pub mod Records
 pub mod Calm
 pub mod Standing
 pub mod Conversation
-pub mod Steps
 pub mod Serving
 pub mod Sending
 pub mod Numbers

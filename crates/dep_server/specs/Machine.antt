@@ -1,5 +1,5 @@
 -- The deposit machine: what one item of a stream does to the state, and what is sent for it.
-use Rattle.std.specs.Prelude.{◌≡◌, ◌⊎◌, ℕ, Bool, true, List, [], ◌∷◌, ◌++◌, Option, Some, None, codes}
+use Rattle.std.specs.Prelude.{◌≡◌, ◌⊎◌, ℕ, Bool, true, false, List, [], ◌∷◌, ◌++◌, Option, Some, None, codes}
 use Rattle.dep_types.specs.State.{State, tick}
 use Rattle.dep_types.specs.Writing.{IsProperPrefix}
 use Rattle.dep_types.specs.declared.config.Config.{Config}
@@ -8,10 +8,10 @@ use Rattle.dep_types.specs.declared.refusal.Refusal.TheVariants as why
 use Rattle.dep_types.specs.declared.target.Target.{Target}
 use Rattle.dep_server.specs.declared.routing.Routed.{Routed}
 use Rattle.dep_server.specs.declared.routing.Routed.TheVariants.{To, NotFound, NotAllowed}
-use Rattle.dep_server.specs.declared.message.Message.{Message}
-use Rattle.dep_server.specs.Places.{Place, Open, Shut, HasBytes}
-use Rattle.dep_server.specs.Stream.{Item, Fault, Request, Waits, closes}
-use Rattle.dep_server.specs.Framing.{is_bare}
+use Rattle.dep_message.specs.declared.message.Message.{Message}
+use Rattle.dep_message.specs.Places.{Place, Open, Shut, HasBytes}
+use Rattle.dep_message.specs.Heads.{is_bare, closes}
+use Rattle.dep_message.specs.Stream.{Item, Fault, Continue, Request, Waits}
 use Rattle.dep_server.specs.Targets.{target, allow_text}
 use Rattle.dep_server.specs.Replies.{spelled, accepted_answer, refused_answer}
 use Rattle.dep_server.specs.Operations.{operation_of, refusal, effect}
@@ -30,11 +30,11 @@ fault_reply clock refusal bare = spelled (refused_answer clock refusal None) clo
 
 -- a refused message leaves the state
 abbrev pub turned_down : State → Message → Refusal → (allow : Option (List ℕ)) → Stepped
-turned_down s m r allow = record { state = s; sent = spelled (refused_answer s.clock r allow) s.clock (is_bare m.head) (closes m); closes = closes m }
+turned_down s m r allow = record { state = s; sent = spelled (refused_answer s.clock r allow) s.clock (is_bare m.head) (closes m.head); closes = closes m.head }
 
 -- an accepted message is answered at the state that its effect leaves
 abbrev pub done : Config → State → Message → Target → State → Stepped
-done config s m t after = record { state = after; sent = spelled (accepted_answer config after (operation_of m.head t)) s.clock (is_bare m.head) (closes m); closes = closes m }
+done config s m t after = record { state = after; sent = spelled (accepted_answer config after (operation_of m.head t)) s.clock (is_bare m.head) (closes m.head); closes = closes m.head }
 
 abbrev pub ruled : Config → State → Message → Target → Option Refusal → Stepped
 ruled config s m t None = done config s m t (effect s (operation_of m.head t) m.content)
@@ -46,10 +46,21 @@ routed config s m NotFound = turned_down s m why.NotFound None
 routed config s m (NotAllowed resource) = turned_down s m why.MethodNotAllowed (Some (allow_text resource))
 routed config s m (To t) = ruled config s m t (refusal s (operation_of m.head t))
 
+-- what tells a client to send the body (RFC 9110, section 15.2.1)
+abbrev pub continue_line : List ℕ
+continue_line = codes "HTTP/1.1 100 Continue\r\n\r\n"
+
+-- the state that a step begins with: the tick's, but telling a client to go on takes no tick
+abbrev pub ticked : Config → State → Item → ℕ → State
+ticked config s (Fault r bare) moment = tick config s moment
+ticked config s Continue moment = s
+ticked config s (Request m) moment = tick config s moment
+
 -- one step at a moment: the tick, and then what the item asks for
 unfoldable pub step : Config → State → Item → ℕ → Stepped
 step config s (Fault r bare) moment =
     record { state = tick config s moment; sent = fault_reply (tick config s moment).clock r bare; closes = true }
+step config s Continue moment = record { state = s; sent = continue_line; closes = false }
 step config s (Request m) moment = routed config (tick config s moment) m (target m.head.method m.head.path)
 
 -- the state after these items, one step each
@@ -76,11 +87,11 @@ pub data SendsUpTo (whole : List ℕ) : List ℕ → Arrived → Type 0 where
 
 -- a step that fails
 pub data Fails (config : Config) (s : State) (item : Item) (moment : ℕ) : List ℕ → State → Arrived → Type 0 where
-  -- a fixed reply in place of its own: the state is that of before, or of the tick
+  -- a fixed reply in place of its own: the state is that of before, or that with which the step begins
   given_up : {fixed sent : List ℕ} {left : State} {answer : Arrived}
       → (fixed ≡ want_of_memory) ⊎ (fixed ≡ store_fault)
       → SendsUpTo fixed sent answer
-      → (left ≡ s) ⊎ (left ≡ tick config s moment)
+      → (left ≡ s) ⊎ (left ≡ ticked config s item moment)
       → Fails config s item moment sent left answer
   -- its own reply is cut short: the state is the step's
   cut_short : {sent : List ℕ} {left : State} → IsProperPrefix sent (step config s item moment).sent
@@ -89,7 +100,7 @@ pub data Fails (config : Config) (s : State) (item : Item) (moment : ℕ) : List
 
 -- what a connection answers where the reading stands
 abbrev pub answer_at_place : Place → Arrived
-answer_at_place (Open rest) = StaysOpen
+answer_at_place (Open continued rest) = StaysOpen
 answer_at_place Shut = Closed
 
 -- One arrival: the items that are complete now are stepped in order, until none is left or a step fails.

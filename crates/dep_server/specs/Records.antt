@@ -1,9 +1,9 @@
 -- Lists of arrivals, and the runs of the deposit machine that they allow.
-use Rattle.std.specs.Prelude.{◌≡◌, ℕ, ◌==◌, List, [], ◌∷◌, ◌++◌, if◌then◌else◌}
+use Rattle.std.specs.Prelude.{◌≡◌, ℕ, ◌==◌, List, [], ◌∷◌, ◌++◌, false, if◌then◌else◌}
 use Rattle.dep_types.specs.State.{State}
 use Rattle.dep_types.specs.declared.config.Config.{Config}
-use Rattle.dep_server.specs.Places.{Place, Open, Shut}
-use Rattle.dep_server.specs.Stream.{Item, Reads, Spells}
+use Rattle.dep_message.specs.Places.{Place, Open, Shut}
+use Rattle.dep_message.specs.Stream.{Item, Reads, Spells}
 use Rattle.dep_server.specs.Machine.{Serves}
 use Rattle.dep_server.specs.declared.arrived.Arrived.{Arrived}
 use Rattle.dep_server.specs.declared.arrived.Arrived.TheVariants.{Closed}
@@ -38,7 +38,7 @@ begin_with s = record { state = s; line = λ _. Absent }
 
 -- a live connection goes on with its longer stream; where the reading has come to an end it has ended
 abbrev pub line_after : List ℕ → Place → Line
-line_after stream (Open rest) = Live stream
+line_after stream (Open continued rest) = Live stream
 line_after stream Shut = Ended
 
 -- the items that are complete with the piece and not before: those that the stream spells with it, less those that
@@ -46,7 +46,7 @@ line_after stream Shut = Ended
 abbrev pub ReadsBeyond : ℕ → List ℕ → List ℕ → List Item → Place → Type 0
 ReadsBeyond limit stream piece items at =
     (earlier : List Item) × (left : Place) × Spells limit stream earlier left
-    × Reads limit (Open (stream ++ piece)) (earlier ++ items) at
+    × Reads limit (Open false (stream ++ piece)) (earlier ++ items) at
 
 -- an arrival at a connection: what is sent, what is kept, what becomes of it, what is answered
 pub data Arrives (config : Config) (piece : List ℕ) (moment : ℕ)

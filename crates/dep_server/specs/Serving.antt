@@ -3,8 +3,8 @@ use Rattle.std.specs.Prelude.{◌≡◌, ℕ, List, Option}
 use Rattle.std.specs.Io.KnownBytes.{Appends}
 use Rattle.dep_types.specs.State.{State}
 use Rattle.dep_types.specs.declared.config.Config.{Config}
-use Rattle.dep_server.specs.Places.{Place, Reading, more}
-use Rattle.dep_server.specs.Stream.{Item, Reads}
+use Rattle.dep_message.specs.Places.{Place, Reading, more}
+use Rattle.dep_message.specs.Stream.{Item, Reads}
 use Rattle.dep_server.specs.Machine.{step, replies, state_after, Fails, Serves}
 use Rattle.dep_server.specs.declared.arrived.Arrived.{Arrived}
 use Rattle.dep_server.specs.declared.arrived.Arrived.TheVariants.{Closed, Cut}

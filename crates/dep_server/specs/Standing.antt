@@ -3,8 +3,8 @@ use Rattle.std.specs.Prelude.{◌≡◌, ◌≤◌, ◌+◌, ◌==◌, ℕ, List
 use Rattle.std.specs.Io.KnownBytes.{Appends, Keeps}
 use Rattle.dep_types.specs.State.{State}
 use Rattle.dep_types.specs.Sound.{IsSound}
-use Rattle.dep_server.specs.Places.{Shut, Reading, IsOpen}
-use Rattle.dep_server.specs.Stream.{Item, Spells}
+use Rattle.dep_message.specs.Places.{Shut, Reading, IsOpen}
+use Rattle.dep_message.specs.Stream.{Item, Spells}
 use Rattle.dep_server.specs.Records.{Event, Arrive, Record, Line, Absent, Live, Ended, World, Run, put, Arrives, Happens}
 use Rattle.dep_server.specs.declared.arrived.Arrived.{Arrived}
 use Rattle.dep_server.specs.declared.arrived.Arrived.TheVariants.{Open as StaysOpen, Closed, Cut, NoSuch}

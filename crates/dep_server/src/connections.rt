@@ -2,7 +2,7 @@
 ghost use Rattle.std.specs.Prelude.{◌≡◌, ◌<◌, length, IfSome};
 ghost use Rattle.dep_server.specs.Numbers.{index_of};
 
-use crate::intake::Intake;
+use dep_message::Intake;
 use std::marker::Model;
 
 /// The number of a connection. A hub gives none twice.

@@ -10,9 +10,9 @@ ghost use Rattle.dep_server.specs.Standing.{StandsFor, StandsAt, Adds, Moves, Ar
 
 use crate::arrived::Arrived;
 use crate::connections::{ConnId, Connection, index_among};
-use crate::intake::Intake;
 use crate::serving::serve;
 use crate::store::Store;
+use dep_message::Intake;
 use dep_moment::Moment;
 use dep_types::{Config, ConfigFault, Outlet};
 use std::alloc::Global;

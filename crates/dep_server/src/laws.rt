@@ -1,41 +1,15 @@
 //! Laws of the definitions, apart from any code.
 ghost use Rattle.std.specs.Prelude.{◌≡◌, ℕ, List, ◌++◌, None};
-ghost use Rattle.dep_server.specs.Places.{Place, more};
-ghost use Rattle.dep_server.specs.Stream.{Item, Reads, IsRequestText, Spells};
+ghost use Rattle.dep_message.specs.Stream.{Item};
 ghost use Rattle.dep_types.specs.State.{State};
 ghost use Rattle.dep_server.specs.Records.{Record, World, Run};
 ghost use Rattle.dep_types.specs.declared.config.Config.{Config};
 ghost use Rattle.dep_server.specs.Calm.{CalmRun, Step, sent_to};
-ghost use Rattle.dep_server.specs.declared.message.Message.{Message};
 ghost use Rattle.dep_types.specs.Sound.{IsSound};
 ghost use Rattle.dep_types.specs.declared.target.Target.{Target};
 ghost use Rattle.dep_head.specs.Head.{HeadParts};
 ghost use Rattle.dep_server.specs.Operations.{operation_of, refusal, effect};
 ghost use Rattle.dep_server.specs.Machine.{step};
-
-/// What was read is read still when more bytes come, and what was left goes on with them.
-pub fn reading_carries_on()
-    ensures { (limit : ℕ) (items : List Item) (from to : Place) (piece : List ℕ)
-        → Reads limit from items to → Reads limit (more from piece) items (more to piece) }
-{}
-
-/// Bytes begin with the text of at most one request.
-pub fn one_request()
-    ensures { (limit : ℕ) (a b x y : List ℕ) (m k : Message) → a ++ x ≡ b ++ y
-        → IsRequestText limit a m → IsRequestText limit b k → (m ≡ k) × (x ≡ y) }
-{}
-
-/// A stream spells one list of items, and leaves one place.
-pub fn one_spelling()
-    ensures { (limit : ℕ) (stream : List ℕ) (xs ys : List Item) (p q : Place)
-        → Spells limit stream xs p → Spells limit stream ys q → (xs ≡ ys) × (p ≡ q) }
-{}
-
-/// The items of a prefix are a prefix of the items.
-pub fn items_grow()
-    ensures { (limit : ℕ) (stream piece : List ℕ) (xs ys : List Item) (p q : Place)
-        → Spells limit stream xs p → Spells limit (stream ++ piece) ys q → (more : List Item) × (ys ≡ xs ++ more) }
-{}
 
 /// Runs without failed steps that make the same steps send the same bytes, each connection its own, and end in the same state.
 pub fn cuts_move_moments_of_runs()

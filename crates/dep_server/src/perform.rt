@@ -11,12 +11,11 @@ ghost use Rattle.dep_server.specs.Targets.{target};
 
 use crate::answer::{Answer, Delivery};
 use crate::decide::{Decision, Ruling, decide};
-use crate::framing::is_without_body;
-use crate::message::Content;
 use crate::record::Record;
 use crate::routing::{Routed, allow, route};
 use crate::store::Store;
 use dep_head::Head;
+use dep_message::{Content, closes, is_without_body};
 use dep_reply::{Reply, Status, spell_head};
 use dep_types::{
     Config, FileRow, FileRows, Method, ObjectRow, ObjectView, Refusal, Resource, Target, Text,
@@ -46,7 +45,7 @@ pub fn perform(
     let delivery = Delivery {
         clock: store.clock(),
         is_bare: is_without_body(head),
-        closes: head.minor_version() == 0,
+        closes: closes(head),
     };
     match route(head.method(), head.path()) {
         Routed::NotFound => refuse(alloc, Refusal::NotFound, None, delivery),

@@ -1,6 +1,6 @@
 //! A file in the archive, deposited as an object of its own.
 
-use crate::message::Content;
+use dep_message::Content;
 use dep_moment::Moment;
 use dep_types::Text;
 

@@ -3,14 +3,14 @@ ghost use Rattle.std.specs.Prelude.{◌≡◌, ◌≢◌, ℕ, List};
 ghost use Rattle.std.specs.Io.KnownBytes.{Appends};
 ghost use Rattle.dep_types.specs.Writing.{HasRisen};
 ghost use Rattle.dep_server.specs.Machine.{SendsUpTo, want_of_memory};
-ghost use Rattle.dep_server.specs.Places.{Reading, Shut};
+ghost use Rattle.dep_message.specs.Places.{Reading, Shut};
 ghost use Rattle.dep_server.specs.Serving.{ServesOver, answer_after};
 
 use crate::arrived::Arrived;
-use crate::intake::{Intake, Step};
 use crate::sending::{Answered, send_want_of_memory};
-use crate::step::{answer_fault, answer_message};
+use crate::step::{answer_continue, answer_fault, answer_message};
 use crate::store::Store;
+use dep_message::{Intake, Step};
 use dep_moment::Moment;
 use dep_types::{Config, Outlet};
 use std::alloc::{AllocError, Global};
@@ -42,6 +42,10 @@ pub fn serve<O: Outlet>(
                 let answer = answer_fault(alloc, config, store, refusal, bare, moment, out);
                 return end(intake, answer);
             }
+            Ok(Step::Continue100) => match answer_continue(out) {
+                Answered::Sent => {}
+                answer => return end(intake, answer),
+            },
             Ok(Step::Message(message)) => {
                 match answer_message(alloc, config, store, message, moment, out) {
                     Answered::Sent => {}

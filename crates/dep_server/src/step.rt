@@ -1,17 +1,19 @@
 //! One step of the machine, and what is sent for it.
-ghost use Rattle.std.specs.Prelude.{◌≡◌, ◌++◌, IfOk};
+ghost use Rattle.std.specs.Prelude.{◌≡◌, ◌++◌, ℕ, IfOk};
 ghost use Rattle.dep_types.specs.Writing.{HasRisen};
+ghost use Rattle.dep_types.specs.State.{State};
+ghost use Rattle.dep_types.specs.declared.config.Config.{Config as Settings};
 ghost use Rattle.dep_server.specs.Machine.{fault_reply};
 ghost use Rattle.dep_server.specs.Performing.{stored_bytes};
 ghost use Rattle.dep_server.specs.Sending.{SendsReply};
-ghost use Rattle.dep_server.specs.Stream.{Request, Fault};
+ghost use Rattle.dep_message.specs.Stream.{Fault, Continue, Request};
 ghost use Rattle.dep_server.specs.Serving.{Answers};
 
 use crate::answer::{Answer, Delivery};
-use crate::message::Message;
 use crate::perform::{Performed, perform};
 use crate::sending::{Answered, send, send_parts, send_want_of_memory};
 use crate::store::Store;
+use dep_message::Message;
 use dep_moment::Moment;
 use dep_types::{Config, Outlet, Refusal};
 use std::alloc::{AllocError, Global};
@@ -35,6 +37,15 @@ pub fn answer_message<O: Outlet>(
         Ok(performed) => send_performed(store, &performed, out),
         Err(AllocError) => send_want_of_memory(out),
     }
+}
+
+/// Tells the client that it may send the body (RFC 9110, section 15.2.1). The clock stays.
+pub fn answer_continue<O: Outlet>(out: &mut O) -> Answered
+    ensures kept { result ≡ Answered.Sent → O.failures out.new ≡ O.failures out.old }
+    ensures cause { result ≡ Answered.CutShort → HasRisen (O.failures out.old) (O.failures out.new) }
+    ensures answers { (config : Settings) (s : State) (moment : ℕ) → Answers config (O.taken out.old) (O.taken out.new) s Continue moment s result }
+{
+    send(out, b"HTTP/1.1 100 Continue\r\n\r\n")
 }
 
 /// Steps a fault of a stream: the clock goes on, and the connection is closed after the reply.

@@ -7,8 +7,8 @@ ghost use Rattle.dep_server.specs.Kept.{state_of, file_of};
 ghost use Rattle.dep_server.specs.Operations.{Create, carried_out, room_for, numbers};
 ghost use Rattle.dep_server.specs.Targets.{greatest_number};
 
-use crate::message::Content;
 use crate::record::Record;
+use dep_message::Content;
 use dep_moment::Moment;
 use dep_types::{Config, Counters, Text};
 use std::alloc::{AllocError, Global};

@@ -1,6 +1,6 @@
 use Rattle.std.proofs.Common.{ℕ, sym, ap, ◌∙◌, Option, List}
-use Rattle.dep_server.specs.Places.{Reading, more}
-use Rattle.dep_server.specs.Stream.{Item, Fault, Request}
+use Rattle.dep_message.specs.Places.{Reading, more}
+use Rattle.dep_message.specs.Stream.{Item, Fault, Continue, Request}
 use Rattle.dep_server.proofs.ServingLemmas.{served_none, served_more, serves_open, serves_shut, serves_last, serves_gives_up, first_at, fault_shuts, cut_cause, never_such}
 use Rattle.dep_server.proofs.serving.serve.Goals as goal
 
@@ -49,8 +49,8 @@ loop-intake-preserved g c =
     let h = rw c.in-Ok-Message.field-0-is at c.in-Ok-Message.ensures in
     let item : Item = Request c.in-Ok-Message.message in
     record {
-      served = served_more item c.loop-intake.invariant.served (first_at _ _ _ _ item c.loop-intake.invariant.limit h.first) c.in-Sent.ensures.answers;
-      failures = c.answer_message.ensures.kept c.in-Sent.is ∙ c.loop-intake.invariant.failures;
+      served = served_more item c.loop-intake.invariant.served (first_at _ _ _ _ item c.loop-intake.invariant.limit h.first) c.in-Sent-answer_message.ensures.answers;
+      failures = c.answer_message.ensures.kept c.in-Sent-answer_message.is ∙ c.loop-intake.invariant.failures;
       limit = h.limit ∙ c.loop-intake.invariant.limit;
     }
 
@@ -60,3 +60,26 @@ returns-in-Err-clause-served g c =
     serves_gives_up c.args.config.now c.args.intake.now c.args.piece.now c.args.store.now c.args.moment held held (more c.args.intake.now.place c.args.piece.now) c.args.store.now
     (served_none c.args.config.now c.args.intake.now.limit (more c.args.intake.now.place c.args.piece.now) c.args.store.now c.args.moment held)
     (g.O.Outlet.taken c.give_up.new.out) c.give_up.result c.in-Err.ensures.err.1 c.give_up.ensures.sent c.give_up.new.intake.place (ap (λ (r : Reading). r.place) c.give_up.ensures.shut)
+
+pub returns-in_default-answer_continue : goal.returns-in_default-answer_continue
+returns-in_default-answer_continue g c =
+    let h = rw c.in-Ok-Continue100.field-0-is at c.in-Ok-Continue100.ensures in
+    let done = c.answer_continue.ensures.answers c.args.config.now c.loop-intake.store c.args.moment in
+    record {
+      served = serves_last c.args.config.now c.args.intake.now c.args.piece.now c.args.store.now c.args.moment (g.O.Outlet.taken c.args.out.now) (g.O.Outlet.taken c.loop-intake.out) c.loop-intake.intake.place c.loop-intake.store c.loop-intake.invariant.served
+          Continue c.next.new.self.place (g.O.Outlet.taken c.answer_continue.new.out) c.loop-intake.store c.answer_continue.result
+          (first_at _ _ _ _ Continue c.loop-intake.invariant.limit h.first) (λ sent. absurd (c.in_default-answer_continue.not-Sent sent)) done
+          c.end-in_default-answer_continue.new.intake.place (ap (λ (r : Reading). r.place) c.end-in_default-answer_continue.ensures.shut) c.end-in_default-answer_continue.result c.end-in_default-answer_continue.ensures.answer;
+      cause = cut_cause c.answer_continue.result c.end-in_default-answer_continue.result _ _ _ c.end-in_default-answer_continue.ensures.answer c.loop-intake.invariant.failures c.answer_continue.ensures.cause;
+      limit = ap (λ (r : Reading). r.limit) c.end-in_default-answer_continue.ensures.shut ∙ (h.limit ∙ c.loop-intake.invariant.limit);
+      there = λ e. never_such c.answer_continue.result (sym c.end-in_default-answer_continue.ensures.answer ∙ e);
+    }
+
+pub loop-intake-preserved-in-Sent : goal.loop-intake-preserved-in-Sent
+loop-intake-preserved-in-Sent g c =
+    let h = rw c.in-Ok-Continue100.field-0-is at c.in-Ok-Continue100.ensures in
+    record {
+      served = served_more Continue c.loop-intake.invariant.served (first_at _ _ _ _ Continue c.loop-intake.invariant.limit h.first) (c.in-Sent.ensures.answers c.args.config.now c.loop-intake.store c.args.moment);
+      failures = c.answer_continue.ensures.kept c.in-Sent.is ∙ c.loop-intake.invariant.failures;
+      limit = h.limit ∙ c.loop-intake.invariant.limit;
+    }

@@ -1,5 +1,5 @@
 use Rattle.std.proofs.Common.{◌≡◌}
-use Rattle.dep_server.specs.Places.{more, left_to_read}
+use Rattle.dep_message.specs.Places.{more, left_to_read}
 use Rattle.dep_server.specs.Serving.{Served}
 use Rattle.dep_server.proofs.serving.serve.Given as goal
 

@@ -1,7 +1,7 @@
 use Rattle.std.proofs.Common.{ℕ, ap, ◌∙◌}
 use Rattle.dep_types.specs.State.{State}
 use Rattle.dep_server.specs.Machine.{step, fault_reply}
-use Rattle.dep_server.specs.Stream.{Fault}
+use Rattle.dep_message.specs.Stream.{Fault}
 use Rattle.dep_server.proofs.ServingLemmas.{answers_fixed, answers_reply}
 use Rattle.dep_server.proofs.step.answer_fault.Goals as goal
 

@@ -1,9 +1,9 @@
 use Rattle.std.proofs.Common.{◌∙◌, ap}
 use Rattle.dep_types.specs.State.{State}
 use Rattle.dep_server.specs.Machine.{step, routed}
-use Rattle.dep_server.specs.Stream.{Request}
+use Rattle.dep_message.specs.Stream.{Request}
 use Rattle.dep_server.specs.Targets.{target}
-use Rattle.dep_server.specs.declared.message.Message.{Message}
+use Rattle.dep_message.specs.declared.message.Message.{Message}
 use Rattle.dep_server.proofs.ServingLemmas.{answers_fixed, answers_reply}
 use Rattle.dep_server.proofs.step.answer_message.Goals as goal
 

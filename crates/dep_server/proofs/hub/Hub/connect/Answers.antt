@@ -1,5 +1,5 @@
 use Rattle.std.proofs.Common.{refl, sym, ap, subst, ◌∙◌, ℕ, [], ◌∷◌, ◌++◌, ◌+◌}
-use Rattle.dep_server.specs.Places.{Reading}
+use Rattle.dep_message.specs.Places.{Reading}
 use Rattle.dep_server.specs.Records.{Connect}
 use Rattle.dep_server.specs.Standing.{Moves}
 use Rattle.dep_server.specs.declared.hub.Hub.{Hub}
