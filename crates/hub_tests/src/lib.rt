@@ -4,11 +4,17 @@
 #[cfg(test)]
 mod bodies;
 #[cfg(test)]
+mod chunks;
+#[cfg(test)]
+mod closing;
+#[cfg(test)]
 mod conversations;
 #[cfg(test)]
 mod cuts;
 #[cfg(test)]
 mod deposits;
+#[cfg(test)]
+mod expectations;
 #[cfg(test)]
 mod fields;
 #[cfg(test)]
