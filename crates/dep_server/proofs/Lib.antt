@@ -13,3 +13,4 @@ pub mod PerformLemmas
 pub mod FileFieldLemmas
 pub mod SoundLemmas
 pub mod RunSound
+pub mod BareLemmas

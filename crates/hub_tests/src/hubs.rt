@@ -145,22 +145,31 @@ fn connections_take_turns(rt: HostRuntime) -> Result<(), Fail> {
     Ok(())
 }
 
-#[test]
-fn connections_share_the_archive(rt: HostRuntime) -> Result<(), Fail> {
-    let (last, front) = DEPOSIT.split_last().ok_or("empty")?;
-    let end = [*last];
-    let mut hub = empty_hub(rt.alloc())?;
+// A deposit in two parts, with another connection between them.
+fn is_shared<'a>(
+    rt: &impl Abort,
+    alloc: Global,
+    front: &'a [u8],
+    end: &'a [u8],
+) -> Result<(), Fail> {
+    let mut hub = empty_hub(alloc)?;
     let (first, second) = (hub.connect()?, hub.connect()?);
     let parts = [
         on(first, front, &[]),
         on(second, GET_FILE, NOT_FOUND),
-        on(first, &end, CREATED),
+        on(first, end, CREATED),
         on(second, GET_FILE, &[FILE_REPLY]),
     ];
     for part in &parts {
-        is_open(&rt, rt.alloc(), &mut hub, part)?;
+        is_open(rt, alloc, &mut hub, part)?;
     }
     Ok(())
+}
+
+#[test]
+fn connections_share_the_archive(rt: HostRuntime) -> Result<(), Fail> {
+    let (last, front) = DEPOSIT.split_last().ok_or("empty")?;
+    is_shared(&rt, rt.alloc(), front, &[*last])
 }
 
 #[test]
