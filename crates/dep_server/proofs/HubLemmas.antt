@@ -1,5 +1,5 @@
 -- What a hub stands for, after each of its calls.
-use Rattle.std.proofs.Common.{◌≡◌, ◌≢◌, ℕ, ◌+◌, ◌==◌, Bool, true, false, List, [], ◌∷◌, ◌++◌, get_or, set, Option, Some, None, if◌then◌else◌, refl, sym, ap, subst, ◌∙◌, arith, inl}
+use Rattle.std.proofs.Common.{◌≡◌, ◌≢◌, ℕ, ◌==◌, Bool, true, false, List, [], ◌∷◌, ◌++◌, get_or, set, Option, Some, None, if◌then◌else◌, refl, sym, ap, subst, ◌∙◌, arith, inl}
 use Rattle.std.specs.Io.KnownBytes.{Keeps}
 use Rattle.dep_types.specs.State.{State}
 use Rattle.dep_types.specs.Sound.{IsSound}
@@ -10,15 +10,15 @@ use Rattle.dep_message.specs.Stream.{Item, Reads, Waits}
 use Rattle.dep_server.specs.Machine.{Serves, serves_all, step_fails, gives_up, answer_at_place}
 use Rattle.dep_server.specs.Records.{Event, Connect, Arrive, Close, Record, Line, Absent, Live, Ended, World, put, line_after, ReadsBeyond, Arrives, at_live, at_ended, connects, closes, arrives, Run, goes_on}
 use Rattle.dep_server.specs.Serving.{ServesFrom, ServesOver}
-use Rattle.dep_server.specs.Standing.{intake_of, Ascends, KeepsRest, IsKeptAs, StandsAt, StandsFor, Adds, Moves, ArrivesOver}
-use Rattle.dep_server.specs.Numbers.{index_of}
+use Rattle.dep_server.specs.Standing.{intake_of, KeepsRest, IsKeptAs, StandsAt, StandsFor, Adds, Moves, ArrivesOver}
+use Rattle.dep_server.specs.Numbers.{index_of, Ascends, Ascends-prop}
 use Rattle.dep_server.specs.declared.arrived.Arrived.{Arrived}
 use Rattle.dep_server.specs.declared.arrived.Arrived.TheVariants.{Open as StaysOpen, Closed, Cut, NoSuch}
 use Rattle.dep_server.specs.declared.connections.Connection.{Connection}
 use Rattle.dep_server.specs.declared.hub.Hub.{Hub}
 use Rattle.dep_message.proofs.Reading.{reads_more, reads_append}
 use Rattle.dep_server.proofs.RunSound.{arrives_sound}
-use Rattle.dep_server.proofs.ConnectionLemmas.{index_some, intake_set, ascends_set, intake_push, ascends_push}
+use Rattle.dep_server.proofs.ConnectionLemmas.{index_some, intake_set, intake_push}
 use Rattle.std.proofs.lemmas.Bool.{eqb-true, eq-eqb}
 use Rattle.std.specs.Prelude.{IsSome}
 
@@ -129,9 +129,25 @@ pub none_there : (o : Option Reading) → o ≡ None → IsSome o → ⊥
 none_there None e s = cc
 none_there (Some r) e s = cc
 
+module _ (n i : ℕ) (cs : List Connection) (c : Connection) (index : index_of n cs ≡ Some i) (item : c ≡ get_or cs i c) where
+  pub not_absent : intake_of cs n ≡ None → ⊥
+  not_absent e = none_there (intake_of cs n) e (subst (λ o. IsSome o) (sym (index_some n i cs c index item).1) refl)
+
+  -- a connection that is changed is there afterwards
+  pub stays_there : (now : Reading) → IsSome (intake_of (set cs i (record { number = c.number; intake = now })) n)
+  stays_there now =
+      let found = index_some n i cs c index item in
+      let some : intake_of (set cs i (record { number = c.number; intake = now })) n ≡ Some now =
+      intake_set n i cs (record { number = c.number; intake = now }) index found.0 n ∙ ap (λ b. if b then Some now else intake_of cs n) (eq-eqb n n refl) in
+      subst (λ o. IsSome o) (sym some) refl
+
+-- the numbers ascend in one way
+pub same_hub : (hub : Hub) (a : Ascends 0 hub.connections.items hub.next) → record hub { ascends = a } ≡ hub
+same_hub hub a i = record hub { ascends = Ascends-prop 0 hub.connections.items hub.next a hub.ascends i }
+
 module _ (old new : Hub) (n i : ℕ) (piece : List ℕ) (moment : ℕ) (c : Connection) (now : Reading)
     (index : index_of n old.connections.items ≡ Some i) (item : c ≡ get_or old.connections.items i c)
-    (config : new.config ≡ old.config) (next : new.next ≡ old.next)
+    (config : new.config ≡ old.config)
     (changed : new.connections.items ≡ set old.connections.items i (record { number = c.number; intake = now }))
     (limit : now.limit ≡ c.intake.limit) where
   -- the world after the arrival
@@ -151,7 +167,6 @@ module _ (old new : Hub) (n i : ℕ) (piece : List ℕ) (moment : ℕ) (c : Conn
           kept = subst (λ (x : _). (m : ℕ) → IsKeptAs x.max_upload (put n r.becomes w.line m) (intake_of new.connections.items m)) (sym config)
               (kept_put old.config.max_upload n r.becomes w.line (Some now) old.connections.items new.connections.items r.kept at.kept
               (λ m. ap (λ cs. intake_of cs m) changed ∙ intake_set n i old.connections.items (record { number = c.number; intake = now }) index found.0 m));
-          numbers = rw (changed, next) (ascends_set 0 old.next i old.connections.items c (record { number = c.number; intake = now }) item refl at.numbers);
         },
       )
 
@@ -165,18 +180,6 @@ module _ (old new : Hub) (n i : ℕ) (piece : List ℕ) (moment : ℕ) (c : Conn
             (goes_on h.run (arrives a.1));
         at = a.2;
       }
-
-  pub not_absent : intake_of old.connections.items n ≡ None → ⊥
-  not_absent e = none_there (intake_of old.connections.items n) e (subst (λ o. IsSome o) (sym (index_some n i old.connections.items c index item).1) refl)
-
-  -- the connection is there afterwards
-  pub stays_there : IsSome (intake_of new.connections.items n)
-  stays_there =
-      let found = index_some n i old.connections.items c index item in
-      let there : intake_of new.connections.items n ≡ (if n == n then Some now else intake_of old.connections.items n) =
-      ap (λ cs. intake_of cs n) changed ∙ intake_set n i old.connections.items (record { number = c.number; intake = now }) index found.0 n in
-      let some : intake_of new.connections.items n ≡ Some now = there ∙ ap (λ b. if b then Some now else intake_of old.connections.items n) (eq-eqb n n refl) in
-      subst (λ o. IsSome o) (sym some) refl
 
   pub arrives_over : (held holds : Option (List ℕ)) (answer : Arrived) → answer ≢ NoSuch → ServesOver old.config held holds c.intake piece old.store moment new.store now.place answer
       → ArrivesOver held holds old new n piece moment answer
@@ -199,18 +202,16 @@ absent_already n cs f m = absent_if n m cs (m == n) refl f
 
 -- a connection is closed
 pub closes_moves : (old new : Hub) (n : ℕ) → new.config ≡ old.config → new.store ≡ old.store
-    → (Ascends 0 old.connections.items old.next → (m : ℕ) → intake_of new.connections.items m ≡ (if m == n then None else intake_of old.connections.items m))
-    → (Ascends 0 old.connections.items old.next → Ascends 0 new.connections.items new.next)
+    → ((m : ℕ) → intake_of new.connections.items m ≡ (if m == n then None else intake_of old.connections.items m))
     → Moves old new (Close n) []
-closes_moves old new n config store gone numbers w at = (
+closes_moves old new n config store gone w at = (
   record { state = w.state; line = put n Absent w.line },
   closes,
   record {
     state = store ∙ at.state;
     sound = at.sound;
     kept = subst (λ (x : _). (m : ℕ) → IsKeptAs x.max_upload (put n Absent w.line m) (intake_of new.connections.items m)) (sym config)
-        (kept_put old.config.max_upload n Absent w.line None old.connections.items new.connections.items tt at.kept (gone at.numbers));
-    numbers = numbers at.numbers;
+        (kept_put old.config.max_upload n Absent w.line None old.connections.items new.connections.items tt at.kept gone);
   },
 )
 
@@ -225,12 +226,12 @@ moves_adds old new event sent config m first records h =
     }
 
 -- a connection is opened
-pub connects_moves : (old new : Hub) (n : ℕ) → new.config ≡ old.config → new.store ≡ old.store → n ≡ old.next → new.next ≡ old.next + 1
+pub connects_moves : (old new : Hub) (n : ℕ) → new.config ≡ old.config → new.store ≡ old.store → n ≡ old.next
     → new.connections.items ≡ old.connections.items ++ record { number = n; intake = record { limit = old.config.max_upload; place = Open false [] } } ∷ []
     → Moves old new (Connect n) []
-connects_moves old new n config store this next items w at =
+connects_moves old new n config store this items w at =
     let d : Connection = record { number = n; intake = record { limit = old.config.max_upload; place = Open false [] } } in
-    let low : Ascends 0 old.connections.items n = subst (λ k. Ascends 0 old.connections.items k) (sym this) at.numbers in (
+    let low : Ascends 0 old.connections.items n = subst (λ k. Ascends 0 old.connections.items k) (sym this) old.ascends in (
       record { state = w.state; line = put n (Live []) w.line },
       connects,
       record {
@@ -239,7 +240,6 @@ connects_moves old new n config store this next items w at =
         kept = subst (λ (x : _). (m : ℕ) → IsKeptAs x.max_upload (put n (Live []) w.line m) (intake_of new.connections.items m)) (sym config)
             (kept_put old.config.max_upload n (Live []) w.line (Some d.intake) old.connections.items new.connections.items (kept_fresh old.config.max_upload) at.kept
             (λ m. ap (λ cs. intake_of cs m) items ∙ intake_push 0 old.connections.items d low m));
-        numbers = rw (items, next, ← this) (ascends_push 0 old.connections.items d low);
       },
     )
 

@@ -11,3 +11,4 @@ pub mod PerformLemmas
 pub mod FileFieldLemmas
 pub mod SoundLemmas
 pub mod RunSound
+pub mod BareLemmas

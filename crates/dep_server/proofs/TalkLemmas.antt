@@ -4,7 +4,7 @@ use Rattle.std.proofs.lemmas.List.{append-nil}
 use Rattle.std.specs.List.{flat_map, FoldsTo}
 use Rattle.std.specs.Io.KnownBytes.{Appends, Consumes, Keeps}
 use Rattle.dep_types.specs.State.{State}
-use Rattle.dep_server.specs.Records.{World, put, Connect, Close, Record}
+use Rattle.dep_server.specs.Records.{World, Connect, Close, Record}
 use Rattle.dep_server.specs.Standing.{StandsAt, StandsFor, Adds, Moves, intake_of}
 use Rattle.dep_server.specs.declared.hub.Hub.{Hub}
 use Rattle.dep_server.specs.declared.arrived.Arrived.{Arrived}
@@ -135,18 +135,10 @@ all_added n turns old opened talked new a b d first records h =
     (append_assoc (records ++ c ∷ []) m (k ∷ []) ∙ append_assoc records (c ∷ []) (m ++ k ∷ []))
     (d first ((records ++ c ∷ []) ++ m) (b first (records ++ c ∷ []) (a first records h)))
 
--- the hub stands after the turns where it stood before
-stands_talked : (n : ℕ) (opened talked : Hub) (turns : List Turn) → Talks n opened turns talked → (w : World) → StandsAt opened w → (w' : World) × StandsAt talked w'
-stands_talked n opened talked turns silent w at = (w, at)
-stands_talked n opened talked turns (turn {mid = mid} {turns = before} u t a) w at =
-    let m = stands_talked n opened mid before t w at in
-    let r = a.answers m.0 m.1 in
-    (record { state = r.0; line = put n r.1 m.0.line }, r.3)
-
 module _ {C : Type 0} (ticks : C → ℕ → C → Type 0) (n : ℕ) (old opened talked new : Hub) (unread left held holds : Option (List ℕ)) (clock now : C)
     (fresh : intake_of old.connections.items n ≡ None) (opens : Moves old opened (Connect n) []) (closes : Moves talked new (Close n) [])
     (opening : Adds old opened (Connect n) []) (closing : Adds talked new (Close n) [])
-    (gone : (w : World) → StandsAt talked w → intake_of new.connections.items n ≡ None) where
+    (gone : intake_of new.connections.items n ≡ None) where
   converses : (k : ℕ) (answer : Arrived) (served : Served) (t : Talk ticks n opened talked unread left held holds clock now k answer) → EndsAs left t.turns served
       → Converses ticks old new unread left held holds clock served
   converses k answer served t e = record {
@@ -158,7 +150,7 @@ module _ {C : Type 0} (ticks : C → ℕ → C → Type 0) (n : ℕ) (old opened
     talked = talked;
     talks = t.talks;
     closes = closes;
-    gone = λ w at. let o = opens w at in let m = stands_talked n opened talked t.turns t.talks o.0 o.2 in gone m.0 m.1;
+    gone = gone;
     adds = all_added n t.turns old opened talked new opening (talks_add n opened talked t.turns t.talks) closing;
     pieces = t.pieces;
     replies = t.replies;

@@ -122,7 +122,7 @@ pub record Converses {C : Type 0} (ticks : C → ℕ → C → Type 0) (old new 
   pub talked : Hub
   pub talks : Talks number opened turns talked
   pub closes : Moves talked new (Close number) []
-  pub gone : (w : World) → StandsAt old w → intake_of new.connections.items number ≡ None
+  pub gone : intake_of new.connections.items number ≡ None
   pub adds : AddsAll old new (records_of number turns)
   pub pieces : Consumes unread left (flat_map (λ t. t.piece) turns)
   pub replies : Appends held holds (flat_map (λ t. t.sent) turns)

@@ -4,6 +4,7 @@ pub mod Operations
 pub mod Answers
 pub mod Replies
 pub mod Machine
+pub mod Bare
 pub mod Records
 pub mod Calm
 pub mod Standing

@@ -1,15 +1,24 @@
--- Where a connection stands in the list, and how far connections go.
-use Rattle.std.specs.Prelude.{◌==◌, ℕ, suc, List, [], ◌∷◌, if◌then◌else◌, Option, None, Some}
-use Rattle.std.specs.Option.{option_map}
+-- Where a connection stands in the list, how the numbers follow one another, and how far connections go.
+use Rattle.std.specs.Prelude.{◌==◌, ◌+◌, ◌≤◌, ℕ, List, [], ◌∷◌, Option, position}
+use Rattle.std.specs.Coded.{×_prop, le_prop}
 use Rattle.dep_server.specs.declared.connections.Connection.{Connection}
 
+-- the first place at which the number stands
 abbrev pub index_of : ℕ → List Connection → Option ℕ
-index_of number [] = None
-index_of number (c ∷ connections) = if c.number == number then Some 0 else option_map suc (index_of number connections)
+index_of number connections = position (λ c. c.number == number) connections
+
+-- the numbers ascend, from one and below the other
+abbrev pub Ascends : ℕ → List Connection → ℕ → Type 0
+Ascends low [] high = low ≤ high
+Ascends low (c ∷ connections) high = (low ≤ c.number) × Ascends (c.number + 1) connections high
+
+pub Ascends-prop : (low : ℕ) (connections : List Connection) (high : ℕ) → IsProp (Ascends low connections high)
+Ascends-prop low [] high = le_prop
+Ascends-prop low (c ∷ connections) high = ×_prop le_prop (Ascends-prop (c.number + 1) connections high)
 
 -- how many connections a hub has at most
 abbrev pub most_connections : ℕ
-most_connections = 1
+most_connections = 1024
 
 -- the number that no connection gets, nor one above it
 abbrev pub last_number : ℕ

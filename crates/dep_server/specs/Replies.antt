@@ -11,7 +11,7 @@ use Rattle.dep_types.specs.declared.refusal.Refusal.{Refusal}
 use Rattle.dep_types.specs.declared.target.Resource.{Resource}
 use Rattle.dep_types.specs.declared.target.Resource.TheVariants.{Service, File}
 use Rattle.dep_types.specs.declared.target.Method.{Method}
-use Rattle.dep_types.specs.declared.target.Method.TheVariants.{Get}
+use Rattle.dep_types.specs.declared.target.Method.TheVariants.{Get, Head}
 use Rattle.dep_reply.specs.Head.{head_text}
 use Rattle.dep_docs_out.specs.Documents.{service_document, status_document, error_document}
 use Rattle.dep_server.specs.Operations.{Operation, Decision, Show, Create, decision}
@@ -36,7 +36,11 @@ abbrev pub tag_at : State → Resource → Option ℕ
 tag_at s (File n f) = option_map (λ file. file.tag) (file_at s n f)
 tag_at s resource = None
 
--- the answer to a GET of a file
+-- the answer that shows a resource
+abbrev pub shown_answer : Config → State → Resource → Answer
+shown_answer config s resource = answer 200 (content_at config s resource) (tag_at s resource) None
+
+-- the same for a file
 abbrev pub file_answer : State → (n f : ℕ) → Answer
 file_answer s n f = answer 200 (option_map (λ file. record { media = file.media; bytes = file.content }) (file_at s n f)) (option_map (λ file. file.tag) (file_at s n f)) None
 
@@ -53,10 +57,12 @@ abbrev pub made_answer : Config → State → ℕ → Answer
 made_answer config s n =
     answer 201 (option_map (λ o. json (status_document config (object_view n o))) (map.get s.objects n)) (option_map (λ o. o.tag) (map.get s.objects n)) (Some (object_url config n))
 
--- the answer to what was asked for, at the state that it left: the object that was made last, or what the resource shows
+-- the answer to what was asked for, at the state that it left: the object that was made last, or what the resource
+-- shows; a HEAD is answered as a GET (RFC 9110, section 9.3.2), and its reply is a bare one
 abbrev pub answer_to : Config → State → Resource → Method → Decision → Answer
 answer_to config s resource method (Create name media) = made_answer config s (last_object s)
-answer_to config s resource Get Show = answer 200 (content_at config s resource) (tag_at s resource) None
+answer_to config s resource Get Show = shown_answer config s resource
+answer_to config s resource Head Show = shown_answer config s resource
 answer_to config s resource method Show = answer 204 None None None
 
 unfoldable pub accepted_answer : Config → State → Operation → Answer

@@ -1,5 +1,5 @@
 -- What a hub stands for: the lists of records that may have led to what it keeps.
-use Rattle.std.specs.Prelude.{◌≡◌, ◌≤◌, ◌+◌, ◌==◌, ℕ, List, [], ◌∷◌, ◌++◌, if◌then◌else◌, Option, None, Some}
+use Rattle.std.specs.Prelude.{◌≡◌, ◌==◌, ℕ, List, [], ◌∷◌, ◌++◌, if◌then◌else◌, Option, None, Some}
 use Rattle.std.specs.Io.KnownBytes.{Appends, Keeps}
 use Rattle.dep_types.specs.State.{State}
 use Rattle.dep_types.specs.Sound.{IsSound}
@@ -15,11 +15,6 @@ use Rattle.dep_server.specs.declared.hub.Hub.{Hub}
 abbrev pub intake_of : List Connection → ℕ → Option Reading
 intake_of [] number = None
 intake_of (c ∷ connections) number = if c.number == number then Some c.intake else intake_of connections number
-
--- the numbers ascend, from one and below the other
-abbrev pub Ascends : ℕ → List Connection → ℕ → Type 0
-Ascends low [] high = low ≤ high
-Ascends low (c ∷ connections) high = (low ≤ c.number) × Ascends (c.number + 1) connections high
 
 -- a live connection keeps what its stream has left
 pub record KeepsRest (limit : ℕ) (stream : List ℕ) (reading : Reading) : Type 0 where
@@ -47,7 +42,6 @@ pub record StandsAt (hub : Hub) (w : World) : Type 0 where
   pub state : hub.store ≡ w.state
   pub sound : IsSound w.state
   pub kept : (number : ℕ) → IsKeptAs hub.config.max_upload (w.line number) (intake_of hub.connections.items number)
-  pub numbers : Ascends 0 hub.connections.items hub.next
 
 -- the machine may be there after these records
 pub record StandsFor (hub : Hub) (first : State) (records : List Record) : Type 0 where

@@ -55,8 +55,8 @@ resource_of _ = None
 
 -- the methods of a resource
 abbrev pub methods : Resource → List Method
-methods Service = Get ∷ Post ∷ []
-methods (File n f) = Get ∷ []
+methods Service = Get ∷ Head ∷ Post ∷ []
+methods (File n f) = Get ∷ Head ∷ []
 methods _ = []
 
 abbrev pub method_name : Method → List ℕ

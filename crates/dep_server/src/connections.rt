@@ -47,12 +47,7 @@ pub fn index_among(connections: &[Connection], number: u64) -> Option<usize>
     ensures value { result ≡ index_of number connections.now }
     ensures within { IfSome result (λ i. i < length connections.now) }
 {
-    let (first, rest) = connections.split_first()?;
-    if first.number == number {
-        return Some(0);
-    }
-    match index_among(rest, number) {
-        Some(i) => Some(i + 1),
-        None => None,
-    }
+    connections
+        .iter()
+        .position(|connection| connection.number == number)
 }

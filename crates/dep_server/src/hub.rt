@@ -5,8 +5,7 @@ ghost use Rattle.dep_types.specs.State.{State};
 ghost use Rattle.dep_types.specs.Sound.{IsSound};
 ghost use Rattle.dep_types.specs.Config.{IsChecked};
 ghost use Rattle.dep_server.specs.Records.{Connect, Close, Record, World, Run, Absent};
-ghost use Rattle.dep_server.specs.Numbers.{most_connections, last_number};
-ghost use Rattle.dep_server.specs.Standing.{StandsFor, StandsAt, Adds, Moves, ArrivesOver, intake_of};
+ghost use Rattle.dep_server.specs.Numbers.{Ascends, Ascends-prop, most_connections, last_number};
 
 use crate::arrived::Arrived;
 use crate::connections::{ConnId, Connection, index_among};
@@ -25,9 +24,11 @@ pub struct Hub {
     store: Store,
     connections: Vec<Connection>,
     next: u64,
+    // No number is there twice, and the next one is above them.
+    ghost ascends: { Ascends 0 connections.items next } by { Ascends-prop 0 connections.items next },
 }
 
-const MOST_CONNECTIONS: usize = 1;
+const MOST_CONNECTIONS: usize = 1_024;
 
 const LAST_NUMBER: u64 = 4_000_000_000_000_000_000;
 
@@ -50,6 +51,8 @@ pub enum ConnectFault {
 }
 
 impl Hub {
+    ghost use Rattle.dep_server.specs.Standing.{StandsFor, StandsAt, Adds, Moves, ArrivesOver, intake_of};
+
     /// A hub over the store, without connections. A refusal hands the store back.
     pub fn new(alloc: Global, config: Config, store: Store) -> Result<Hub, (HubFault, Store)>
         ensures stands { IfOk result (λ hub. (first : State) → store ≡ first → IsSound first → StandsFor hub first []) }
@@ -140,7 +143,7 @@ impl Hub {
     pub fn close(&mut self, connection: ConnId)
         ensures adds { Adds self.old self.new (Close connection) [] }
         ensures moves { Moves self.old self.new (Close connection) [] }
-        ensures gone { (w : World) → StandsAt self.old w → intake_of self.new.connections.items connection ≡ None }
+        ensures gone { intake_of self.new.connections.items connection ≡ None }
         ensures config { self.new.config ≡ self.old.config }
         ensures next { self.new.next ≡ self.old.next }
     {

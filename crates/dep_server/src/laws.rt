@@ -1,6 +1,7 @@
 //! Laws of the definitions, apart from any code.
-ghost use Rattle.std.specs.Prelude.{◌≡◌, ℕ, List, ◌++◌, None};
-ghost use Rattle.dep_message.specs.Stream.{Item};
+ghost use Rattle.std.specs.Prelude.{◌≡◌, ℕ, List, ◌++◌, None, codes};
+ghost use Rattle.dep_message.specs.Stream.{Item, Request};
+ghost use Rattle.dep_message.specs.declared.message.Message.{Message};
 ghost use Rattle.dep_types.specs.State.{State};
 ghost use Rattle.dep_server.specs.Records.{Record, World, Run};
 ghost use Rattle.dep_types.specs.declared.config.Config.{Config};
@@ -10,12 +11,19 @@ ghost use Rattle.dep_types.specs.declared.target.Target.{Target};
 ghost use Rattle.dep_head.specs.Head.{HeadParts};
 ghost use Rattle.dep_server.specs.Operations.{operation_of, refusal, effect};
 ghost use Rattle.dep_server.specs.Machine.{step};
+ghost use Rattle.dep_server.specs.Bare.{asked_by, IsWithoutBody};
 
 /// Runs without failed steps that make the same steps send the same bytes, each connection its own, and end in the same state.
 pub fn cuts_move_moments_of_runs()
     ensures { (config : Config) (first : State) (records others : List Record) (steps : List Step) (v w : World)
         (r : Run config first records v) (q : Run config first others w) → CalmRun records v r steps → CalmRun others w q steps
         → ((n : ℕ) → sent_to n records ≡ sent_to n others) × (v.state ≡ w.state) }
+{}
+
+/// A HEAD is stepped as the GET of the same path: its reply has the same head, which tells the length of the body, and no body.
+pub fn heads_have_no_body()
+    ensures { (config : Config) (s : State) (m : Message) (moment : ℕ)
+        → IsWithoutBody (step config s (Request (asked_by (codes "GET") m)) moment) (step config s (Request (asked_by (codes "HEAD") m)) moment) }
 {}
 
 /// A request that is accepted keeps a sound state sound.

@@ -6,7 +6,7 @@ ghost use Rattle.dep_types.specs.Rows.{object_view};
 ghost use Rattle.dep_server.specs.Machine.{routed};
 ghost use Rattle.dep_server.specs.Operations.{Show, Create, carried_out, object_from, room_for, numbers};
 ghost use Rattle.dep_server.specs.Performing.{Performs, IsReply, Deposits};
-ghost use Rattle.dep_server.specs.Replies.{refused_answer, answer_to, made_answer, last_object, file_answer};
+ghost use Rattle.dep_server.specs.Replies.{refused_answer, answer_to, made_answer, last_object, shown_answer, file_answer};
 ghost use Rattle.dep_server.specs.Targets.{target};
 
 use crate::answer::{Answer, Delivery};
@@ -78,7 +78,7 @@ fn refuse(
     whole(alloc, &answer, delivery)
 }
 
-// What the resource shows.
+// What the resource shows; a HEAD is answered as a GET, without the body.
 fn show(
     alloc: Global,
     config: &Config,
@@ -88,10 +88,24 @@ fn show(
 ) -> Result<Performed, AllocError>
     ensures { IfOk result (λ p. IsReply store.now (answer_to config.now store.now target.now.resource target.now.method Show) delivery p) }
 {
-    if target.method != Method::Get {
-        return whole(alloc, &Answer::nothing(), delivery);
+    match target.method {
+        Method::Get | Method::Head => {
+            show_resource(alloc, config, store, &target.resource, delivery)
+        }
+        Method::Post | Method::Put | Method::Delete => whole(alloc, &Answer::nothing(), delivery),
     }
-    match target.resource {
+}
+
+fn show_resource(
+    alloc: Global,
+    config: &Config,
+    store: &Store,
+    resource: &Resource,
+    delivery: Delivery,
+) -> Result<Performed, AllocError>
+    ensures { IfOk result (λ p. IsReply store.now (shown_answer config.now store.now resource.now) delivery p) }
+{
+    match *resource {
         Resource::Service => whole(alloc, &Answer::service(alloc, config)?, delivery),
         Resource::File(object, file) => show_file(alloc, store, object, file, delivery),
         _ => whole(alloc, &Answer::empty(), delivery),

@@ -109,8 +109,10 @@ fn method_at(resource: &Resource, method: &[u8]) -> Option<Method>
 {
     match resource {
         Resource::Service if method == b"GET".as_slice() => Some(Method::Get),
+        Resource::Service if method == b"HEAD".as_slice() => Some(Method::Head),
         Resource::Service if method == b"POST".as_slice() => Some(Method::Post),
         Resource::File(_, _) if method == b"GET".as_slice() => Some(Method::Get),
+        Resource::File(_, _) if method == b"HEAD".as_slice() => Some(Method::Head),
         _ => None,
     }
 }
@@ -120,8 +122,8 @@ pub fn allow(resource: &Resource) -> &'static str
     ensures { result.now ≡ allow_text resource.now }
 {
     match resource {
-        Resource::Service => "GET, POST",
-        Resource::File(_, _) => "GET",
+        Resource::Service => "GET, HEAD, POST",
+        Resource::File(_, _) => "GET, HEAD",
         _ => "",
     }
 }

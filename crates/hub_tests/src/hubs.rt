@@ -1,11 +1,12 @@
 //! The calls of a hub.
 
 use crate::page::Page;
+use crate::requests::{DEPOSIT, GET_FILE};
 use crate::session::{MOMENT, Session, example, is_written, quiet_hub};
 use crate::steps::{at, plays};
-use crate::texts::NOT_FOUND;
+use crate::texts::{CREATED, FILE_REPLY, NOT_FOUND, NOT_FOUND_HEAD, SERVICE, SERVICE_HEAD};
 use dep_moment::Moment;
-use dep_server::{Arrived, ConnectFault, Hub, HubFault, Store};
+use dep_server::{Arrived, ConnId, ConnectFault, Hub, HubFault, Store};
 use dep_types::{Config, GREATEST_MAX_UPLOAD, Text, Through};
 use std::alloc::Global;
 use std::process::Abort;
@@ -79,16 +80,96 @@ fn empty_hub(alloc: Global) -> Result<Hub, Fail> {
     quiet_hub(alloc, example(alloc)?, Store::empty(alloc))
 }
 
+// As many connections as there may be.
+fn crowd(alloc: Global, hub: &mut Hub) -> Result<Vec<ConnId>, Fail> {
+    let mut connections = Vec::with_capacity(alloc, 1_024)?;
+    for _ in 0..1_024 {
+        connections.push(hub.connect()?)?;
+    }
+    Ok(connections)
+}
+
 #[test]
-fn one_connection_at_a_time(rt: HostRuntime) -> Result<(), Fail> {
+fn the_greatest_number_of_connections(rt: HostRuntime) -> Result<(), Fail> {
     let mut hub = empty_hub(rt.alloc())?;
-    let first = hub.connect()?;
+    let crowd = crowd(rt.alloc(), &mut hub)?;
     assert_eq!(rt; hub.connect(), Err(ConnectFault::Full));
-    hub.close(first);
-    let second = hub.connect()?;
-    assert_ne!(rt; second, first);
+    let closed = *crowd.get(512).ok_or("fewer")?;
+    hub.close(closed);
+    let next = hub.connect()?;
+    assert!(rt; !crowd.contains(&next));
     assert_eq!(rt; hub.connect(), Err(ConnectFault::Full));
     Ok(())
+}
+
+/// A piece of one connection, and what is sent for it.
+#[derive(Clone, Copy)]
+struct Part<'a> {
+    connection: ConnId,
+    piece: &'a [u8],
+    want: &'a [&'a str],
+}
+
+fn on<'a>(connection: ConnId, piece: &'a [u8], want: &'a [&'a str]) -> Part<'a> {
+    Part {
+        connection,
+        piece,
+        want,
+    }
+}
+
+// The part is answered so, and its connection stays open.
+fn is_open(rt: &impl Abort, alloc: Global, hub: &mut Hub, part: &Part<'_>) -> Result<(), Fail> {
+    let mut out = Through::new(Page::new(alloc)?);
+    let came = hub.arrive(part.connection, part.piece, Moment::new(MOMENT), &mut out);
+    is_written(rt, alloc, out.into_inner().bytes(), part.want)?;
+    assert_eq!(rt; came, Arrived::Open);
+    Ok(())
+}
+
+#[test]
+fn connections_take_turns(rt: HostRuntime) -> Result<(), Fail> {
+    let mut hub = empty_hub(rt.alloc())?;
+    let (first, second) = (hub.connect()?, hub.connect()?);
+    let parts = [
+        on(first, b"GET /ser", &[]),
+        on(second, b"GET /x HTTP/1.1\r\nHo", &[]),
+        on(first, b"vice HTTP/1.1\r\nHost: a\r\n\r\nHEAD", SERVICE),
+        on(second, b"st: a\r\n\r\nHEAD /serv", NOT_FOUND),
+        on(first, b" /x HTTP/1.1\r\nHost: a\r\n\r\n", &[NOT_FOUND_HEAD]),
+        on(second, b"ice HTTP/1.1\r\nHost: a\r\n\r\n", &[SERVICE_HEAD]),
+    ];
+    for part in &parts {
+        is_open(&rt, rt.alloc(), &mut hub, part)?;
+    }
+    Ok(())
+}
+
+// A deposit in two parts, with another connection between them.
+fn is_shared<'a>(
+    rt: &impl Abort,
+    alloc: Global,
+    front: &'a [u8],
+    end: &'a [u8],
+) -> Result<(), Fail> {
+    let mut hub = empty_hub(alloc)?;
+    let (first, second) = (hub.connect()?, hub.connect()?);
+    let parts = [
+        on(first, front, &[]),
+        on(second, GET_FILE, NOT_FOUND),
+        on(first, end, CREATED),
+        on(second, GET_FILE, &[FILE_REPLY]),
+    ];
+    for part in &parts {
+        is_open(rt, alloc, &mut hub, part)?;
+    }
+    Ok(())
+}
+
+#[test]
+fn connections_share_the_archive(rt: HostRuntime) -> Result<(), Fail> {
+    let (last, front) = DEPOSIT.split_last().ok_or("empty")?;
+    is_shared(&rt, rt.alloc(), front, &[*last])
 }
 
 #[test]

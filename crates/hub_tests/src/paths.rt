@@ -3,7 +3,8 @@
 use crate::requests::{DEPOSIT, GET_FILE, bare_request};
 use crate::steps::{open, plays};
 use crate::texts::{
-    CREATED, FILE_NOT_ALLOWED, FILE_NOT_ALLOWED_HEAD, FILE_REPLY, NOT_FOUND, SERVICE_NOT_ALLOWED,
+    CREATED, FILE_HEAD, FILE_NOT_ALLOWED, FILE_REPLY, NOT_FOUND, NOT_FOUND_HEAD,
+    SERVICE_NOT_ALLOWED,
 };
 use std::alloc::Global;
 use std::process::Abort;
@@ -49,6 +50,25 @@ fn paths_of_the_file(rt: HostRuntime) -> Result<(), Fail> {
 }
 
 #[test]
+fn a_head_of_the_file_has_no_content(rt: HostRuntime) -> Result<(), Fail> {
+    let lines = [
+        ("HEAD", "/objects/1/files/1"),
+        ("HEAD", "/objects/1/files/1?x=/1"),
+    ];
+    are_answered(&rt, rt.alloc(), &lines, &[FILE_HEAD])
+}
+
+#[test]
+fn heads_of_nothing(rt: HostRuntime) -> Result<(), Fail> {
+    let lines = [
+        ("HEAD", "/objects/1/files/9"),
+        ("HEAD", "/objects/9/files/1"),
+        ("HEAD", "/objects/01/files/1"),
+    ];
+    are_answered(&rt, rt.alloc(), &lines, &[NOT_FOUND_HEAD])
+}
+
+#[test]
 fn paths_that_name_nothing(rt: HostRuntime) -> Result<(), Fail> {
     let lines = [
         ("GET", "/objects/1/files/9"),
@@ -85,13 +105,15 @@ fn methods_that_a_file_has_not(rt: HostRuntime) -> Result<(), Fail> {
         ("POST", "/objects/1/files/1"),
         ("PUT", "/objects/9/files/9"),
     ];
-    are_answered(&rt, rt.alloc(), &lines, FILE_NOT_ALLOWED)?;
-    let heads = [("HEAD", "/objects/1/files/1")];
-    are_answered(&rt, rt.alloc(), &heads, &[FILE_NOT_ALLOWED_HEAD])
+    are_answered(&rt, rt.alloc(), &lines, FILE_NOT_ALLOWED)
 }
 
 #[test]
 fn methods_that_the_service_has_not(rt: HostRuntime) -> Result<(), Fail> {
-    let lines = [("DELETE", "/service"), ("get", "/service")];
+    let lines = [
+        ("DELETE", "/service"),
+        ("get", "/service"),
+        ("head", "/service"),
+    ];
     are_answered(&rt, rt.alloc(), &lines, SERVICE_NOT_ALLOWED)
 }

@@ -8,6 +8,8 @@ pub const DEPOSIT: &[u8] =
 
 pub const GET_SERVICE: &[u8] = b"GET /service HTTP/1.1\r\nHost: 127.0.0.1:8080\r\n\r\n";
 
+pub const HEAD_SERVICE: &[u8] = b"HEAD /service HTTP/1.1\r\nHost: 127.0.0.1:8080\r\n\r\n";
+
 pub const GET_FILE: &[u8] = b"GET /objects/1/files/1 HTTP/1.1\r\nHost: 127.0.0.1:8080\r\n\r\n";
 
 /// A deposit of `abc` with these fields, each with its line end.

@@ -1,11 +1,11 @@
 //! Requests with good heads and without bodies.
 
-use crate::requests::GET_SERVICE;
+use crate::requests::{GET_SERVICE, HEAD_SERVICE};
 use crate::session::is_answered;
 use crate::steps::{open, plays};
 use crate::texts::{
-    CLOSING_BAD_REQUEST_HEAD, CLOSING_SERVICE, NOT_FOUND, NOT_FOUND_HEAD, SERVICE,
-    SERVICE_DOCUMENT, SERVICE_HEAD, SERVICE_NOT_ALLOWED, SERVICE_NOT_ALLOWED_HEAD,
+    CLOSING_BAD_REQUEST_HEAD, CLOSING_SERVICE, CLOSING_SERVICE_HEAD, NOT_FOUND, NOT_FOUND_HEAD,
+    SERVICE, SERVICE_DOCUMENT, SERVICE_HEAD, SERVICE_NOT_ALLOWED,
 };
 use dep_server::Arrived;
 use std::test::Fail;
@@ -24,8 +24,39 @@ fn an_old_version_closes(rt: HostRuntime) -> Result<(), Fail> {
 }
 
 #[test]
+fn a_head_has_no_document(rt: HostRuntime) -> Result<(), Fail> {
+    is_answered(
+        &rt,
+        rt.alloc(),
+        HEAD_SERVICE,
+        &[SERVICE_HEAD],
+        Arrived::Open,
+    )?;
+    let old = b"HEAD /service HTTP/1.0\r\n\r\n";
+    is_answered(
+        &rt,
+        rt.alloc(),
+        old,
+        &[CLOSING_SERVICE_HEAD],
+        Arrived::Closed,
+    )
+}
+
+#[test]
+fn what_follows_a_head(rt: HostRuntime) -> Result<(), Fail> {
+    let stream = [HEAD_SERVICE, GET_SERVICE].concat(rt.alloc())?;
+    is_answered(
+        &rt,
+        rt.alloc(),
+        &stream,
+        &[SERVICE_HEAD, SERVICE_HEAD, SERVICE_DOCUMENT],
+        Arrived::Open,
+    )
+}
+
+#[test]
 fn what_is_not_there(rt: HostRuntime) -> Result<(), Fail> {
-    let cases: [(&[u8], &[&str]); 4] = [
+    let cases: [(&[u8], &[&str]); 3] = [
         (
             b"GET /x HTTP/1.1\r\nHost: 127.0.0.1:8080\r\n\r\n",
             NOT_FOUND,
@@ -33,10 +64,6 @@ fn what_is_not_there(rt: HostRuntime) -> Result<(), Fail> {
         (
             b"DELETE /service HTTP/1.1\r\nHost: 127.0.0.1:8080\r\n\r\n",
             SERVICE_NOT_ALLOWED,
-        ),
-        (
-            b"HEAD /service HTTP/1.1\r\nHost: 127.0.0.1:8080\r\n\r\n",
-            &[SERVICE_NOT_ALLOWED_HEAD],
         ),
         (
             b"HEAD /x HTTP/1.1\r\nHost: 127.0.0.1:8080\r\n\r\n",

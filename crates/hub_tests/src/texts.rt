@@ -15,7 +15,7 @@ pub const SERVICE: &[&str] = &[SERVICE_HEAD, SERVICE_DOCUMENT];
 pub const CLOSING_SERVICE: &[&str] = &[CLOSING_SERVICE_HEAD, SERVICE_DOCUMENT];
 
 /// Its head.
-const CLOSING_SERVICE_HEAD: &str =
+pub const CLOSING_SERVICE_HEAD: &str =
     "HTTP/1.1 200 OK\r\nDate: Mon, 16 Apr 2018 00:00:00 GMT\r\nContent-Type: application/json\r\nContent-Length: 641\r\nConnection: close\r\n\r\n";
 
 /// The error document of a malformed request, 198 bytes.
@@ -48,12 +48,12 @@ pub const NOT_FOUND_DOCUMENT: &str =
 pub const NOT_FOUND: &[&str] = &[NOT_FOUND_HEAD, NOT_FOUND_DOCUMENT];
 
 /// The head of the reply to a method that the service has not.
-pub const SERVICE_NOT_ALLOWED_HEAD: &str =
-    "HTTP/1.1 405 Method Not Allowed\r\nDate: Mon, 16 Apr 2018 00:00:00 GMT\r\nContent-Type: application/json\r\nContent-Length: 185\r\nAllow: GET, POST\r\n\r\n";
+const SERVICE_NOT_ALLOWED_HEAD: &str =
+    "HTTP/1.1 405 Method Not Allowed\r\nDate: Mon, 16 Apr 2018 00:00:00 GMT\r\nContent-Type: application/json\r\nContent-Length: 185\r\nAllow: GET, HEAD, POST\r\n\r\n";
 
 /// The head of the reply to a method that a file has not.
-pub const FILE_NOT_ALLOWED_HEAD: &str =
-    "HTTP/1.1 405 Method Not Allowed\r\nDate: Mon, 16 Apr 2018 00:00:00 GMT\r\nContent-Type: application/json\r\nContent-Length: 185\r\nAllow: GET\r\n\r\n";
+const FILE_NOT_ALLOWED_HEAD: &str =
+    "HTTP/1.1 405 Method Not Allowed\r\nDate: Mon, 16 Apr 2018 00:00:00 GMT\r\nContent-Type: application/json\r\nContent-Length: 185\r\nAllow: GET, HEAD\r\n\r\n";
 
 /// The error document of a method that the resource has not, 185 bytes.
 pub const NOT_ALLOWED_DOCUMENT: &str =
@@ -84,6 +84,10 @@ pub const CREATED: &[&str] = &[CREATED_HEAD, STATUS_DOCUMENT];
 /// The reply to a GET of the file `a.txt`.
 pub const FILE_REPLY: &str =
     "HTTP/1.1 200 OK\r\nDate: Mon, 16 Apr 2018 00:00:00 GMT\r\nContent-Type: text/plain\r\nContent-Length: 3\r\nETag: \"1\"\r\n\r\nabc";
+
+/// The reply to a HEAD of the file `a.txt`.
+pub const FILE_HEAD: &str =
+    "HTTP/1.1 200 OK\r\nDate: Mon, 16 Apr 2018 00:00:00 GMT\r\nContent-Type: text/plain\r\nContent-Length: 3\r\nETag: \"1\"\r\n\r\n";
 
 /// The reply where there is no memory for another.
 pub const WANT_OF_MEMORY: &str =

@@ -1,27 +1,21 @@
 use Rattle.std.proofs.Common.{refl, sym, ◌∙◌}
-use Rattle.std.specs.Vec.{with_item}
 use Rattle.dep_server.specs.Numbers.{index_of}
-use Rattle.dep_server.specs.declared.hub.Hub.{Hub}
-use Rattle.dep_server.proofs.ConnectionLemmas.{index_none}
-use Rattle.dep_server.proofs.HubLemmas.{arrives_over, stays_there, none_there, keeps_same, not_absent}
+use Rattle.dep_server.proofs.ConnectionLemmas.{index_none, ascends_set}
+use Rattle.dep_server.proofs.HubLemmas.{arrives_over, stays_there, none_there, keeps_same, not_absent, same_hub}
 use Rattle.dep_server.proofs.hub.Hub.arrive.Goals as goal
 
 pub returns-in_default-clause-arrival : goal.returns-in_default-clause-arrival
-returns-in_default-clause-arrival g c =
-    (index_none c.args.connection c.args.self.now.connections.items ((λ i. index_of (sym c.number.ensures i) (sym c.as_slice.ensures.value i)) ∙ (sym c.index_among.ensures.value ∙ c.in_default.is)), refl, keeps_same (g.O.Outlet.taken c.args.out.now))
+returns-in_default-clause-arrival g c = (
+  index_none c.args.connection c.args.self.now.connections.items ((λ i. index_of (sym c.number.ensures i) (sym c.as_slice.ensures.value i)) ∙ (sym c.index_among.ensures.value ∙ c.in_default.is)),
+  same_hub c.args.self.now _,
+  keeps_same (g.O.Outlet.taken c.args.out.now),
+)
 
 pub returns-clause-arrival : goal.returns-clause-arrival
 returns-clause-arrival g c =
-    let new : Hub = record {
-      alloc = c.args.self.now.alloc;
-      config = c.args.self.now.config;
-      store = c.serve.new.store;
-      connections = with_item c.args.self.now.connections c.in-Some.i (record { number = c.index_mut-kept.result.now.number; intake = c.serve.new.intake });
-      next = c.args.self.now.next;
-    } in
-    arrives_over c.args.self.now new c.args.connection c.in-Some.i c.args.piece.now c.args.moment c.index_mut-kept.result.now c.serve.new.intake
+    arrives_over c.args.self.now _ c.args.connection c.in-Some.i c.args.piece.now c.args.moment c.index_mut-kept.result.now c.serve.new.intake
     ((λ i. index_of (sym c.number.ensures i) (sym c.as_slice.ensures.value i)) ∙ sym c.in-Some.ensures.value)
-    c.index_mut-kept.ensures.value refl refl refl c.serve.ensures.limit
+    c.index_mut-kept.ensures.value refl refl c.serve.ensures.limit
     (g.O.Outlet.taken c.args.out.now) (g.O.Outlet.taken c.serve.new.out) c.serve.result c.serve.ensures.there c.serve.ensures.served
 
 pub returns-in_default-clause-there : goal.returns-in_default-clause-there
@@ -29,29 +23,21 @@ returns-in_default-clause-there g c = λ there.
     absurd (none_there _ (index_none c.args.connection c.args.self.now.connections.items ((λ i. index_of (sym c.number.ensures i) (sym c.as_slice.ensures.value i)) ∙ (sym c.index_among.ensures.value ∙ c.in_default.is))) there)
 
 pub returns-clause-there : goal.returns-clause-there
-returns-clause-there g c = λ there.
-    let new : Hub = record {
-      alloc = c.args.self.now.alloc;
-      config = c.args.self.now.config;
-      store = c.serve.new.store;
-      connections = with_item c.args.self.now.connections c.in-Some.i (record { number = c.index_mut-kept.result.now.number; intake = c.serve.new.intake });
-      next = c.args.self.now.next;
-    } in (
-      c.serve.ensures.there,
-      stays_there c.args.self.now new c.args.connection c.in-Some.i c.args.piece.now c.args.moment c.index_mut-kept.result.now c.serve.new.intake
-          ((λ i. index_of (sym c.number.ensures i) (sym c.as_slice.ensures.value i)) ∙ sym c.in-Some.ensures.value)
-          c.index_mut-kept.ensures.value refl refl refl c.serve.ensures.limit,
-    )
+returns-clause-there g c = λ there. (
+  c.serve.ensures.there,
+  stays_there c.args.connection c.in-Some.i c.args.self.now.connections.items c.index_mut-kept.result.now
+      ((λ i. index_of (sym c.number.ensures i) (sym c.as_slice.ensures.value i)) ∙ sym c.in-Some.ensures.value)
+      c.index_mut-kept.ensures.value c.serve.new.intake,
+)
 
 pub returns-clause-absent : goal.returns-clause-absent
 returns-clause-absent g c = λ none.
-    let new : Hub = record {
-      alloc = c.args.self.now.alloc;
-      config = c.args.self.now.config;
-      store = c.serve.new.store;
-      connections = with_item c.args.self.now.connections c.in-Some.i (record { number = c.index_mut-kept.result.now.number; intake = c.serve.new.intake });
-      next = c.args.self.now.next;
-    } in
-    absurd (not_absent c.args.self.now new c.args.connection c.in-Some.i c.args.piece.now c.args.moment c.index_mut-kept.result.now c.serve.new.intake
+    absurd (not_absent c.args.connection c.in-Some.i c.args.self.now.connections.items c.index_mut-kept.result.now
     ((λ i. index_of (sym c.number.ensures i) (sym c.as_slice.ensures.value i)) ∙ sym c.in-Some.ensures.value)
-    c.index_mut-kept.ensures.value refl refl refl c.serve.ensures.limit none)
+    c.index_mut-kept.ensures.value none)
+
+pub invariant_of-self-2 : goal.invariant_of-self-2
+invariant_of-self-2 g c = record {
+  ascends = ascends_set 0 c.args.self.now.next c.in-Some.i c.args.self.now.connections.items c.index_mut-kept.result.now
+      (record { number = c.index_mut-kept.result.now.number; intake = c.serve.new.intake }) c.index_mut-kept.ensures.value refl c.args.self.now.ascends;
+}

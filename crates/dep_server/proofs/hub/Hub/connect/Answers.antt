@@ -1,19 +1,42 @@
-use Rattle.std.proofs.Common.{refl, sym, ap, subst, ◌∙◌, ℕ, [], ◌∷◌, ◌++◌, ◌+◌}
+use Rattle.std.proofs.Common.{◌≤◌, ◌+◌, refl, sym, subst, ◌∙◌, ℕ, List, [], ◌∷◌, ◌++◌, arith}
+use Rattle.std.specs.Prelude.{IsSome}
+use Rattle.dep_server.specs.Numbers.{Ascends}
 use Rattle.dep_message.specs.Places.{Reading}
 use Rattle.dep_server.specs.Records.{Connect}
-use Rattle.dep_server.specs.Standing.{Moves}
-use Rattle.dep_server.specs.declared.hub.Hub.{Hub}
+use Rattle.dep_server.specs.Standing.{intake_of}
+use Rattle.dep_server.specs.declared.connections.Connection.{Connection}
+use Rattle.dep_server.proofs.ConnectionLemmas.{absent_above, ascends_push, pushed_there}
 use Rattle.dep_server.proofs.HubLemmas.{connects_moves, moves_adds}
 use Rattle.dep_server.proofs.hub.Hub.connect.Goals as goal
 
 pub returns-clause-moves : goal.returns-clause-moves
 returns-clause-moves c =
-    let new : Hub = record { alloc = c.args.self.now.alloc; config = c.args.self.now.config; store = c.args.self.now.store; connections = c.push.new.self; next = c.args.self.now.next + 1 } in
-    subst (λ (n : ℕ). Moves c.args.self.now new (Connect n) []) (sym c.new-2.ensures)
-    (connects_moves c.args.self.now new c.args.self.now.next refl refl refl refl
-    (c.in-Ok.ensures.items ∙ ap (λ (r : Reading). c.args.self.now.connections.items ++ record { number = c.args.self.now.next; intake = r } ∷ []) c.new.ensures))
+    connects_moves c.args.self.now _ c.new-2.result refl refl c.new-2.ensures
+    (c.in-Ok.ensures.items ∙ (λ i. c.args.self.now.connections.items ++ record { number = sym c.new-2.ensures i; intake = c.new.ensures i } ∷ []))
 
 pub returns-clause-adds : goal.returns-clause-adds
-returns-clause-adds c =
-    let new : Hub = record { alloc = c.args.self.now.alloc; config = c.args.self.now.config; store = c.args.self.now.store; connections = c.push.new.self; next = c.args.self.now.next + 1 } in
-    moves_adds c.args.self.now new (Connect c.new-2.result) [] refl (returns-clause-moves c)
+returns-clause-adds c = moves_adds c.args.self.now _ (Connect c.new-2.result) [] refl (returns-clause-moves c)
+
+pub returns-clause-fresh : goal.returns-clause-fresh
+returns-clause-fresh c =
+    let above : c.args.self.now.next ≤ c.new-2.result = omega (arith, c.new-2.ensures) in
+    absent_above 0 c.args.self.now.next c.new-2.result c.args.self.now.connections.items c.args.self.now.ascends above
+
+pub returns-clause-there : goal.returns-clause-there
+returns-clause-there c =
+    let d : Connection = record { number = c.args.self.now.next; intake = c.new.result } in
+    subst (λ (n : ℕ). IsSome (intake_of c.push.new.self.items n)) (sym c.new-2.ensures)
+    (subst (λ (cs : List Connection). IsSome (intake_of cs c.args.self.now.next)) (sym c.in-Ok.ensures.items)
+    (pushed_there c.args.self.now.connections.items d c.args.self.now.ascends))
+
+pub invariant_of-self : goal.invariant_of-self
+invariant_of-self c = record {
+  ascends = subst (λ (cs : List Connection). Ascends 0 cs c.args.self.now.next) (sym c.in_default.ensures.items) c.args.self.now.ascends;
+}
+
+pub invariant_of-self-2 : goal.invariant_of-self-2
+invariant_of-self-2 c =
+    let d : Connection = record { number = c.args.self.now.next; intake = c.new.result } in
+    record {
+      ascends = subst (λ (cs : List Connection). Ascends 0 cs (d.number + 1)) (sym c.in-Ok.ensures.items) (ascends_push 0 c.args.self.now.connections.items d c.args.self.now.ascends);
+    }

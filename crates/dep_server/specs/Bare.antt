@@ -1,0 +1,19 @@
+-- Replies without a body (RFC 9110, section 9.3.2).
+use Rattle.std.specs.Prelude.{◌≡◌, ℕ, List, ◌++◌, length, Some}
+use Rattle.dep_reply.specs.Head.{ReplyHead, head_text}
+use Rattle.dep_server.specs.Machine.{Stepped}
+use Rattle.dep_message.specs.declared.message.Message.{Message}
+
+-- the same request by another method
+abbrev pub asked_by : List ℕ → Message → Message
+asked_by method m = record m { head = record m.head { method = method } }
+
+-- two steps that differ in the body of the reply alone: one sends it, and the other only tells its length
+pub record IsWithoutBody (whole bare : Stepped) : Type 0 where
+  pub state : bare.state ≡ whole.state
+  pub closes : bare.closes ≡ whole.closes
+  pub head : ReplyHead
+  pub body : List ℕ
+  pub told : head.content_length ≡ Some (length body)
+  pub with_body : whole.sent ≡ head_text head ++ body
+  pub head_alone : bare.sent ≡ head_text head
