@@ -17,6 +17,13 @@ fn the_service_document(rt: HostRuntime) -> Result<(), Fail> {
     is_answered(&rt, rt.alloc(), GET_SERVICE, SERVICE, Arrived::Open)
 }
 
+// The host and the query are not looked at.
+#[test]
+fn a_whole_url_as_target(rt: HostRuntime) -> Result<(), Fail> {
+    let stream = b"GET http://example.org/service?x=1 HTTP/1.1\r\nHost: 127.0.0.1:8080\r\n\r\n";
+    is_answered(&rt, rt.alloc(), stream, SERVICE, Arrived::Open)
+}
+
 #[test]
 fn an_old_version_closes(rt: HostRuntime) -> Result<(), Fail> {
     let stream = b"GET /service HTTP/1.0\r\n\r\nGET /service HTTP/1.1\r\nHost: a\r\n\r\n";
