@@ -17,7 +17,7 @@ use Rattle.dep_docs_out.specs.Documents.{service_document, error_document}
 use Rattle.dep_server.specs.Answers.{Answer, Shown, head_of, json}
 use Rattle.dep_server.specs.Replies.{spelled, refused_answer, shown_answer, accepted_answer}
 use Rattle.dep_server.specs.Operations.{refusal, effect, when}
-use Rattle.dep_server.specs.Machine.{Stepped, turned_down, ruled, done, routed, step}
+use Rattle.dep_server.specs.Machine.{turned_down, ruled, routed, step}
 use Rattle.dep_message.specs.Heads.{closes}
 use Rattle.dep_message.specs.Stream.{Request}
 use Rattle.dep_server.specs.Targets.{target, to_resource, allow_text, resource_of, segments}
