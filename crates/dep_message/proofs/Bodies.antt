@@ -1,5 +1,5 @@
 -- The body that stands first in bytes.
-use Rattle.std.proofs.Common.{◌≡◌, ℕ, ◌+◌, ◌-◌, ◌≤◌, ◌<◌, ◌&&◌, not, Bool, true, false, List, [], ◌++◌, length, take, drop, Ok, refl, sym, ap, subst, ◌∙◌, append_assoc, append-nil, arith, length-take, length-drop, inr}
+use Rattle.std.proofs.Common.{◌≡◌, ℕ, ◌+◌, ◌-◌, ◌≤◌, ◌<◌, ◌&&◌, not, Bool, true, false, List, [], ◌++◌, length, take, drop, Ok, refl, sym, ap, ◌∙◌, append_assoc, append-nil, arith, length-take, length-drop, inr}
 use Rattle.std.proofs.lemmas.List.{take-append-drop}
 use Rattle.std.proofs.Math.Seq.{take-append_seam, take-add, take-length}
 use Rattle.dep_head.specs.Head.{HeadParts, IsHeadText}
@@ -11,7 +11,7 @@ use Rattle.dep_body.specs.declared.frame.Framing.{Framing}
 use Rattle.dep_body.specs.declared.frame.FrameFault.{FrameFault}
 use Rattle.dep_message.specs.Heads.{is_due, is_bare}
 use Rattle.dep_message.specs.Places.{Open}
-use Rattle.dep_message.specs.Stream.{HasHead, HasPartOfBody, IsFaultText, bad_body, IsRequestText, IsContinueText, Waits, refusal_of}
+use Rattle.dep_message.specs.Stream.{HasHead, IsFaultText, bad_body, IsRequestText, IsContinueText, Waits, refusal_of}
 use Rattle.dep_message.specs.declared.message.Message.{Message}
 
 -- the slice behind a front

@@ -1,11 +1,8 @@
 -- Laws of the reading of a stream.
-use Rattle.std.proofs.Common.{◌≡◌, ℕ, Bool, true, false, not, ◌&&◌, List, [], ◌∷◌, ◌++◌, length, length-drop, take, drop, ◌+◌, ◌<◌, ◌≤◌, refl, sym, ap, subst, ◌∙◌, append_assoc, arith, if◌then◌else◌}
-use Rattle.std.proofs.lemmas.List.{take-append-drop}
+use Rattle.std.proofs.Common.{◌≡◌, ℕ, Bool, true, false, List, [], ◌∷◌, ◌++◌, length, ◌<◌, refl, sym, ap, subst, ◌∙◌, append_assoc, arith, if◌then◌else◌}
 use Rattle.dep_message.specs.Heads.{closes}
-use Rattle.dep_message.specs.Places.{Place, Open, Shut, HasBytes, Reading, left_to_read, more}
-use Rattle.dep_message.specs.Stream.{Item, Fault, Continue, Request, after_item, FirstAt, Reads, IsRequestText, IsContinueText}
-use Rattle.dep_message.specs.Steps.{Takes}
-use Rattle.dep_message.specs.declared.message.Message.{Message}
+use Rattle.dep_message.specs.Places.{Place, Open, Shut, HasBytes, more}
+use Rattle.dep_message.specs.Stream.{Item, Fault, Continue, Request, after_item, FirstAt, Reads}
 
 more_if : (b : Bool) (behind piece : List ℕ)
     → (if b then Shut else Open false (behind ++ piece)) ≡ more (if b then Shut else Open false behind) piece

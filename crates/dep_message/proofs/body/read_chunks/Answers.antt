@@ -1,4 +1,4 @@
-use Rattle.std.proofs.Common.{ℕ, List, [], ◌≡◌, ◌++◌, ◌≤◌, length, take, sym, ap, subst, ◌∙◌}
+use Rattle.std.proofs.Common.{[], ◌∙◌}
 use Rattle.dep_message.proofs.Bodies.{ends_body, shows_fault}
 use Rattle.dep_message.proofs.body.read_chunks.Goals as goal
 

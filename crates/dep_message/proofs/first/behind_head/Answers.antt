@@ -1,4 +1,4 @@
-use Rattle.std.proofs.Common.{take, drop, sym, ap, subst, ◌∙◌}
+use Rattle.std.proofs.Common.{take, drop, sym, ◌∙◌}
 use Rattle.std.proofs.lemmas.List.{take-append-drop}
 use Rattle.dep_message.specs.Stream.{bad_framing}
 use Rattle.dep_message.proofs.Bodies.{waiting_head, due_now}

@@ -1,4 +1,4 @@
-use Rattle.std.proofs.Common.{◌≤◌, ◌+◌, length, take, drop, length-take, length-drop, arith, sym, ap, subst, ◌∙◌, List, ℕ}
+use Rattle.std.proofs.Common.{length-drop, arith, subst, List, ℕ}
 use Rattle.dep_message.specs.Steps.{FindsBody}
 use Rattle.dep_message.proofs.Reading.{has_bytes}
 use Rattle.dep_message.proofs.Bodies.{rest_is, waits_for_body, body_fault, head_size, whole_request}

@@ -1,7 +1,6 @@
 use Rattle.std.proofs.Common.{◌≤◌, ◌+◌, refl, sym, subst, ◌∙◌, ℕ, List, [], ◌∷◌, ◌++◌, arith}
 use Rattle.std.specs.Prelude.{IsSome}
 use Rattle.dep_server.specs.Numbers.{Ascends}
-use Rattle.dep_message.specs.Places.{Reading}
 use Rattle.dep_server.specs.Records.{Connect}
 use Rattle.dep_server.specs.Standing.{intake_of}
 use Rattle.dep_server.specs.declared.connections.Connection.{Connection}
