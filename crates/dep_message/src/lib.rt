@@ -7,8 +7,6 @@ mod heads;
 mod intake;
 pub mod laws;
 mod message;
-#[cfg(test)]
-mod tests;
 
 pub use heads::{closes, is_without_body};
 pub use intake::{Intake, Step};

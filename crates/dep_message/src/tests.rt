@@ -1,1 +1,0 @@
-//! Streams, cut at any place.
