@@ -1,0 +1,3 @@
+mod FieldLemmas
+mod KindLemmas
+mod TagLemmas
