@@ -5,6 +5,7 @@ mod field;
 mod fields;
 mod if_match;
 mod kind;
+pub mod laws;
 mod octets;
 mod opening;
 #[cfg(test)]
