@@ -1,5 +1,5 @@
 -- The kind of a text, by what its disposition says.
-use Rattle.std.proofs.Common.{◌≡◌, ℕ, List, bytes_eq, subst, sym}
+use Rattle.std.proofs.Common.{ℕ, List, bytes_eq, subst}
 use Rattle.std.specs.List.{IsDistinct}
 use Rattle.dep_params.specs.Grammar.{IsDisposition, Reading, names_of}
 use Rattle.dep_params.proofs.Dispositions.{same_reading}

@@ -1,4 +1,4 @@
-use Rattle.std.proofs.Common.{◌≡◌, ◌∙◌, ◌==◌, ℕ, List, Option, length, false, sym, ap}
+use Rattle.std.proofs.Common.{◌≡◌, ◌∙◌, ◌==◌, length, false, sym, ap}
 use Rattle.dep_fields.specs.Values.{or_bad}
 use Rattle.dep_fields.specs.declared.field.Field.TheVariants.{Value}
 use Rattle.dep_fields.proofs.FieldLemmas.{not_utf8, named}

@@ -1,4 +1,4 @@
-use Rattle.std.proofs.Common.{◌∙◌, sym, ap, Err}
+use Rattle.std.proofs.Common.{ap, Err}
 use Rattle.std.proofs.lemmas.Result.{IfOk-weaker}
 use Rattle.dep_fields.proofs.KindLemmas.{kind_read, malformed, repeated}
 use Rattle.dep_fields.proofs.kind.read_kind.Goals as goal

@@ -1,4 +1,4 @@
-use Rattle.std.proofs.Common.{◌≡◌, ◌∙◌, ap, subst}
+use Rattle.std.proofs.Common.{◌∙◌, ap, subst}
 use Rattle.dep_types.specs.Names.{is_media}
 use Rattle.dep_fields.specs.Fields.{as_it_stands, if_passes, is_behalf}
 use Rattle.dep_fields.specs.Kinds.{IsKind, truth}
