@@ -1,0 +1,4 @@
+mod FieldLemmas
+mod KindLemmas
+mod OneTelling
+mod TagLemmas

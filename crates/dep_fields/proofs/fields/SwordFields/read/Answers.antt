@@ -1,0 +1,18 @@
+use Rattle.std.proofs.Common.{◌∙◌, ap, subst}
+use Rattle.dep_types.specs.Names.{is_media}
+use Rattle.dep_fields.specs.Fields.{as_it_stands, if_passes, is_behalf}
+use Rattle.dep_fields.specs.Kinds.{IsKind, truth}
+use Rattle.dep_fields.specs.Values.{IsReadFrom, read_from}
+use Rattle.dep_fields.proofs.fields.SwordFields.read.Goals as goal
+
+pub returns : goal.returns
+returns c = record {
+  on_behalf_of = c.in_ok-behalf.ensures ∙ ap (read_from (if_passes is_behalf)) c.single.ensures;
+  disposition = subst (λ t. IsReadFrom IsKind t c.in_ok-disposition.field-0) c.single-2.ensures c.in_ok-disposition.ensures;
+  in_progress = c.progress.ensures ∙ ap (read_from truth) c.single-3.ensures;
+  packaging = c.in_ok-copied.ensures ∙ ap (read_from as_it_stands) c.single-4.ensures;
+  metadata_format = c.in_ok-copied-2.ensures ∙ ap (read_from as_it_stands) c.single-5.ensures;
+  content_type = c.in_ok-media.ensures ∙ ap (read_from (if_passes is_media)) c.single-6.ensures;
+  content_encoding = c.in_ok-copied-3.ensures ∙ ap (read_from as_it_stands) c.single-7.ensures;
+  digest = c.in_ok-digest.ensures;
+}

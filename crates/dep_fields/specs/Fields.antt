@@ -1,0 +1,32 @@
+-- Each field of SWORD in a head: absent, bad, or its value.
+use Rattle.std.specs.Prelude.{◌≡◌, ℕ, ◌&&◌, nat_lt, Bool, List, length, Option, Some, None, codes, if◌then◌else◌}
+use Rattle.std.specs.Str.{is_utf8}
+use Rattle.dep_head.specs.Head.{values_of}
+use Rattle.dep_types.specs.Names.{is_media}
+use Rattle.dep_fixity.specs.Fixity.{digest_field}
+use Rattle.dep_fields.specs.Kinds.{IsKind, truth}
+use Rattle.dep_fields.specs.Values.{IsReadFrom, joined, read_from, single}
+use Rattle.dep_fields.specs.declared.fields.SwordFields.{SwordFields}
+
+-- a text that names someone
+abbrev pub is_behalf : List ℕ → Bool
+is_behalf text = nat_lt 0 (length text) && is_utf8 text
+
+-- the text, where it passes the test
+abbrev pub if_passes : (List ℕ → Bool) → List ℕ → Option (List ℕ)
+if_passes test text = if test text then Some text else None
+
+-- any text
+abbrev pub as_it_stands : List ℕ → Option (List ℕ)
+as_it_stands text = Some text
+
+-- what the fields of a head tell
+pub record AreFields (fields : List (List ℕ × List ℕ)) (told : SwordFields) : Type 0 where
+  pub on_behalf_of : told.on_behalf_of ≡ read_from (if_passes is_behalf) (single (values_of fields (codes "On-Behalf-Of")))
+  pub disposition : IsReadFrom IsKind (single (values_of fields (codes "Content-Disposition"))) told.disposition
+  pub in_progress : told.in_progress ≡ read_from truth (single (values_of fields (codes "In-Progress")))
+  pub packaging : told.packaging ≡ read_from as_it_stands (single (values_of fields (codes "Packaging")))
+  pub metadata_format : told.metadata_format ≡ read_from as_it_stands (single (values_of fields (codes "Metadata-Format")))
+  pub content_type : told.content_type ≡ read_from (if_passes is_media) (single (values_of fields (codes "Content-Type")))
+  pub content_encoding : told.content_encoding ≡ read_from as_it_stands (single (values_of fields (codes "Content-Encoding")))
+  pub digest : told.digest ≡ read_from digest_field (joined (values_of fields (codes "Digest")))

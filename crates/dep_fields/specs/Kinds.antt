@@ -1,0 +1,92 @@
+-- What a content is for, by its Content-Disposition (RFC 6266; SWORD 3.0).
+use Rattle.std.specs.Prelude.{◌≡◌, ℕ, ◌-◌, ◌^◌, nat_lt, Bool, true, false, List, Option, Some, None, option_and_then, codes, bytes_eq, if◌then◌else◌}
+use Rattle.std.specs.List.{IsDistinct}
+use Rattle.std.specs.Str.{str_eq_ignore_ascii_case}
+use Rattle.dep_octets.specs.Octets.{decimal_number}
+use Rattle.dep_octets.specs.declared.numbers.Number.{Number}
+use Rattle.dep_octets.specs.declared.numbers.Number.TheVariants.{NotDigits, Above, Value}
+use Rattle.dep_params.specs.Grammar.{IsDisposition, Reading, names_of, value_of}
+use Rattle.dep_params.specs.Names.{IsFileName}
+use Rattle.dep_fixity.specs.Fixity.{digest_field}
+use Rattle.dep_fixity.specs.declared.field.DigestList.{DigestList}
+use Rattle.dep_fields.specs.declared.kind.Opening.{Opening}
+use Rattle.dep_fields.specs.declared.kind.Kind.{Kind}
+use Rattle.dep_fields.specs.declared.kind.Kind.TheVariants.{File, Metadata, References, Opening as Opens, Segment}
+
+-- `true` or `false`, in any letter case
+abbrev pub truth : List ℕ → Option Bool
+truth text =
+    if str_eq_ignore_ascii_case text (codes "true") then Some true
+    else if str_eq_ignore_ascii_case text (codes "false") then Some false
+    else None
+
+-- a truth, which is false where nothing is said
+abbrev pub flag : Option (List ℕ) → Option Bool
+flag None = Some false
+flag (Some text) = truth text
+
+-- the greatest number of 64 bits
+abbrev pub greatest : ℕ
+greatest = 2 ^ 64 - 1
+
+-- a number, cut at the greatest
+abbrev pub cut : Number → Option ℕ
+cut NotDigits = None
+cut Above = Some greatest
+cut (Value n) = Some n
+
+-- the number that a parameter says in decimal digits
+abbrev pub number : Option (List ℕ) → Option ℕ
+number text = option_and_then (λ t. cut (decimal_number t greatest)) text
+
+-- a number of at least 1
+abbrev pub positive : Option (List ℕ) → Option ℕ
+positive text = option_and_then (λ n. if nat_lt 0 n then Some n else None) (number text)
+
+-- what a parameter promises, which is nothing where it isn't there
+abbrev pub promised : Option (List ℕ) → Option DigestList
+promised None = Some (record { sha256 = None })
+promised (Some text) = digest_field text
+
+-- an attachment with these flags
+pub record IsAttachment (reading : Reading) (metadata by_reference : Bool) : Type 0 where
+  pub form : reading.form ≡ codes "attachment"
+  pub metadata_is : flag (value_of (codes "metadata") reading) ≡ Some metadata
+  pub by_reference_is : flag (value_of (codes "by-reference") reading) ≡ Some by_reference
+
+-- what is to be opened, where all of it can be read
+abbrev pub opening_by : Option ℕ → Option ℕ → Option ℕ → Option DigestList → Option Opening
+opening_by (Some size) (Some count) (Some segment_size) (Some digest) =
+    Some (record { size = size; count = count; segment_size = segment_size; digest = digest })
+opening_by _ _ _ _ = None
+
+-- what the parameters say is to be opened
+abbrev pub opening_of : Reading → Option Opening
+opening_of reading =
+    opening_by (positive (value_of (codes "size") reading)) (positive (value_of (codes "segment_count") reading))
+    (positive (value_of (codes "segment_size") reading)) (promised (value_of (codes "digest") reading))
+
+-- an opening, with what is to be opened
+pub record IsOpening (reading : Reading) (opening : Opening) : Type 0 where
+  pub form : reading.form ≡ codes "segment-init"
+  pub opening_is : opening_of reading ≡ Some opening
+
+-- which segment it is
+pub record IsSegment (reading : Reading) (segment : ℕ) : Type 0 where
+  pub form : reading.form ≡ codes "segment"
+  pub segment_is : number (value_of (codes "segment_number") reading) ≡ Some segment
+
+-- the disposition is of this kind
+abbrev pub IsKindOf : Reading → Kind → Type 0
+IsKindOf reading (File name) = IsAttachment reading false false × IsFileName reading name
+IsKindOf reading Metadata = IsAttachment reading true false
+IsKindOf reading References = IsAttachment reading false true
+IsKindOf reading (Opens opening) = IsOpening reading opening
+IsKindOf reading (Segment n) = IsSegment reading n
+
+-- the text is a disposition of this kind, in which no name stands twice
+pub record IsKind (text : List ℕ) (kind : Kind) : Type 0 where
+  pub reading : Reading
+  pub read : IsDisposition text reading
+  pub distinct : IsDistinct bytes_eq (names_of reading)
+  pub kind_is : IsKindOf reading kind

@@ -1,0 +1,4 @@
+pub mod Fields
+pub mod Kinds
+pub mod Tags
+pub mod Values

@@ -1,0 +1,10 @@
+/// What a field of a request tells.
+#[derive(Drop)]
+pub enum Field<T: Drop> {
+    /// No such field stands in the head.
+    Absent,
+    /// Its text is none that may stand there, or the field stands twice where it may stand once.
+    Bad,
+    /// Its value.
+    Value(T),
+}

@@ -1,0 +1,183 @@
+//! The fields of SWORD 3.0 in a request's head.
+ghost use Rattle.std.specs.Prelude.{◌≡◌, IfOk, IsAscii, codes};
+ghost use Rattle.dep_head.specs.Head.{values_of};
+ghost use Rattle.dep_types.specs.Names.{is_media, is_media_byte};
+ghost use Rattle.std.specs.List.{list_all};
+ghost use Rattle.dep_fixity.specs.Fixity.{digest_field};
+ghost use Rattle.dep_fields.specs.Fields.{AreFields, as_it_stands, if_passes, is_behalf};
+ghost use Rattle.dep_fields.specs.Kinds.{IsKind, truth};
+ghost use Rattle.dep_fields.specs.Values.{IsReadFrom, joined, or_bad, read_from, texts};
+
+use crate::field::Field;
+use crate::kind::{Kind, read_kind, truth};
+use crate::octets::Octets;
+use crate::values::{joined, single};
+use dep_fixity::{DigestList, read_digest_field};
+use dep_head::Head;
+use dep_types::Text;
+use std::alloc::{AllocError, Global};
+
+/// What each field of SWORD in a request's head tells. All but `digest` may stand once.
+#[derive(Drop)]
+pub struct SwordFields {
+    /// On-Behalf-Of (SWORD 3.0): a text of UTF-8 that is not empty.
+    pub on_behalf_of: Field<Text>,
+    /// Content-Disposition (RFC 6266): what the content is for.
+    pub disposition: Field<Kind>,
+    /// In-Progress (SWORD 3.0): `true` or `false`, in any letter case.
+    pub in_progress: Field<bool>,
+    /// Packaging (SWORD 3.0): any text.
+    pub packaging: Field<Octets>,
+    /// Metadata-Format (SWORD 3.0): any text.
+    pub metadata_format: Field<Octets>,
+    /// Content-Type (RFC 9110, section 8.3): 1 to 255 bytes of 0x20 to 0x7E.
+    pub content_type: Field<Text>,
+    /// Content-Encoding (RFC 9110, section 8.4): any text.
+    pub content_encoding: Field<Octets>,
+    /// The Digest fields (RFC 3230, section 4.3.2), joined by commas.
+    pub digest: Field<DigestList>,
+}
+
+impl SwordFields {
+    /// Reads the fields of a head. An `Err` is want of memory, and nothing else.
+    pub fn read(alloc: Global, head: &Head) -> Result<SwordFields, AllocError>
+        ensures { IfOk result (AreFields head.now.fields) }
+    {
+        Ok(SwordFields {
+            on_behalf_of: behalf(alloc, single(head, "On-Behalf-Of"))?,
+            disposition: disposition(alloc, single(head, "Content-Disposition"))?,
+            in_progress: progress(single(head, "In-Progress")),
+            packaging: copied(alloc, single(head, "Packaging"))?,
+            metadata_format: copied(alloc, single(head, "Metadata-Format"))?,
+            content_type: media(alloc, single(head, "Content-Type"))?,
+            content_encoding: copied(alloc, single(head, "Content-Encoding"))?,
+            digest: digest(alloc, head)?,
+        })
+    }
+}
+
+fn disposition(alloc: Global, field: Field<&[u8]>) -> Result<Field<Kind>, AllocError>
+    ensures { IfOk result (IsReadFrom IsKind (texts field.entry)) }
+{
+    match field {
+        Field::Absent => Ok(Field::Absent),
+        Field::Bad => Ok(Field::Bad),
+        Field::Value(text) => read_kind(alloc, text),
+    }
+}
+
+fn behalf(alloc: Global, field: Field<&[u8]>) -> Result<Field<Text>, AllocError>
+    ensures { IfOk result (λ read. read ≡ read_from (if_passes is_behalf) (texts field.entry)) }
+{
+    match field {
+        Field::Absent => Ok(Field::Absent),
+        Field::Bad => Ok(Field::Bad),
+        Field::Value(text) => behalf_text(alloc, text),
+    }
+}
+
+fn behalf_text(alloc: Global, text: &[u8]) -> Result<Field<Text>, AllocError>
+    ensures { IfOk result (λ read. read ≡ or_bad (if_passes is_behalf text.now)) }
+{
+    if text.is_empty() {
+        return Ok(Field::Bad);
+    }
+    let Ok(text) = str::from_utf8(text) else {
+        return Ok(Field::Bad);
+    };
+    Ok(Field::Value(Text::copied(alloc, text)?))
+}
+
+fn progress(field: Field<&[u8]>) -> Field<bool>
+    ensures { result ≡ read_from truth (texts field.entry) }
+{
+    match field {
+        Field::Absent => Field::Absent,
+        Field::Bad => Field::Bad,
+        Field::Value(text) => match truth(text) {
+            Some(value) => Field::Value(value),
+            None => Field::Bad,
+        },
+    }
+}
+
+fn copied(alloc: Global, field: Field<&[u8]>) -> Result<Field<Octets>, AllocError>
+    ensures { IfOk result (λ read. read ≡ read_from as_it_stands (texts field.entry)) }
+{
+    match field {
+        Field::Absent => Ok(Field::Absent),
+        Field::Bad => Ok(Field::Bad),
+        Field::Value(text) => Ok(Field::Value(Octets::copied(alloc, text)?)),
+    }
+}
+
+fn media(alloc: Global, field: Field<&[u8]>) -> Result<Field<Text>, AllocError>
+    ensures { IfOk result (λ read. read ≡ read_from (if_passes is_media) (texts field.entry)) }
+{
+    match field {
+        Field::Absent => Ok(Field::Absent),
+        Field::Bad => Ok(Field::Bad),
+        Field::Value(text) => media_text(alloc, text),
+    }
+}
+
+fn media_text(alloc: Global, text: &[u8]) -> Result<Field<Text>, AllocError>
+    ensures { IfOk result (λ read. read ≡ or_bad (if_passes is_media text.now)) }
+{
+    if !is_media(text) {
+        return Ok(Field::Bad);
+    }
+    Ok(Field::Value(Text::copied(alloc, ascii_text(text))?))
+}
+
+// ASCII as a text.
+fn ascii_text(bytes: &[u8]) -> &str
+    requires { IsAscii bytes.now }
+    ensures { result.now ≡ bytes.now }
+{
+    let Ok(text) = str::from_utf8(bytes) else {
+        unreachable!();
+    };
+    text
+}
+
+fn is_media(text: &[u8]) -> bool
+    ensures { result ≡ is_media text.now }
+{
+    !text.is_empty() && text.len() <= 255 && has_media_bytes_alone(text)
+}
+
+fn has_media_bytes_alone(text: &[u8]) -> bool
+    ensures { result ≡ list_all is_media_byte text.now }
+{
+    text.iter().all(|byte| is_media_byte(*byte))
+}
+
+fn is_media_byte(byte: u8) -> bool
+    ensures { result ≡ is_media_byte byte }
+{
+    b' ' <= byte && byte <= b'~'
+}
+
+// One field is read where it stands; the texts of several are joined in a copy.
+fn digest(alloc: Global, head: &Head) -> Result<Field<DigestList>, AllocError>
+    ensures { IfOk result (λ read. read ≡ read_from digest_field (joined (values_of head.now.fields (codes "Digest")))) }
+{
+    match single(head, "Digest") {
+        Field::Absent => Ok(Field::Absent),
+        Field::Value(text) => Ok(digest_in(text)),
+        Field::Bad => {
+            let text = joined(alloc, head.values("Digest"))?;
+            Ok(digest_in(&text))
+        }
+    }
+}
+
+fn digest_in(text: &[u8]) -> Field<DigestList>
+    ensures { result ≡ or_bad (digest_field text.now) }
+{
+    match read_digest_field(text) {
+        Ok(digest) => Field::Value(digest),
+        Err(_) => Field::Bad,
+    }
+}
