@@ -11,8 +11,6 @@ mod left;
 mod reader;
 mod size;
 mod stage;
-#[cfg(test)]
-mod tests;
 mod trailers;
 
 pub use fields::framing;

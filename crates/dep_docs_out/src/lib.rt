@@ -11,6 +11,3 @@ mod urls;
 pub use error::error_doc;
 pub use service::service_doc;
 pub use status::status_doc;
-
-#[cfg(test)]
-mod tests;

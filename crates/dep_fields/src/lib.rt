@@ -8,8 +8,6 @@ mod kind;
 pub mod laws;
 mod octets;
 mod opening;
-#[cfg(test)]
-mod tests;
 mod values;
 
 pub use field::Field;

@@ -4,8 +4,6 @@
 mod field;
 mod hasher;
 mod spelling;
-#[cfg(test)]
-mod tests;
 
 pub use field::{DigestFault, DigestList, check, read_digest_field};
 pub use hasher::{Digests, Hasher};

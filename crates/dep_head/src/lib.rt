@@ -9,8 +9,6 @@ mod end;
 mod fields;
 mod head;
 pub mod laws;
-#[cfg(test)]
-mod tests;
 
 pub use end::{HEAD_LIMIT, find_end};
 pub use fields::Values;

@@ -3,7 +3,5 @@
 
 pub mod laws;
 mod moment;
-#[cfg(test)]
-mod tests;
 
 pub use moment::Moment;

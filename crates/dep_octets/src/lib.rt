@@ -3,8 +3,6 @@
 
 mod lists;
 mod numbers;
-#[cfg(test)]
-mod tests;
 mod tokens;
 mod whitespace;
 

@@ -8,8 +8,6 @@ pub mod laws;
 mod parts;
 mod quoted;
 mod reader;
-#[cfg(test)]
-mod tests;
 
 pub use disposition::{Disposition, ParamFault};
 pub use reader::read_disposition;

@@ -5,8 +5,6 @@ mod head;
 pub mod laws;
 mod reply;
 mod status;
-#[cfg(test)]
-mod tests;
 
 pub use head::spell_head;
 pub use reply::Reply;

@@ -16,8 +16,6 @@ mod sending;
 mod serving;
 mod step;
 mod store;
-#[cfg(test)]
-mod tests;
 
 pub use arrived::Arrived;
 pub use connection::{Served, serve_connection};

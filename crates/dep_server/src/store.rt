@@ -51,6 +51,18 @@ impl Store {
         }
     }
 
+    /// An archive that holds nothing, and gives these numbers next. Its state is sound where each
+    /// of them is at least 1. It takes no memory.
+    pub fn numbered(alloc: Global, next: Counters) -> Store
+        ensures { result ≡ record empty_state { next = next } }
+    {
+        Store {
+            clock: Moment::new(0),
+            next,
+            records: VecDeque::new(alloc),
+        }
+    }
+
     /// The greatest moment so far.
     pub fn clock(&self) -> Moment
         ensures { result ≡ self.now.clock }
@@ -126,16 +138,6 @@ impl Store {
         self.next.file += 1;
         self.next.change += 1;
         Ok(())
-    }
-}
-
-#[cfg(test)]
-impl Store {
-    /// An archive that holds nothing, with these numbers next.
-    pub(crate) fn numbered(alloc: Global, next: Counters) -> Store {
-        let mut store = Store::empty(alloc);
-        store.next = next;
-        store
     }
 }
 

@@ -23,6 +23,3 @@ pub use rows::{FileRow, FileRows, ObjectRow, ObjectView};
 pub use target::{Method, Resource, Target};
 pub use text::Text;
 pub use through::Through;
-
-#[cfg(test)]
-mod tests;

@@ -5,8 +5,6 @@ mod command;
 mod outcome;
 mod replay;
 mod setup;
-#[cfg(test)]
-mod tests;
 
 use crate::command::Command;
 pub use crate::outcome::Outcome;

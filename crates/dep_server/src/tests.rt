@@ -1,4 +1,0 @@
-//! What cannot be shown from outside: the reader of fields, and the greatest numbers.
-
-mod file_fields;
-mod numbers;
