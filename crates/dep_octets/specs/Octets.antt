@@ -1,5 +1,5 @@
 -- Decimal numbers, tokens, white space and comma lists, as functions of the whole text.
-use Rattle.std.specs.Prelude.{ℕ, ◌+◌, ◌-◌, ◌==◌, ◌&&◌, ◌||◌, Bool, nat_le, nat_lt, List, [], Option, Some, None, length, take, drop, map, filter, codes, if◌then◌else◌}
+use Rattle.std.specs.Prelude.{ℕ, ◌+◌, ◌-◌, ◌==◌, ◌&&◌, ◌||◌, Bool, false, nat_le, nat_lt, List, [], ◌∷◌, Option, Some, None, length, take, drop, map, filter, codes, if◌then◌else◌}
 use Rattle.std.specs.List.{prefix_len, suffix_len, slice_split, list_all, list_any}
 use Rattle.std.specs.Char.{is_ascii_digit, is_ascii_alphanumeric}
 use Rattle.std.specs.Str.Parse.{digits_value}
@@ -15,6 +15,19 @@ abbrev pub decimal_number : List ℕ → ℕ → Number
 decimal_number text most =
     if is_digits text then (if nat_le (digits_value 10 text) most then Value (digits_value 10 text) else Above)
     else NotDigits
+
+-- the number, if there is one
+abbrev pub value_of : Number → Option ℕ
+value_of (Value n) = Some n
+value_of _ = None
+
+abbrev pub begins_with_zero : List ℕ → Bool
+begins_with_zero [] = false
+begins_with_zero (b ∷ text) = b == 48
+
+-- a number from 1 up to a greatest one that is written without a leading zero
+abbrev pub positive_number : (text : List ℕ) → (most : ℕ) → Option ℕ
+positive_number text most = if begins_with_zero text then None else value_of (decimal_number text most)
 
 -- n, unless it is past the greatest
 abbrev pub capped : ℕ → ℕ → Option ℕ

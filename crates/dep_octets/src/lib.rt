@@ -7,6 +7,6 @@ mod tokens;
 mod whitespace;
 
 pub use lists::{SplitList, split_list};
-pub use numbers::{Number, decimal};
+pub use numbers::{Number, decimal, positive_decimal};
 pub use tokens::is_token;
 pub use whitespace::trim_ows;

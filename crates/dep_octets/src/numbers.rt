@@ -1,5 +1,5 @@
 ghost use Rattle.std.specs.Prelude.{◌≡◌, ◌+◌, ◌*◌, ℕ};
-ghost use Rattle.dep_octets.specs.Octets.{decimal_number, capped};
+ghost use Rattle.dep_octets.specs.Octets.{decimal_number, positive_number, capped};
 
 /// What a text says as a decimal number.
 #[derive(Clone, Copy, Debug, PartialEq, Eq)]
@@ -30,6 +30,20 @@ pub fn decimal(text: &[u8], max: u64) -> Number
     match value {
         Some(value) => Number::Value(value),
         None => Number::Above,
+    }
+}
+
+/// Reads the whole text as a decimal number from 1 to `max` that is written without a leading zero, as it stands in
+/// the path of a URL.
+pub fn positive_decimal(text: &[u8], max: u64) -> Option<u64>
+    ensures { result ≡ positive_number text.now max }
+{
+    if text.first() == Some(&b'0') {
+        return None;
+    }
+    match decimal(text, max) {
+        Number::Value(number) => Some(number),
+        Number::NotDigits | Number::Above => None,
     }
 }
 
