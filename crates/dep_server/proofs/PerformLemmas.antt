@@ -5,7 +5,8 @@ use Rattle.std.specs.Cmp.{nat_cmp_total}
 use Rattle.std.specs.FinMap as finmap
 use Rattle.std.specs.FinMap.Entries.{put}
 use Rattle.std.proofs.lemmas.List.{nil_from_length}
-use Rattle.dep_types.specs.State.{State, File, Object, file_at}
+use Rattle.sha2.specs.Sha256.{sha256}
+use Rattle.dep_types.specs.State.{State, File, Object, Texts, file_at}
 use Rattle.dep_types.specs.Rows.{object_view, file_row}
 use Rattle.dep_types.specs.declared.counters.Counters.{Counters}
 use Rattle.dep_types.specs.declared.config.Config.{Config}
@@ -61,32 +62,35 @@ one_entry : (f : ℕ) (x : File) → finmap.entries (finmap.insert (finmap.empty
 one_entry f x = finmap.entries-insert nat_cmp_total finmap.empty f x ∙ ap (put nat_cmp f x) nothing_kept
 
 -- the row of the file that is made
-abbrev pub new_row : Counters → (clock size : ℕ) (name media : List ℕ) → FileRow
-new_row next clock size name media = record {
+abbrev pub new_row : Counters → (clock : ℕ) (content name media digest : List ℕ) → FileRow
+new_row next clock content name media digest = record {
   file = next.file;
   object = next.object;
   name = name;
   media = media;
-  size = size;
+  size = length content;
   tag = next.change;
   deposited = clock;
   behalf = None;
   by_reference = false;
+  sha256 = digest;
 }
 
-abbrev pub new_object : Counters → (clock : ℕ) → List FileRow → ObjectView
-new_object next clock files = record {
+abbrev pub new_object : Counters → (clock : ℕ) → Texts → List FileRow → ObjectView
+new_object next clock texts files = record {
   object = record { object = next.object; ingested = true; object_tag = next.change; metadata_tag = next.change; files_tag = next.change; changed = clock };
+  metadata = texts;
   files = files;
 }
 
-pub new_view : (s : State) (content name media name' media' : List ℕ) (size clock : ℕ) (next : Counters) (files : List FileRow)
-    → length content ≡ size → next ≡ s.next → clock ≡ s.clock → name' ≡ name → media' ≡ media → files ≡ new_row next clock size name' media' ∷ []
-    → new_object next clock files ≡ object_view s.next.object (object_from s content name media)
-new_view s content name media name' media' size clock next files sized n c a b e =
-    ap (new_object next clock) e
-    ∙ (λ i. new_object (n i) (c i) (new_row (n i) (c i) (sym sized i) (a i) (b i) ∷ []))
-    ∙ ap (new_object s.next s.clock) (sym (ap (map (λ (e : ℕ × File). file_row s.next.object e.0 e.1)) (one_entry s.next.file (file_from s content name media))))
+pub new_view : (s : State) (content name media name' media' digest : List ℕ) (clock : ℕ) (next : Counters) (texts : Texts) (files : List FileRow)
+    → next ≡ s.next → clock ≡ s.clock → name' ≡ name → media' ≡ media → digest ≡ sha256 content → texts ≡ finmap.empty
+    → files ≡ new_row next clock content name' media' digest ∷ []
+    → new_object next clock texts files ≡ object_view s.next.object (object_from s content name media)
+new_view s content name media name' media' digest clock next texts files n c a b d t e =
+    ap (new_object next clock texts) e
+    ∙ (λ i. new_object (n i) (c i) (t i) (new_row (n i) (c i) content (a i) (b i) (d i) ∷ []))
+    ∙ ap (new_object s.next s.clock finmap.empty) (sym (ap (map (λ (e : ℕ × File). file_row s.next.object e.0 e.1)) (one_entry s.next.file (file_from s content name media))))
 
 back : (n : ℕ) → (n + 1) - 1 ≡ n
 back n = omega arith

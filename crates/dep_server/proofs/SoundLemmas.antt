@@ -1,5 +1,5 @@
 -- A step of the machine keeps a sound state sound.
-use Rattle.std.proofs.Common.{◌≡◌, ℕ, ◌+◌, ◌<◌, ◌≤◌, ◌&&◌, ◌⊎◌, inl, inr, not, Bool, true, false, List, [], ◌∷◌, Option, Some, None, refl, sym, ap, ◌∙◌, nat_cmp, arith, le_refl, le-add_right, codes, bytes_eq, option_and_then, unwrap_or, if◌then◌else◌}
+use Rattle.std.proofs.Common.{◌≡◌, ℕ, ◌+◌, ◌<◌, ◌≤◌, ◌^◌, ◌&&◌, ◌⊎◌, inl, inr, not, Bool, true, false, List, [], ◌∷◌, Option, Some, None, refl, sym, ap, ◌∙◌, nat_cmp, arith, le_refl, le-add_right, codes, bytes_eq, option_and_then, unwrap_or, if◌then◌else◌}
 use Rattle.std.proofs.lemmas.Bool.Decides.{nat_tests}
 use Rattle.std.proofs.lemmas.Str.{IsUtf8-from_ascii, is_utf8-from_IsUtf8}
 use Rattle.std.proofs.lemmas.Str.Ascii.{IsAscii-nil, IsAscii-cons}
@@ -8,12 +8,15 @@ use Rattle.std.specs.List.{list_all}
 use Rattle.std.specs.Option.{option_map}
 use Rattle.std.specs.Cmp.Lexicographic.{slice_cmp}
 use Rattle.std.specs.FinMap as map
+use Rattle.dep_types.specs.Maps.{first_of}
 use Rattle.dep_types.specs.State as state
 use Rattle.dep_types.specs.State.{State, tick, file_at}
 use Rattle.dep_types.specs.Names.{is_short, is_good_name, is_name_byte, is_media}
 use Rattle.dep_types.specs.Sound.{IsSound, IsSoundObject, IsSoundFile, IsGiven}
 use Rattle.dep_types.specs.declared.config.Config.{Config}
+use Rattle.dep_types.specs.declared.counters.Counters.{Counters}
 use Rattle.dep_types.specs.declared.refusal.Refusal.{Refusal}
+use Rattle.dep_types.specs.declared.refusal.Refusal.TheVariants.{StoreFull}
 use Rattle.dep_types.specs.declared.target.Resource.{Resource}
 use Rattle.dep_types.specs.declared.target.Resource.TheVariants.{Service, Object, Metadata, FileSet, File, Staging, Upload, BagList, BagFile}
 use Rattle.dep_types.specs.declared.target.Method.{Method}
@@ -24,7 +27,7 @@ use Rattle.dep_types.proofs.Later.{Later, object_later, upload_later, given_late
 use Rattle.dep_types.proofs.TickSound.{keeps_sound}
 use Rattle.dep_head.specs.Head.{HeadParts, values_of}
 use Rattle.dep_server.specs.FileFields.{is_unquoted_byte, is_unquoted_name, if_passes, after_front, attachment_front, attachment_name, disposition_name, media_of}
-use Rattle.dep_server.specs.Operations.{Operation, operation_of, Decision, Show, Create, asked, decision, refusal, file_from, object_from, carried_out, effect}
+use Rattle.dep_server.specs.Operations.{Operation, operation_of, Decision, Show, Create, asked, decision, refusal, of_presence, of_kind, of_type, of_room, taken, when, has_room, room_for, numbers, file_from, object_from, carried_out, effect}
 use Rattle.dep_server.specs.Machine.{routed, ruled, step}
 use Rattle.dep_message.specs.Stream.{Item, Fault, Continue, Request}
 use Rattle.dep_server.specs.Targets.{target}
@@ -135,6 +138,27 @@ named head t = named_asked (operation_of head t) t.resource t.method
 
 -- ---- a deposit
 
+-- each number that a deposit takes leaves its counter below the bound
+record HasRoom (next : Counters) : Type 0 where
+  object : next.object + 1 < 2 ^ 63
+  file : next.file + 1 < 2 ^ 63
+  change : next.change + 1 < 2 ^ 63
+
+room_below : (n : ℕ) → has_room n 1 ≡ true → n + 1 < 2 ^ 63
+room_below n e = grind (arith, nat_tests)
+
+has_room_for : (next : Counters) → room_for next (numbers 1 1 0 1) ≡ true → HasRoom next
+unfolding room_for
+has_room_for next e =
+    let others = both (has_room next.object 1 && has_room next.file 1 && has_room next.upload 0) (has_room next.change 1) e in
+    let two = both (has_room next.object 1 && has_room next.file 1) (has_room next.upload 0) others.0 in
+    let first = both (has_room next.object 1) (has_room next.file 1) two.0 in
+    record {
+      object = room_below next.object first.0;
+      file = room_below next.file first.1;
+      change = room_below next.change others.1;
+    }
+
 nothing_there : {X : Type 0} (n : ℕ) (x : X) → map.get (map.empty {X = X} {R = nat_cmp}) n ≡ Some x → ⊥
 nothing_there {X} n x e = let none = map.get-empty {X = X} nat_cmp n in cc
 
@@ -161,7 +185,7 @@ file_below s n f a sound e =
     let o = object_there (map.get s.objects n) f a e in
     ((sound.objects n o.0 o.1).files f a (file_of_object o.0 f a o.1 e)).number_given.below
 
-module _ (s : State) (content name media : List ℕ) (sound : IsSound s) (good : is_good_name name ≡ true) (fits : is_media media ≡ true) where
+module _ (s : State) (content name media : List ℕ) (sound : IsSound s) (good : is_good_name name ≡ true) (fits : is_media media ≡ true) (room : HasRoom s.next) where
   new_file : state.File
   new_file = file_from s content name media
 
@@ -229,6 +253,10 @@ module _ (s : State) (content name media : List ℕ) (sound : IsSound s) (good :
     next_file = omega (arith, sound.next_file);
     next_upload = omega (arith, sound.next_upload);
     next_change = omega (arith, sound.next_change);
+    object_bound = room.object;
+    file_bound = room.file;
+    upload_bound = omega (arith, sound.upload_bound);
+    change_bound = room.change;
     objects = each_object_sound;
     one_place = λ n m f a b x y. one_place_still n m f a b (file_is n f a x) (file_is m f b y);
     uploads = λ n u e. upload_later s (carried_out s content (Create name media)) new_later n u (sound.uploads n u e);
@@ -237,14 +265,51 @@ module _ (s : State) (content name media : List ℕ) (sound : IsSound s) (good :
 
 -- ---- a request
 
-carried_sound : (s : State) (content : List ℕ) (d : Decision) → IsSound s → IsNamed d → IsSound (carried_out s content d)
-carried_sound s content Show sound is = sound
-carried_sound s content (Create name media) sound is = deposit_sound s content name media sound is.0 is.1
+none_of : (o : Option Refusal) → first_of (o ∷ []) ≡ None → o ≡ None
+none_of None e = refl
+none_of (Some r) e = absurd (cc)
+
+none_last : (a b c d : Option Refusal) → first_of (a ∷ b ∷ c ∷ d ∷ []) ≡ None → d ≡ None
+none_last None None None d e = none_of d e
+none_last None None (Some r) d e = absurd (cc)
+none_last None (Some r) c d e = absurd (cc)
+none_last (Some r) b c d e = absurd (cc)
+
+none_unless : (b : Bool) (r : Refusal) → when (not b) r ≡ None → b ≡ true
+none_unless true r e = refl
+none_unless false r e = absurd (cc)
+
+-- what isn't refused has room for the numbers that it takes
+room_asked : (s : State) (name media : Option (List ℕ)) (resource : Resource) (method : Method)
+    → refusal s (record { target = record { resource = resource; method = method }; name = name; media = media }) ≡ None
+    → room_for s.next (taken (decision (record { target = record { resource = resource; method = method }; name = name; media = media }))) ≡ true
+unfolding refusal room_for
+room_asked s name media Service Post e =
+    let op : Operation = record { target = record { resource = Service; method = Post }; name = name; media = media } in
+    none_unless (room_for s.next (taken (decision op))) StoreFull (none_last (of_presence s Service) (of_kind op) (of_type op) (of_room s op) e)
+room_asked s name media Service Get e = refl
+room_asked s name media Service Head e = refl
+room_asked s name media Service Put e = refl
+room_asked s name media Service Delete e = refl
+room_asked s name media (Object o) method e = refl
+room_asked s name media (Metadata o) method e = refl
+room_asked s name media (FileSet o) method e = refl
+room_asked s name media (File o f) method e = refl
+room_asked s name media Staging method e = refl
+room_asked s name media (Upload u) method e = refl
+room_asked s name media (BagList o) method e = refl
+room_asked s name media (BagFile o path) method e = refl
+
+carried_sound : (s : State) (content : List ℕ) (d : Decision) → IsSound s → IsNamed d → room_for s.next (taken d) ≡ true → IsSound (carried_out s content d)
+carried_sound s content Show sound is room = sound
+carried_sound s content (Create name media) sound is room = deposit_sound s content name media sound is.0 is.1 (has_room_for s.next room)
 
 pub accepted_sound : (s : State) (head : HeadParts) (t : Target) (content : List ℕ) → refusal s (operation_of head t) ≡ None
     → IsSound s → IsSound (effect s (operation_of head t) content)
 unfolding effect
-accepted_sound s head t content accepted sound = carried_sound s content (decision (operation_of head t)) sound (named head t)
+accepted_sound s head t content accepted sound =
+    let op = operation_of head t in
+    carried_sound s content (decision op) sound (named head t) (room_asked s op.name op.media t.resource t.method accepted)
 
 -- ---- a step
 

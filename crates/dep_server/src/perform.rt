@@ -1,6 +1,7 @@
 //! What a message does to the archive, and the reply to it.
-ghost use Rattle.std.specs.Prelude.{◌≡◌, ℕ, List, length, if◌then◌else◌, IfOk, OnErr, None, Some, IsTrue};
+ghost use Rattle.std.specs.Prelude.{◌≡◌, ℕ, List, if◌then◌else◌, IfOk, OnErr, None, Some, IsTrue};
 ghost use Rattle.std.specs.Option.{option_copied};
+ghost use Rattle.sha2.specs.Sha256.{sha256};
 ghost use Rattle.dep_types.specs.State.{State};
 ghost use Rattle.dep_types.specs.Rows.{object_view};
 ghost use Rattle.dep_server.specs.Machine.{routed};
@@ -14,11 +15,13 @@ use crate::decide::{Decision, Ruling, decide};
 use crate::record::Record;
 use crate::routing::{Routed, allow, route};
 use crate::store::Store;
+use dep_fixity::Hasher;
 use dep_head::Head;
 use dep_message::{Content, closes, is_without_body};
 use dep_reply::{Reply, Status, spell_head};
 use dep_types::{
-    Config, FileRow, FileRows, Method, ObjectRow, ObjectView, Refusal, Resource, Target, Text,
+    Config, FileRow, FileRows, Metadata, Method, ObjectRow, ObjectView, Refusal, Resource, Target,
+    Text,
 };
 use std::alloc::{AllocError, Global};
 
@@ -178,7 +181,7 @@ fn deposit(
     ensures ok { IfOk result (λ p. Deposits (carried_out store.old content (Create name.now media.now)) store.new (λ s. made_answer config.now s (last_object s)) delivery p) }
     ensures err { OnErr result (store.new ≡ store.old) }
 {
-    let view = view_of(alloc, store, name, media, content.as_slice().len() as u64)?;
+    let view = view_of(alloc, store, name, media, content.as_slice())?;
     let answer = Answer::created(alloc, config, &view)?;
     let performed = whole(alloc, &answer, delivery)?;
     let name = Text::copied(alloc, name)?;
@@ -187,15 +190,15 @@ fn deposit(
     Ok(performed)
 }
 
-// What will be told of the object that is made next, with one file of this size.
+// What will be told of the object that is made next, with one file of this content.
 fn view_of(
     alloc: Global,
     store: &Store,
     name: &str,
     media: &str,
-    size: u64,
+    content: &[u8],
 ) -> Result<ObjectView, AllocError>
-    ensures { IfOk result (λ v. (content : List ℕ) → length content ≡ size → v ≡ object_view store.now.next.object (object_from store.now content name.now media.now)) }
+    ensures { IfOk result (λ v. v ≡ object_view store.now.next.object (object_from store.now content.now name.now media.now)) }
 {
     let next = store.next_numbers();
     let clock = store.clock().secs();
@@ -205,11 +208,12 @@ fn view_of(
         object: next.object,
         name: Text::copied(alloc, name)?,
         media: Text::copied(alloc, media)?,
-        size,
+        size: content.len() as u64,
         tag: next.change,
         deposited: clock,
         behalf: None,
         by_reference: false,
+        sha256: sha256_of(content),
     })?;
     let object = ObjectRow {
         object: next.object,
@@ -221,6 +225,15 @@ fn view_of(
     };
     Ok(ObjectView {
         object,
+        metadata: Metadata::new(alloc),
         files: FileRows::new(files),
     })
+}
+
+fn sha256_of(content: &[u8]) -> [u8; 32]
+    ensures { result ≡ sha256 content.now }
+{
+    let mut hasher = Hasher::new();
+    hasher.update(content);
+    hasher.finish().sha256
 }

@@ -52,7 +52,7 @@ impl Store {
     }
 
     /// An archive that holds nothing, and gives these numbers next. Its state is sound where each
-    /// of them is at least 1. It takes no memory.
+    /// of them is at least 1 and below 2^63. It takes no memory.
     pub fn numbered(alloc: Global, next: Counters) -> Store
         ensures { result ≡ record empty_state { next = next } }
     {

@@ -12,6 +12,10 @@ empty_sound = record {
   next_file = omega arith;
   next_upload = omega arith;
   next_change = omega arith;
+  object_bound = omega arith;
+  file_bound = omega arith;
+  upload_bound = omega arith;
+  change_bound = omega arith;
   objects = λ n o e. absurd (let none = map.get-empty {X = Object} nat_cmp n in cc);
   one_place = λ n m f a b e. let none = map.get-empty {X = Object} nat_cmp n in absurd (let gone = rw none at e in cc);
   uploads = λ n u e. absurd (let none = map.get-empty {X = Upload} nat_cmp n in cc);

@@ -3,3 +3,4 @@ pub mod TickLemmas
 pub mod Later
 pub mod TickSound
 pub mod EmptySound
+pub mod Metadatas

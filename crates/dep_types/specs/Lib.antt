@@ -10,3 +10,6 @@ pub mod Uploads
 pub mod Names
 pub mod Sound
 pub mod Rows
+pub mod MetadataEntries
+pub mod StoreFaults
+pub mod Numbers

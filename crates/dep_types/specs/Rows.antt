@@ -1,10 +1,12 @@
 -- What rows and views tell of an object.
 use Rattle.std.specs.Prelude.{ℕ, length, map}
 use Rattle.std.specs.FinMap as finmap
-use Rattle.dep_types.specs.State.{Object, File}
+use Rattle.sha2.specs.Sha256.{sha256}
+use Rattle.dep_types.specs.State.{Object, File, Upload}
 use Rattle.dep_types.specs.declared.rows.ObjectRow.{ObjectRow}
 use Rattle.dep_types.specs.declared.rows.FileRow.{FileRow}
 use Rattle.dep_types.specs.declared.rows.ObjectView.{ObjectView}
+use Rattle.dep_types.specs.declared.rows.UploadRow.{UploadRow}
 
 -- the object of this number, without its metadata and files
 abbrev pub object_row : ℕ → Object → ObjectRow
@@ -17,7 +19,7 @@ object_row n o = record {
   changed = o.changed;
 }
 
--- the file of this object and number, without its bytes
+-- the file of this object and number, with the digest of its bytes in their place
 abbrev pub file_row : (n f : ℕ) → File → FileRow
 file_row n f file = record {
   file = f;
@@ -29,11 +31,24 @@ file_row n f file = record {
   deposited = file.deposited;
   behalf = file.behalf;
   by_reference = file.by_reference;
+  sha256 = sha256 file.content;
 }
 
--- the object of this number, with its files by ascending number
+-- the object of this number, with its metadata and its files by ascending number
 abbrev pub object_view : ℕ → Object → ObjectView
 object_view n o = record {
   object = object_row n o;
+  metadata = o.metadata;
   files = map (λ e. file_row n e.0 e.1) (finmap.entries o.files);
+}
+
+-- the upload of this number, without its segments
+abbrev pub upload_row : ℕ → Upload → UploadRow
+upload_row n u = record {
+  upload = n;
+  size = u.size;
+  count = u.count;
+  segment_size = u.segment_size;
+  sha256 = u.sha256;
+  last = u.last;
 }

@@ -1,5 +1,5 @@
 -- Which states are sound.
-use Rattle.std.specs.Prelude.{◌≡◌, ◌≢◌, ℕ, ◌<◌, ◌≤◌, List, [], Some, None, length, IsTrue, IfSome}
+use Rattle.std.specs.Prelude.{◌≡◌, ◌≢◌, ℕ, ◌<◌, ◌≤◌, ◌^◌, List, [], Some, None, length, IsTrue, IfSome}
 use Rattle.std.specs.FinMap as map
 use Rattle.std.specs.FinSet as set
 use Rattle.dep_types.specs.State.{State, Object, File, Upload, file_at, greatest_clock}
@@ -41,6 +41,10 @@ pub record IsSound (s : State) : Type 0 where
   pub next_file : 1 ≤ s.next.file
   pub next_upload : 1 ≤ s.next.upload
   pub next_change : 1 ≤ s.next.change
+  pub object_bound : s.next.object < 2 ^ 63
+  pub file_bound : s.next.file < 2 ^ 63
+  pub upload_bound : s.next.upload < 2 ^ 63
+  pub change_bound : s.next.change < 2 ^ 63
   pub objects : (n : ℕ) (o : Object) → map.get s.objects n ≡ Some o → IsSoundObject s n o
   pub one_place : (n m f : ℕ) (a b : File) → file_at s n f ≡ Some a → file_at s m f ≡ Some b → n ≡ m
   pub uploads : (n : ℕ) (u : Upload) → map.get s.uploads n ≡ Some u → IsSoundUpload s n u

@@ -5,9 +5,12 @@ mod base;
 mod config;
 mod counters;
 pub mod laws;
+mod metadata;
+mod octets;
 mod outlet;
 mod refusal;
 mod rows;
+mod store_fault;
 mod target;
 mod text;
 mod through;
@@ -17,9 +20,12 @@ pub use config::{
     GREATEST_STAGING_MAX_IDLE,
 };
 pub use counters::Counters;
+pub use metadata::{Metadata, MetadataEntry, TextList};
+pub use octets::Octets;
 pub use outlet::{Outlet, WriteFailed};
 pub use refusal::Refusal;
-pub use rows::{FileRow, FileRows, ObjectRow, ObjectView};
+pub use rows::{FileRow, FileRows, ObjectRow, ObjectView, UploadRow};
+pub use store_fault::StoreFault;
 pub use target::{Method, Resource, Target};
 pub use text::Text;
 pub use through::Through;

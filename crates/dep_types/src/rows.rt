@@ -1,6 +1,7 @@
-//! An object and its files, without the bytes of contents.
+//! Objects, files and uploads, without the bytes of contents.
 ghost use Rattle.std.specs.Prelude.{◌≡◌};
 
+use crate::metadata::Metadata;
 use crate::text::Text;
 use std::marker::Model;
 
@@ -42,6 +43,25 @@ pub struct FileRow {
     pub behalf: Option<Text>,
     /// Whether it was deposited by reference to a staged upload.
     pub by_reference: bool,
+    /// The SHA-256 of its bytes (FIPS 180-4).
+    pub sha256: [u8; 32],
+}
+
+/// A staged upload, without its segments.
+#[derive(Clone, Copy, Debug, PartialEq, Eq)]
+pub struct UploadRow {
+    /// The upload's number.
+    pub upload: u64,
+    /// How many bytes the whole has.
+    pub size: u64,
+    /// In how many segments it comes.
+    pub count: u64,
+    /// How many bytes each segment but the last has.
+    pub segment_size: u64,
+    /// The SHA-256 that was promised of the whole.
+    pub sha256: Option<[u8; 32]>,
+    /// The moment of the last segment, or of the opening, in seconds of Unix time.
+    pub last: u64,
 }
 
 /// The files of an object, which contracts see as the list of their rows.
@@ -75,11 +95,13 @@ impl FileRows {
     }
 }
 
-/// What is told of an object: its row, and its files by ascending number.
+/// What is told of an object: its row, its metadata, and its files by ascending number.
 #[derive(Drop)]
 pub struct ObjectView {
     /// The object itself.
     pub object: ObjectRow,
+    /// Its metadata.
+    pub metadata: Metadata,
     /// Its files.
     pub files: FileRows,
 }

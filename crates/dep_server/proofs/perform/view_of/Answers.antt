@@ -4,7 +4,7 @@ use Rattle.dep_server.proofs.PerformLemmas.{new_view, new_row}
 use Rattle.dep_server.proofs.perform.view_of.Goals as goal
 
 pub returns : goal.returns
-returns c = λ content sized.
-    new_view c.args.store.now content c.args.name.now c.args.media.now c.in_ok-copied.field-0 c.in_ok-copied-2.field-0 c.args.size c.secs-clock.result c.next_numbers-next.result c.new.result
-    sized c.next_numbers-next.ensures (c.secs-clock.ensures.seconds ∙ c.clock.ensures) c.in_ok-copied.ensures c.in_ok-copied-2.ensures
-    (c.new.ensures ∙ (c.in_ok-push.ensures.items ∙ ap (λ (l : List FileRow). l ++ new_row c.next_numbers-next.result c.secs-clock.result c.args.size c.in_ok-copied.field-0 c.in_ok-copied-2.field-0 ∷ []) c.new-files.ensures.items))
+returns c =
+    new_view c.args.store.now c.args.content.now c.args.name.now c.args.media.now c.in_ok-copied.field-0 c.in_ok-copied-2.field-0 c.sha256_of.result c.secs-clock.result c.next_numbers-next.result c.new.result c.new-2.result
+    c.next_numbers-next.ensures (c.secs-clock.ensures.seconds ∙ c.clock.ensures) c.in_ok-copied.ensures c.in_ok-copied-2.ensures c.sha256_of.ensures c.new.ensures
+    (c.new-2.ensures ∙ (c.in_ok-push.ensures.items ∙ ap (λ (l : List FileRow). l ++ new_row c.next_numbers-next.result c.secs-clock.result c.args.content.now c.in_ok-copied.field-0 c.in_ok-copied-2.field-0 c.sha256_of.result ∷ []) c.new-files.ensures.items))

@@ -1,0 +1,38 @@
+//! Why the store did not do what it was asked.
+ghost use Rattle.std.specs.Prelude.{◌≡◌};
+ghost use Rattle.dep_types.specs.StoreFaults.{fault_number};
+
+use std::error::Error;
+use std::fmt;
+
+/// Why the store did not do what it was asked.
+#[derive(Clone, Copy, Debug, PartialEq, Eq)]
+pub enum StoreFault {
+    /// The database failed, or holds what this store does not write, or the statement was refused.
+    Store,
+    /// Memory was refused.
+    Memory,
+}
+
+impl StoreFault {
+    /// The number of the fault, behind those of the refusals: 20 or 21.
+    pub fn number(self) -> u8
+        ensures { result ≡ fault_number self }
+    {
+        match self {
+            StoreFault::Store => 20,
+            StoreFault::Memory => 21,
+        }
+    }
+}
+
+impl fmt::Display for StoreFault {
+    fn fmt<W: fmt::Write>(&self, f: &mut fmt::Formatter<W>) -> fmt::Result {
+        match self {
+            StoreFault::Store => write!(f, "the store failed"),
+            StoreFault::Memory => write!(f, "out of memory"),
+        }
+    }
+}
+
+impl Error for StoreFault {}
