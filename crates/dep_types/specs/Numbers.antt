@@ -1,25 +1,15 @@
 -- Numbers of the archive: how a path writes one, and whether more can be given.
-use Rattle.std.specs.Prelude.{ℕ, ◌+◌, ◌==◌, ◌||◌, ◌&&◌, nat_le, Bool, false, List, [], ◌∷◌, Option, Some, None, if◌then◌else◌}
-use Rattle.dep_octets.specs.Octets.{decimal_number}
-use Rattle.dep_octets.specs.declared.numbers.Number.{Number}
-use Rattle.dep_octets.specs.declared.numbers.Number.TheVariants.{NotDigits, Above, Value}
+use Rattle.std.specs.Prelude.{ℕ, ◌+◌, ◌==◌, ◌||◌, ◌&&◌, nat_le, Bool, List, Option}
+use Rattle.dep_octets.specs.Octets.{positive_number}
 use Rattle.dep_types.specs.declared.counters.Counters.{Counters}
 
 -- the greatest number of an object, a file, an upload or a change, and the first one that is never given
 abbrev pub greatest_number : ℕ
 greatest_number = 4000000000000000000
 
-abbrev pub value_of : Number → Option ℕ
-value_of (Value n) = Some n
-value_of _ = None
-
-abbrev pub begins_with_zero : List ℕ → Bool
-begins_with_zero [] = false
-begins_with_zero (b ∷ text) = b == 48
-
--- a number as a path writes it: without a leading zero, so at least 1, and up to the greatest
+-- a number as a path writes it
 abbrev pub number_in : List ℕ → Option ℕ
-number_in text = if begins_with_zero text then None else value_of (decimal_number text greatest_number)
+number_in text = positive_number text greatest_number
 
 -- so many numbers of objects, files, uploads and changes
 abbrev pub numbers : (object file upload change : ℕ) → Counters
