@@ -1,0 +1,2 @@
+mod SegmentLemmas
+mod RouteLemmas

@@ -1,0 +1,10 @@
+//! Which resource a path names, and which methods it has.
+#![tactic(auto)]
+
+mod methods;
+mod paths;
+mod routed;
+mod segments;
+
+pub use methods::Allow;
+pub use routed::{Routed, Routes};
