@@ -4,3 +4,4 @@ pub mod Later
 pub mod TickSound
 pub mod EmptySound
 pub mod Metadatas
+pub mod Rooms

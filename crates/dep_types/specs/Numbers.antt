@@ -16,8 +16,8 @@ abbrev pub numbers : (object file upload change : ℕ) → Counters
 numbers object file upload change = record { object = object; file = file; upload = upload; change = change }
 
 -- the counters once numbers are taken
-abbrev pub advanced : Counters → Counters → Counters
-advanced next taken = numbers (next.object + taken.object) (next.file + taken.file) (next.upload + taken.upload) (next.change + taken.change)
+abbrev pub counters_after : Counters → Counters → Counters
+counters_after next taken = numbers (next.object + taken.object) (next.file + taken.file) (next.upload + taken.upload) (next.change + taken.change)
 
 -- numbers up to the greatest are given, and none beyond
 abbrev pub has_room : (next wanted : ℕ) → Bool

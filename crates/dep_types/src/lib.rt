@@ -19,7 +19,7 @@ pub use config::{
     Config, ConfigFault, GREATEST_MAX_ASSEMBLED, GREATEST_MAX_SEGMENTS, GREATEST_MAX_UPLOAD,
     GREATEST_STAGING_MAX_IDLE,
 };
-pub use counters::Counters;
+pub use counters::{Counters, GREATEST_NUMBER};
 pub use metadata::{Metadata, MetadataEntry, TextList};
 pub use octets::Octets;
 pub use outlet::{Outlet, WriteFailed};

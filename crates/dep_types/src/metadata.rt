@@ -1,8 +1,13 @@
 //! The metadata of an object: under each name its texts.
-ghost use Rattle.std.specs.Prelude.{◌≡◌};
+ghost use Rattle.std.specs.Prelude.{◌≡◌, length};
+ghost use Rattle.std.specs.Ordering.{nat_cmp};
+ghost use Rattle.std.specs.Cmp.Lexicographic.{slice_cmp};
+ghost use Rattle.std.specs.List.Sorted.{IsSearchInRange};
+ghost use Rattle.dep_types.specs.MetadataEntries.{AreInOrder, IsPlaceOf};
 
 use crate::text::Text;
-use std::alloc::Global;
+use std::alloc::{AllocError, Global};
+use std::cmp::Ordering;
 use std::marker::Model;
 
 /// Texts in their order, which contracts see as their list.
@@ -66,7 +71,8 @@ impl Model for Metadata {
 }
 
 impl Metadata {
-    ghost use Rattle.std.specs.Prelude.{map as each};
+    ghost use Rattle.std.specs.Prelude.{map as each, OnOk, OnErr};
+    ghost use Rattle.std.specs.Option.{option_copied};
     ghost use Rattle.std.specs.FinMap as map;
     ghost use Rattle.dep_types.specs.MetadataEntries.{name_and_texts};
 
@@ -85,4 +91,40 @@ impl Metadata {
     {
         self.entries.as_slice()
     }
+
+    /// The texts under a name.
+    pub fn get(&self, name: &str) -> Option<&TextList>
+        ensures { option_copied result ≡ map.get self.now name.now }
+    {
+        match place_of(&self.entries, name) {
+            Ok(place) => Some(&self.entries[place].texts),
+            Err(_) => None,
+        }
+    }
+
+    /// Puts texts under a name, in place of those that were there. No name is moved where this one is
+    /// behind all others. An `Err` changes nothing.
+    pub fn insert(&mut self, name: Text, texts: TextList) -> Result<(), AllocError>
+        ensures ok { OnOk result (self.new ≡ map.insert self.old name texts) }
+        ensures err { OnErr result (self.new ≡ self.old) }
+    {
+        match place_of(&self.entries, name.as_str()) {
+            Ok(place) => self.entries[place].texts = texts,
+            Err(place) => self.entries.insert(place, MetadataEntry { name, texts })?,
+        }
+        Ok(())
+    }
+}
+
+// Where a name stands, or where it would.
+fn place_of(entries: &[MetadataEntry], name: &str) -> Result<usize, usize>
+    requires { AreInOrder entries.now }
+    ensures range { IsSearchInRange result (length entries.now) }
+    ensures place { IsPlaceOf entries.now name.now result }
+{
+    entries.binary_search_by(
+        |entry: &MetadataEntry| -> Ordering
+            ensures { result ≡ slice_cmp nat_cmp entry.now.name name.entry.now }
+        { entry.name.as_str().cmp(name) },
+    )
 }
