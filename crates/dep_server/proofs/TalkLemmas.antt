@@ -1,17 +1,19 @@
 -- How a conversation goes on, and how it ends.
-use Rattle.std.proofs.Common.{arith, ◌+◌, ◌<◌, ◌≤◌, length, ◌≡◌, ℕ, List, [], ◌∷◌, ◌++◌, Option, Some, None, map, refl, sym, ap, subst, ◌∙◌, append_assoc}
+use Rattle.std.proofs.Common.{arith, ◌+◌, ◌<◌, length, ◌≡◌, ℕ, List, [], ◌∷◌, ◌++◌, Option, Some, None, map, refl, sym, ap, subst, ◌∙◌, append_assoc}
 use Rattle.std.proofs.lemmas.List.{append-nil}
 use Rattle.std.specs.List.{flat_map, FoldsTo}
 use Rattle.std.specs.Io.KnownBytes.{Appends, Consumes, Keeps}
 use Rattle.dep_types.specs.State.{State}
-use Rattle.dep_server.specs.Records.{World, Connect, Close, Record}
-use Rattle.dep_server.specs.Standing.{StandsAt, StandsFor, Adds, Moves, intake_of}
+use Rattle.dep_types.specs.declared.config.Config.{Config}
+use Rattle.dep_server.specs.Records.{World, put, Connect, Close, Record, Run, goes_on, Arrives, Happens, connects, closes, arrives}
+use Rattle.dep_server.specs.Standing.{StandsAt, StandsFor, Moves, intake_of}
 use Rattle.dep_server.specs.declared.hub.Hub.{Hub}
 use Rattle.dep_server.specs.declared.arrived.Arrived.{Arrived}
 use Rattle.dep_server.specs.declared.arrived.Arrived.TheVariants.{Open as StaysOpen, Closed as HasClosed, Cut}
 use Rattle.dep_server.proofs.ServingLemmas.{appends_none, appends_both}
 use Rattle.dep_server.proofs.HubLemmas.{keeps_same}
-use Rattle.dep_server.specs.Conversation.{Turn, record_of, records_of, EndsAs, Converses, IsUnserved, ConversesOver, AddsAll, last_answer, Talk, OneTurn, NoTurn, TurnsTo, TalksUntil, Talks, silent, turn, IsPiece, ArePieces, most_reads}
+use Rattle.dep_server.specs.Turns.{Turn, pieces_of, replies_of, record_of, records_of, EndsAs, last_answer, IsPiece, ArePieces, most_reads, with_opened, with_closed, Exchanges, none_yet, one_more, IsEndedBy}
+use Rattle.dep_server.specs.Conversation.{Wire, Session, session, Transfers, Rests, Clocks, Converses, IsAnswered, IsUnserved, ConversesOver, next_after, AddsAll, Talk, OneTurn, NoTurn, TurnsTo, TalksUntil, Talks, silent, turn}
 use Rattle.dep_server.specs.declared.connection.Served.{Served}
 use Rattle.dep_server.specs.declared.connection.Served.TheVariants.{Ended, Closed, Unserved, ReadFault, WriteFault, Bound}
 
@@ -56,9 +58,6 @@ keeps_appends None b k = tt
 keeps_appends (Some xs) None k = absurd k
 keeps_appends (Some xs) (Some ys) k = k ∙ sym (append-nil xs)
 
-adds_none : (hub : Hub) → AddsAll hub hub []
-adds_none hub first records h = subst (λ rs. StandsFor hub first rs) (sym (append-nil records)) h
-
 length_more : (turns : List Turn) (t : Turn) → length (turns ++ t ∷ []) ≡ length turns + 1
 length_more [] t = refl
 length_more (u ∷ turns) t = omega (arith, length_more turns t)
@@ -68,111 +67,250 @@ all_more [] t a p = (p, tt)
 all_more (u ∷ turns) t a p = (a.0, all_more turns t a.1 p)
 
 -- no turn yet
-pub talk_none : {C : Type 0} (ticks : C → ℕ → C → Type 0) (n : ℕ) (hub : Hub) (unread held : Option (List ℕ)) (clock : C)
-    → Talk ticks n hub hub unread unread held held clock clock 0 StaysOpen
-talk_none ticks n hub unread held clock = record { turns = []; counted = refl; sizes = tt; talks = silent; pieces = consumes_none unread; replies = appends_none held; moments = refl; answered = refl }
+pub talk_none : {C : Type 0} (ticks : C → ℕ → C → Type 0) (n : ℕ) (at : Session C) → Talk ticks n at at 0 StaysOpen
+talk_none ticks n at = record {
+  turns = [];
+  counted = refl;
+  sizes = tt;
+  talks = silent;
+  transfers = record { pieces = consumes_none at.wire.unread; replies = appends_none at.wire.taken };
+  moments = refl;
+  answered = refl;
+}
+
+transfers_both : (a b c : Wire) (xs ys us vs : List ℕ) → Transfers a b xs us → Transfers b c ys vs → Transfers a c (xs ++ ys) (us ++ vs)
+transfers_both a b c xs ys us vs t u = record {
+  pieces = consumes_both a.unread b.unread c.unread xs ys t.pieces u.pieces;
+  replies = appends_both a.taken b.taken c.taken us vs t.replies u.replies;
+}
+
+rests_transfers : (a b : Wire) → Rests a b → Transfers a b [] []
+rests_transfers a b r = record { pieces = keeps_consumes a.unread b.unread r.pieces; replies = keeps_appends a.taken b.taken r.replies }
 
 -- one turn more
-pub talk_more : {C : Type 0} (ticks : C → ℕ → C → Type 0) (n : ℕ) (old mid new : Hub) (unread left rest held holds more : Option (List ℕ)) (clock now then : C) (answer : Arrived) (k : ℕ)
-    → Talk ticks n old mid unread left held holds clock now k StaysOpen → OneTurn ticks n mid new left rest holds more now then answer
-    → Talk ticks n old new unread rest held more clock then (k + 1) answer
-talk_more ticks n old mid new unread left rest held holds more clock now then answer k t o =
+pub talk_more : {C : Type 0} (ticks : C → ℕ → C → Type 0) (n : ℕ) (old mid new : Session C) (answer : Arrived) (k : ℕ)
+    → mid.hub.config ≡ old.hub.config → Talk ticks n old mid k StaysOpen → OneTurn ticks n mid new answer
+    → Talk ticks n old new (k + 1) answer
+talk_more ticks n old mid new answer k same t o =
     let u : Turn = record { piece = o.piece; moment = o.moment; sent = o.sent; answer = answer } in
     record {
       turns = t.turns ++ u ∷ [];
       counted = length_more t.turns u ∙ ap (λ m. m + 1) t.counted;
       sizes = all_more t.turns u t.sizes (o.some, o.small);
-      talks = turn u t.talks o.arrives;
-      pieces = subst (λ l. Consumes unread rest l) (sym (pieces_more t.turns u)) (consumes_both unread left rest (flat_map (λ (v : Turn). v.piece) t.turns) o.piece t.pieces o.pieces);
-      replies = subst (λ l. Appends held more l) (sym (sent_more t.turns u)) (appends_both held holds more (flat_map (λ (v : Turn). v.sent) t.turns) o.sent t.replies o.replies);
-      moments = folds_more (λ before (v : Turn) after. ticks before v.moment after) clock t.turns now then u t.moments o.ticked;
+      talks = turn u t.talks t.answered same o.arrives;
+      transfers = subst (λ l. Transfers old.wire new.wire l (replies_of (t.turns ++ u ∷ []))) (sym (pieces_more t.turns u))
+          (subst (λ l. Transfers old.wire new.wire (pieces_of t.turns ++ o.piece) l) (sym (sent_more t.turns u))
+          (transfers_both old.wire mid.wire new.wire (pieces_of t.turns) o.piece (replies_of t.turns) o.sent t.transfers o.transfers));
+      moments = folds_more (λ before (v : Turn) after. ticks before v.moment after) old.clock t.turns mid.clock new.clock u t.moments o.ticked;
       answered = last_more t.turns u;
     }
 
 -- nothing more was read
-pub talk_same : {C : Type 0} (ticks : C → ℕ → C → Type 0) (n : ℕ) (old mid new : Hub) (unread left rest held holds more : Option (List ℕ)) (clock now then : C) (k : ℕ)
-    → Talk ticks n old mid unread left held holds clock now k StaysOpen → NoTurn mid new left rest holds more now then
-    → Talk ticks n old new unread rest held more clock then k StaysOpen
-talk_same ticks n old mid new unread left rest held holds more clock now then k t o =
-    record {
-      turns = t.turns;
-      counted = t.counted;
-      sizes = t.sizes;
-      talks = subst (λ h. Talks n old t.turns h) (sym o.same_hub) t.talks;
-      pieces = subst (λ l. Consumes unread rest l) (append-nil (flat_map (λ (v : Turn). v.piece) t.turns)) (consumes_both unread left rest (flat_map (λ (v : Turn). v.piece) t.turns) [] t.pieces (keeps_consumes left rest o.pieces));
-      replies = subst (λ l. Appends held more l) (append-nil (flat_map (λ (v : Turn). v.sent) t.turns)) (appends_both held holds more (flat_map (λ (v : Turn). v.sent) t.turns) [] t.replies (keeps_appends holds more o.replies));
-      moments = subst (λ c. FoldsTo (λ before (v : Turn) after. ticks before v.moment after) clock t.turns c) (sym o.same_clock) t.moments;
-      answered = t.answered;
-    }
+pub talk_same : {C : Type 0} (ticks : C → ℕ → C → Type 0) (n : ℕ) (old mid new : Session C) (k : ℕ)
+    → Talk ticks n old mid k StaysOpen → NoTurn mid new → Talk ticks n old new k StaysOpen
+talk_same ticks n old mid new k t o = record {
+  turns = t.turns;
+  counted = t.counted;
+  sizes = t.sizes;
+  talks = subst (λ h. Talks n old.hub t.turns h) (sym o.same_hub) t.talks;
+  transfers = subst (λ l. Transfers old.wire new.wire l (replies_of t.turns)) (append-nil (pieces_of t.turns))
+      (subst (λ l. Transfers old.wire new.wire (pieces_of t.turns ++ []) l) (append-nil (replies_of t.turns))
+      (transfers_both old.wire mid.wire new.wire (pieces_of t.turns) [] (replies_of t.turns) [] t.transfers (rests_transfers mid.wire new.wire o.rests)));
+  moments = subst (λ c. Clocks ticks old.clock t.turns c) (sym o.same_clock) t.moments;
+  answered = t.answered;
+}
 
 -- a turn that was the last
-pub talk_last : {C : Type 0} (ticks : C → ℕ → C → Type 0) (n : ℕ) (old mid new : Hub) (unread left rest held holds more : Option (List ℕ)) (clock now then : C) (served : Served) (k : ℕ)
-    → k < most_reads
-    → Talk ticks n old mid unread left held holds clock now k StaysOpen → TurnsTo ticks n mid new left rest holds more now then (Some served)
-    → TalksUntil ticks n old new unread rest held more clock then served
-talk_last ticks n old mid new unread left rest held holds more clock now then Closed k b t o = (k + 1, (omega (arith, b)), talk_more ticks n old mid new unread left rest held holds more clock now then HasClosed k t o)
-talk_last ticks n old mid new unread left rest held holds more clock now then WriteFault k b t o = (k + 1, (omega (arith, b)), talk_more ticks n old mid new unread left rest held holds more clock now then Cut k t o)
-talk_last ticks n old mid new unread left rest held holds more clock now then Ended k b t o = (k, b, talk_same ticks n old mid new unread left rest held holds more clock now then k t o.0, o.1)
-talk_last ticks n old mid new unread left rest held holds more clock now then ReadFault k b t o = (k, b, talk_same ticks n old mid new unread left rest held holds more clock now then k t o)
-talk_last ticks n old mid new unread left rest held holds more clock now then Unserved k b t o = absurd o
-talk_last ticks n old mid new unread left rest held holds more clock now then Bound k b t o = absurd o
+pub talk_last : {C : Type 0} (ticks : C → ℕ → C → Type 0) (n : ℕ) (old mid new : Session C) (served : Served) (k : ℕ)
+    → k < most_reads → mid.hub.config ≡ old.hub.config
+    → Talk ticks n old mid k StaysOpen → TurnsTo ticks n mid new (Some served) → TalksUntil ticks n old new served
+talk_last ticks n old mid new Closed k b same t o =
+    let u = talk_more ticks n old mid new HasClosed k same t o in
+    record { count = k + 1; answer = HasClosed; talk = u; ends = (u.answered, (omega (arith, b, u.counted))) }
+talk_last ticks n old mid new WriteFault k b same t o =
+    let u = talk_more ticks n old mid new Cut k same t o in
+    record { count = k + 1; answer = Cut; talk = u; ends = (u.answered, (omega (arith, b, u.counted))) }
+talk_last ticks n old mid new Ended k b same t o =
+    let u = talk_same ticks n old mid new k t o.0 in
+    record { count = k; answer = StaysOpen; talk = u; ends = (o.1, u.answered, (omega (arith, b, u.counted))) }
+talk_last ticks n old mid new ReadFault k b same t o =
+    let u = talk_same ticks n old mid new k t o in
+    record { count = k; answer = StaysOpen; talk = u; ends = (u.answered, (omega (arith, b, u.counted))) }
+talk_last ticks n old mid new Unserved k b same t o = absurd o
+talk_last ticks n old mid new Bound k b same t o = absurd o
 
-talks_add : (n : ℕ) (old new : Hub) (turns : List Turn) → Talks n old turns new → AddsAll old new (map (record_of n) turns)
-talks_add n old new turns silent = adds_none old
-talks_add n old new turns (turn {mid = mid} {turns = before} u t a) = λ first records h.
-    subst (λ rs. StandsFor new first rs)
-    (append_assoc records (map (record_of n) before) (record_of n u ∷ []) ∙ ap (λ l. records ++ l) (sym (map_more n before u)))
-    (a.adds first (records ++ map (record_of n) before) (talks_add n old mid before t first records h))
+-- as many turns as there may be
+pub talk_bound : {C : Type 0} (ticks : C → ℕ → C → Type 0) (n : ℕ) (old new : Session C) (k : ℕ)
+    → k ≡ most_reads → Talk ticks n old new k StaysOpen → TalksUntil ticks n old new Bound
+talk_bound ticks n old new k e t = record { count = k; answer = StaysOpen; talk = t; ends = (t.answered, t.counted ∙ e) }
 
--- opened, talked and closed
-all_added : (n : ℕ) (turns : List Turn) (old opened talked new : Hub) → Adds old opened (Connect n) [] → AddsAll opened talked (map (record_of n) turns) → Adds talked new (Close n) []
-    → AddsAll old new (records_of n turns)
-all_added n turns old opened talked new a b d first records h =
+-- whoever was served took one number
+pub next_served : {C : Type 0} (ticks : C → ℕ → C → Type 0) (n : ℕ) (old new : Session C) (end : Served)
+    → TalksUntil ticks n old new end → (next : ℕ) → next_after next end ≡ next + 1
+next_served ticks n old new Ended t next = refl
+next_served ticks n old new Closed t next = refl
+next_served ticks n old new ReadFault t next = refl
+next_served ticks n old new WriteFault t next = refl
+next_served ticks n old new Bound t next = refl
+next_served ticks n old new Unserved t next = absurd t.ends
+
+-- ---- the machine's side
+
+-- the records of the turns
+exchanges_run : (config : Config) (n : ℕ) (first : State) (records : List Record) (w v : World) (turns : List Turn)
+    → Run config first records w → Exchanges config n w turns v → Run config first (records ++ map (record_of n) turns) v
+exchanges_run config n first records w v turns r none_yet = subst (λ rs. Run config first rs w) (sym (append-nil records)) r
+exchanges_run config n first records w v turns r (one_more {turns = before} {w = mid} {left} {line} t x stays a) =
+    subst (λ rs. Run config first rs v)
+    (append_assoc records (map (record_of n) before) (record_of n t ∷ []) ∙ ap (λ l. records ++ l) (sym (map_more n before t)))
+    (goes_on (exchanges_run config n first records w mid before r x) (arrives a))
+
+-- a connection is opened, its turns are answered, and it is closed
+pub conversation_run : (config : Config) (n : ℕ) (first : State) (records : List Record) (w v : World) (turns : List Turn)
+    → Run config first records w → Exchanges config n (with_opened n w) turns v
+    → Run config first (records ++ records_of n turns) (with_closed n v)
+conversation_run config n first records w v turns r x =
     let c : Record = record { event = Connect n; sent = [] } in
     let k : Record = record { event = Close n; sent = [] } in
     let m : List Record = map (record_of n) turns in
-    subst (λ rs. StandsFor new first rs)
+    subst (λ rs. Run config first rs (with_closed n v))
     (append_assoc (records ++ c ∷ []) m (k ∷ []) ∙ append_assoc records (c ∷ []) (m ++ k ∷ []))
-    (d first ((records ++ c ∷ []) ++ m) (b first (records ++ c ∷ []) (a first records h)))
+    (goes_on (exchanges_run config n first (records ++ c ∷ []) (with_opened n w) v turns (goes_on r connects) x) closes)
 
-module _ {C : Type 0} (ticks : C → ℕ → C → Type 0) (n : ℕ) (old opened talked new : Hub) (unread left held holds : Option (List ℕ)) (clock now : C)
-    (fresh : intake_of old.connections.items n ≡ None) (opens : Moves old opened (Connect n) []) (closes : Moves talked new (Close n) [])
-    (opening : Adds old opened (Connect n) []) (closing : Adds talked new (Close n) [])
+-- a turn that did not leave the connection open is the last
+OpenBefore : List Turn → Type 0
+OpenBefore [] = Unit {0}
+OpenBefore (t ∷ []) = Unit {0}
+OpenBefore (t ∷ u ∷ turns) = (t.answer ≡ StaysOpen) × OpenBefore (u ∷ turns)
+
+open_more : (turns : List Turn) (t : Turn) → OpenBefore turns → last_answer turns ≡ StaysOpen → OpenBefore (turns ++ t ∷ [])
+unfolding OpenBefore
+open_more [] t o e = tt
+open_more (u ∷ []) t o e = (e, tt)
+open_more (u ∷ v ∷ turns) t o e = (o.0, open_more (v ∷ turns) t o.1 e)
+
+open_before : (config : Config) (n : ℕ) (w v : World) (turns : List Turn) → Exchanges config n w turns v → OpenBefore turns
+unfolding OpenBefore
+open_before config n w v turns none_yet = tt
+open_before config n w v turns (one_more {turns = before} {w = mid} t x stays a) = open_more before t (open_before config n w mid before x) stays
+
+open_behind : (before : List Turn) (t : Turn) (behind : List Turn) → OpenBefore (before ++ t ∷ behind) → OpenBefore (t ∷ behind)
+unfolding OpenBefore
+open_behind [] t behind o = o
+open_behind (u ∷ []) t behind o = o.1
+open_behind (u ∷ v ∷ before) t behind o = open_behind (v ∷ before) t behind o.1
+
+last_behind : (before : List Turn) (t : Turn) (behind : List Turn) → last_answer (before ++ t ∷ behind) ≡ last_answer (t ∷ behind)
+last_behind [] t behind = refl
+last_behind (u ∷ []) t behind = refl
+last_behind (u ∷ v ∷ before) t behind = last_behind (v ∷ before) t behind
+
+ended_by : (unread : Option (List ℕ)) (turns : List Turn) (a : Arrived) (end : Served) → last_answer turns ≡ a → EndsAs unread turns end → IsEndedBy a [] end
+ended_by unread turns a Ended e ends = subst (λ b. IsEndedBy b [] Ended) (sym ends.1 ∙ e) tt
+ended_by unread turns a Closed e ends = subst (λ b. IsEndedBy b [] Closed) (sym ends.0 ∙ e) (refl, refl)
+ended_by unread turns a WriteFault e ends = subst (λ b. IsEndedBy b [] WriteFault) (sym ends.0 ∙ e) (refl, refl)
+ended_by unread turns a ReadFault e ends = subst (λ b. IsEndedBy b [] ReadFault) (sym ends.0 ∙ e) tt
+ended_by unread turns a Bound e ends = subst (λ b. IsEndedBy b [] Bound) (sym ends.0 ∙ e) tt
+ended_by unread turns a Unserved e ends = absurd ends
+
+ended_at : (unread : Option (List ℕ)) (before : List Turn) (t : Turn) (behind : List Turn) (end : Served)
+    → OpenBefore (t ∷ behind) → EndsAs unread (before ++ t ∷ behind) end → IsEndedBy t.answer behind end
+unfolding OpenBefore
+ended_at unread before t [] end o ends = ended_by unread (before ++ t ∷ []) t.answer end (last_behind before t []) ends
+ended_at unread before t (u ∷ behind) end o ends = subst (λ b. IsEndedBy b (u ∷ behind) end) (sym o.0) tt
+
+pub last_tells : (config : Config) (n : ℕ) (w v : World) (before behind : List Turn) (t : Turn) (unread : Option (List ℕ)) (end : Served)
+    → Exchanges config n w (before ++ t ∷ behind) v → EndsAs unread (before ++ t ∷ behind) end → IsEndedBy t.answer behind end
+last_tells config n w v before behind t unread end x ends =
+    ended_at unread before t behind end (open_behind before t behind (open_before config n w v (before ++ t ∷ behind) x)) ends
+
+-- ---- from hubs to the machine
+
+opened_is : {config : Config} {w : World} {n : ℕ} {v : World} {sent : List ℕ} → Happens config w (Connect n) sent v → v ≡ with_opened n w
+opened_is connects = refl
+
+closed_is : {config : Config} {w : World} {n : ℕ} {v : World} {sent : List ℕ} → Happens config w (Close n) sent v → v ≡ with_closed n w
+closed_is closes = refl
+
+-- what the hub answered is what the machine answers
+talks_exchange : (n : ℕ) (old new : Hub) (turns : List Turn) → Talks n old turns new → (w : World) → StandsAt old w
+    → (v : World) × Exchanges old.config n w turns v × StandsAt new v
+talks_exchange n old new turns silent w at = (w, none_yet, at)
+talks_exchange n old new turns (turn {mid = mid} {turns = before} t talks stays same a) w at =
+    let h = talks_exchange n old mid before talks w at in
+    let b = a.answers h.0 h.2 in (
+      record { state = b.0; line = put n b.1 h.0.line },
+      one_more t h.1 stays (subst (λ (x : Config). Arrives x t.piece t.moment (h.0.line n) h.0.state t.sent b.0 b.1 t.answer) same b.2),
+      b.3,
+    )
+
+module _ (n : ℕ) (old opened talked new : Hub) (turns : List Turn)
+    (opens : Moves old opened (Connect n) []) (closes : Moves talked new (Close n) [])
+    (same_opened : opened.config ≡ old.config) (same_new : new.config ≡ old.config) (talks : Talks n opened turns talked) where
+  answered : (w : World) → StandsAt old w → IsAnswered old new n turns w
+  answered w at =
+      let o = opens w at in
+      let t = talks_exchange n opened talked turns talks (with_opened n w) (subst (λ v. StandsAt opened v) (opened_is o.1) o.2) in
+      let c = closes t.0 t.2 in
+      record {
+        talked = t.0;
+        exchanges = subst (λ (x : Config). Exchanges x n (with_opened n w) turns t.0) same_opened t.1;
+        at = subst (λ v. StandsAt new v) (closed_is c.1) c.2;
+      }
+
+  all_added : AddsAll old new (records_of n turns)
+  all_added first records h =
+      let a = answered h.world h.at in
+      record {
+        world = with_closed n a.talked;
+        run = subst (λ (x : Config). Run x first (records ++ records_of n turns) (with_closed n a.talked)) (sym same_new)
+            (conversation_run old.config n first records h.world a.talked turns h.run a.exchanges);
+        at = a.at;
+      }
+
+module _ {C : Type 0} (ticks : C → ℕ → C → Type 0) (n : ℕ) (old : Session C) (opened talked new : Hub) (wire : Wire) (now : C)
+    (is_next : n ≡ old.hub.next) (fresh : intake_of old.hub.connections.items n ≡ None)
+    (opens : Moves old.hub opened (Connect n) []) (closes : Moves talked new (Close n) [])
+    (same_opened : opened.config ≡ old.hub.config) (same_new : new.config ≡ old.hub.config)
     (gone : intake_of new.connections.items n ≡ None) where
-  converses : (k : ℕ) (answer : Arrived) (served : Served) (t : Talk ticks n opened talked unread left held holds clock now k answer) → EndsAs left t.turns served
-      → Converses ticks old new unread left held holds clock served
-  converses k answer served t e = record {
-    number = n;
-    turns = t.turns;
-    fresh = fresh;
-    opened = opened;
-    opens = opens;
-    talked = talked;
-    talks = t.talks;
-    closes = closes;
-    gone = gone;
-    adds = all_added n t.turns old opened talked new opening (talks_add n opened talked t.turns t.talks) closing;
-    pieces = t.pieces;
-    replies = t.replies;
-    moments = (now, t.moments);
-    ends = e;
-    sizes = t.sizes;
-  }
+  converses : (end : Served) → TalksUntil ticks n (session opened old.wire old.clock) (session talked wire now) end
+      → Converses ticks old new wire end
+  converses end u =
+      let t = u.talk in
+      record {
+        number = n;
+        turns = t.turns;
+        is_next = is_next;
+        fresh = fresh;
+        opened = opened;
+        opens = opens;
+        talked = talked;
+        talks = t.talks;
+        closes = closes;
+        gone = gone;
+        answers = answered n old.hub opened talked new t.turns opens closes same_opened same_new t.talks;
+        adds = all_added n old.hub opened talked new t.turns opens closes same_opened same_new t.talks;
+        transfers = t.transfers;
+        moments = (now, t.moments);
+        ends = u.ends;
+        sizes = t.sizes;
+      }
 
-  pub serves_whole : (served : Served) → TalksUntil ticks n opened talked unread left held holds clock now served → ConversesOver ticks old new unread left held holds clock served
-  serves_whole Closed t = converses t.0 HasClosed Closed t.2 (t.2.answered, subst (λ m. m ≤ most_reads) (sym t.2.counted) t.1)
-  serves_whole WriteFault t = converses t.0 Cut WriteFault t.2 (t.2.answered, subst (λ m. m ≤ most_reads) (sym t.2.counted) t.1)
-  serves_whole Ended t = converses t.0 StaysOpen Ended t.2 (t.3, t.2.answered, subst (λ m. m < most_reads) (sym t.2.counted) t.1)
-  serves_whole ReadFault t = converses t.0 StaysOpen ReadFault t.2 (t.2.answered, subst (λ m. m < most_reads) (sym t.2.counted) t.1)
-  serves_whole Bound t = converses most_reads StaysOpen Bound t (t.answered, t.counted)
-  serves_whole Unserved t = absurd t
+  pub serves_whole : (served : Served) → TalksUntil ticks n (session opened old.wire old.clock) (session talked wire now) served
+      → ConversesOver ticks old new wire served
+  serves_whole Closed t = converses Closed t
+  serves_whole WriteFault t = converses WriteFault t
+  serves_whole Ended t = converses Ended t
+  serves_whole ReadFault t = converses ReadFault t
+  serves_whole Bound t = converses Bound t
+  serves_whole Unserved t = absurd t.ends
 
 -- not opened
-pub unserved : (old new : Hub) (unread held : Option (List ℕ)) → ((w : World) → StandsAt old w → StandsAt new w) → ((first : State) (records : List Record) → StandsFor old first records → StandsFor new first records)
-    → IsUnserved old new unread unread held held
-unserved old new unread held at same = record {
+pub unserved : (old new : Hub) (wire : Wire) → ((w : World) → StandsAt old w → StandsAt new w)
+    → ((first : State) (records : List Record) → StandsFor old first records → StandsFor new first records)
+    → IsUnserved old new wire wire
+unserved old new wire at same = record {
   same = at;
   adds = λ first records h. subst (λ rs. StandsFor new first rs) (sym (append-nil records)) (same first records h);
-  pieces = keeps_same unread;
-  replies = keeps_same held;
+  rests = record { pieces = keeps_same wire.unread; replies = keeps_same wire.taken };
 }

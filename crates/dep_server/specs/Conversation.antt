@@ -1,146 +1,147 @@
 -- One connection over a reader and an outlet, from its opening to its close.
-use Rattle.std.specs.Prelude.{◌<◌, ◌≤◌, length, ◌≡◌, ℕ, List, [], ◌∷◌, ◌++◌, Option, Some, None, map}
-use Rattle.std.specs.List.{flat_map, FoldsTo}
+use Rattle.std.specs.Prelude.{◌<◌, ◌≤◌, ◌+◌, length, ◌≡◌, ℕ, List, [], ◌∷◌, ◌++◌, Option, Some, None}
+use Rattle.std.specs.List.{FoldsTo}
 use Rattle.std.specs.Io.KnownBytes.{Appends, Consumes, Keeps, IsAtEnd}
 use Rattle.dep_types.specs.State.{State}
-use Rattle.dep_server.specs.Records.{World, Connect, Arrive, Close, Record}
+use Rattle.dep_server.specs.Records.{World, Connect, Close, Record}
 use Rattle.dep_server.specs.Standing.{StandsAt, StandsFor, Moves, IsArrival, intake_of}
+use Rattle.dep_server.specs.Turns.{Turn, pieces_of, replies_of, records_of, most_read, ArePieces, last_answer, with_opened, with_closed, Exchanges, EndsAs}
 use Rattle.dep_server.specs.declared.hub.Hub.{Hub}
 use Rattle.dep_server.specs.declared.arrived.Arrived.{Arrived}
 use Rattle.dep_server.specs.declared.arrived.Arrived.TheVariants.{Open as StaysOpen, Closed as HasClosed, Cut}
 use Rattle.dep_server.specs.declared.connection.Served.{Served}
 use Rattle.dep_server.specs.declared.connection.Served.TheVariants.{Ended, Closed, Unserved, ReadFault, WriteFault, Bound}
 
--- a piece that was read, when it came, what was sent for it, and what it came to
-pub record Turn : Type 0 where
-  pub piece : List ℕ
-  pub moment : ℕ
-  pub sent : List ℕ
-  pub answer : Arrived
+-- the bytes that a reader has left, and those that an outlet took, where they tell them
+pub record Wire : Type 0 where
+  pub unread : Option (List ℕ)
+  pub taken : Option (List ℕ)
 
-abbrev pub record_of : ℕ → Turn → Record
-record_of number t = record { event = Arrive number t.piece t.moment; sent = t.sent }
+abbrev pub wire : (unread taken : Option (List ℕ)) → Wire
+wire unread taken = record { unread = unread; taken = taken }
 
--- the records of one connection, from its opening to its close
-abbrev pub records_of : ℕ → List Turn → List Record
-records_of number turns =
-    record { event = Connect number; sent = [] } ∷ map (record_of number) turns ++ record { event = Close number; sent = [] } ∷ []
+-- where the serving of a connection stands
+pub record Session (C : Type 0) : Type 0 where
+  pub hub : Hub
+  pub wire : Wire
+  pub clock : C
+
+abbrev pub session : {C : Type 0} → Hub → Wire → C → Session C
+session hub ends clock = record { hub = hub; wire = ends; clock = clock }
+
+-- what was read is these bytes, and these were sent
+pub record Transfers (before after : Wire) (read sent : List ℕ) : Type 0 where
+  pub pieces : Consumes before.unread after.unread read
+  pub replies : Appends before.taken after.taken sent
+
+-- nothing is read or sent
+pub record Rests (before after : Wire) : Type 0 where
+  pub pieces : Keeps before.unread after.unread
+  pub replies : Keeps before.taken after.taken
 
 -- for all records that it stood for, the hub stands for them with these after them
 abbrev pub AddsAll : Hub → Hub → List Record → Type 0
 AddsAll old new more = (first : State) (records : List Record) → StandsFor old first records → StandsFor new first (records ++ more)
 
--- the greatest number of reads, and of bytes of one read
-abbrev pub most_reads : ℕ
-most_reads = 1048576
-
-abbrev pub most_read : ℕ
-most_read = 65536
-
-abbrev pub IsPiece : Turn → Type 0
-IsPiece t = (0 < length t.piece) × (length t.piece ≤ most_read)
-
-abbrev pub ArePieces : List Turn → Type 0
-ArePieces [] = Unit {0}
-ArePieces (t ∷ turns) = IsPiece t × ArePieces turns
-
 -- the turns leave the connection open, one after another
 pub data Talks (number : ℕ) : Hub → List Turn → Hub → Type 0 where
   silent : {hub : Hub} → Talks number hub [] hub
   turn : {hub mid new : Hub} {turns : List Turn} (t : Turn) → Talks number hub turns mid
+      → last_answer turns ≡ StaysOpen → mid.config ≡ hub.config
       → IsArrival mid new number t.piece t.moment t.sent t.answer → Talks number hub (turns ++ t ∷ []) new
 
--- the answer to the last piece, or that there was none
-abbrev pub last_answer : List Turn → Arrived
-last_answer [] = StaysOpen
-last_answer (t ∷ []) = t.answer
-last_answer (t ∷ u ∷ turns) = last_answer (u ∷ turns)
-
--- why a connection was served no longer
-abbrev pub EndsAs : Option (List ℕ) → List Turn → Served → Type 0
-EndsAs left turns Ended = IsAtEnd left × (last_answer turns ≡ StaysOpen) × (length turns < most_reads)
-EndsAs left turns Closed = (last_answer turns ≡ HasClosed) × (length turns ≤ most_reads)
-EndsAs left turns WriteFault = (last_answer turns ≡ Cut) × (length turns ≤ most_reads)
-EndsAs left turns ReadFault = (last_answer turns ≡ StaysOpen) × (length turns < most_reads)
-EndsAs left turns Bound = (last_answer turns ≡ StaysOpen) × (length turns ≡ most_reads)
-EndsAs left turns Unserved = ⊥
+-- each turn came at the clock's answer
+abbrev pub Clocks : {C : Type 0} → (C → ℕ → C → Type 0) → C → List Turn → C → Type 0
+Clocks ticks clock turns now = FoldsTo (λ before t after. ticks before t.moment after) clock turns now
 
 -- turns so far: what they add, read, write, and when
-pub record Talk {C : Type 0} (ticks : C → ℕ → C → Type 0) (number : ℕ) (old new : Hub) (unread left held holds : Option (List ℕ)) (clock now : C) (count : ℕ) (answer : Arrived) : Type 0 where
+pub record Talk {C : Type 0} (ticks : C → ℕ → C → Type 0) (number : ℕ) (before after : Session C) (count : ℕ) (answer : Arrived) : Type 0 where
   pub turns : List Turn
   pub counted : length turns ≡ count
   pub sizes : ArePieces turns
-  pub talks : Talks number old turns new
-  pub pieces : Consumes unread left (flat_map (λ t. t.piece) turns)
-  pub replies : Appends held holds (flat_map (λ t. t.sent) turns)
-  pub moments : FoldsTo (λ before t after. ticks before t.moment after) clock turns now
+  pub talks : Talks number before.hub turns after.hub
+  pub transfers : Transfers before.wire after.wire (pieces_of turns) (replies_of turns)
+  pub moments : Clocks ticks before.clock turns after.clock
   pub answered : last_answer turns ≡ answer
 
 -- one turn
-pub record OneTurn {C : Type 0} (ticks : C → ℕ → C → Type 0) (number : ℕ) (old new : Hub) (unread left held holds : Option (List ℕ)) (clock now : C) (answer : Arrived) : Type 0 where
+pub record OneTurn {C : Type 0} (ticks : C → ℕ → C → Type 0) (number : ℕ) (before after : Session C) (answer : Arrived) : Type 0 where
   pub piece : List ℕ
   pub moment : ℕ
   pub sent : List ℕ
-  pub arrives : IsArrival old new number piece moment sent answer
+  pub arrives : IsArrival before.hub after.hub number piece moment sent answer
   pub some : 0 < length piece
   pub small : length piece ≤ most_read
-  pub pieces : Consumes unread left piece
-  pub replies : Appends held holds sent
-  pub ticked : ticks clock moment now
+  pub transfers : Transfers before.wire after.wire piece sent
+  pub ticked : ticks before.clock moment after.clock
 
 -- nothing was read
-pub record NoTurn {C : Type 0} (old new : Hub) (unread left held holds : Option (List ℕ)) (clock now : C) : Type 0 where
-  pub same_hub : new ≡ old
-  pub pieces : Keeps unread left
-  pub replies : Keeps held holds
-  pub same_clock : now ≡ clock
+pub record NoTurn {C : Type 0} (before after : Session C) : Type 0 where
+  pub same_hub : after.hub ≡ before.hub
+  pub rests : Rests before.wire after.wire
+  pub same_clock : after.clock ≡ before.clock
 
-abbrev pub TurnsTo : {C : Type 0} → (C → ℕ → C → Type 0) → ℕ → Hub → Hub → Option (List ℕ) → Option (List ℕ) → Option (List ℕ) → Option (List ℕ) → C → C → Option Served → Type 0
-TurnsTo ticks number old new unread left held holds clock now None = OneTurn ticks number old new unread left held holds clock now StaysOpen
-TurnsTo ticks number old new unread left held holds clock now (Some Closed) = OneTurn ticks number old new unread left held holds clock now HasClosed
-TurnsTo ticks number old new unread left held holds clock now (Some WriteFault) = OneTurn ticks number old new unread left held holds clock now Cut
-TurnsTo ticks number old new unread left held holds clock now (Some Ended) = NoTurn old new unread left held holds clock now × IsAtEnd left
-TurnsTo ticks number old new unread left held holds clock now (Some ReadFault) = NoTurn old new unread left held holds clock now
-TurnsTo ticks number old new unread left held holds clock now (Some Unserved) = ⊥
-TurnsTo ticks number old new unread left held holds clock now (Some Bound) = ⊥
+abbrev pub TurnsTo : {C : Type 0} → (C → ℕ → C → Type 0) → ℕ → (before after : Session C) → Option Served → Type 0
+TurnsTo ticks number before after None = OneTurn ticks number before after StaysOpen
+TurnsTo ticks number before after (Some Closed) = OneTurn ticks number before after HasClosed
+TurnsTo ticks number before after (Some WriteFault) = OneTurn ticks number before after Cut
+TurnsTo ticks number before after (Some Ended) = NoTurn before after × IsAtEnd after.wire.unread
+TurnsTo ticks number before after (Some ReadFault) = NoTurn before after
+TurnsTo ticks number before after (Some Unserved) = ⊥
+TurnsTo ticks number before after (Some Bound) = ⊥
 
-abbrev pub TalksUntil : {C : Type 0} → (C → ℕ → C → Type 0) → ℕ → Hub → Hub → Option (List ℕ) → Option (List ℕ) → Option (List ℕ) → Option (List ℕ) → C → C → Served → Type 0
-TalksUntil ticks number old new unread left held holds clock now Closed = (k : ℕ) × (k ≤ most_reads) × Talk ticks number old new unread left held holds clock now k HasClosed
-TalksUntil ticks number old new unread left held holds clock now WriteFault = (k : ℕ) × (k ≤ most_reads) × Talk ticks number old new unread left held holds clock now k Cut
-TalksUntil ticks number old new unread left held holds clock now Ended = (k : ℕ) × (k < most_reads) × Talk ticks number old new unread left held holds clock now k StaysOpen × IsAtEnd left
-TalksUntil ticks number old new unread left held holds clock now ReadFault = (k : ℕ) × (k < most_reads) × Talk ticks number old new unread left held holds clock now k StaysOpen
-TalksUntil ticks number old new unread left held holds clock now Bound = Talk ticks number old new unread left held holds clock now most_reads StaysOpen
-TalksUntil ticks number old new unread left held holds clock now Unserved = ⊥
+-- the turns up to the end
+pub record TalksUntil {C : Type 0} (ticks : C → ℕ → C → Type 0) (number : ℕ) (before after : Session C) (served : Served) : Type 0 where
+  pub count : ℕ
+  pub answer : Arrived
+  pub talk : Talk ticks number before after count answer
+  pub ends : EndsAs after.wire.unread talk.turns served
+
+-- what the machine makes of the turns, from whatever machine the hub kept: it answers them as they were answered, and
+-- the hub keeps what it comes to
+pub record IsAnswered (old new : Hub) (number : ℕ) (turns : List Turn) (w : World) : Type 0 where
+  pub talked : World
+  pub exchanges : Exchanges old.config number (with_opened number w) turns talked
+  pub at : StandsAt new (with_closed number talked)
 
 -- one connection: what was read are its pieces, what was written is what was sent, each at the clock's answer
-pub record Converses {C : Type 0} (ticks : C → ℕ → C → Type 0) (old new : Hub) (unread left held holds : Option (List ℕ)) (clock : C) (served : Served) : Type 0 where
+pub record Converses {C : Type 0} (ticks : C → ℕ → C → Type 0) (before : Session C) (new : Hub) (after : Wire) (served : Served) : Type 0 where
   pub number : ℕ
   pub turns : List Turn
-  pub fresh : intake_of old.connections.items number ≡ None
+  pub is_next : number ≡ before.hub.next
+  pub fresh : intake_of before.hub.connections.items number ≡ None
   pub opened : Hub
-  pub opens : Moves old opened (Connect number) []
+  pub opens : Moves before.hub opened (Connect number) []
   pub talked : Hub
   pub talks : Talks number opened turns talked
   pub closes : Moves talked new (Close number) []
   pub gone : intake_of new.connections.items number ≡ None
-  pub adds : AddsAll old new (records_of number turns)
-  pub pieces : Consumes unread left (flat_map (λ t. t.piece) turns)
-  pub replies : Appends held holds (flat_map (λ t. t.sent) turns)
-  pub moments : (last : C) × FoldsTo (λ before t after. ticks before t.moment after) clock turns last
-  pub ends : EndsAs left turns served
+  pub answers : (w : World) → StandsAt before.hub w → IsAnswered before.hub new number turns w
+  pub adds : AddsAll before.hub new (records_of number turns)
+  pub transfers : Transfers before.wire after (pieces_of turns) (replies_of turns)
+  pub moments : (last : C) × Clocks ticks before.clock turns last
+  pub ends : EndsAs after.unread turns served
   pub sizes : ArePieces turns
 
 -- nothing is read or written, and the hub stands for what it did
-pub record IsUnserved (old new : Hub) (unread left held holds : Option (List ℕ)) : Type 0 where
+pub record IsUnserved (old new : Hub) (before after : Wire) : Type 0 where
   pub same : (w : World) → StandsAt old w → StandsAt new w
   pub adds : AddsAll old new []
-  pub pieces : Keeps unread left
-  pub replies : Keeps held holds
+  pub rests : Rests before after
 
-abbrev pub ConversesOver : {C : Type 0} → (C → ℕ → C → Type 0) → Hub → Hub → Option (List ℕ) → Option (List ℕ) → Option (List ℕ) → Option (List ℕ) → C → Served → Type 0
-ConversesOver ticks old new unread left held holds clock Unserved = IsUnserved old new unread left held holds
-ConversesOver ticks old new unread left held holds clock Ended = Converses ticks old new unread left held holds clock Ended
-ConversesOver ticks old new unread left held holds clock Closed = Converses ticks old new unread left held holds clock Closed
-ConversesOver ticks old new unread left held holds clock ReadFault = Converses ticks old new unread left held holds clock ReadFault
-ConversesOver ticks old new unread left held holds clock WriteFault = Converses ticks old new unread left held holds clock WriteFault
-ConversesOver ticks old new unread left held holds clock Bound = Converses ticks old new unread left held holds clock Bound
+abbrev pub ConversesOver : {C : Type 0} → (C → ℕ → C → Type 0) → Session C → Hub → Wire → Served → Type 0
+ConversesOver ticks before new after Unserved = IsUnserved before.hub new before.wire after
+ConversesOver ticks before new after Ended = Converses ticks before new after Ended
+ConversesOver ticks before new after Closed = Converses ticks before new after Closed
+ConversesOver ticks before new after ReadFault = Converses ticks before new after ReadFault
+ConversesOver ticks before new after WriteFault = Converses ticks before new after WriteFault
+ConversesOver ticks before new after Bound = Converses ticks before new after Bound
+
+-- a connection that is served takes one number, and another takes none
+abbrev pub next_after : ℕ → Served → ℕ
+next_after next Unserved = next
+next_after next Ended = next + 1
+next_after next Closed = next + 1
+next_after next ReadFault = next + 1
+next_after next WriteFault = next + 1
+next_after next Bound = next + 1

@@ -8,6 +8,7 @@ pub mod Bare
 pub mod Records
 pub mod Calm
 pub mod Standing
+pub mod Turns
 pub mod Conversation
 pub mod Serving
 pub mod Sending

@@ -1,7 +1,8 @@
 //! One connection over a reader and an outlet.
 ghost use Rattle.std.specs.Prelude.{◌≡◌, ◌≢◌, ◌<◌, ℕ, IsSome, length};
 ghost use Rattle.dep_server.specs.Standing.{intake_of};
-ghost use Rattle.dep_server.specs.Conversation.{most_read, ConversesOver, TalksUntil, TurnsTo};
+ghost use Rattle.dep_server.specs.Turns.{most_read};
+ghost use Rattle.dep_server.specs.Conversation.{session, wire, ConversesOver, TalksUntil, TurnsTo, next_after};
 
 use crate::arrived::Arrived;
 use crate::connections::ConnId;
@@ -42,7 +43,10 @@ pub fn serve_connection<R: Read, W: Outlet, C: FnMut() -> Moment>(
 ) -> Served
     requires { C.IsAlwaysCallable clock }
     ensures config { hub.new.config ≡ hub.old.config }
-    ensures converses { ConversesOver C.step hub.old hub.new (R.remaining reader.old) (R.remaining reader.new) (W.taken writer.old) (W.taken writer.new) clock result }
+    ensures converses { ConversesOver C.step
+        (session hub.old (wire (R.remaining reader.old) (W.taken writer.old)) clock)
+        hub.new (wire (R.remaining reader.new) (W.taken writer.new)) result }
+    ensures next { hub.new.next ≡ next_after hub.old.next result }
 {
     let Ok(mut buffer) = vec![in alloc; 0u8; MOST_READ] else {
         return Served::Unserved;
@@ -75,7 +79,10 @@ fn converse<R: Read, W: Outlet, C: FnMut() -> Moment>(
     requires there { IsSome (intake_of hub.old.connections.items connection) }
     requires room { length buffer.old ≡ most_read }
     ensures config { hub.new.config ≡ hub.old.config }
-    ensures talks { TalksUntil C.step connection hub.old hub.new (R.remaining reader.old) (R.remaining reader.new) (W.taken writer.old) (W.taken writer.new) clock.old clock.new result }
+    ensures next { hub.new.next ≡ hub.old.next }
+    ensures talks { TalksUntil C.step connection
+        (session hub.old (wire (R.remaining reader.old) (W.taken writer.old)) clock.old)
+        (session hub.new (wire (R.remaining reader.new) (W.taken writer.new)) clock.new) result }
 {
     for count in 0..MOST_READS {
         if let Some(end) = turn(reader, writer, hub, clock, connection, buffer) {
@@ -101,7 +108,10 @@ fn turn<R: Read, W: Outlet, C: FnMut() -> Moment>(
     ensures there { IsSome (intake_of hub.new.connections.items connection) }
     ensures room { length buffer.new ≡ most_read }
     ensures config { hub.new.config ≡ hub.old.config }
-    ensures turn { TurnsTo C.step connection hub.old hub.new (R.remaining reader.old) (R.remaining reader.new) (W.taken writer.old) (W.taken writer.new) clock.old clock.new result }
+    ensures next { hub.new.next ≡ hub.old.next }
+    ensures turn { TurnsTo C.step connection
+        (session hub.old (wire (R.remaining reader.old) (W.taken writer.old)) clock.old)
+        (session hub.new (wire (R.remaining reader.new) (W.taken writer.new)) clock.new) result }
 {
     match reader.read(buffer) {
         Err(_) => Some(Served::ReadFault),

@@ -1,5 +1,5 @@
 //! Laws of the definitions, apart from any code.
-ghost use Rattle.std.specs.Prelude.{◌≡◌, ℕ, List, ◌++◌, None, codes};
+ghost use Rattle.std.specs.Prelude.{◌≡◌, ℕ, List, ◌++◌, ◌∷◌, Option, None, codes};
 ghost use Rattle.dep_message.specs.Stream.{Item, Request};
 ghost use Rattle.dep_message.specs.declared.message.Message.{Message};
 ghost use Rattle.dep_types.specs.State.{State};
@@ -12,6 +12,8 @@ ghost use Rattle.dep_head.specs.Head.{HeadParts};
 ghost use Rattle.dep_server.specs.Operations.{operation_of, refusal, effect};
 ghost use Rattle.dep_server.specs.Machine.{step};
 ghost use Rattle.dep_server.specs.Bare.{asked_by, IsWithoutBody};
+ghost use Rattle.dep_server.specs.Turns.{Turn, records_of, with_opened, with_closed, Exchanges, EndsAs, IsEndedBy};
+ghost use Rattle.dep_server.specs.declared.connection.Served.{Served};
 
 /// Runs without failed steps that make the same steps send the same bytes, each connection its own, and end in the same state.
 pub fn cuts_move_moments_of_runs()
@@ -40,4 +42,19 @@ pub fn steps_keep_sound()
 /// What happens to the machine keeps its state sound, also where a step fails.
 pub fn runs_keep_sound()
     ensures { (config : Config) (first : State) (records : List Record) (w : World) → Run config first records w → IsSound first → IsSound w.state }
+{}
+
+/// What the machine answers to the turns of a connection is a run, from its opening to its close.
+pub fn turns_make_a_run()
+    ensures { (config : Config) (first : State) (records : List Record) (number : ℕ) (turns : List Turn) (w talked : World)
+        → Run config first records w → Exchanges config number (with_opened number w) turns talked
+        → Run config first (records ++ records_of number turns) (with_closed number talked) }
+{}
+
+/// A turn that does not leave its connection open is the last one, and tells why the connection is served no longer:
+/// where a reply was cut, because the outlet failed, and where it was closed, because of that.
+pub fn last_turn_tells_the_end()
+    ensures { (config : Config) (number : ℕ) (w talked : World) (before behind : List Turn) (t : Turn) (unread : Option (List ℕ)) (end : Served)
+        → Exchanges config number w (before ++ t ∷ behind) talked → EndsAs unread (before ++ t ∷ behind) end
+        → IsEndedBy t.answer behind end }
 {}

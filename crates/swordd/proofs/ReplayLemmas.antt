@@ -1,12 +1,15 @@
 -- A replay is a run of one connection.
-use Rattle.std.proofs.Common.{◌≡◌, ℕ, zero, suc, List, [], ◌∷◌, Option, subst, arith}
+use Rattle.std.proofs.Common.{◌≡◌, ℕ, zero, suc, List, [], ◌∷◌, ◌++◌, refl, subst, arith}
 use Rattle.std.specs.Prelude.{All}
 use Rattle.std.specs.List.{FoldsTo}
-use Rattle.dep_types.specs.State.{empty_state}
+use Rattle.dep_types.specs.State.{State, empty_state}
 use Rattle.dep_types.specs.declared.config.Config.{Config}
-use Rattle.dep_server.specs.Records.{Run}
-use Rattle.dep_server.specs.Standing.{StandsFor}
-use Rattle.dep_server.specs.Conversation.{Turn, records_of, Converses, ConversesOver}
+use Rattle.dep_server.specs.Records.{World, Record, begin_with, Run, begins, goes_on}
+use Rattle.dep_server.specs.Standing.{StandsAt, StandsFor}
+use Rattle.dep_server.specs.Turns.{Turn, with_opened, Exchanges}
+use Rattle.dep_server.specs.Conversation.{Wire, Session, Rests, Converses, ConversesOver}
+use Rattle.dep_server.proofs.HubLemmas.{keeps_same}
+use Rattle.dep_server.proofs.TalkLemmas.{conversation_run}
 use Rattle.dep_server.specs.declared.connection.Served.{Served}
 use Rattle.dep_server.specs.declared.connection.Served.TheVariants.{Ended, Closed, Unserved, ReadFault, WriteFault, Bound}
 use Rattle.dep_server.specs.declared.hub.Hub.{Hub}
@@ -20,6 +23,15 @@ all_more : (P : Turn → Type 0) (t : Turn) (turns : List Turn) → P t → All 
 all_more P t turns p ps zero d l = p
 all_more P t turns p ps (suc k) d l = ps k d (omega arith)
 
+not_nil : (records : List Record) (r : Record) → records ++ r ∷ [] ≡ [] → ⊥
+not_nil [] r e = cc
+not_nil (x ∷ records) r e = cc
+
+-- after no records the machine is at its first state
+world_at_first : {config : Config} {first : State} {records : List Record} {w : World} → Run config first records w → records ≡ [] → w ≡ begin_with first
+world_at_first begins e = refl
+world_at_first (goes_on {records} {event} {sent} r h) e = absurd (not_nil records (record { event = event; sent = sent }) e)
+
 module _ {C : Type 0} (ticks : C → ℕ → C → Type 0) (moment : ℕ) (tells : C → Type 0)
     (same : (before after : C) (m : ℕ) → tells before → ticks before m after → (m ≡ moment) × tells after) where
   -- a clock that tells one moment tells it at each turn
@@ -30,27 +42,33 @@ module _ {C : Type 0} (ticks : C → ℕ → C → Type 0) (moment : ℕ) (tells
       let s = same clock f.0 t.moment p f.1 in
       all_more (λ (u : Turn). u.moment ≡ moment) t turns s.0 (all_at turns f.0 last s.1 f.2)
 
-  module _ (base : List ℕ) (old new : Hub) (unread left held holds : Option (List ℕ)) (clock : C) (first : StandsFor old empty_state [])
-      (config : new.config ≡ program_config base) (told : tells clock) where
-    replays : (answer : Served) → Converses ticks old new unread left held holds clock answer → IsReplayed base moment unread left held holds answer
-    replays answer v =
-        let stands = v.adds empty_state [] first in
+  module _ (base : List ℕ) (before : Session C) (new : Hub) (after : Wire) (first : StandsFor before.hub empty_state [])
+      (given : before.hub.config ≡ program_config base) (told : tells before.clock) where
+    replays : (end : Served) → Converses ticks before new after end → IsReplayed base moment before.wire after end
+    replays end v =
+        let fresh = world_at_first first.run refl in
+        let answers = v.answers (begin_with empty_state) (subst (λ w. StandsAt before.hub w) fresh first.at) in
+        let exchanges : Exchanges (program_config base) v.number (with_opened v.number (begin_with empty_state)) v.turns answers.talked =
+        subst (λ (x : Config). Exchanges x v.number (with_opened v.number (begin_with empty_state)) v.turns answers.talked) given answers.exchanges in
         record {
           number = v.number;
           turns = v.turns;
-          world = stands.world;
-          run = subst (λ (x : Config). Run x empty_state (records_of v.number v.turns) stands.world) config stands.run;
-          moments = all_at v.turns clock v.moments.0 told v.moments.1;
+          talked = answers.talked;
+          exchanges = exchanges;
+          run = conversation_run (program_config base) v.number empty_state [] (begin_with empty_state) answers.talked v.turns begins exchanges;
+          moments = all_at v.turns before.clock v.moments.0 told v.moments.1;
           sizes = v.sizes;
-          pieces = v.pieces;
-          replies = v.replies;
+          transfers = v.transfers;
           ends = v.ends;
         }
 
-    pub comes_to : (served : Served) → ConversesOver ticks old new unread left held holds clock served → Replays base moment unread left held holds (outcome_of served)
-    comes_to Unserved v = not_begun v.pieces v.replies
+    pub comes_to : (end : Served) → ConversesOver ticks before new after end → Replays base moment before.wire after (outcome_of end)
+    comes_to Unserved v = not_begun v.rests
     comes_to Ended v = replayed Ended (replays Ended v)
     comes_to Closed v = replayed Closed (replays Closed v)
     comes_to ReadFault v = replayed ReadFault (replays ReadFault v)
     comes_to WriteFault v = replayed WriteFault (replays WriteFault v)
     comes_to Bound v = replayed Bound (replays Bound v)
+
+pub rests_same : (at : Wire) → Rests at at
+rests_same at = record { pieces = keeps_same at.unread; replies = keeps_same at.taken }

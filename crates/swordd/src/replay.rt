@@ -1,5 +1,6 @@
 //! One connection over an archive in memory.
 ghost use Rattle.std.specs.Prelude.{◌≡◌};
+ghost use Rattle.dep_server.specs.Conversation.{wire};
 ghost use Rattle.swordd.specs.Replays.{Replays, outcome_of};
 
 use crate::outcome::Outcome;
@@ -19,7 +20,9 @@ pub fn replay<R: Read, W: Outlet>(
     reader: &mut R,
     writer: &mut W,
 ) -> Outcome
-    ensures { Replays base.now moment (R.remaining reader.old) (R.remaining reader.new) (W.taken writer.old) (W.taken writer.new) result }
+    ensures { Replays base.now moment
+        (wire (R.remaining reader.old) (W.taken writer.old))
+        (wire (R.remaining reader.new) (W.taken writer.new)) result }
 {
     let Ok(config) = configuration(alloc, base) else {
         return Outcome::StoreFault;

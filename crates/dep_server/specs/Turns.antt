@@ -1,0 +1,86 @@
+-- The turns of one connection, and how the machine answers them.
+use Rattle.std.specs.Prelude.{◌<◌, ◌≤◌, length, ◌≡◌, ℕ, List, [], ◌∷◌, ◌++◌, Option, map}
+use Rattle.std.specs.List.{flat_map}
+use Rattle.std.specs.Io.KnownBytes.{IsAtEnd}
+use Rattle.dep_types.specs.State.{State}
+use Rattle.dep_types.specs.declared.config.Config.{Config}
+use Rattle.dep_server.specs.Records.{World, Line, Live, Absent, put, Connect, Arrive, Close, Record, Arrives}
+use Rattle.dep_server.specs.declared.arrived.Arrived.{Arrived}
+use Rattle.dep_server.specs.declared.arrived.Arrived.TheVariants.{Open as StaysOpen, Closed as HasClosed, Cut, NoSuch}
+use Rattle.dep_server.specs.declared.connection.Served.{Served}
+use Rattle.dep_server.specs.declared.connection.Served.TheVariants.{Ended, Closed, Unserved, ReadFault, WriteFault, Bound}
+
+-- a piece that was read, when it came, what was sent for it, and what it came to
+pub record Turn : Type 0 where
+  pub piece : List ℕ
+  pub moment : ℕ
+  pub sent : List ℕ
+  pub answer : Arrived
+
+-- all that was read, and all that was sent
+abbrev pub pieces_of : List Turn → List ℕ
+pieces_of turns = flat_map (λ t. t.piece) turns
+
+abbrev pub replies_of : List Turn → List ℕ
+replies_of turns = flat_map (λ t. t.sent) turns
+
+abbrev pub record_of : ℕ → Turn → Record
+record_of number t = record { event = Arrive number t.piece t.moment; sent = t.sent }
+
+-- the records of one connection, from its opening to its close
+abbrev pub records_of : ℕ → List Turn → List Record
+records_of number turns =
+    record { event = Connect number; sent = [] } ∷ map (record_of number) turns
+    ++ record { event = Close number; sent = [] } ∷ []
+
+-- the greatest number of reads, and of bytes of one read
+abbrev pub most_reads : ℕ
+most_reads = 1048576
+
+abbrev pub most_read : ℕ
+most_read = 65536
+
+abbrev pub IsPiece : Turn → Type 0
+IsPiece t = (0 < length t.piece) × (length t.piece ≤ most_read)
+
+abbrev pub ArePieces : List Turn → Type 0
+ArePieces [] = Unit {0}
+ArePieces (t ∷ turns) = IsPiece t × ArePieces turns
+
+-- the answer to the last piece, or that there was none
+abbrev pub last_answer : List Turn → Arrived
+last_answer [] = StaysOpen
+last_answer (t ∷ []) = t.answer
+last_answer (t ∷ u ∷ turns) = last_answer (u ∷ turns)
+
+-- the machine once a connection was opened, and once it was closed
+abbrev pub with_opened : ℕ → World → World
+with_opened number w = record w { line = put number (Live []) w.line }
+
+abbrev pub with_closed : ℕ → World → World
+with_closed number w = record w { line = put number Absent w.line }
+
+-- the machine answers the turns one after another, each from where the one before left it; a turn that did not leave
+-- the connection open is the last
+pub data Exchanges (config : Config) (number : ℕ) (first : World) : List Turn → World → Type 0 where
+  none_yet : Exchanges config number first [] first
+  one_more : {turns : List Turn} {w : World} {left : State} {line : Line} (t : Turn)
+      → Exchanges config number first turns w → last_answer turns ≡ StaysOpen
+      → Arrives config t.piece t.moment (w.line number) w.state t.sent left line t.answer
+      → Exchanges config number first (turns ++ t ∷ []) (record { state = left; line = put number line w.line })
+
+-- why a connection was served no longer
+abbrev pub EndsAs : Option (List ℕ) → List Turn → Served → Type 0
+EndsAs left turns Ended = IsAtEnd left × (last_answer turns ≡ StaysOpen) × (length turns < most_reads)
+EndsAs left turns Closed = (last_answer turns ≡ HasClosed) × (length turns ≤ most_reads)
+EndsAs left turns WriteFault = (last_answer turns ≡ Cut) × (length turns ≤ most_reads)
+EndsAs left turns ReadFault = (last_answer turns ≡ StaysOpen) × (length turns < most_reads)
+EndsAs left turns Bound = (last_answer turns ≡ StaysOpen) × (length turns ≡ most_reads)
+EndsAs left turns Unserved = ⊥
+
+-- what the answer to a turn says of the turns behind it, and of why the connection was served no longer
+abbrev pub IsEndedBy : Arrived → List Turn → Served → Type 0
+IsEndedBy StaysOpen behind _ = Unit {0}
+IsEndedBy HasClosed behind served = (behind ≡ []) × (served ≡ Closed)
+IsEndedBy Cut behind served = (behind ≡ []) × (served ≡ WriteFault)
+IsEndedBy NoSuch behind _ = ⊥
