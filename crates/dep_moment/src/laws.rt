@@ -32,3 +32,25 @@ pub fn rfc3339_of_2018()
 pub fn rfc3339_of_greatest()
     ensures { rfc3339_text greatest_moment ≡ codes "9999-12-31T23:59:59Z" }
 {}
+
+/// The first moment, in both texts.
+pub fn texts_of_first()
+    ensures http { http_text 0 ≡ codes "Thu, 01 Jan 1970 00:00:00 GMT" }
+    ensures rfc3339 { rfc3339_text 0 ≡ codes "1970-01-01T00:00:00Z" }
+{}
+
+/// The example of RFC 9110, section 5.6.7.
+pub fn http_date_of_rfc9110()
+    ensures { http_text 784111777 ≡ codes "Sun, 06 Nov 1994 08:49:37 GMT" }
+{}
+
+/// An example of RFC 3339, section 5.8: `1996-12-19T16:39:57-08:00`, as it reads in UTC.
+pub fn rfc3339_of_rfc3339()
+    ensures { rfc3339_text 851042397 ≡ codes "1996-12-20T00:39:57Z" }
+{}
+
+/// 2000 is a leap year, and 2100 is none.
+pub fn texts_about_leap_days()
+    ensures leap { http_text 951868799 ≡ codes "Tue, 29 Feb 2000 23:59:59 GMT" }
+    ensures common { http_text 4107542400 ≡ codes "Mon, 01 Mar 2100 00:00:00 GMT" }
+{}

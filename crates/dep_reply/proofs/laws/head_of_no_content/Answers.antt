@@ -1,0 +1,7 @@
+use Rattle.std.proofs.Common.{refl}
+use Rattle.dep_reply.proofs.OnLiterals.{reply_on_literals}
+use Rattle.dep_reply.proofs.laws.head_of_no_content.Goals as goal
+
+pub returns : goal.returns
+unfolding reply_on_literals
+returns c = refl
