@@ -1,2 +1,3 @@
 pub mod Base64
 pub mod Promises
+pub mod OnLiterals

@@ -3,6 +3,7 @@
 
 mod field;
 mod hasher;
+pub mod laws;
 mod spelling;
 
 pub use field::{DigestFault, DigestList, check, read_digest_field};

@@ -1,6 +1,7 @@
 //! Numbers, tokens, white space and comma lists in the values of HTTP fields. Nothing here allocates.
 #![tactic(auto)]
 
+pub mod laws;
 mod lists;
 mod numbers;
 mod tokens;

@@ -1,0 +1,11 @@
+use Rattle.std.specs.Prelude.{⊤}
+use Rattle.hex.specs.Hex.{encode_with, decode_pairs}
+use Rattle.base64.specs.Rfc4648.{encode_symbols}
+use Rattle.base64.specs.Decode.{groups_error, groups_bytes, scan_steps}
+use Rattle.base64.specs.GeneralPurpose.{decoded_of}
+use Rattle.dep_fixity.specs.Fixity.{octets_of}
+
+-- what an answer unfolds to compute the spellings of octets that are written out
+unfoldable pub spelling_on_literals : ⊤
+unfolding encode_with decode_pairs encode_symbols groups_error groups_bytes scan_steps decoded_of octets_of
+spelling_on_literals = tt
