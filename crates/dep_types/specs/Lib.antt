@@ -13,3 +13,4 @@ pub mod Rows
 pub mod MetadataEntries
 pub mod StoreFaults
 pub mod Numbers
+pub mod BagPaths
