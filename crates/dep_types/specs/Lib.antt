@@ -14,3 +14,4 @@ pub mod MetadataEntries
 pub mod StoreFaults
 pub mod Numbers
 pub mod BagPaths
+pub mod Sinks

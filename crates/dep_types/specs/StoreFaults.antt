@@ -1,8 +1,16 @@
--- The numbers of the store's faults.
+-- The numbers of the store's faults, and of the faults of sending a content.
 use Rattle.std.specs.Prelude.{ℕ}
 use Rattle.dep_types.specs.declared.store_fault.StoreFault.{StoreFault}
 use Rattle.dep_types.specs.declared.store_fault.StoreFault.TheVariants.{Store, Memory}
+use Rattle.dep_types.specs.declared.stream_fault.StreamFault.{StreamFault}
+use Rattle.dep_types.specs.declared.stream_fault.StreamFault.TheVariants as stream
 
 abbrev pub fault_number : StoreFault → ℕ
 fault_number Store = 20
 fault_number Memory = 21
+
+abbrev pub stream_fault_number : StreamFault → ℕ
+stream_fault_number stream.Writer = 1
+stream_fault_number stream.Store = 2
+stream_fault_number stream.Memory = 3
+stream_fault_number stream.NoSuchFile = 4

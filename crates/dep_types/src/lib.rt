@@ -1,6 +1,7 @@
 //! The records, outcomes and interfaces that every layer of the server speaks of.
 #![tactic(auto)]
 
+mod bag_sink;
 mod base;
 mod config;
 mod counters;
@@ -11,10 +12,12 @@ mod outlet;
 mod refusal;
 mod rows;
 mod store_fault;
+mod stream_fault;
 mod target;
 mod text;
 mod through;
 
+pub use bag_sink::{BagSink, SinkFailed};
 pub use config::{
     Config, ConfigFault, GREATEST_MAX_ASSEMBLED, GREATEST_MAX_SEGMENTS, GREATEST_MAX_UPLOAD,
     GREATEST_STAGING_MAX_IDLE,
@@ -26,6 +29,7 @@ pub use outlet::{Outlet, WriteFailed};
 pub use refusal::Refusal;
 pub use rows::{FileRow, FileRows, ObjectRow, ObjectView, UploadRow};
 pub use store_fault::StoreFault;
+pub use stream_fault::StreamFault;
 pub use target::{Method, Resource, Target};
 pub use text::Text;
 pub use through::Through;

@@ -1,0 +1,46 @@
+//! Why a content was not sent.
+ghost use Rattle.std.specs.Prelude.{◌≡◌};
+ghost use Rattle.dep_types.specs.StoreFaults.{stream_fault_number};
+
+use std::error::Error;
+use std::fmt;
+
+/// Why a content was not sent, or not to its end.
+#[derive(Clone, Copy, Debug, PartialEq, Eq)]
+pub enum StreamFault {
+    /// The outlet took no more.
+    Writer,
+    /// The store failed.
+    Store,
+    /// Memory was refused.
+    Memory,
+    /// No file has that number.
+    NoSuchFile,
+}
+
+impl StreamFault {
+    /// The number of the fault, 1 to 4.
+    pub fn number(self) -> u8
+        ensures { result ≡ stream_fault_number self }
+    {
+        match self {
+            StreamFault::Writer => 1,
+            StreamFault::Store => 2,
+            StreamFault::Memory => 3,
+            StreamFault::NoSuchFile => 4,
+        }
+    }
+}
+
+impl fmt::Display for StreamFault {
+    fn fmt<W: fmt::Write>(&self, f: &mut fmt::Formatter<W>) -> fmt::Result {
+        match self {
+            StreamFault::Writer => write!(f, "the outlet failed"),
+            StreamFault::Store => write!(f, "the store failed"),
+            StreamFault::Memory => write!(f, "out of memory"),
+            StreamFault::NoSuchFile => write!(f, "no such file"),
+        }
+    }
+}
+
+impl Error for StreamFault {}
