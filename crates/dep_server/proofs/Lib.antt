@@ -3,6 +3,7 @@ pub mod SegmentLemmas
 pub mod StoreLemmas
 pub mod ServingLemmas
 pub mod CalmLemmas
+pub mod StreamLemmas
 pub mod ConnectionLemmas
 pub mod HubLemmas
 pub mod TalkLemmas

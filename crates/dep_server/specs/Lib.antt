@@ -7,6 +7,7 @@ pub mod Machine
 pub mod Bare
 pub mod Records
 pub mod Calm
+pub mod Streams
 pub mod Standing
 pub mod Turns
 pub mod Conversation

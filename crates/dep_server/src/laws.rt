@@ -6,6 +6,7 @@ ghost use Rattle.dep_types.specs.State.{State};
 ghost use Rattle.dep_server.specs.Records.{Record, World, Run};
 ghost use Rattle.dep_types.specs.declared.config.Config.{Config};
 ghost use Rattle.dep_server.specs.Calm.{CalmRun, Step, sent_to};
+ghost use Rattle.dep_server.specs.Streams.{AreSpelled, streams_of, items_of, occasions_of};
 ghost use Rattle.dep_types.specs.Sound.{IsSound};
 ghost use Rattle.dep_types.specs.declared.target.Target.{Target};
 ghost use Rattle.dep_head.specs.Head.{HeadParts};
@@ -20,6 +21,25 @@ pub fn cuts_move_moments_of_runs()
     ensures { (config : Config) (first : State) (records others : List Record) (steps : List Step) (v w : World)
         (r : Run config first records v) (q : Run config first others w) → CalmRun records v r steps → CalmRun others w q steps
         → ((n : ℕ) → sent_to n records ≡ sent_to n others) × (v.state ≡ w.state) }
+{}
+
+/// A run without failed steps makes of the streams of each connection the items that they spell, and no others.
+pub fn streams_make_the_steps()
+    ensures { (config : Config) (first : State) (records : List Record) (steps : List Step) (w : World)
+        (r : Run config first records w) → CalmRun records w r steps
+        → (n : ℕ) → AreSpelled config.max_upload (streams_of n records) (items_of n steps) }
+{}
+
+/// How the bytes are cut into pieces moves the occasions of requests, that is when each is complete and in which order
+/// among the connections, and nothing else: two runs without failed steps over which the same streams come make the same
+/// items of each connection; and where these come on the same occasions, both send the same bytes, to each connection its
+/// own, and end in the same state.
+pub fn cuts_move_occasions()
+    ensures { (config : Config) (first : State) (records others : List Record) (steps moves : List Step) (v w : World)
+        (r : Run config first records v) (q : Run config first others w) → CalmRun records v r steps → CalmRun others w q moves
+        → ((n : ℕ) → streams_of n records ≡ streams_of n others)
+        → ((n : ℕ) → items_of n steps ≡ items_of n moves)
+        × (occasions_of steps ≡ occasions_of moves → ((n : ℕ) → sent_to n records ≡ sent_to n others) × (v.state ≡ w.state)) }
 {}
 
 /// A HEAD is stepped as the GET of the same path: its reply has the same head, which tells the length of the body, and no body.
