@@ -1,20 +1,19 @@
 -- Runs without failed steps make of each stream the items that it spells.
-use Rattle.std.proofs.Common.{◌≡◌, ◌==◌, ◌<◌, ℕ, Bool, true, false, List, [], ◌∷◌, ◌++◌, Option, Some, None, map, if◌then◌else◌, inl, refl, sym, ap, subst, ◌∙◌, append_assoc, arith}
+use Rattle.std.proofs.Common.{◌≡◌, ◌==◌, ℕ, Bool, true, false, List, [], ◌∷◌, ◌++◌, Option, Some, None, if◌then◌else◌, inl, refl, sym, ap, subst, ◌∙◌, append_assoc, arith}
 use Rattle.std.proofs.lemmas.List.{append-nil}
 use Rattle.std.proofs.lemmas.List.Sums.{fold-append}
 use Rattle.std.proofs.lemmas.List.Concat.{flat_map-append}
 use Rattle.std.proofs.lemmas.Bool.{eqb-true, eq-eqb}
-use Rattle.std.specs.List.{flat_map, fold}
 use Rattle.std.specs.Option.{option_map, option_map_or}
 use Rattle.dep_types.specs.State.{State}
 use Rattle.dep_types.specs.declared.config.Config.{Config}
 use Rattle.dep_head.specs.Head.{head_end}
-use Rattle.dep_message.specs.Places.{Place, Open, Shut, more}
+use Rattle.dep_message.specs.Places.{Place, Open, Shut}
 use Rattle.dep_message.specs.Stream.{Item, Spells, Reads, Waits}
 use Rattle.dep_message.proofs.OneReading.{one_spelling}
 use Rattle.dep_message.proofs.Reading.{reads_more}
 use Rattle.dep_server.specs.Machine.{Serves}
-use Rattle.dep_server.specs.Records.{Event, Connect, Arrive, Close, Record, Line, Absent, Live, Ended, World, line_after, ReadsBeyond, Run, Happens, Arrives}
+use Rattle.dep_server.specs.Records.{Event, Record, Line, Absent, Live, Ended, World, line_after, ReadsBeyond, Run, Happens, Arrives}
 use Rattle.dep_server.specs.Calm.{Step, steps_of, CalmServes, all_served, CalmArrives, live, ended, Calm, connect, close, arrive, none, CalmRun, nothing, more as one_more}
 use Rattle.dep_server.specs.Streams.{Streams, all_streams, with_event, streams_over, streams_of, items_of, AreSpelled, no_stream, first_stream, Occasion, occasions_of}
 use Rattle.dep_server.specs.declared.arrived.Arrived.{Arrived}
@@ -71,14 +70,17 @@ accounts_all limit Ended s items a = spelled_all limit a.0 Shut s items a.1
 opened_accounts : (limit : ℕ) (s : Streams) (items : List Item) → AreSpelled limit (all_streams s) items
     → Accounts limit (Live []) (record { closed = all_streams s; current = Some [] }) items
 unfolding Accounts head_end
-opened_accounts limit s items a = (Open false [], record {
-  earlier = items;
-  now = [];
-  is_open = refl;
-  joined = sym (append-nil items);
-  closed = a;
-  spells = record { reads = refl; waits = inl (refl, omega arith) };
-})
+opened_accounts limit s items a = (
+  Open false [],
+  record {
+    earlier = items;
+    now = [];
+    is_open = refl;
+    joined = sym (append-nil items);
+    closed = a;
+    spells = record { reads = refl; waits = inl (refl, omega arith) };
+  },
+)
 
 -- one that is closed
 closed_accounts : (limit : ℕ) (s : Streams) (items : List Item) → AreSpelled limit (all_streams s) items
@@ -212,7 +214,7 @@ happens_accounts {config} {w} n streams items (close {n = m}) a =
 happens_accounts {config} {w} n streams items (arrive {n = m} {piece = piece} {line = line} {steps = steps} x c) a =
     arrive_if config.max_upload (n == m) (w.line n) line streams piece items (items_of n steps)
     (λ e. subst (λ k. Accounts config.max_upload line (with_piece piece streams) (items ++ items_of k steps)) (sym (eqb-true n m e))
-        (arrives_accounts m streams items c (subst (λ k. Accounts config.max_upload (w.line k) streams items) (eqb-true n m e) a)))
+    (arrives_accounts m streams items c (subst (λ k. Accounts config.max_upload (w.line k) streams items) (eqb-true n m e) a)))
     (λ e. arrives_none n m c e) a
 happens_accounts {config} {w} n streams items (none {n = m} {piece = piece} e) a =
     subst (λ l. Accounts config.max_upload (w.line n) (if n == m then with_piece piece streams else streams) l) (sym (append-nil items))
