@@ -5,7 +5,8 @@ use Rattle.std.proofs.lemmas.Str.{IsUtf8-from_is_utf8, is_utf8-from_IsUtf8}
 use Rattle.std.specs.List.{join_with_byte}
 use Rattle.std.specs.Str.{IsUtf8, is_utf8}
 use Rattle.dep_params.proofs.Values.{is_some}
-use Rattle.dep_fields.specs.Fields.{if_passes, is_behalf}
+use Rattle.dep_types.specs.Names.{if_passes}
+use Rattle.dep_fields.specs.Fields.{is_behalf}
 
 -- a text that is joined to the next one, before the others
 pub one_more : (text next : List ℕ) (more : List (List ℕ)) → join_with_byte 44 (text ∷ next ∷ more) ≡ join_with_byte 44 ((text ++ 44 ∷ next) ∷ more)

@@ -1,8 +1,8 @@
 -- Each field of SWORD in a head: absent, bad, or its value.
-use Rattle.std.specs.Prelude.{◌≡◌, ℕ, ◌&&◌, nat_lt, Bool, List, length, Option, Some, None, codes, if◌then◌else◌}
+use Rattle.std.specs.Prelude.{◌≡◌, ℕ, ◌&&◌, nat_lt, Bool, List, length, Option, Some, codes}
 use Rattle.std.specs.Str.{is_utf8}
 use Rattle.dep_head.specs.Head.{values_of}
-use Rattle.dep_types.specs.Names.{is_media}
+use Rattle.dep_types.specs.Names.{if_passes, is_media}
 use Rattle.dep_fixity.specs.Fixity.{digest_field}
 use Rattle.dep_fields.specs.Kinds.{IsKind, truth}
 use Rattle.dep_fields.specs.Values.{IsReadFrom, joined, read_from, single}
@@ -11,10 +11,6 @@ use Rattle.dep_fields.specs.declared.fields.SwordFields.{SwordFields}
 -- a text that names someone
 abbrev pub is_behalf : List ℕ → Bool
 is_behalf text = nat_lt 0 (length text) && is_utf8 text
-
--- the text, where it passes the test
-abbrev pub if_passes : (List ℕ → Bool) → List ℕ → Option (List ℕ)
-if_passes test text = if test text then Some text else None
 
 -- any text
 abbrev pub as_it_stands : List ℕ → Option (List ℕ)

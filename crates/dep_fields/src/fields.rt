@@ -1,20 +1,19 @@
 //! The fields of SWORD 3.0 in a request's head.
 ghost use Rattle.std.specs.Prelude.{◌≡◌, IfOk, IsAscii, codes};
 ghost use Rattle.dep_head.specs.Head.{values_of};
-ghost use Rattle.dep_types.specs.Names.{is_media, is_media_byte};
-ghost use Rattle.std.specs.List.{list_all};
+ghost use Rattle.dep_types.specs.Names.{if_passes, is_media};
 ghost use Rattle.dep_fixity.specs.Fixity.{digest_field};
-ghost use Rattle.dep_fields.specs.Fields.{AreFields, as_it_stands, if_passes, is_behalf};
+ghost use Rattle.dep_fields.specs.Fields.{AreFields, as_it_stands, is_behalf};
+ghost use Rattle.dep_fields.specs.Told.{fields_of};
 ghost use Rattle.dep_fields.specs.Kinds.{IsKind, truth};
 ghost use Rattle.dep_fields.specs.Values.{IsReadFrom, joined, or_bad, read_from, texts};
 
 use crate::field::Field;
 use crate::kind::{Kind, read_kind, truth};
-use crate::octets::Octets;
 use crate::values::{joined, single};
 use dep_fixity::{DigestList, read_digest_field};
 use dep_head::Head;
-use dep_types::Text;
+use dep_types::{Octets, Text, is_media};
 use std::alloc::{AllocError, Global};
 
 /// What each field of SWORD in a request's head tells. All but `digest` may stand once.
@@ -41,7 +40,8 @@ pub struct SwordFields {
 impl SwordFields {
     /// Reads the fields of a head. An `Err` is want of memory, and nothing else.
     pub fn read(alloc: Global, head: &Head) -> Result<SwordFields, AllocError>
-        ensures { IfOk result (AreFields head.now.fields) }
+        ensures fields { IfOk result (AreFields head.now.fields) }
+        ensures one { IfOk result (λ read. read ≡ fields_of head.now.fields) }
     {
         Ok(SwordFields {
             on_behalf_of: behalf(alloc, single(head, "On-Behalf-Of"))?,
@@ -139,24 +139,6 @@ fn ascii_text(bytes: &[u8]) -> &str
         unreachable!();
     };
     text
-}
-
-fn is_media(text: &[u8]) -> bool
-    ensures { result ≡ is_media text.now }
-{
-    !text.is_empty() && text.len() <= 255 && has_media_bytes_alone(text)
-}
-
-fn has_media_bytes_alone(text: &[u8]) -> bool
-    ensures { result ≡ list_all is_media_byte text.now }
-{
-    text.iter().all(|byte| is_media_byte(*byte))
-}
-
-fn is_media_byte(byte: u8) -> bool
-    ensures { result ≡ is_media_byte byte }
-{
-    b' ' <= byte && byte <= b'~'
 }
 
 // One field is read where it stands; the texts of several are joined in a copy.

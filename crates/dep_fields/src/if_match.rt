@@ -1,51 +1,61 @@
 //! The tags that a request asks for.
-ghost use Rattle.std.specs.Prelude.{◌≡◌, IfOk, bytes_eq, decimal};
+ghost use Rattle.std.specs.Prelude.{◌≡◌, bytes_eq, decimal};
+ghost use Rattle.std.specs.List.{list_any};
 ghost use Rattle.dep_octets.specs.Octets.{members};
 ghost use Rattle.dep_fields.specs.Tags.{holds, if_match_of, in_quotation_marks, is_met};
 
-use crate::field::Field;
-use crate::values::{joined, single};
-use dep_head::Head;
+use dep_head::{Head, Values};
 use dep_octets::split_list;
 use itoa::Buffer;
-use std::alloc::{AllocError, Global};
 use std::marker::Model;
 
-/// The tags that a request's If-Match fields name (RFC 9110, section 13.1.1), as members of one comma list. Contracts
-/// see the list of its members.
-#[derive(Drop)]
-pub struct IfMatch {
-    text: Vec<u8>,
+/// The tags that a request's If-Match fields name (RFC 9110, section 13.1.1), as members of one comma list. It borrows
+/// the head, and nothing here takes memory. Contracts see the list of its members.
+pub struct IfMatch<'a> {
+    head: &'a Head,
 }
 
-impl Model for IfMatch {
+impl<'a> Model for IfMatch<'a> {
     ghost use Rattle.std.specs.Prelude.{ℕ, List};
-    ghost use Rattle.dep_octets.specs.Octets.{members};
+    ghost use Rattle.dep_fields.specs.Tags.{tags_of};
 
     ghost Value = { List (List ℕ) };
 
-    ghost view = { λ m. members m.text.items };
+    ghost view = { λ m. tags_of m.head.now.fields };
 }
 
-impl IfMatch {
-    /// Reads the If-Match fields of a head: `None` where there is none.
-    pub fn read(alloc: Global, head: &Head) -> Result<Option<IfMatch>, AllocError>
-        ensures { IfOk result (λ found. found ≡ if_match_of head.now.fields) }
+impl<'a> IfMatch<'a> {
+    /// The If-Match fields of a head: `None` where there is none.
+    pub fn read(head: &'a Head) -> Option<IfMatch<'a>>
+        ensures { result ≡ if_match_of head.now.fields }
     {
-        if let Field::Absent = single(head, "If-Match") {
-            return Ok(None);
+        match head.values("If-Match").next() {
+            Some(_) => Some(IfMatch { head }),
+            None => None,
         }
-        let text = joined(alloc, head.values("If-Match"))?;
-        Ok(Some(IfMatch { text }))
     }
 
     /// Whether some member is `*`, the tag in decimal digits, or those in quotation marks. A weak tag is none of these
-    /// (RFC 9110, section 8.8.3.2). It takes no memory.
+    /// (RFC 9110, section 8.8.3.2).
     pub fn holds(&self, tag: u64) -> bool
         ensures { result ≡ holds self.now tag }
     {
-        split_list(&self.text).any(|member| is_met(member, tag))
+        some_has_member(self.head.values("If-Match"), tag)
     }
+}
+
+// Whether some member of one of the lists is met by the tag.
+fn some_has_member(mut lists: Values<'_>, tag: u64) -> bool
+    ensures { result ≡ list_any (λ list. list_any (is_met tag) (members list)) lists.entry }
+{
+    lists.any(|list| has_member(list, tag))
+}
+
+// Whether some member of the list is met by the tag.
+fn has_member(list: &[u8], tag: u64) -> bool
+    ensures { result ≡ list_any (is_met tag) (members list.now) }
+{
+    split_list(list).any(|member| is_met(member, tag))
 }
 
 fn is_met(member: &[u8], tag: u64) -> bool

@@ -6,7 +6,6 @@ mod fields;
 mod if_match;
 mod kind;
 pub mod laws;
-mod octets;
 mod opening;
 mod values;
 
@@ -14,4 +13,3 @@ pub use field::Field;
 pub use fields::SwordFields;
 pub use if_match::IfMatch;
 pub use kind::{Kind, Opening};
-pub use octets::Octets;

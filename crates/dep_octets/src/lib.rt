@@ -9,5 +9,5 @@ mod whitespace;
 
 pub use lists::{SplitList, split_list};
 pub use numbers::{Number, decimal, positive_decimal};
-pub use tokens::is_token;
+pub use tokens::{is_token, is_token_octet};
 pub use whitespace::trim_ows;

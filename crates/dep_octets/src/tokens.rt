@@ -16,7 +16,8 @@ fn has_token_octets_alone(text: &[u8]) -> bool
     text.iter().all(|octet| is_token_octet(*octet))
 }
 
-fn is_token_octet(octet: u8) -> bool
+/// Whether the octet may stand in a token.
+pub fn is_token_octet(octet: u8) -> bool
     ensures { result ≡ is_token_octet octet }
 {
     octet.is_ascii_alphanumeric() || b"!#$%&'*+-.^_`|~".contains(&octet)

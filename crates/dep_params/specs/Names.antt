@@ -1,10 +1,11 @@
 -- The file name that a disposition gives (RFC 6266 section 4.3, RFC 8187 section 3.2).
-use Rattle.std.specs.Prelude.{◌≡◌, ℕ, ◌+◌, ◌<◌, ◌==◌, ◌&&◌, not, nat_le, Bool, true, IsTrue, List, ◌∷◌, ◌++◌, length, slice_index, Option, Some, None, codes, bytes_eq}
+use Rattle.std.specs.Prelude.{◌≡◌, ℕ, ◌+◌, ◌<◌, ◌==◌, not, Bool, true, IsTrue, List, ◌∷◌, ◌++◌, length, slice_index, Option, Some, None, codes}
 use Rattle.std.specs.List.{list_all}
 use Rattle.std.specs.Char.{is_ascii_hexdigit}
-use Rattle.std.specs.Str.{is_utf8, str_eq_ignore_ascii_case}
+use Rattle.std.specs.Str.{str_eq_ignore_ascii_case}
 use Rattle.percent_encoding.specs.Percent.{percent_decode}
-use Rattle.dep_params.specs.Grammar.{Reading, is_control, value_of}
+use Rattle.dep_types.specs.Names.{is_good_name}
+use Rattle.dep_params.specs.Grammar.{Reading, value_of}
 
 -- two hexadecimal digits stand behind the place
 abbrev pub HasTwoDigitsAfter : List ℕ → ℕ → Type 0
@@ -35,16 +36,6 @@ abbrev pub IsTold : Option (List ℕ) → Option (List ℕ) → List ℕ → Typ
 IsTold (Some text) plain name = IsExtended text name
 IsTold None (Some plain) name = name ≡ plain
 IsTold None None name = ⊥
-
--- what a name is made of: no control of ASCII, no slash and no backslash
-abbrev pub is_name_octet : ℕ → Bool
-is_name_octet b = not (is_control b) && not (b == 47) && not (b == 92)
-
--- a name of a file that may stand
-abbrev pub is_good_name : List ℕ → Bool
-is_good_name name =
-    nat_le 1 (length name) && nat_le (length name) 255 && is_utf8 name && list_all is_name_octet name
-    && not (bytes_eq name (codes ".")) && not (bytes_eq name (codes ".."))
 
 -- the disposition gives this file name
 pub record IsFileName (reading : Reading) (name : List ℕ) : Type 0 where

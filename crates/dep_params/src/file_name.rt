@@ -1,12 +1,12 @@
 ghost use Rattle.std.specs.Prelude.{◌≡◌, ◌==◌, ◌<◌, ◌↔◌, ◌⊎◌, ℕ, List, codes, IsTrue, IfOk, IfErr, MatchOption, MatchResult, length, position, slice_index, string_bytes};
-ghost use Rattle.std.specs.List.{list_all};
 ghost use Rattle.percent_encoding.specs.Percent as spec;
-ghost use Rattle.std.specs.Str.{is_utf8, str_eq_ignore_ascii_case};
+ghost use Rattle.std.specs.Str.{str_eq_ignore_ascii_case};
 ghost use Rattle.dep_params.specs.Grammar.{value_of};
-ghost use Rattle.dep_params.specs.Names.{HasTwoDigitsAfter, HasWholeEscapes, IsExtended, IsFileName, IsTold, is_good_name, is_name_octet};
+ghost use Rattle.dep_params.specs.Names.{HasTwoDigitsAfter, HasWholeEscapes, IsExtended, IsFileName, IsTold};
 ghost use Rattle.dep_params.specs.Reading.{cut_at_apostrophe};
 
 use crate::disposition::{Disposition, ParamFault};
+use dep_types::is_good_name;
 use percent_encoding::percent_decode;
 use std::alloc::Global;
 
@@ -119,36 +119,4 @@ fn has_two_digits_after(text: &[u8], i: usize) -> bool
     ensures { IsTrue result ↔ HasTwoDigitsAfter text.now i }
 {
     text.len() - i > 2 && text[i + 1].is_ascii_hexdigit() && text[i + 2].is_ascii_hexdigit()
-}
-
-fn is_good_name(name: &[u8]) -> bool
-    ensures { result ≡ is_good_name name.now }
-{
-    !name.is_empty()
-        && name.len() <= 255
-        && is_utf8(name)
-        && has_name_octets_alone(name)
-        && name != b".".as_slice()
-        && name != b"..".as_slice()
-}
-
-fn is_utf8(text: &[u8]) -> bool
-    ensures { result ≡ is_utf8 text.now }
-{
-    match std::str::from_utf8(text) {
-        Ok(_) => true,
-        Err(_) => false,
-    }
-}
-
-fn has_name_octets_alone(name: &[u8]) -> bool
-    ensures { result ≡ list_all is_name_octet name.now }
-{
-    name.iter().all(|octet| is_name_octet(*octet))
-}
-
-fn is_name_octet(octet: u8) -> bool
-    ensures { result ≡ is_name_octet octet }
-{
-    !octet.is_ascii_control() && octet != b'/' && octet != b'\\'
 }

@@ -3,7 +3,7 @@ ghost use Rattle.std.specs.List.{prefix_len};
 ghost use Rattle.dep_octets.specs.Octets.{is_token_octet, is_blank, trim_start};
 ghost use Rattle.dep_params.specs.Grammar.{is_bare_octet};
 
-use dep_octets::is_token;
+use dep_octets::is_token_octet;
 
 // The longest token at the front, and what follows it.
 pub fn split_token(text: &[u8]) -> (&[u8], &[u8])
@@ -38,12 +38,6 @@ pub fn skip_blanks(text: &[u8]) -> &[u8]
         start += 1;
     }
     &text[start..]
-}
-
-fn is_token_octet(octet: u8) -> bool
-    ensures { result ≡ is_token_octet octet }
-{
-    is_token(&[octet])
 }
 
 fn is_bare_octet(octet: u8) -> bool

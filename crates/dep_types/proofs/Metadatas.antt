@@ -1,8 +1,8 @@
 -- Metadata against the list of its entries.
-use Rattle.std.proofs.Common.{◌≡◌, ℕ, zero, suc, ◌+◌, ◌<◌, ◌≤◌, Bool, true, false, cond, ◌&&◌, List, [], ◌∷◌, Option, Some, None, length, map, take, drop, T, refl, sym, ap, ◌∙◌, subst, arith, le_refl, nat_cmp, Less, Equal, Greater, Ordering, Result, Ok, Err}
+use Rattle.std.proofs.Common.{◌≡◌, ℕ, zero, suc, ◌<◌, ◌≤◌, Bool, true, false, cond, ◌&&◌, List, [], ◌∷◌, Some, None, length, map, T, refl, sym, ap, ◌∙◌, subst, arith, le_refl, nat_cmp, Less, Equal, Greater, Ordering, Result, Ok, Err}
 use Rattle.std.specs.Prelude.{slice_index_or, slice_set}
 use Rattle.std.specs.Ordering.{ordering_index, ordering_reverse, is_lt, is_eq}
-use Rattle.std.specs.Cmp.{alike_right, tied_back}
+use Rattle.std.specs.Cmp.{alike_right}
 use Rattle.std.specs.Cmp.Lexicographic.{slice_cmp, nat_list_cmp_total}
 use Rattle.std.specs.FinMap as map
 use Rattle.std.specs.FinMap.Entries.{find, put, by_order, below_all, is_sorted, is_sorted-put}

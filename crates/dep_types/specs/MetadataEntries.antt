@@ -1,5 +1,5 @@
 -- Metadata as the list of its entries.
-use Rattle.std.specs.Prelude.{◌≡◌, ℕ, List, length, map, T, Result, MatchResult}
+use Rattle.std.specs.Prelude.{◌≡◌, ℕ, List, map, T, Result, MatchResult}
 use Rattle.std.specs.declared.cmp.Ordering.TheVariants.{Less, Equal, Greater}
 use Rattle.std.specs.Ordering.{nat_cmp}
 use Rattle.std.specs.Cmp.Lexicographic.{slice_cmp}

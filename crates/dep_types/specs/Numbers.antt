@@ -1,5 +1,5 @@
 -- Numbers of the archive: how a path writes one, and whether more can be given.
-use Rattle.std.specs.Prelude.{ℕ, ◌+◌, ◌==◌, ◌||◌, ◌&&◌, nat_le, Bool, List, Option}
+use Rattle.std.specs.Prelude.{ℕ, ◌+◌, ◌==◌, ◌||◌, ◌&&◌, nat_le, Bool, List, ◌++◌, Option, codes, decimal}
 use Rattle.dep_octets.specs.Octets.{positive_number}
 use Rattle.dep_types.specs.declared.counters.Counters.{Counters}
 
@@ -10,6 +10,10 @@ greatest_number = 4000000000000000000
 -- a number as a path writes it
 abbrev pub number_in : List ℕ → Option ℕ
 number_in text = positive_number text greatest_number
+
+-- an entity tag as it stands in a field (RFC 9110, section 8.8.3)
+abbrev pub quoted_tag : ℕ → List ℕ
+quoted_tag tag = codes "\"" ++ decimal tag ++ codes "\""
 
 -- so many numbers of objects, files, uploads and changes
 abbrev pub numbers : (object file upload change : ℕ) → Counters

@@ -7,6 +7,7 @@ mod config;
 mod counters;
 pub mod laws;
 mod metadata;
+mod names;
 mod octets;
 mod outlet;
 mod refusal;
@@ -24,6 +25,7 @@ pub use config::{
 };
 pub use counters::{Counters, GREATEST_NUMBER};
 pub use metadata::{Metadata, MetadataEntry, TextList};
+pub use names::{BINARY_PACKAGING, METADATA_FORMAT, is_good_name, is_kept_name, is_media};
 pub use octets::Octets;
 pub use outlet::{Outlet, WriteFailed};
 pub use refusal::Refusal;

@@ -1,12 +1,15 @@
 use Rattle.std.proofs.Common.{◌∙◌, ap, subst}
-use Rattle.dep_types.specs.Names.{is_media}
-use Rattle.dep_fields.specs.Fields.{as_it_stands, if_passes, is_behalf}
+use Rattle.dep_types.specs.Names.{if_passes, is_media}
+use Rattle.dep_fields.specs.Fields.{as_it_stands, is_behalf}
 use Rattle.dep_fields.specs.Kinds.{IsKind, truth}
 use Rattle.dep_fields.specs.Values.{IsReadFrom, read_from}
+use Rattle.dep_fields.specs.Told.{fields_of}
+use Rattle.dep_fields.proofs.OneTelling.{one_telling}
+use Rattle.dep_fields.proofs.ToldFields.{fields_are_told}
 use Rattle.dep_fields.proofs.fields.SwordFields.read.Goals as goal
 
-pub returns : goal.returns
-returns c = record {
+pub returns-clause-fields : goal.returns-clause-fields
+returns-clause-fields c = record {
   on_behalf_of = c.in_ok-behalf.ensures ∙ ap (read_from (if_passes is_behalf)) c.single.ensures;
   disposition = subst (λ t. IsReadFrom IsKind t c.in_ok-disposition.field-0) c.single-2.ensures c.in_ok-disposition.ensures;
   in_progress = c.progress.ensures ∙ ap (read_from truth) c.single-3.ensures;
@@ -16,3 +19,6 @@ returns c = record {
   content_encoding = c.in_ok-copied-3.ensures ∙ ap (read_from as_it_stands) c.single-7.ensures;
   digest = c.in_ok-digest.ensures;
 }
+
+pub returns-clause-one : goal.returns-clause-one
+returns-clause-one c = one_telling c.args.head.now.fields _ (fields_of c.args.head.now.fields) (returns-clause-fields c) (fields_are_told c.args.head.now.fields)

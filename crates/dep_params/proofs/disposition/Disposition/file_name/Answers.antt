@@ -1,7 +1,7 @@
 use Rattle.std.proofs.Common.{◌≡◌, ◌∙◌, ℕ, List, true, sym, ap}
 use Rattle.std.proofs.lemmas.Str.{IsUtf8-from_is_utf8}
 use Rattle.std.specs.Str.{is_utf8}
-use Rattle.dep_params.specs.Names.{is_good_name}
+use Rattle.dep_types.specs.Names.{is_good_name}
 use Rattle.dep_params.proofs.Runs.{and_both}
 use Rattle.dep_params.proofs.Extended.{same_told}
 use Rattle.dep_params.proofs.disposition.Disposition.file_name.Goals as goal

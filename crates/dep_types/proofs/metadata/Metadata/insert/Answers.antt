@@ -1,8 +1,7 @@
-use Rattle.std.proofs.Common.{◌≡◌, ℕ, List, sym, ap, ◌∙◌, map as each, nat_cmp, slice_set}
+use Rattle.std.proofs.Common.{◌≡◌, sym, ap, ◌∙◌, map as each, nat_cmp, slice_set}
 use Rattle.std.specs.Cmp.Lexicographic.{slice_cmp}
 use Rattle.std.specs.FinMap.Entries.{put}
 use Rattle.std.specs.FinMap as map
-use Rattle.std.specs.List.{insert}
 use Rattle.dep_types.specs.MetadataEntries.{name_and_texts}
 use Rattle.dep_types.specs.declared.metadata.MetadataEntry.{MetadataEntry}
 use Rattle.dep_types.proofs.Metadatas.{put_at, put_between, in_order, inserted}
