@@ -1,0 +1,238 @@
+//! An example, and the ways in which it is played.
+
+use crate::cut::Cut;
+use crate::play::Play;
+use crate::trouble::Trouble;
+use crate::verdict::Verdict;
+use crate::words::Words;
+use std::alloc::Global;
+use std::fmt;
+
+/// An example: its lines, the title first, and the number of that line in the file.
+#[derive(Clone, Copy)]
+pub struct Example<'a> {
+    lines: &'a str,
+    number: usize,
+    /// The row that is played, of those that it has.
+    row: &'a str,
+}
+
+/// What is wrong in an example: where, in which row, how the bytes were cut, and why.
+#[derive(Drop)]
+pub struct Wrong<'a> {
+    example: Example<'a>,
+    line: usize,
+    cut: Cut,
+    why: Trouble,
+}
+
+impl Wrong<'_> {
+    pub fn verdict(&self) -> Verdict {
+        match &self.why {
+            Trouble::Memory => Verdict::Unknown,
+            _ => Verdict::Otherwise,
+        }
+    }
+}
+
+impl fmt::Display for Wrong<'_> {
+    fn fmt<W: fmt::Write>(&self, f: &mut fmt::Formatter<W>) -> fmt::Result {
+        let title = self.example.title();
+        let row = self.example.row;
+        let (line, cut, why) = (self.line, self.cut, &self.why);
+        write!(f, "{line}: \"{title}\"")?;
+        if !row.is_empty() {
+            write!(f, ", row {row}")?;
+        }
+        write!(f, ", {cut}: {why}")
+    }
+}
+
+impl<'a> Example<'a> {
+    pub fn new(lines: &'a str, number: usize) -> Example<'a> {
+        Example {
+            lines,
+            number,
+            row: "",
+        }
+    }
+
+    /// Takes the texts that stand above the first example.
+    pub fn sets_out(self, alloc: Global, words: &mut Words) -> Result<(), Wrong<'a>> {
+        let _ = self.each_line(alloc, words, Cut::Whole, 0)?;
+        Ok(())
+    }
+
+    /// Plays it for each of its rows, in each of its ways. Its texts end with it.
+    pub fn plays(self, alloc: Global, words: &mut Words) -> Result<(), Wrong<'a>> {
+        let kept = words.count();
+        let played = self.in_all_rows(alloc, words);
+        words.forget(kept);
+        played
+    }
+
+    fn in_all_rows(self, alloc: Global, words: &mut Words) -> Result<(), Wrong<'a>> {
+        let rows = self
+            .lines
+            .lines()
+            .skip(1)
+            .filter(|line| line.starts_with('-'));
+        match (self.value_of("each"), rows.count()) {
+            (None, 0) => self.in_all_ways(alloc, words),
+            (Some(names), 1..) => self.for_each_row(alloc, words, names),
+            _ => Err(self.wrong(0, Cut::Whole, Trouble::Line("rows stand below `each`"))),
+        }
+    }
+
+    fn for_each_row(self, alloc: Global, words: &mut Words, names: &str) -> Result<(), Wrong<'a>> {
+        for (i, line) in self.lines.lines().enumerate() {
+            if let Some(row) = line.strip_prefix("-") {
+                let example = Example {
+                    row: row.trim_ascii(),
+                    ..self
+                };
+                let kept = words.count();
+                if let Err(why) = add_cells(alloc, words, names, row) {
+                    return Err(example.wrong(i, Cut::Whole, why));
+                }
+                example.in_all_ways(alloc, words)?;
+                words.forget(kept);
+            }
+        }
+        Ok(())
+    }
+
+    fn in_all_ways(self, alloc: Global, words: &mut Words) -> Result<(), Wrong<'a>> {
+        let ways = self.value_of("pieces").unwrap_or("whole");
+        for way in ways.split(' ') {
+            self.in_way(alloc, words, way)?;
+        }
+        Ok(())
+    }
+
+    fn in_way(self, alloc: Global, words: &mut Words, way: &str) -> Result<(), Wrong<'a>> {
+        let cut = match way.as_bytes() {
+            b"anywhere" => return self.cut_anywhere(alloc, words),
+            b"pairs" => return self.cut_at_pairs(alloc, words),
+            b"whole" => Cut::Whole,
+            _ => match size(way) {
+                Ok(size) => Cut::Sized(size),
+                Err(why) => return Err(self.wrong(0, Cut::Whole, why)),
+            },
+        };
+        let _ = self.played(alloc, words, cut)?;
+        Ok(())
+    }
+
+    // In two pieces, cut at every place.
+    fn cut_anywhere(self, alloc: Global, words: &mut Words) -> Result<(), Wrong<'a>> {
+        let longest = self.played(alloc, words, Cut::Once(0))?;
+        for first in 0..longest {
+            let _ = self.played(alloc, words, Cut::Once(first.saturating_add(1)))?;
+        }
+        Ok(())
+    }
+
+    // In three pieces, cut at every two places.
+    fn cut_at_pairs(self, alloc: Global, words: &mut Words) -> Result<(), Wrong<'a>> {
+        let longest = self.played(alloc, words, Cut::Twice(0, 0))?;
+        for first in 0..longest {
+            self.cut_again(alloc, words, first, longest.saturating_sub(first))?;
+        }
+        Ok(())
+    }
+
+    fn cut_again(
+        self,
+        alloc: Global,
+        words: &mut Words,
+        first: usize,
+        rest: usize,
+    ) -> Result<(), Wrong<'a>> {
+        for second in 0..rest {
+            let _ = self.played(alloc, words, Cut::Twice(first, second))?;
+        }
+        Ok(())
+    }
+
+    // Plays it on an archive of its own. It tells the longest stream of an exchange. Its texts end with it.
+    fn played(self, alloc: Global, words: &mut Words, cut: Cut) -> Result<usize, Wrong<'a>> {
+        let kept = words.count();
+        let played = self.each_line(alloc, words, cut, 1);
+        words.forget(kept);
+        played
+    }
+
+    fn each_line(
+        self,
+        alloc: Global,
+        words: &mut Words,
+        cut: Cut,
+        skipped: usize,
+    ) -> Result<usize, Wrong<'a>> {
+        let mut play = match Play::new(alloc, cut) {
+            Ok(play) => play,
+            Err(why) => return Err(self.wrong(0, cut, why)),
+        };
+        let mut last = 0usize;
+        for (i, line) in self.lines.lines().enumerate() {
+            if i >= skipped {
+                if let Err(why) = play.line(words, line) {
+                    return Err(self.wrong(i, cut, why));
+                }
+            }
+            last = i;
+        }
+        match play.finish() {
+            Ok(longest) => Ok(longest),
+            Err(why) => Err(self.wrong(last, cut, why)),
+        }
+    }
+
+    fn title(self) -> &'a str {
+        self.lines.lines().next().unwrap_or("")
+    }
+
+    // What stands behind a word, in the first line that begins with it.
+    fn value_of(self, word: &str) -> Option<&'a str> {
+        for line in self.lines.lines().skip(1) {
+            if let Some((first, value)) = line.split_once(' ') {
+                if first == word {
+                    return Some(value);
+                }
+            }
+        }
+        None
+    }
+
+    fn wrong(self, place: usize, cut: Cut, why: Trouble) -> Wrong<'a> {
+        Wrong {
+            example: self,
+            line: self.number.saturating_add(place),
+            cut,
+            why,
+        }
+    }
+}
+
+fn size(text: &str) -> Result<usize, Trouble> {
+    match text.parse::<usize>() {
+        Ok(0) | Err(_) => Err(Trouble::Line("no way to cut has that name")),
+        Ok(size) => Ok(size),
+    }
+}
+
+// Each cell of the row is a text of its own, under the name above it.
+fn add_cells(alloc: Global, words: &mut Words, names: &str, row: &str) -> Result<(), Trouble> {
+    let mut cells = row.split('|');
+    for name in names.split('|') {
+        let Some(cell) = cells.next() else {
+            return Err(Trouble::Line("a cell is missing"));
+        };
+        words.add(alloc, name.trim_ascii(), cell.trim_ascii())?;
+    }
+    match cells.next() {
+        None => Ok(()),
+        Some(_) => Err(Trouble::Line("there is a cell too many")),
+    }
+}

@@ -1,0 +1,158 @@
+//! One exchange: what comes and when, what has to be sent for it, and how the reader and the writer behave.
+
+use crate::cut::Cut;
+use crate::page::Page;
+use crate::settings::number;
+use crate::trouble::{Trouble, came_to, differing};
+use std::alloc::{AllocError, Global};
+
+/// The moment of the published replies.
+const MOMENT: u64 = 1_523_836_800;
+
+/// The reply where there is no memory for another.
+const WANT_OF_MEMORY: &[u8] =
+    b"HTTP/1.1 503 Service Unavailable\r\nContent-Length: 0\r\nConnection: close\r\n\r\n";
+
+/// One exchange.
+#[derive(Drop)]
+pub struct Exchange {
+    pub stream: Vec<u8>,
+    pub want: Vec<u8>,
+    pub cut: Cut,
+    pub moment: u64,
+    pub reader_fails: bool,
+    reads: Option<u64>,
+    at_once: usize,
+    most: usize,
+    is_begun: bool,
+}
+
+impl Exchange {
+    pub fn new(alloc: Global, cut: Cut) -> Exchange {
+        Exchange {
+            stream: Vec::new(alloc),
+            want: Vec::new(alloc),
+            cut,
+            moment: MOMENT,
+            reader_fails: false,
+            reads: None,
+            at_once: usize::MAX,
+            most: usize::MAX,
+            is_begun: false,
+        }
+    }
+
+    /// The next exchange begins, at the same moment.
+    pub fn clear(&mut self) {
+        self.stream.clear();
+        self.want.clear();
+        self.reader_fails = false;
+        self.reads = None;
+        self.at_once = usize::MAX;
+        self.most = usize::MAX;
+        self.is_begun = false;
+    }
+
+    /// A line of it was read, and not its answer yet.
+    pub fn begin(&mut self) {
+        self.is_begun = true;
+    }
+
+    /// No line may stand here without its answer.
+    pub fn is_answered(&self) -> Result<(), Trouble> {
+        if self.is_begun {
+            return Err(Trouble::Line("no word says what the exchange before comes to"));
+        }
+        Ok(())
+    }
+
+    /// Sets a part of it.
+    pub fn set(&mut self, name: &str, value: &str) -> Result<(), Trouble> {
+        self.begin();
+        if name == "reader-fails" {
+            self.reader_fails = true;
+            return blank(value);
+        }
+        let value = number(value)?;
+        match name.as_bytes() {
+            b"reads" => self.reads = Some(value),
+            b"writer-takes" => self.at_once = size(value)?,
+            b"writer-fails-after" => self.most = size(value)?,
+            _ => return Err(Trouble::Line("no line of an example begins so")),
+        }
+        Ok(())
+    }
+
+    /// A page as the exchange's writer has it.
+    pub fn page(&self, alloc: Global) -> Result<Page, AllocError> {
+        Page::new(alloc, self.at_once, self.most)
+    }
+
+    /// So many reads have to be made.
+    pub fn has_read(&self, count: u64) -> Result<(), Trouble> {
+        match self.reads {
+            Some(reads) if reads != count => Err(Trouble::Line("another number of reads was made")),
+            _ => Ok(()),
+        }
+    }
+
+    /// Just the bytes that are wanted have to be sent, and it has to come to this.
+    pub fn has_come(
+        &self,
+        alloc: Global,
+        sent: &[u8],
+        came: &str,
+        answer: &str,
+    ) -> Result<(), Trouble> {
+        let want = self.want.as_slice();
+        if want == sent && came == answer {
+            return Ok(());
+        }
+        if self.is_given_up(sent, came) {
+            return Err(Trouble::Memory);
+        }
+        if want != sent {
+            return Err(differing(alloc, want, sent)?);
+        }
+        Err(came_to(alloc, answer, came)?)
+    }
+
+    // Whether the connection was given up for want of memory: behind whole replies the one that says so, or a reply
+    // that is cut though its writer doesn't fail.
+    fn is_given_up(&self, sent: &[u8], came: &str) -> bool {
+        match came.as_bytes() {
+            b"unserved" => sent.is_empty(),
+            b"closed" | b"served" => match sent.strip_suffix(WANT_OF_MEMORY) {
+                Some(front) => self.want.as_slice().starts_with(front),
+                None => false,
+            },
+            b"cut" | b"write-fault" => self.cut_front().starts_with(sent),
+            _ => false,
+        }
+    }
+
+    // What may stand in front of a cut.
+    fn cut_front(&self) -> &[u8] {
+        if self.most == usize::MAX {
+            self.want.as_slice()
+        } else {
+            WANT_OF_MEMORY
+        }
+    }
+}
+
+fn size(value: u64) -> Result<usize, Trouble> {
+    match usize::try_from(value) {
+        Ok(size) => Ok(size),
+        Err(_) => Err(Trouble::Line("a size is wanted")),
+    }
+}
+
+/// Nothing may stand here.
+pub fn blank(text: &str) -> Result<(), Trouble> {
+    if text.is_empty() {
+        Ok(())
+    } else {
+        Err(Trouble::Line("there is a word too many"))
+    }
+}

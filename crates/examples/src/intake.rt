@@ -1,0 +1,73 @@
+//! An intake by itself, whose steps are told as lines.
+
+use crate::exchange::Exchange;
+use crate::page::Page;
+use crate::server::word_of;
+use crate::trouble::Trouble;
+use dep_message::{Intake, Message, Step, closes, is_without_body};
+use dep_server::Arrived;
+use std::alloc::AllocError;
+
+/// The pieces come one after another, and each step that the intake gives is a line on the page.
+pub fn takes(
+    intake: &mut Intake,
+    exchange: &Exchange,
+    page: &mut Page,
+) -> Result<&'static str, Trouble> {
+    let mut came = Arrived::Open;
+    for piece in exchange.cut.pieces(exchange.stream.as_slice()) {
+        feed(intake, piece)?;
+        came = steps(intake, page)?;
+    }
+    Ok(word_of(came))
+}
+
+// A call that fails changes nothing, so it may be made again.
+fn feed(intake: &mut Intake, piece: &[u8]) -> Result<(), AllocError> {
+    match intake.feed(piece) {
+        Ok(()) => Ok(()),
+        Err(_) => intake.feed(piece),
+    }
+}
+
+fn next(intake: &mut Intake) -> Result<Step, AllocError> {
+    match intake.next() {
+        Ok(step) => Ok(step),
+        Err(_) => intake.next(),
+    }
+}
+
+fn steps(intake: &mut Intake, page: &mut Page) -> Result<Arrived, Trouble> {
+    for _ in 0..u64::MAX {
+        match next(intake)? {
+            Step::NeedMore => return Ok(Arrived::Open),
+            Step::Dead => return Ok(Arrived::Closed),
+            Step::Continue100 => page.tell(&[b"continue"])?,
+            Step::Message(message) => tell_message(&message, page)?,
+            Step::Refused(refusal, bare) => {
+                let bare = if bare { " without-body" } else { "" };
+                page.tell(&[b"refused ", refusal.name().as_bytes(), bare.as_bytes()])?;
+            }
+        }
+    }
+    Err(Trouble::Line("the intake comes to no end"))
+}
+
+fn tell_message(message: &Message, page: &mut Page) -> Result<(), AllocError> {
+    let head = &message.head;
+    let closing = if closes(head) { " closing" } else { "" };
+    let bare = if is_without_body(head) {
+        " without-body"
+    } else {
+        ""
+    };
+    page.tell(&[
+        head.method(),
+        b" ",
+        head.path(),
+        closing.as_bytes(),
+        bare.as_bytes(),
+        b": ",
+        message.content.as_slice(),
+    ])
+}

@@ -1,0 +1,125 @@
+//! The fields of SWORD, and the tags of If-Match.
+
+use crate::leaf::digests::tell_promised;
+use crate::page::Page;
+use crate::trouble::Trouble;
+use dep_fields::{Field, IfMatch, Kind, Octets, SwordFields};
+use dep_fixity::DigestList;
+use dep_head::{Head, HeadFault, read_head};
+use dep_types::Text;
+use std::alloc::{AllocError, Global};
+
+/// What the field lines of a request tell: a line for each field that is there.
+pub fn tell_fields(alloc: Global, lines: &[u8], page: &mut Page) -> Result<(), Trouble> {
+    let head = head_with(alloc, lines)?;
+    let fields = SwordFields::read(alloc, &head)?;
+    tell_text(b"On-Behalf-Of", &fields.on_behalf_of, page)?;
+    tell_disposition(alloc, &fields.disposition, page)?;
+    tell_progress(&fields.in_progress, page)?;
+    tell_octets(b"Packaging", &fields.packaging, page)?;
+    tell_octets(b"Metadata-Format", &fields.metadata_format, page)?;
+    tell_text(b"Content-Type", &fields.content_type, page)?;
+    tell_octets(b"Content-Encoding", &fields.content_encoding, page)?;
+    Ok(tell_digest(&fields.digest, page)?)
+}
+
+/// Whether the If-Match lines of a request hold of this tag.
+pub fn tell_if_match(
+    alloc: Global,
+    lines: &[u8],
+    tag: u64,
+    page: &mut Page,
+) -> Result<(), Trouble> {
+    let head = head_with(alloc, lines)?;
+    let Some(tags) = IfMatch::read(alloc, &head)? else {
+        return Ok(page.tell(&[b"absent"])?);
+    };
+    let told: &[u8] = if tags.holds(tag) {
+        b"holds"
+    } else {
+        b"does not hold"
+    };
+    Ok(page.tell(&[told])?)
+}
+
+// The head of a request with these field lines.
+fn head_with(alloc: Global, lines: &[u8]) -> Result<Head, Trouble> {
+    let start: &[u8] = b"POST /service HTTP/1.1\r\nHost: a\r\n";
+    let text = [start, lines, b"\r\n"].concat(alloc)?;
+    match read_head(alloc, text.as_slice()) {
+        Ok(head) => Ok(head),
+        Err(HeadFault::Memory) => Err(Trouble::Memory),
+        Err(HeadFault::NotAHead) => Err(Trouble::Line("no head has these fields")),
+    }
+}
+
+fn tell(name: &[u8], field: Field<&[u8]>, page: &mut Page) -> Result<(), AllocError> {
+    match field {
+        Field::Absent => Ok(()),
+        Field::Bad => page.tell(&[name, b" bad"]),
+        Field::Value(value) => page.tell(&[name, b": ", value]),
+    }
+}
+
+fn tell_text(name: &[u8], field: &Field<Text>, page: &mut Page) -> Result<(), AllocError> {
+    match field {
+        Field::Absent => Ok(()),
+        Field::Bad => tell(name, Field::Bad, page),
+        Field::Value(text) => tell(name, Field::Value(text.as_str().as_bytes()), page),
+    }
+}
+
+fn tell_octets(name: &[u8], field: &Field<Octets>, page: &mut Page) -> Result<(), AllocError> {
+    match field {
+        Field::Absent => Ok(()),
+        Field::Bad => tell(name, Field::Bad, page),
+        Field::Value(octets) => tell(name, Field::Value(octets.as_slice()), page),
+    }
+}
+
+fn tell_progress(field: &Field<bool>, page: &mut Page) -> Result<(), AllocError> {
+    let told: Field<&[u8]> = match field {
+        Field::Absent => Field::Absent,
+        Field::Bad => Field::Bad,
+        Field::Value(true) => Field::Value(b"true"),
+        Field::Value(false) => Field::Value(b"false"),
+    };
+    tell(b"In-Progress", told, page)
+}
+
+fn tell_digest(field: &Field<DigestList>, page: &mut Page) -> Result<(), AllocError> {
+    match field {
+        Field::Absent => Ok(()),
+        Field::Bad => tell(b"Digest", Field::Bad, page),
+        Field::Value(promised) => {
+            page.tell(&[b"Digest:"])?;
+            tell_promised(promised.sha256, page)
+        }
+    }
+}
+
+fn tell_disposition(alloc: Global, field: &Field<Kind>, page: &mut Page) -> Result<(), AllocError> {
+    match field {
+        Field::Absent => Ok(()),
+        Field::Bad => tell(b"Content-Disposition", Field::Bad, page),
+        Field::Value(kind) => tell_kind(alloc, kind, page),
+    }
+}
+
+fn tell_kind(alloc: Global, kind: &Kind, page: &mut Page) -> Result<(), AllocError> {
+    match kind {
+        Kind::File(name) => page.tell(&[b"file ", name.as_str().as_bytes()]),
+        Kind::Metadata => page.tell(&[b"metadata"]),
+        Kind::References => page.tell(&[b"references"]),
+        Kind::Segment(number) => {
+            let text = format!(in alloc; "segment {number}")?;
+            page.tell(&[text.as_bytes()])
+        }
+        Kind::Opening(opening) => {
+            let (size, count, segment) = (opening.size, opening.count, opening.segment_size);
+            let text = format!(in alloc; "opening {size} {count} {segment}")?;
+            page.tell(&[text.as_bytes()])?;
+            tell_promised(opening.digest.sha256, page)
+        }
+    }
+}

@@ -1,0 +1,54 @@
+//! Plays the examples of the files that its arguments name, and tells of each file whether all is as it is written.
+//! docs/EXAMPLES.md explains the files.
+#![tactic(auto)]
+
+mod cut;
+mod escapes;
+mod example;
+mod exchange;
+mod file;
+mod intake;
+mod leaf;
+mod page;
+mod play;
+mod server;
+mod settings;
+mod side;
+mod source;
+mod trouble;
+mod verdict;
+mod words;
+
+use crate::file::play_file;
+use crate::verdict::Verdict;
+use crate::words::Words;
+use std::process::ExitCode;
+use std::{env, fs, io};
+
+fn main(rt: HostRuntime) -> io::Result<ExitCode> {
+    let Ok(mut names) = env::args(&rt) else {
+        return Ok(Verdict::Unknown.status());
+    };
+    let _program = names.next();
+    let Some(first) = names.next() else {
+        println!(rt; "usage: examples FILE..")?;
+        return Ok(Verdict::Otherwise.status());
+    };
+    let mut words = Words::new(rt.alloc());
+    let mut verdict = played(&rt, &mut words, first.as_str())?;
+    for name in names {
+        verdict = verdict.and(played(&rt, &mut words, name.as_str())?);
+    }
+    Ok(verdict.status())
+}
+
+// Plays a file, and tells what came of it.
+fn played(rt: &HostRuntime, words: &mut Words, name: &str) -> io::Result<Verdict> {
+    match fs::read_to_string(rt, name) {
+        Ok(text) => play_file(rt, rt.alloc(), words, name, text.as_str()),
+        Err(error) => {
+            println!(rt; "{name}: {error}")?;
+            Ok(Verdict::of(&error))
+        }
+    }
+}

@@ -1,0 +1,146 @@
+//! A hub and its connections.
+
+use crate::exchange::Exchange;
+use crate::page::Page;
+use crate::source::Source;
+use crate::trouble::Trouble;
+use dep_moment::Moment;
+use dep_server::{Arrived, ConnId, ConnectFault, Hub, HubFault, Served, Store, serve_connection};
+use dep_types::{Config, Through};
+use std::alloc::Global;
+
+/// A hub and its connections, which have the numbers 1, 2 and so on.
+#[derive(Drop)]
+pub struct Server {
+    hub: Hub,
+    connections: Vec<ConnId>,
+    current: ConnId,
+}
+
+impl Server {
+    /// Over this archive, with connection 1.
+    pub fn open(alloc: Global, config: Config, store: Store) -> Result<Server, Trouble> {
+        let mut hub = match Hub::new(alloc, config, store) {
+            Ok(hub) => hub,
+            Err((HubFault::Memory, _)) => return Err(Trouble::Memory),
+            Err((HubFault::Config, _)) => return Err(Trouble::Line("the configuration is refused")),
+        };
+        let current = connected(&mut hub)?;
+        Ok(Server {
+            hub,
+            connections: [current].to_vec(alloc)?,
+            current,
+        })
+    }
+
+    /// Does what a line asks of the connections.
+    pub fn commanded(&mut self, word: &str, number: u64) -> Result<(), Trouble> {
+        match word.as_bytes() {
+            b"connection" => self.turn(number),
+            b"close" => {
+                let connection = self.numbered(number)?;
+                self.hub.close(connection);
+                Ok(())
+            }
+            _ => self.crowd(number),
+        }
+    }
+
+    // Goes on at a connection, which is opened where it is the next one.
+    fn turn(&mut self, number: u64) -> Result<(), Trouble> {
+        if number.checked_sub(1) == Some(self.connections.len() as u64) {
+            let connection = connected(&mut self.hub)?;
+            self.connections.extend_from_slice(&[connection])?;
+        }
+        self.current = self.numbered(number)?;
+        Ok(())
+    }
+
+    fn numbered(&self, number: u64) -> Result<ConnId, Trouble> {
+        match self.connections.get((number as usize).wrapping_sub(1)) {
+            Some(connection) => Ok(*connection),
+            None => Err(Trouble::Line("no connection has that number")),
+        }
+    }
+
+    // Opens so many connections without a number.
+    fn crowd(&mut self, count: u64) -> Result<(), Trouble> {
+        for _ in 0..count {
+            let _ = connected(&mut self.hub)?;
+        }
+        Ok(())
+    }
+
+    /// There is room for no connection.
+    pub fn is_full(&mut self) -> Result<(), Trouble> {
+        match self.hub.connect() {
+            Err(ConnectFault::Full) => Ok(()),
+            Err(ConnectFault::Memory) => Err(Trouble::Memory),
+            Ok(_) => Err(Trouble::Line("a connection is opened")),
+        }
+    }
+
+    /// What the hub leaves.
+    pub fn into_store(self) -> Store {
+        self.hub.into_store()
+    }
+
+    /// The pieces of an exchange arrive, one after another. It tells what the last one came to.
+    pub fn arrives(&mut self, exchange: &Exchange, page: &mut Page) -> &'static str {
+        let mut out = Through::new(page);
+        let mut came = Arrived::Open;
+        for piece in exchange.cut.pieces(exchange.stream.as_slice()) {
+            came = self.hub.arrive(self.current, piece, Moment::new(exchange.moment), &mut out);
+        }
+        word_of(came)
+    }
+
+    /// A connection of its own is served.
+    pub fn serves(
+        &mut self,
+        alloc: Global,
+        exchange: &Exchange,
+        page: &mut Page,
+    ) -> Result<&'static str, Trouble> {
+        let mut source = Source::of(exchange);
+        let mut out = Through::new(page);
+        let moment = Moment::new(exchange.moment);
+        let served = serve_connection(alloc, &mut source, &mut out, &mut self.hub, || moment);
+        exchange.has_read(source.reads())?;
+        Ok(match served {
+            Served::Ended => "ended",
+            Served::Closed => "served",
+            Served::ReadFault => "read-fault",
+            Served::WriteFault => "write-fault",
+            Served::Unserved => "unserved",
+            Served::Bound => "bound",
+        })
+    }
+}
+
+/// What a piece came to, in the word of the files.
+pub fn word_of(came: Arrived) -> &'static str {
+    match came {
+        Arrived::Open => "open",
+        Arrived::Closed => "closed",
+        Arrived::Cut => "cut",
+        Arrived::NoSuch => "gone",
+    }
+}
+
+/// The archive, which no hub takes by this configuration.
+pub fn refused(alloc: Global, config: Config, store: Store) -> Result<Store, Trouble> {
+    match Hub::new(alloc, config, store) {
+        Ok(_) => Err(Trouble::Line("the configuration is accepted")),
+        Err((HubFault::Memory, _)) => Err(Trouble::Memory),
+        Err((HubFault::Config, store)) => Ok(store),
+    }
+}
+
+fn connected(hub: &mut Hub) -> Result<ConnId, Trouble> {
+    match hub.connect() {
+        Ok(connection) => Ok(connection),
+        Err(ConnectFault::Memory) => Err(Trouble::Memory),
+        Err(ConnectFault::Full) => Err(Trouble::Line("there is no room for a connection")),
+    }
+}

@@ -1,0 +1,124 @@
+//! The configuration of an example, and the numbers that its archive gives next.
+
+use crate::trouble::Trouble;
+use dep_server::Store;
+use dep_types::{
+    Config, Counters, GREATEST_MAX_ASSEMBLED, GREATEST_MAX_SEGMENTS, GREATEST_MAX_UPLOAD, Text,
+};
+use std::alloc::{AllocError, Global};
+
+/// The configuration of an example, and the numbers that its archive gives next.
+#[derive(Drop)]
+pub struct Settings {
+    config: Config,
+    next: Counters,
+}
+
+impl Settings {
+    /// Those of the program `swordd`, and an archive that is new.
+    pub fn new(alloc: Global) -> Result<Settings, AllocError> {
+        Ok(Settings {
+            config: Config {
+                base: Text::copied(alloc, "http://127.0.0.1:8080")?,
+                title: Text::copied(alloc, "swordd")?,
+                abstract_text: Text::copied(alloc, "Deposit service")?,
+                depositor: Text::copied(alloc, "depositor")?,
+                on_behalf_of: false,
+                require_if_match: false,
+                max_upload: GREATEST_MAX_UPLOAD,
+                max_assembled: GREATEST_MAX_ASSEMBLED,
+                max_segments: GREATEST_MAX_SEGMENTS,
+                staging_max_idle: 3_600,
+            },
+            next: Counters {
+                object: 1,
+                file: 1,
+                upload: 1,
+                change: 1,
+            },
+        })
+    }
+
+    /// A copy of the configuration.
+    pub fn config(&self, alloc: Global) -> Result<Config, AllocError> {
+        let config = &self.config;
+        Ok(Config {
+            base: Text::copied(alloc, config.base.as_str())?,
+            title: Text::copied(alloc, config.title.as_str())?,
+            abstract_text: Text::copied(alloc, config.abstract_text.as_str())?,
+            depositor: Text::copied(alloc, config.depositor.as_str())?,
+            on_behalf_of: config.on_behalf_of,
+            require_if_match: config.require_if_match,
+            max_upload: config.max_upload,
+            max_assembled: config.max_assembled,
+            max_segments: config.max_segments,
+            staging_max_idle: config.staging_max_idle,
+        })
+    }
+
+    /// The greatest content, in bytes.
+    pub fn max_upload(&self) -> u64 {
+        self.config.max_upload
+    }
+
+    /// A new archive that gives the numbers next.
+    pub fn store(&self, alloc: Global) -> Store {
+        Store::numbered(alloc, self.next)
+    }
+
+    /// Sets a part of the configuration, by a line `NAME VALUE`.
+    pub fn configure(&mut self, alloc: Global, line: &str) -> Result<(), Trouble> {
+        let (name, value) = line.split_once(' ').unwrap_or((line, ""));
+        match name.as_bytes() {
+            b"base" => self.config.base = Text::copied(alloc, value)?,
+            b"title" => self.config.title = Text::copied(alloc, value)?,
+            b"abstract" => self.config.abstract_text = Text::copied(alloc, value)?,
+            b"depositor" => self.config.depositor = Text::copied(alloc, value)?,
+            b"on-behalf-of" => self.config.on_behalf_of = truth(value)?,
+            b"require-if-match" => self.config.require_if_match = truth(value)?,
+            _ => return self.limit(name, number(value)?),
+        }
+        Ok(())
+    }
+
+    fn limit(&mut self, name: &str, value: u64) -> Result<(), Trouble> {
+        match name.as_bytes() {
+            b"max-upload" => self.config.max_upload = value,
+            b"max-assembled" => self.config.max_assembled = value,
+            b"max-segments" => self.config.max_segments = value,
+            b"staging-max-idle" => self.config.staging_max_idle = value,
+            _ => return Err(Trouble::Line("no part of the configuration has that name")),
+        }
+        Ok(())
+    }
+
+    /// Sets the next number of a kind, by a line `KIND NUMBER`.
+    pub fn number_next(&mut self, line: &str) -> Result<(), Trouble> {
+        let (kind, value) = line.split_once(' ').unwrap_or((line, ""));
+        let value = number(value)?;
+        match kind.as_bytes() {
+            b"object" => self.next.object = value,
+            b"file" => self.next.file = value,
+            b"upload" => self.next.upload = value,
+            b"change" => self.next.change = value,
+            _ => return Err(Trouble::Line("no kind of numbers has that name")),
+        }
+        Ok(())
+    }
+}
+
+/// A number in decimal digits.
+pub fn number(text: &str) -> Result<u64, Trouble> {
+    match text.parse::<u64>() {
+        Ok(number) => Ok(number),
+        Err(_) => Err(Trouble::Line("a number is wanted")),
+    }
+}
+
+fn truth(text: &str) -> Result<bool, Trouble> {
+    match text.as_bytes() {
+        b"true" => Ok(true),
+        b"false" => Ok(false),
+        _ => Err(Trouble::Line("true or false is wanted")),
+    }
+}
