@@ -4,6 +4,7 @@ use Rattle.dep_types.specs.State.{State}
 use Rattle.dep_types.specs.declared.config.Config.{Config}
 use Rattle.dep_message.specs.Places.{Place}
 use Rattle.dep_message.specs.Stream.{Item}
+use Rattle.dep_store.specs.Steps.{sent_by}
 use Rattle.dep_server.specs.Machine.{step, replies, state_after, Serves}
 use Rattle.dep_server.specs.Records.{Event, Record, Line, World, Run, Happens, Arrives}
 use Rattle.dep_server.specs.Calm.{Step, steps_of, CalmServes, all_served, CalmArrives, live, ended, Calm, connect, close, arrive, none, CalmRun, nothing, more, number_of, sent_to, only}
@@ -27,14 +28,14 @@ state_by_both config s (t ∷ a) b = state_by_both config (step config s t.item 
 -- what the steps send to one connection
 pub to_by : ℕ → Config → State → List Step → List ℕ
 to_by n config s [] = []
-to_by n config s (t ∷ steps) = (only (t.number == n) (step config s t.item t.moment).sent) ++ to_by n config (step config s t.item t.moment).state steps
+to_by n config s (t ∷ steps) = (only (t.number == n) (sent_by (step config s t.item t.moment))) ++ to_by n config (step config s t.item t.moment).state steps
 
 to_by_both : (n : ℕ) (config : Config) (s : State) (a b : List Step) → to_by n config s (a ++ b) ≡ to_by n config s a ++ to_by n config (state_by config s a) b
 unfolding to_by state_by
 to_by_both n config s [] b = refl
 to_by_both n config s (t ∷ a) b =
-    ap (λ l. (only (t.number == n) (step config s t.item t.moment).sent) ++ l) (to_by_both n config (step config s t.item t.moment).state a b)
-    ∙ sym (append_assoc (only (t.number == n) (step config s t.item t.moment).sent) (to_by n config (step config s t.item t.moment).state a) (to_by n config (state_by config (step config s t.item t.moment).state a) b))
+    ap (λ l. (only (t.number == n) (sent_by (step config s t.item t.moment))) ++ l) (to_by_both n config (step config s t.item t.moment).state a b)
+    ∙ sym (append_assoc (only (t.number == n) (sent_by (step config s t.item t.moment))) (to_by n config (step config s t.item t.moment).state a) (to_by n config (state_by config (step config s t.item t.moment).state a) b))
 
 if_both : (b : Bool) (x y : List ℕ) → only b x ++ only b y ≡ only b (x ++ y)
 if_both true x y = refl
@@ -48,8 +49,8 @@ to_by_items : (n m : ℕ) (config : Config) (s : State) (moment : ℕ) (items : 
 unfolding to_by state_by
 to_by_items n m config s moment [] = if_nil (m == n)
 to_by_items n m config s moment (i ∷ items) =
-    ap (λ l. (only (m == n) (step config s i moment).sent) ++ l) (to_by_items n m config (step config s i moment).state moment items)
-    ∙ if_both (m == n) (step config s i moment).sent (replies config (step config s i moment).state items moment)
+    ap (λ l. (only (m == n) (sent_by (step config s i moment))) ++ l) (to_by_items n m config (step config s i moment).state moment items)
+    ∙ if_both (m == n) (sent_by (step config s i moment)) (replies config (step config s i moment).state items moment)
 
 to_more : (n : ℕ) (records : List Record) (r : Record) → sent_to n (records ++ r ∷ []) ≡ sent_to n records ++ (only (number_of r.event == n) r.sent)
 to_more n [] r = append-nil (only (number_of r.event == n) r.sent)

@@ -1,6 +1,3 @@
-pub mod Ticks
-pub mod SegmentLemmas
-pub mod StoreLemmas
 pub mod ServingLemmas
 pub mod CalmLemmas
 pub mod StreamLemmas
@@ -8,8 +5,7 @@ pub mod ConnectionLemmas
 pub mod HubLemmas
 pub mod TalkLemmas
 pub mod SendingLemmas
-pub mod PerformLemmas
-pub mod FileFieldLemmas
 pub mod SoundLemmas
 pub mod RunSound
 pub mod BareLemmas
+pub mod StepLemmas

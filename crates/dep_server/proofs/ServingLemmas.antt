@@ -7,6 +7,7 @@ use Rattle.dep_types.specs.declared.config.Config.{Config}
 use Rattle.dep_types.specs.Writing.{IsProperPrefix, HasRisen}
 use Rattle.dep_message.specs.Places.{Place, Open, Shut, IsOpen, HasBytes, Reading, more}
 use Rattle.dep_message.specs.Stream.{Item, Fault, FirstAt, Reads, Waits}
+use Rattle.dep_store.specs.Steps.{sent_by}
 use Rattle.dep_server.specs.Machine.{ticked, step, replies, state_after, Fails, given_up, cut_short, serves_all, step_fails, gives_up, SendsUpTo, all, cut, want_of_memory, answer_at_place}
 use Rattle.dep_server.specs.Sending.{IsSentUpTo, SendsOver, SendsReply}
 use Rattle.std.proofs.Common.{inl, inr, Bool}
@@ -20,11 +21,11 @@ use Rattle.dep_message.proofs.Reading.{reads_one}
 
 -- what is sent for one item more
 pub replies_more : (config : Config) (s : State) (items : List Item) (item : Item) (moment : ℕ)
-    → replies config s (items ++ item ∷ []) moment ≡ replies config s items moment ++ (step config (state_after config s items moment) item moment).sent
-replies_more config s [] item moment = append-nil (step config s item moment).sent
+    → replies config s (items ++ item ∷ []) moment ≡ replies config s items moment ++ sent_by (step config (state_after config s items moment) item moment)
+replies_more config s [] item moment = append-nil (sent_by (step config s item moment))
 replies_more config s (x ∷ items) item moment =
-    ap (λ bytes. (step config s x moment).sent ++ bytes) (replies_more config (step config s x moment).state items item moment)
-    ∙ sym (append_assoc (step config s x moment).sent (replies config (step config s x moment).state items moment) (step config (state_after config (step config s x moment).state items moment) item moment).sent)
+    ap (λ bytes. sent_by (step config s x moment) ++ bytes) (replies_more config (step config s x moment).state items item moment)
+    ∙ sym (append_assoc (sent_by (step config s x moment)) (replies config (step config s x moment).state items moment) (sent_by (step config (state_after config (step config s x moment).state items moment) item moment)))
 
 -- the state after one item more
 pub state_after_more : (config : Config) (s : State) (items : List Item) (item : Item) (moment : ℕ)
@@ -54,7 +55,7 @@ served_more {config} {limit} {start} {at} {next} {s} {now} {left} {moment} {held
     record {
       items = v.items ++ item ∷ [];
       sent = subst (λ bytes. Appends held then bytes)
-          (ap (λ bytes. replies config s v.items moment ++ bytes) (a.2.0 ∙ ap (λ t. (step config t item moment).sent) v.state) ∙ sym (replies_more config s v.items item moment))
+          (ap (λ bytes. replies config s v.items moment ++ bytes) (a.2.0 ∙ ap (λ t. sent_by (step config t item moment)) v.state) ∙ sym (replies_more config s v.items item moment))
           (appends_both held holds then (replies config s v.items moment) a.0 v.sent a.1);
       reads = reads_one limit v.items item start at next v.reads f;
       state = a.2.1 ∙ (ap (λ t. (step config t item moment).state) v.state ∙ sym (state_after_more config s v.items item moment));
@@ -75,7 +76,7 @@ answers_fixed config held holds s left item moment CutShort e a = (a.0, a.1, giv
 
 -- an item's own reply
 pub answers_reply : (config : Config) (held holds : Option (List ℕ)) (s left : State) (item : Item) (moment : ℕ) (answer : Answered) (whole : List ℕ)
-    → left ≡ (step config s item moment).state → whole ≡ (step config s item moment).sent → SendsReply held holds whole answer → Answers config held holds s item moment left answer
+    → left ≡ (step config s item moment).state → whole ≡ sent_by (step config s item moment) → SendsReply held holds whole answer → Answers config held holds s item moment left answer
 answers_reply config held holds s left item moment Sent whole e f a = (a.0, a.1, (a.2 ∙ f, e))
 answers_reply config held holds s left item moment GaveUp whole e f a = absurd a.2
 answers_reply config held holds s left item moment CutShort whole e f a = (a.0, a.1, cut_short (subst (λ (bytes : List ℕ). IsProperPrefix a.0 bytes) f a.2) e)

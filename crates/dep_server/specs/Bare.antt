@@ -1,7 +1,7 @@
 -- Replies without a body (RFC 9110, section 9.3.2).
 use Rattle.std.specs.Prelude.{◌≡◌, ℕ, List, ◌++◌, length, Some}
 use Rattle.dep_reply.specs.Head.{ReplyHead, head_text}
-use Rattle.dep_server.specs.Machine.{Stepped}
+use Rattle.dep_store.specs.Steps.{Stepped, sent_by}
 use Rattle.dep_message.specs.declared.message.Message.{Message}
 
 -- the same request by another method
@@ -15,5 +15,5 @@ pub record IsWithoutBody (whole bare : Stepped) : Type 0 where
   pub head : ReplyHead
   pub body : List ℕ
   pub told : head.content_length ≡ Some (length body)
-  pub with_body : whole.sent ≡ head_text head ++ body
-  pub head_alone : bare.sent ≡ head_text head
+  pub with_body : sent_by whole ≡ head_text head ++ body
+  pub head_alone : sent_by bare ≡ head_text head

@@ -1,8 +1,4 @@
 pub mod Targets
-pub mod FileFields
-pub mod Operations
-pub mod Answers
-pub mod Replies
 pub mod Machine
 pub mod Bare
 pub mod Records
@@ -14,7 +10,3 @@ pub mod Conversation
 pub mod Serving
 pub mod Sending
 pub mod Numbers
-pub mod Code
-pub mod Kept
-pub mod Rulings
-pub mod Performing

@@ -1,9 +1,8 @@
 -- The deposit machine: what one item of a stream does to the state, and what is sent for it.
-use Rattle.std.specs.Prelude.{◌≡◌, ◌⊎◌, ℕ, Bool, true, false, List, [], ◌∷◌, ◌++◌, Option, Some, None, codes}
+use Rattle.std.specs.Prelude.{◌≡◌, ◌⊎◌, ℕ, true, false, List, [], ◌∷◌, ◌++◌, Some, None, codes}
 use Rattle.dep_types.specs.State.{State, tick}
 use Rattle.dep_types.specs.Writing.{IsProperPrefix}
 use Rattle.dep_types.specs.declared.config.Config.{Config}
-use Rattle.dep_types.specs.declared.refusal.Refusal.{Refusal}
 use Rattle.dep_types.specs.declared.refusal.Refusal.TheVariants as why
 use Rattle.dep_types.specs.declared.target.Target.{Target}
 use Rattle.dep_server.specs.declared.routing.Routed.{Routed}
@@ -13,38 +12,27 @@ use Rattle.dep_message.specs.Places.{Place, Open, Shut, HasBytes}
 use Rattle.dep_message.specs.Heads.{is_bare, closes}
 use Rattle.dep_message.specs.Stream.{Item, Fault, Continue, Request, Waits}
 use Rattle.dep_server.specs.Targets.{target, allow_text}
-use Rattle.dep_server.specs.Replies.{spelled, accepted_answer, refused_answer}
-use Rattle.dep_server.specs.Operations.{operation_of, refusal, effect}
+use Rattle.dep_operations.specs.Fields.{fields_of}
+use Rattle.dep_operations.specs.declared.operation.Operation.{Operation}
+use Rattle.dep_store.specs.Steps.{Stepped, sent_by, refused_step, operation_step}
 use Rattle.dep_server.specs.declared.arrived.Arrived.{Arrived}
 use Rattle.dep_server.specs.declared.arrived.Arrived.TheVariants.{Open as StaysOpen, Closed, Cut}
 
--- what a step leaves, sends, and whether it closes the connection
-pub record Stepped : Type 0 where
-  pub state : State
-  pub sent : List ℕ
-  pub closes : Bool
-
--- the reply to a fault at a clock, after which the connection is closed
-abbrev pub fault_reply : (clock : ℕ) → Refusal → (bare : Bool) → List ℕ
-fault_reply clock refusal bare = spelled (refused_answer clock refusal None) clock bare true
-
--- a refused message leaves the state
-abbrev pub turned_down : State → Message → Refusal → (allow : Option (List ℕ)) → Stepped
-turned_down s m r allow = record { state = s; sent = spelled (refused_answer s.clock r allow) s.clock (is_bare m.head) (closes m.head); closes = closes m.head }
-
--- an accepted message is answered at the state that its effect leaves
-abbrev pub done : Config → State → Message → Target → State → Stepped
-done config s m t after = record { state = after; sent = spelled (accepted_answer config after (operation_of m.head t)) s.clock (is_bare m.head) (closes m.head); closes = closes m.head }
-
-abbrev pub ruled : Config → State → Message → Target → Option Refusal → Stepped
-ruled config s m t None = done config s m t (effect s (operation_of m.head t) m.content)
-ruled config s m t (Some r) = turned_down s m r None
+-- the request that a message is, where its path names this resource and the resource has this method
+abbrev pub operation_of : Message → Target → Operation
+operation_of m t = record {
+  target = t;
+  fields = fields_of m.head.fields;
+  content = m.content;
+  closes = closes m.head;
+}
 
 -- no such resource comes before no such method, and both before the rules
-abbrev pub routed : Config → State → Message → Routed → Stepped
-routed config s m NotFound = turned_down s m why.NotFound None
-routed config s m (NotAllowed resource) = turned_down s m why.MethodNotAllowed (Some (allow_text resource))
-routed config s m (To t) = ruled config s m t (refusal s (operation_of m.head t))
+abbrev pub routed_step : Config → State → Message → Routed → Stepped
+routed_step config s m NotFound = refused_step s why.NotFound None (is_bare m.head) (closes m.head)
+routed_step config s m (NotAllowed resource) =
+    refused_step s why.MethodNotAllowed (Some (allow_text resource)) (is_bare m.head) (closes m.head)
+routed_step config s m (To t) = operation_step config s (operation_of m t)
 
 -- what tells a client to send the body (RFC 9110, section 15.2.1)
 abbrev pub continue_line : List ℕ
@@ -58,10 +46,9 @@ ticked config s (Request m) moment = tick config s moment
 
 -- one step at a moment: the tick, and then what the item asks for
 unfoldable pub step : Config → State → Item → ℕ → Stepped
-step config s (Fault r bare) moment =
-    record { state = tick config s moment; sent = fault_reply (tick config s moment).clock r bare; closes = true }
-step config s Continue moment = record { state = s; sent = continue_line; closes = false }
-step config s (Request m) moment = routed config (tick config s moment) m (target m.head.method m.head.path)
+step config s (Fault r bare) moment = refused_step (tick config s moment) r None bare true
+step config s Continue moment = record { state = s; front = continue_line; stored = []; closes = false }
+step config s (Request m) moment = routed_step config (tick config s moment) m (target m.head.method m.head.path)
 
 -- the state after these items, one step each
 abbrev pub state_after : Config → State → List Item → ℕ → State
@@ -71,7 +58,8 @@ state_after config s (item ∷ items) moment = state_after config (step config s
 -- what is sent for them
 abbrev pub replies : Config → State → List Item → ℕ → List ℕ
 replies config s [] moment = []
-replies config s (item ∷ items) moment = (step config s item moment).sent ++ replies config (step config s item moment).state items moment
+replies config s (item ∷ items) moment =
+    sent_by (step config s item moment) ++ replies config (step config s item moment).state items moment
 
 -- the replies in place of a step's own (RFC 9110, sections 15.6.4 and 15.6.1)
 abbrev pub want_of_memory : List ℕ
@@ -94,7 +82,7 @@ pub data Fails (config : Config) (s : State) (item : Item) (moment : ℕ) : List
       → (left ≡ s) ⊎ (left ≡ ticked config s item moment)
       → Fails config s item moment sent left answer
   -- its own reply is cut short: the state is the step's
-  cut_short : {sent : List ℕ} {left : State} → IsProperPrefix sent (step config s item moment).sent
+  cut_short : {sent : List ℕ} {left : State} → IsProperPrefix sent (sent_by (step config s item moment))
       → (left ≡ (step config s item moment).state)
       → Fails config s item moment sent left Cut
 

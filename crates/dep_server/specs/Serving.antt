@@ -5,6 +5,7 @@ use Rattle.dep_types.specs.State.{State}
 use Rattle.dep_types.specs.declared.config.Config.{Config}
 use Rattle.dep_message.specs.Places.{Place, Reading, more}
 use Rattle.dep_message.specs.Stream.{Item, Reads}
+use Rattle.dep_store.specs.Steps.{sent_by}
 use Rattle.dep_server.specs.Machine.{step, replies, state_after, Fails, Serves}
 use Rattle.dep_server.specs.declared.arrived.Arrived.{Arrived}
 use Rattle.dep_server.specs.declared.arrived.Arrived.TheVariants.{Closed, Cut}
@@ -19,7 +20,7 @@ answer_after Sent = Closed
 
 -- a step, or one that fails
 abbrev pub IsAnswer : Config → State → Item → ℕ → List ℕ → State → Answered → Type 0
-IsAnswer config s item moment sent left Sent = (sent ≡ (step config s item moment).sent) × (left ≡ (step config s item moment).state)
+IsAnswer config s item moment sent left Sent = (sent ≡ sent_by (step config s item moment)) × (left ≡ (step config s item moment).state)
 IsAnswer config s item moment sent left GaveUp = Fails config s item moment sent left Closed
 IsAnswer config s item moment sent left CutShort = Fails config s item moment sent left Cut
 

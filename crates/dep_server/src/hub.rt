@@ -10,9 +10,9 @@ ghost use Rattle.dep_server.specs.Numbers.{Ascends, Ascends-prop, most_connectio
 use crate::arrived::Arrived;
 use crate::connections::{ConnId, Connection, index_among};
 use crate::serving::serve;
-use crate::store::Store;
 use dep_message::Intake;
 use dep_moment::Moment;
+use dep_store::Store;
 use dep_types::{Config, ConfigFault, Outlet};
 use std::alloc::Global;
 

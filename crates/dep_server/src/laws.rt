@@ -8,9 +8,6 @@ ghost use Rattle.dep_types.specs.declared.config.Config.{Config};
 ghost use Rattle.dep_server.specs.Calm.{CalmRun, Step, sent_to};
 ghost use Rattle.dep_server.specs.Streams.{AreSpelled, streams_of, items_of, occasions_of};
 ghost use Rattle.dep_types.specs.Sound.{IsSound};
-ghost use Rattle.dep_types.specs.declared.target.Target.{Target};
-ghost use Rattle.dep_head.specs.Head.{HeadParts};
-ghost use Rattle.dep_server.specs.Operations.{operation_of, refusal, effect};
 ghost use Rattle.dep_server.specs.Machine.{step};
 ghost use Rattle.dep_server.specs.Bare.{asked_by, IsWithoutBody};
 ghost use Rattle.dep_server.specs.Turns.{Turn, records_of, with_opened, with_closed, Exchanges, EndsAs, IsEndedBy};
@@ -46,12 +43,6 @@ pub fn cuts_move_occasions()
 pub fn heads_have_no_body()
     ensures { (config : Config) (s : State) (m : Message) (moment : ℕ)
         → IsWithoutBody (step config s (Request (asked_by (codes "GET") m)) moment) (step config s (Request (asked_by (codes "HEAD") m)) moment) }
-{}
-
-/// A request that is accepted keeps a sound state sound.
-pub fn accepted_keeps_sound()
-    ensures { (s : State) (head : HeadParts) (t : Target) (content : List ℕ) → refusal s (operation_of head t) ≡ None
-        → IsSound s → IsSound (effect s (operation_of head t) content) }
 {}
 
 /// A step keeps a sound state sound, whatever came and at whatever moment.

@@ -1,13 +1,11 @@
-//! Which resource a path names, and which methods it has.
-ghost use Rattle.std.specs.Prelude.{◌≡◌, ◌==◌, ◌∷◌, [], position, Some, None};
-ghost use Rattle.std.specs.Option.{option_copied};
-ghost use Rattle.dep_server.specs.Targets.{target, segments, segments_left, resource_of, at_one, at_four, method_of, number_in, allow_text};
+//! Which of the resources and methods are served yet.
+ghost use Rattle.std.specs.Prelude.{◌≡◌, IfOk, option_and_then};
+ghost use Rattle.dep_router.specs.Targets.{segments, resource_of};
+ghost use Rattle.dep_server.specs.Targets.{target, served_resource, method_of, allow_text};
 
-use dep_octets::{Number, decimal};
+use dep_router::Routes;
 use dep_types::{Method, Resource, Target};
-
-/// The greatest number of an object or a file.
-const GREATEST_NUMBER: u64 = 4_000_000_000_000_000_000;
+use std::alloc::{AllocError, Global};
 
 /// What a method and a path name.
 #[derive(Drop)]
@@ -20,88 +18,29 @@ pub enum Routed {
     NotAllowed(Resource),
 }
 
-/// What a method and a path name. It takes no memory.
+/// What a method and a path name. It takes memory for a path in a bag alone.
 #[tactic(auto, unfolding(crate::specs::Targets::target))]
-pub fn route(method: &[u8], path: &[u8]) -> Routed
-    ensures { result ≡ target method.now path.now }
+pub fn route(alloc: Global, method: &[u8], path: &[u8]) -> Result<Routed, AllocError>
+    ensures { IfOk result (λ routed. routed ≡ target method.now path.now) }
 {
-    let Some(resource) = resource_at(path) else {
-        return Routed::NotFound;
+    let Some(resource) = resource_at(alloc, path)? else {
+        return Ok(Routed::NotFound);
     };
     match method_at(&resource, method) {
-        Some(method) => Routed::To(Target { resource, method }),
-        None => Routed::NotAllowed(resource),
+        Some(method) => Ok(Routed::To(Target { resource, method })),
+        None => Ok(Routed::NotAllowed(resource)),
     }
 }
 
-fn resource_at(path: &[u8]) -> Option<Resource>
-    ensures { result ≡ resource_of (segments path.now) }
+// The resource that the path names, where it is served yet.
+fn resource_at(alloc: Global, path: &[u8]) -> Result<Option<Resource>, AllocError>
+    ensures { IfOk result (λ resource. resource ≡ option_and_then served_resource (resource_of (segments path.now))) }
 {
-    let (root, after) = next_segment(path);
-    if !root.is_empty() {
-        return None;
+    match Routes::new(alloc).resource(path)? {
+        Some(Resource::Service) => Ok(Some(Resource::Service)),
+        Some(Resource::File(object, file)) => Ok(Some(Resource::File(object, file))),
+        _ => Ok(None),
     }
-    let (name, after) = next_segment(after?);
-    let Some(rest) = after else {
-        return service_at(name);
-    };
-    let (object, after) = next_segment(rest);
-    let (part, after) = next_segment(after?);
-    let (file, after) = next_segment(after?);
-    match after {
-        Some(_) => None,
-        None => file_at(name, object, part, file),
-    }
-}
-
-fn service_at(name: &[u8]) -> Option<Resource>
-    ensures { result ≡ at_one name.now }
-{
-    if name == b"service".as_slice() {
-        Some(Resource::Service)
-    } else {
-        None
-    }
-}
-
-fn file_at(name: &[u8], object: &[u8], part: &[u8], file: &[u8]) -> Option<Resource>
-    ensures { result ≡ at_four name.now object.now part.now file.now }
-{
-    if name != b"objects".as_slice() || part != b"files".as_slice() {
-        return None;
-    }
-    let object = number(object)?;
-    let file = number(file)?;
-    Some(Resource::File(object, file))
-}
-
-/// The number of an object or a file, without a leading zero.
-fn number(text: &[u8]) -> Option<u64>
-    ensures { result ≡ number_in text.now }
-{
-    if text.first() == Some(&b'0') {
-        return None;
-    }
-    match decimal(text, GREATEST_NUMBER) {
-        Number::Value(n) => Some(n),
-        Number::NotDigits | Number::Above => None,
-    }
-}
-
-// The first segment, and what follows its slash.
-fn next_segment(path: &[u8]) -> (&[u8], Option<&[u8]>)
-    ensures { segments path.now ≡ result.0.now ∷ segments_left (option_copied result.1) }
-{
-    match first_slash(path) {
-        Some(slash) => (&path[..slash], Some(&path[slash + 1..])),
-        None => (path, None),
-    }
-}
-
-fn first_slash(path: &[u8]) -> Option<usize>
-    ensures { result ≡ position (λ b. b == 47) path.now }
-{
-    path.iter().position(|b| *b == b'/')
 }
 
 fn method_at(resource: &Resource, method: &[u8]) -> Option<Method>

@@ -9,9 +9,9 @@ ghost use Rattle.dep_server.specs.Serving.{ServesOver, answer_after};
 use crate::arrived::Arrived;
 use crate::sending::{Answered, send_want_of_memory};
 use crate::step::{answer_continue, answer_fault, answer_message};
-use crate::store::Store;
 use dep_message::{Intake, Step};
 use dep_moment::Moment;
+use dep_store::Store;
 use dep_types::{Config, Outlet};
 use std::alloc::{AllocError, Global};
 
@@ -38,8 +38,8 @@ pub fn serve<O: Outlet>(
             Err(AllocError) => return give_up(intake, out),
             Ok(Step::NeedMore) => return Arrived::Open,
             Ok(Step::Dead) => return Arrived::Closed,
-            Ok(Step::Refused(refusal, bare)) => {
-                let answer = answer_fault(alloc, config, store, refusal, bare, moment, out);
+            Ok(Step::Refused(refusal, is_bare)) => {
+                let answer = answer_fault(alloc, config, store, refusal, is_bare, moment, out);
                 return end(intake, answer);
             }
             Ok(Step::Continue100) => match answer_continue(out) {

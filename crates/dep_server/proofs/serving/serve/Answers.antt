@@ -24,7 +24,7 @@ returns-in-Ok-Dead-clause-served g c =
 pub returns-in-Ok-Refused-clause-served : goal.returns-in-Ok-Refused-clause-served
 returns-in-Ok-Refused-clause-served g c =
     let h = rw c.in-Ok-Refused.field-0-is at c.in-Ok-Refused.ensures in
-    let item : Item = Fault c.in-Ok-Refused.refusal c.in-Ok-Refused.bare in
+    let item : Item = Fault c.in-Ok-Refused.refusal c.in-Ok-Refused.is_bare in
     serves_last c.args.config.now c.args.intake.now c.args.piece.now c.args.store.now c.args.moment (g.O.Outlet.taken c.args.out.now) (g.O.Outlet.taken c.loop-intake.out) c.loop-intake.intake.place c.loop-intake.store c.loop-intake.invariant.served
     item c.next.new.self.place (g.O.Outlet.taken c.answer_fault-answer.new.out) c.answer_fault-answer.new.store c.answer_fault-answer.result
     (first_at _ _ _ _ item c.loop-intake.invariant.limit h.first) (λ _. fault_shuts _ _ _ _ _ h.first) c.answer_fault-answer.ensures.answers

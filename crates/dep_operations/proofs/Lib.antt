@@ -1,0 +1,4 @@
+pub mod FieldLemmas
+pub mod Fits
+pub mod SeenTruly
+pub mod Accepted

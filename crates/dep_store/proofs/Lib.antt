@@ -1,0 +1,3 @@
+pub mod Ticks
+pub mod StoreLemmas
+pub mod PerformLemmas
