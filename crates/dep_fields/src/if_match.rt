@@ -11,6 +11,7 @@ use std::marker::Model;
 
 /// The tags that a request's If-Match fields name (RFC 9110, section 13.1.1), as members of one comma list. It borrows
 /// the head, and nothing here takes memory. Contracts see the list of its members.
+#[derive(Drop)]
 pub struct IfMatch<'a> {
     head: &'a Head,
 }

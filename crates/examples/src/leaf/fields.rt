@@ -3,10 +3,10 @@
 use crate::leaf::digests::tell_promised;
 use crate::page::Page;
 use crate::trouble::Trouble;
-use dep_fields::{Field, IfMatch, Kind, Octets, SwordFields};
+use dep_fields::{Field, IfMatch, Kind, SwordFields};
 use dep_fixity::DigestList;
 use dep_head::{Head, HeadFault, read_head};
-use dep_types::Text;
+use dep_types::{Octets, Text};
 use std::alloc::{AllocError, Global};
 
 /// What the field lines of a request tell: a line for each field that is there.
@@ -31,7 +31,7 @@ pub fn tell_if_match(
     page: &mut Page,
 ) -> Result<(), Trouble> {
     let head = head_with(alloc, lines)?;
-    let Some(tags) = IfMatch::read(alloc, &head)? else {
+    let Some(tags) = IfMatch::read(&head) else {
         return Ok(page.tell(&[b"absent"])?);
     };
     let told: &[u8] = if tags.holds(tag) {
