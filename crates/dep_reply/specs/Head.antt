@@ -33,11 +33,17 @@ phrase status =
 abbrev pub line : List ℕ → List ℕ
 line text = text ++ codes "\r\n"
 
+abbrev pub status_text : ℕ → List ℕ
+status_text status = codes "HTTP/1.1 " ++ decimal status ++ codes " " ++ phrase status
+
 unfoldable pub status_line : ℕ → List ℕ
-status_line status = line (codes "HTTP/1.1 " ++ decimal status ++ codes " " ++ phrase status)
+status_line status = line (status_text status)
+
+abbrev pub field_text : (name value : List ℕ) → List ℕ
+field_text name value = name ++ codes ": " ++ value
 
 abbrev pub field : (name value : List ℕ) → List ℕ
-field name value = line (name ++ codes ": " ++ value)
+field name value = line (field_text name value)
 
 -- a field, where there is a value
 abbrev pub optional : (name : List ℕ) → Option (List ℕ) → List ℕ

@@ -1,6 +1,9 @@
 //! A head as a whole.
-ghost use Rattle.std.specs.Prelude.{◌≡◌, Some, None, true, false, codes};
-ghost use Rattle.dep_reply.specs.Head.{head_text};
+ghost use Rattle.std.specs.Prelude.{◌≡◌, ℕ, List, IsTrue, Some, None, true, false, codes};
+ghost use Rattle.dep_head.specs.Head.{EndsOnce};
+ghost use Rattle.dep_types.specs.Names.{is_media};
+ghost use Rattle.dep_reply.specs.Head.{ReplyHead, head_text};
+ghost use Rattle.dep_reply.specs.Lines.{IsUnbroken, is_unbroken, head_lines, lines_of};
 
 /// The head of the reply to a method that the resource does not have, on a connection that is then closed.
 pub fn head_of_method_not_allowed()
@@ -42,4 +45,16 @@ pub fn head_of_no_content()
       allow = None;
       closes = false;
     }) ≡ codes "HTTP/1.1 204 No Content\r\nDate: Mon, 16 Apr 2018 00:00:00 GMT\r\nETag: \"2\"\r\n\r\n" }
+{}
+
+/// A head whose texts break no line is read as it was written: it ends at its first empty line, and has its own lines and
+/// no others. So no text in it can begin another field, or another reply (RFC 9112, section 11.1).
+pub fn unbroken_heads_end_once()
+    ensures ends { (r : ReplyHead) → IsUnbroken r → EndsOnce (head_text r) }
+    ensures lines { (r : ReplyHead) → IsUnbroken r → lines_of (head_text r) ≡ head_lines r }
+{}
+
+/// A media type breaks no line.
+pub fn media_types_are_unbroken()
+    ensures { (text : List ℕ) → IsTrue (is_media text) → IsTrue (is_unbroken text) }
 {}
