@@ -1,7 +1,7 @@
 -- Names and media types, by the values that the fields have.
 use Rattle.std.proofs.Common.{◌≡◌, ℕ, Bool, true, false, List, [], ◌∷◌, length, drop, take, Option, Some, None, MatchOption, is_some, Bor, option_and_then, if◌then◌else◌, bytes_eq, sym, ap, ◌∙◌}
-use Rattle.dep_types.specs.Names.{is_media}
-use Rattle.dep_operations.specs.Fields.{attachment_front, attachment_name, disposition_name, media_of, if_passes, is_unquoted_name}
+use Rattle.dep_types.specs.Names.{if_passes, is_media}
+use Rattle.dep_operations.specs.Fields.{attachment_front, attachment_name, disposition_name, media_of, is_unquoted_name}
 
 -- whether a value follows those that were read
 pub none_follows : (o : Option (Bor (List ℕ))) (left rest : List (List ℕ)) → MatchOption o ((left ≡ []) × (rest ≡ [])) (λ v. left ≡ v.now ∷ rest)

@@ -5,9 +5,9 @@ use Rattle.std.proofs.lemmas.Str.{IsUtf8-from_ascii, is_utf8-from_IsUtf8}
 use Rattle.std.proofs.lemmas.Str.Ascii.{IsAscii-nil, IsAscii-cons}
 use Rattle.std.specs.Str.{IsAscii, is_utf8}
 use Rattle.std.specs.List.{list_all}
-use Rattle.dep_types.specs.Names.{is_short, is_good_name, is_name_byte, is_media}
+use Rattle.dep_types.specs.Names.{if_passes, is_short, is_good_name, is_name_byte, is_media}
 use Rattle.dep_head.specs.Head.{values_of}
-use Rattle.dep_operations.specs.Fields.{is_unquoted_byte, is_unquoted_name, if_passes, after_front, attachment_front, attachment_name, disposition_name, media_of, fields_of, AreFit}
+use Rattle.dep_operations.specs.Fields.{is_unquoted_byte, is_unquoted_name, after_front, attachment_front, attachment_name, disposition_name, media_of, fields_of, AreFit}
 
 both : (a b : Bool) → (a && b) ≡ true → (a ≡ true) × (b ≡ true)
 both true b e = (refl, e)

@@ -2,7 +2,7 @@
 use Rattle.std.specs.Prelude.{ℕ, ◌==◌, ◌&&◌, not, Bool, List, [], ◌∷◌, length, take, drop, Option, Some, None, option_and_then, codes, bytes_eq, if◌then◌else◌, IsTrue, IfSome}
 use Rattle.std.specs.List.{list_all}
 use Rattle.std.specs.Char.{is_ascii_graphic}
-use Rattle.dep_types.specs.Names.{is_short, is_good_name, is_media}
+use Rattle.dep_types.specs.Names.{if_passes, is_short, is_good_name, is_media}
 use Rattle.dep_head.specs.Head.{values_of}
 use Rattle.dep_operations.specs.declared.fields.DepositFields.{DepositFields}
 
@@ -19,10 +19,6 @@ is_unquoted_name name =
 -- what follows this front
 abbrev pub after_front : (front text : List ℕ) → Option (List ℕ)
 after_front front text = if bytes_eq (take (length front) text) front then Some (drop (length front) text) else None
-
--- the text, where it passes the test
-abbrev pub if_passes : (List ℕ → Bool) → List ℕ → Option (List ℕ)
-if_passes test text = if test text then Some text else None
 
 -- what stands before the name
 abbrev pub attachment_front : List ℕ

@@ -2,15 +2,15 @@
 ghost use Rattle.std.specs.Prelude.{◌≡◌, codes, IsAscii, IfOk};
 ghost use Rattle.std.specs.List.{list_all};
 ghost use Rattle.std.specs.Option.{option_copied};
-ghost use Rattle.dep_types.specs.Names.{is_short, is_media, is_media_byte};
+ghost use Rattle.dep_types.specs.Names.{if_passes, is_short, is_media};
 ghost use Rattle.dep_head.specs.Head.{values_of};
-ghost use Rattle.dep_operations.specs.Fields.{disposition_name, attachment_name, media_of, if_passes, is_unquoted_name, is_unquoted_byte};
+ghost use Rattle.dep_operations.specs.Fields.{disposition_name, attachment_name, media_of, is_unquoted_name, is_unquoted_byte};
 
 use dep_head::Head;
-use dep_types::Text;
+use dep_types::{Text, is_media};
 use std::alloc::{AllocError, Global};
 
-// How many bytes a file name or a media type has at most.
+// How many bytes a file name has at most.
 const LONGEST: usize = 255;
 
 /// What the fields of a request tell of the file that it carries.
@@ -118,24 +118,6 @@ fn is_unquoted_byte(byte: u8) -> bool
     ensures { result ≡ is_unquoted_byte byte }
 {
     byte.is_ascii_graphic() && byte != b';' && byte != b'"' && byte != b'/' && byte != b'\\'
-}
-
-fn is_media(text: &[u8]) -> bool
-    ensures { result ≡ is_media text.now }
-{
-    is_short(text) && has_media_bytes_alone(text)
-}
-
-fn has_media_bytes_alone(text: &[u8]) -> bool
-    ensures { result ≡ list_all is_media_byte text.now }
-{
-    text.iter().all(|byte| is_media_byte(*byte))
-}
-
-fn is_media_byte(byte: u8) -> bool
-    ensures { result ≡ is_media_byte byte }
-{
-    b' ' <= byte && byte <= b'~'
 }
 
 fn is_short(text: &[u8]) -> bool
