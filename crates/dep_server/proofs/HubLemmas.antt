@@ -3,6 +3,7 @@ use Rattle.std.proofs.Common.{◌≡◌, ◌≢◌, ℕ, ◌==◌, Bool, true, f
 use Rattle.std.specs.Io.KnownBytes.{Keeps}
 use Rattle.dep_types.specs.State.{State}
 use Rattle.dep_types.specs.Sound.{IsSound}
+use Rattle.dep_types.specs.Writing.{HasRisen}
 use Rattle.dep_types.specs.declared.config.Config.{Config}
 use Rattle.dep_head.specs.Head.{head_end}
 use Rattle.dep_message.specs.Places.{Place, Open, Shut, Reading, IsOpen, HasBytes, more}
@@ -10,7 +11,7 @@ use Rattle.dep_message.specs.Stream.{Item, Reads, Waits}
 use Rattle.dep_server.specs.Machine.{Serves, serves_all, step_fails, gives_up, answer_at_place}
 use Rattle.dep_server.specs.Records.{Event, Connect, Arrive, Close, Record, Line, Absent, Live, Ended, World, put, line_after, ReadsBeyond, Arrives, at_live, at_ended, connects, closes, arrives, Run, goes_on}
 use Rattle.dep_server.specs.Serving.{ServesFrom, ServesOver}
-use Rattle.dep_server.specs.Standing.{intake_of, KeepsRest, IsKeptAs, StandsAt, StandsFor, Adds, Moves, ArrivesOver}
+use Rattle.dep_server.specs.Standing.{intake_of, KeepsRest, IsKeptAs, StandsAt, StandsFor, Adds, Moves, ArrivesOver, ComesTo}
 use Rattle.dep_server.specs.Numbers.{index_of, Ascends, Ascends-prop}
 use Rattle.dep_server.specs.declared.arrived.Arrived.{Arrived}
 use Rattle.dep_server.specs.declared.arrived.Arrived.TheVariants.{Open as StaysOpen, Closed, Cut, NoSuch}
@@ -181,12 +182,26 @@ module _ (old new : Hub) (n i : ℕ) (piece : List ℕ) (moment : ℕ) (c : Conn
         at = a.2;
       }
 
-  pub arrives_over : (held holds : Option (List ℕ)) (answer : Arrived) → answer ≢ NoSuch → ServesOver old.config held holds c.intake piece old.store moment new.store now.place answer
-      → ArrivesOver held holds old new n piece moment answer
-  arrives_over held holds StaysOpen there v = (v.0, v.1, record { adds = arrives_adds held holds StaysOpen v; answers = λ w at. let a = arrives_at held holds StaysOpen v w at in (new.store, a.0, a.1, a.2) })
-  arrives_over held holds Closed there v = (v.0, v.1, record { adds = arrives_adds held holds Closed v; answers = λ w at. let a = arrives_at held holds Closed v w at in (new.store, a.0, a.1, a.2) })
-  arrives_over held holds Cut there v = (v.0, v.1, record { adds = arrives_adds held holds Cut v; answers = λ w at. let a = arrives_at held holds Cut v w at in (new.store, a.0, a.1, a.2) })
-  arrives_over held holds NoSuch there v = absurd (there refl)
+  over : (held holds : Option (List ℕ)) (failures failures_after : ℕ) (answer : Arrived) → (answer ≡ Cut → HasRisen failures failures_after)
+      → ServesOver old.config held holds c.intake piece old.store moment new.store now.place answer
+      → ArrivesOver held holds failures failures_after old new n piece moment answer
+  over held holds failures failures_after answer cause v = record {
+    sent = v.0;
+    appends = v.1;
+    arrival = record {
+      adds = arrives_adds held holds answer v;
+      answers = λ w at. let a = arrives_at held holds answer v w at in
+          record { left = new.store; line = a.0; arrives = a.1; stands = a.2; cause = λ cut. inl (cause cut) };
+    };
+  }
+
+  pub comes_to : (held holds : Option (List ℕ)) (failures failures_after : ℕ) (answer : Arrived) → answer ≢ NoSuch → (answer ≡ Cut → HasRisen failures failures_after)
+      → ServesOver old.config held holds c.intake piece old.store moment new.store now.place answer
+      → ComesTo held holds failures failures_after old new n piece moment answer
+  comes_to held holds failures failures_after StaysOpen there cause v = over held holds failures failures_after StaysOpen cause v
+  comes_to held holds failures failures_after Closed there cause v = over held holds failures failures_after Closed cause v
+  comes_to held holds failures failures_after Cut there cause v = over held holds failures failures_after Cut cause v
+  comes_to held holds failures failures_after NoSuch there cause v = absurd (there refl)
 
 pub keeps_same : (held : Option (List ℕ)) → Keeps held held
 keeps_same None = tt

@@ -112,7 +112,8 @@ talk_same ticks n old mid new k t o = record {
   turns = t.turns;
   counted = t.counted;
   sizes = t.sizes;
-  talks = subst (λ h. Talks n old.hub t.turns h) (sym o.same_hub) t.talks;
+  talks = subst (λ h. Talks n old.hub old.wire.failures t.turns h new.wire.failures) (sym o.same_hub)
+      (subst (λ k. Talks n old.hub old.wire.failures t.turns mid.hub k) (sym o.rests.failures) t.talks);
   transfers = subst (λ l. Transfers old.wire new.wire l (replies_of t.turns)) (append-nil (pieces_of t.turns))
       (subst (λ l. Transfers old.wire new.wire (pieces_of t.turns ++ []) l) (append-nil (replies_of t.turns))
       (transfers_both old.wire mid.wire new.wire (pieces_of t.turns) [] (replies_of t.turns) [] t.transfers (rests_transfers mid.wire new.wire o.rests)));
@@ -233,24 +234,24 @@ closed_is : {config : Config} {w : World} {n : ℕ} {v : World} {sent : List ℕ
 closed_is closes = refl
 
 -- what the hub answered is what the machine answers
-talks_exchange : (n : ℕ) (old new : Hub) (turns : List Turn) → Talks n old turns new → (w : World) → StandsAt old w
+talks_exchange : (n : ℕ) (old new : Hub) (failures failures_after : ℕ) (turns : List Turn) → Talks n old failures turns new failures_after → (w : World) → StandsAt old w
     → (v : World) × Exchanges old.config n w turns v × StandsAt new v
-talks_exchange n old new turns silent w at = (w, none_yet, at)
-talks_exchange n old new turns (turn {mid = mid} {turns = before} t talks stays same a) w at =
-    let h = talks_exchange n old mid before talks w at in
+talks_exchange n old new failures failures_after turns silent w at = (w, none_yet, at)
+talks_exchange n old new failures failures_after turns (turn {mid = mid} {before = between} {turns = before} t talks stays same a) w at =
+    let h = talks_exchange n old mid failures between before talks w at in
     let b = a.answers h.0 h.2 in (
-      record { state = b.0; line = put n b.1 h.0.line },
-      one_more t h.1 stays (subst (λ (x : Config). Arrives x t.piece t.moment (h.0.line n) h.0.state t.sent b.0 b.1 t.answer) same b.2),
-      b.3,
+      record { state = b.left; line = put n b.line h.0.line },
+      one_more t h.1 stays (subst (λ (x : Config). Arrives x t.piece t.moment (h.0.line n) h.0.state t.sent b.left b.line t.answer) same b.arrives),
+      b.stands,
     )
 
-module _ (n : ℕ) (old opened talked new : Hub) (turns : List Turn)
+module _ (n : ℕ) (old opened talked new : Hub) (failures failures_after : ℕ) (turns : List Turn)
     (opens : Moves old opened (Connect n) []) (closes : Moves talked new (Close n) [])
-    (same_opened : opened.config ≡ old.config) (same_new : new.config ≡ old.config) (talks : Talks n opened turns talked) where
+    (same_opened : opened.config ≡ old.config) (same_new : new.config ≡ old.config) (talks : Talks n opened failures turns talked failures_after) where
   answered : (w : World) → StandsAt old w → IsAnswered old new n turns w
   answered w at =
       let o = opens w at in
-      let t = talks_exchange n opened talked turns talks (with_opened n w) (subst (λ v. StandsAt opened v) (opened_is o.1) o.2) in
+      let t = talks_exchange n opened talked failures failures_after turns talks (with_opened n w) (subst (λ v. StandsAt opened v) (opened_is o.1) o.2) in
       let c = closes t.0 t.2 in
       record {
         talked = t.0;
@@ -288,8 +289,8 @@ module _ {C : Type 0} (ticks : C → ℕ → C → Type 0) (n : ℕ) (old : Sess
         talks = t.talks;
         closes = closes;
         gone = gone;
-        answers = answered n old.hub opened talked new t.turns opens closes same_opened same_new t.talks;
-        adds = all_added n old.hub opened talked new t.turns opens closes same_opened same_new t.talks;
+        answers = answered n old.hub opened talked new old.wire.failures wire.failures t.turns opens closes same_opened same_new t.talks;
+        adds = all_added n old.hub opened talked new old.wire.failures wire.failures t.turns opens closes same_opened same_new t.talks;
         transfers = t.transfers;
         moments = (now, t.moments);
         ends = u.ends;
@@ -312,5 +313,5 @@ pub unserved : (old new : Hub) (wire : Wire) → ((w : World) → StandsAt old w
 unserved old new wire at same = record {
   same = at;
   adds = λ first records h. subst (λ rs. StandsFor new first rs) (sym (append-nil records)) (same first records h);
-  rests = record { pieces = keeps_same wire.unread; replies = keeps_same wire.taken };
+  rests = record { pieces = keeps_same wire.unread; replies = keeps_same wire.taken; failures = refl };
 }

@@ -12,13 +12,15 @@ use Rattle.dep_server.specs.declared.arrived.Arrived.TheVariants.{Open as StaysO
 use Rattle.dep_server.specs.declared.connection.Served.{Served}
 use Rattle.dep_server.specs.declared.connection.Served.TheVariants.{Ended, Closed, Unserved, ReadFault, WriteFault, Bound}
 
--- the bytes that a reader has left, and those that an outlet took, where they tell them
+-- the bytes that a reader has left, and those that an outlet took, where they tell them; and how often the outlet
+-- has failed
 pub record Wire : Type 0 where
   pub unread : Option (List ℕ)
   pub taken : Option (List ℕ)
+  pub failures : ℕ
 
-abbrev pub wire : (unread taken : Option (List ℕ)) → Wire
-wire unread taken = record { unread = unread; taken = taken }
+abbrev pub wire : (unread taken : Option (List ℕ)) (failures : ℕ) → Wire
+wire unread taken failures = record { unread = unread; taken = taken; failures = failures }
 
 -- where the serving of a connection stands
 pub record Session (C : Type 0) : Type 0 where
@@ -38,17 +40,20 @@ pub record Transfers (before after : Wire) (read sent : List ℕ) : Type 0 where
 pub record Rests (before after : Wire) : Type 0 where
   pub pieces : Keeps before.unread after.unread
   pub replies : Keeps before.taken after.taken
+  pub failures : after.failures ≡ before.failures
 
 -- for all records that it stood for, the hub stands for them with these after them
 abbrev pub AddsAll : Hub → Hub → List Record → Type 0
 AddsAll old new more = (first : State) (records : List Record) → StandsFor old first records → StandsFor new first (records ++ more)
 
--- the turns leave the connection open, one after another
-pub data Talks (number : ℕ) : Hub → List Turn → Hub → Type 0 where
-  silent : {hub : Hub} → Talks number hub [] hub
-  turn : {hub mid new : Hub} {turns : List Turn} (t : Turn) → Talks number hub turns mid
+-- the turns leave the connection open, one after another, each with the outlet's failures that the one before left
+pub data Talks (number : ℕ) : Hub → (failures : ℕ) → List Turn → Hub → (failures_after : ℕ) → Type 0 where
+  silent : {hub : Hub} {failures : ℕ} → Talks number hub failures [] hub failures
+  turn : {hub mid new : Hub} {failures before after : ℕ} {turns : List Turn} (t : Turn)
+      → Talks number hub failures turns mid before
       → last_answer turns ≡ StaysOpen → mid.config ≡ hub.config
-      → IsArrival mid new number t.piece t.moment t.sent t.answer → Talks number hub (turns ++ t ∷ []) new
+      → IsArrival mid new number t.piece t.moment t.sent before after t.answer
+      → Talks number hub failures (turns ++ t ∷ []) new after
 
 -- each turn came at the clock's answer
 abbrev pub Clocks : {C : Type 0} → (C → ℕ → C → Type 0) → C → List Turn → C → Type 0
@@ -59,7 +64,7 @@ pub record Talk {C : Type 0} (ticks : C → ℕ → C → Type 0) (number : ℕ)
   pub turns : List Turn
   pub counted : length turns ≡ count
   pub sizes : ArePieces turns
-  pub talks : Talks number before.hub turns after.hub
+  pub talks : Talks number before.hub before.wire.failures turns after.hub after.wire.failures
   pub transfers : Transfers before.wire after.wire (pieces_of turns) (replies_of turns)
   pub moments : Clocks ticks before.clock turns after.clock
   pub answered : last_answer turns ≡ answer
@@ -69,7 +74,7 @@ pub record OneTurn {C : Type 0} (ticks : C → ℕ → C → Type 0) (number : �
   pub piece : List ℕ
   pub moment : ℕ
   pub sent : List ℕ
-  pub arrives : IsArrival before.hub after.hub number piece moment sent answer
+  pub arrives : IsArrival before.hub after.hub number piece moment sent before.wire.failures after.wire.failures answer
   pub some : 0 < length piece
   pub small : length piece ≤ most_read
   pub transfers : Transfers before.wire after.wire piece sent
@@ -113,7 +118,7 @@ pub record Converses {C : Type 0} (ticks : C → ℕ → C → Type 0) (before :
   pub opened : Hub
   pub opens : Moves before.hub opened (Connect number) []
   pub talked : Hub
-  pub talks : Talks number opened turns talked
+  pub talks : Talks number opened before.wire.failures turns talked after.failures
   pub closes : Moves talked new (Close number) []
   pub gone : intake_of new.connections.items number ≡ None
   pub answers : (w : World) → StandsAt before.hub w → IsAnswered before.hub new number turns w

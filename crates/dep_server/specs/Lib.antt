@@ -4,6 +4,7 @@ pub mod Bare
 pub mod Records
 pub mod Calm
 pub mod Streams
+pub mod Causes
 pub mod Standing
 pub mod Turns
 pub mod Conversation

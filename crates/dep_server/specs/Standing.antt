@@ -3,12 +3,14 @@ use Rattle.std.specs.Prelude.{◌≡◌, ◌==◌, ℕ, List, [], ◌∷◌, ◌
 use Rattle.std.specs.Io.KnownBytes.{Appends, Keeps}
 use Rattle.dep_types.specs.State.{State}
 use Rattle.dep_types.specs.Sound.{IsSound}
+use Rattle.dep_types.specs.declared.config.Config.{Config}
 use Rattle.dep_message.specs.Places.{Shut, Reading, IsOpen}
 use Rattle.dep_message.specs.Stream.{Item, Spells}
 use Rattle.dep_server.specs.Records.{Event, Arrive, Record, Line, Absent, Live, Ended, World, Run, put, Arrives, Happens}
 use Rattle.dep_server.specs.declared.arrived.Arrived.{Arrived}
 use Rattle.dep_server.specs.declared.arrived.Arrived.TheVariants.{Open as StaysOpen, Closed, Cut, NoSuch}
 use Rattle.dep_server.specs.declared.connections.Connection.{Connection}
+use Rattle.dep_server.specs.Causes.{HasCause}
 use Rattle.dep_server.specs.declared.hub.Hub.{Hub}
 
 -- the intake of a connection, if it is there
@@ -59,20 +61,39 @@ abbrev pub Moves : Hub → Hub → Event → List ℕ → Type 0
 Moves old new event sent = (w : World) → StandsAt old w
     → (w' : World) × Happens old.config w event sent w' × StandsAt new w'
 
+-- what an arrival comes to, from a world at which the hub stood: the hub stands at the next one, and a cut has a cause,
+-- on the bytes that were sent
+pub record ArrivesTo (config : Config) (new : Hub) (number : ℕ) (piece : List ℕ) (moment : ℕ) (sent : List ℕ) (failures failures_after : ℕ) (answer : Arrived) (w : World) : Type 0 where
+  pub left : State
+  pub line : Line
+  pub arrives : Arrives config piece moment (w.line number) w.state sent left line answer
+  pub stands : StandsAt new (record { state = left; line = put number line w.line })
+  pub cause : answer ≡ Cut → HasCause failures failures_after arrives
+
 -- an arrival at a connection that is there: what is sent for it is a run's, and so is the answer
-pub record IsArrival (old new : Hub) (number : ℕ) (piece : List ℕ) (moment : ℕ) (sent : List ℕ) (answer : Arrived) : Type 0 where
+pub record IsArrival (old new : Hub) (number : ℕ) (piece : List ℕ) (moment : ℕ) (sent : List ℕ) (failures failures_after : ℕ) (answer : Arrived) : Type 0 where
   pub adds : Adds old new (Arrive number piece moment) sent
-  pub answers : (w : World) → StandsAt old w → (left : State) × (line : Line)
-      × Arrives old.config piece moment (w.line number) w.state sent left line answer
-      × StandsAt new (record { state = left; line = put number line w.line })
+  pub answers : (w : World) → StandsAt old w
+      → ArrivesTo old.config new number piece moment sent failures failures_after answer w
+
+-- what was sent over an outlet for an arrival, by what the outlet tells before and after
+pub record ArrivesOver (held holds : Option (List ℕ)) (failures failures_after : ℕ) (old new : Hub) (number : ℕ) (piece : List ℕ) (moment : ℕ) (answer : Arrived) : Type 0 where
+  pub sent : List ℕ
+  pub appends : Appends held holds sent
+  pub arrival : IsArrival old new number piece moment sent failures failures_after answer
+
+-- there is no such connection, and nothing happens
+pub record IsNoSuch (held holds : Option (List ℕ)) (old new : Hub) (number : ℕ) : Type 0 where
+  pub absent : intake_of old.connections.items number ≡ None
+  pub same : new ≡ old
+  pub sends_nothing : Keeps held holds
 
 -- what an arrival comes to, over an outlet
-abbrev pub ArrivesOver : Option (List ℕ) → Option (List ℕ) → Hub → Hub → ℕ → List ℕ → ℕ → Arrived → Type 0
-ArrivesOver held holds old new number piece moment NoSuch =
-    (intake_of old.connections.items number ≡ None) × (new ≡ old) × Keeps held holds
-ArrivesOver held holds old new number piece moment StaysOpen =
-    (sent : List ℕ) × Appends held holds sent × IsArrival old new number piece moment sent StaysOpen
-ArrivesOver held holds old new number piece moment Closed =
-    (sent : List ℕ) × Appends held holds sent × IsArrival old new number piece moment sent Closed
-ArrivesOver held holds old new number piece moment Cut =
-    (sent : List ℕ) × Appends held holds sent × IsArrival old new number piece moment sent Cut
+abbrev pub ComesTo : (held holds : Option (List ℕ)) → (failures failures_after : ℕ) → (old new : Hub) → ℕ → List ℕ → ℕ → Arrived → Type 0
+ComesTo held holds failures failures_after old new number piece moment NoSuch = IsNoSuch held holds old new number
+ComesTo held holds failures failures_after old new number piece moment StaysOpen =
+    ArrivesOver held holds failures failures_after old new number piece moment StaysOpen
+ComesTo held holds failures failures_after old new number piece moment Closed =
+    ArrivesOver held holds failures failures_after old new number piece moment Closed
+ComesTo held holds failures failures_after old new number piece moment Cut =
+    ArrivesOver held holds failures failures_after old new number piece moment Cut

@@ -51,7 +51,7 @@ pub enum ConnectFault {
 }
 
 impl Hub {
-    ghost use Rattle.dep_server.specs.Standing.{StandsFor, StandsAt, Adds, Moves, ArrivesOver, intake_of};
+    ghost use Rattle.dep_server.specs.Standing.{StandsFor, StandsAt, Adds, Moves, ComesTo, intake_of};
 
     /// A hub over the store, without connections. A refusal hands the store back.
     pub fn new(alloc: Global, config: Config, store: Store) -> Result<Hub, (HubFault, Store)>
@@ -122,7 +122,8 @@ impl Hub {
         ensures cause { result ≡ Arrived.Cut → HasRisen (O.failures out.old) (O.failures out.new) }
         // A connection that was there is there.
         ensures there { IsSome (intake_of self.old.connections.items connection) → (result ≢ Arrived.NoSuch) × IsSome (intake_of self.new.connections.items connection) }
-        ensures arrival { ArrivesOver (O.taken out.old) (O.taken out.new) self.old self.new connection piece.now moment result }
+        ensures arrival { ComesTo (O.taken out.old) (O.taken out.new) (O.failures out.old) (O.failures out.new)
+            self.old self.new connection piece.now moment result }
     {
         let Some(i) = index_among(self.connections.as_slice(), connection.number()) else {
             return Arrived::NoSuch;

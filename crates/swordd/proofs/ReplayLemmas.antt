@@ -71,4 +71,4 @@ module _ {C : Type 0} (ticks : C → ℕ → C → Type 0) (moment : ℕ) (tells
     comes_to Bound v = replayed Bound (replays Bound v)
 
 pub rests_same : (at : Wire) → Rests at at
-rests_same at = record { pieces = keeps_same at.unread; replies = keeps_same at.taken }
+rests_same at = record { pieces = keeps_same at.unread; replies = keeps_same at.taken; failures = refl }

@@ -21,8 +21,8 @@ pub fn replay<R: Read, W: Outlet>(
     writer: &mut W,
 ) -> Outcome
     ensures { Replays base.now moment
-        (wire (R.remaining reader.old) (W.taken writer.old))
-        (wire (R.remaining reader.new) (W.taken writer.new)) result }
+        (wire (R.remaining reader.old) (W.taken writer.old) (W.failures writer.old))
+        (wire (R.remaining reader.new) (W.taken writer.new) (W.failures writer.new)) result }
 {
     let Ok(config) = configuration(alloc, base) else {
         return Outcome::StoreFault;

@@ -13,6 +13,6 @@ invariant-loop-count g l = record {
   config : l.hub.config ≡ l.fn.hub.config;
   next : l.hub.next ≡ l.fn.hub.next;
   talk : Talk (goal.C-step g) l.connection
-      (session l.fn.hub (wire (g.R.Read.remaining l.fn.reader) (g.W.Outlet.taken l.fn.writer)) l.fn.clock)
-      (session l.hub (wire (g.R.Read.remaining l.reader) (g.W.Outlet.taken l.writer)) l.clock) l.count StaysOpen;
+      (session l.fn.hub (wire (g.R.Read.remaining l.fn.reader) (g.W.Outlet.taken l.fn.writer) (g.W.Outlet.failures l.fn.writer)) l.fn.clock)
+      (session l.hub (wire (g.R.Read.remaining l.reader) (g.W.Outlet.taken l.writer) (g.W.Outlet.failures l.writer)) l.clock) l.count StaysOpen;
 }

@@ -1,22 +1,22 @@
 use Rattle.std.proofs.Common.{refl, sym, ◌∙◌}
 use Rattle.dep_server.specs.Numbers.{index_of}
 use Rattle.dep_server.proofs.ConnectionLemmas.{index_none, ascends_set}
-use Rattle.dep_server.proofs.HubLemmas.{arrives_over, stays_there, none_there, keeps_same, not_absent, same_hub}
+use Rattle.dep_server.proofs.HubLemmas.{comes_to, stays_there, none_there, keeps_same, not_absent, same_hub}
 use Rattle.dep_server.proofs.hub.Hub.arrive.Goals as goal
 
 pub returns-in_default-clause-arrival : goal.returns-in_default-clause-arrival
-returns-in_default-clause-arrival g c = (
-  index_none c.args.connection c.args.self.now.connections.items ((λ i. index_of (sym c.number.ensures i) (sym c.as_slice.ensures.value i)) ∙ (sym c.index_among.ensures.value ∙ c.in_default.is)),
-  same_hub c.args.self.now _,
-  keeps_same (g.O.Outlet.taken c.args.out.now),
-)
+returns-in_default-clause-arrival g c = record {
+  absent = index_none c.args.connection c.args.self.now.connections.items ((λ i. index_of (sym c.number.ensures i) (sym c.as_slice.ensures.value i)) ∙ (sym c.index_among.ensures.value ∙ c.in_default.is));
+  same = same_hub c.args.self.now _;
+  sends_nothing = keeps_same (g.O.Outlet.taken c.args.out.now);
+}
 
 pub returns-clause-arrival : goal.returns-clause-arrival
 returns-clause-arrival g c =
-    arrives_over c.args.self.now _ c.args.connection c.in-Some.i c.args.piece.now c.args.moment c.index_mut-kept.result.now c.serve.new.intake
+    comes_to c.args.self.now _ c.args.connection c.in-Some.i c.args.piece.now c.args.moment c.index_mut-kept.result.now c.serve.new.intake
     ((λ i. index_of (sym c.number.ensures i) (sym c.as_slice.ensures.value i)) ∙ sym c.in-Some.ensures.value)
     c.index_mut-kept.ensures.value refl refl c.serve.ensures.limit
-    (g.O.Outlet.taken c.args.out.now) (g.O.Outlet.taken c.serve.new.out) c.serve.result c.serve.ensures.there c.serve.ensures.served
+    (g.O.Outlet.taken c.args.out.now) (g.O.Outlet.taken c.serve.new.out) (g.O.Outlet.failures c.args.out.now) (g.O.Outlet.failures c.serve.new.out) c.serve.result c.serve.ensures.there c.serve.ensures.cause c.serve.ensures.served
 
 pub returns-in_default-clause-there : goal.returns-in_default-clause-there
 returns-in_default-clause-there g c = λ there.
