@@ -1,11 +1,11 @@
-//! Keeps the bytes of a connection that no item has used, and takes the items from their front.
-ghost use Rattle.std.specs.Prelude.{◌≡◌, ◌≤◌, [], false, length, drop, MatchResult, OnOk, OnErr};
+//! Takes the items of a connection's bytes, in whatever pieces these come.
+ghost use Rattle.std.specs.Prelude.{◌≡◌, [], false, MatchResult, OnOk, OnErr};
 ghost use Rattle.dep_message.specs.Places.{Reading, Open, Shut, more, HasBytes};
 ghost use Rattle.dep_message.specs.Steps.{Gives};
 
-use crate::first::{Found, first};
 use crate::heads::closes;
 use crate::message::Message;
+use crate::work::{Found, Work};
 use dep_types::Refusal;
 use std::alloc::{AllocError, Global};
 use std::marker::Model;
@@ -25,23 +25,24 @@ pub enum Step {
     Dead,
 }
 
-/// The bytes of a connection that no item has used.
+/// The bytes of a connection that no item has used. It keeps how far they were read, so that no byte of a body is read
+/// again for a later piece.
 #[derive(Drop)]
 pub struct Intake {
-    alloc: Global,
-    bytes: Vec<u8>,
-    limit: u64,
-    continued: bool,
+    work: Work,
     is_shut: bool,
 }
 
 impl Model for Intake {
-    ghost use Rattle.std.specs.Prelude.{if◌then◌else◌};
-    ghost use Rattle.dep_message.specs.Places.{Reading, Open, Shut};
+    ghost use Rattle.dep_message.specs.Places.{Reading};
 
     ghost Value = { Reading };
 
-    ghost view = { λ i. record { limit = i.limit; place = if i.is_shut then Shut else Open i.continued i.bytes.items } };
+    ghost use Rattle.dep_message.specs.Working.{reading_of, IsWorking};
+
+    ghost view = { λ i. reading_of i.is_shut i.work };
+
+    ghost invariant = { λ i. IsWorking i.work };
 }
 
 impl Intake {
@@ -50,10 +51,7 @@ impl Intake {
         ensures { result ≡ record { limit = max_upload; place = Open false [] } }
     {
         Intake {
-            alloc,
-            bytes: Vec::new(alloc),
-            limit: max_upload,
-            continued: false,
+            work: Work::new(alloc, max_upload),
             is_shut: false,
         }
     }
@@ -66,14 +64,14 @@ impl Intake {
         if self.is_shut || piece.is_empty() {
             return Ok(());
         }
-        self.bytes.extend_from_slice(piece)?;
-        Ok(())
+        self.work.feed(piece)
     }
 
     /// No byte is read any more.
     pub fn shut(&mut self)
         ensures { self.new ≡ record self.old { place = Shut } }
     {
+        self.work = Work::new(self.work.alloc, self.work.limit);
         self.is_shut = true;
     }
 
@@ -85,34 +83,19 @@ impl Intake {
         if self.is_shut {
             return Ok(Step::Dead);
         }
-        match first(
-            self.alloc,
-            self.limit,
-            self.continued,
-            self.bytes.as_slice(),
-        )? {
+        match self.work.next()? {
             Found::Nothing => Ok(Step::NeedMore),
-            Found::Continue => {
-                self.continued = true;
-                Ok(Step::Continue100)
-            }
+            Found::Continue => Ok(Step::Continue100),
             Found::Fault(refusal, bare) => {
-                self.is_shut = true;
+                self.shut();
                 Ok(Step::Refused(refusal, bare))
             }
-            Found::Message(message, used) => {
-                drop_front(&mut self.bytes, used);
-                self.continued = false;
-                self.is_shut = closes(&message.head);
+            Found::Message(message) => {
+                if closes(&message.head) {
+                    self.shut();
+                }
                 Ok(Step::Message(message))
             }
         }
     }
-}
-
-fn drop_front(bytes: &mut Vec<u8>, count: usize)
-    requires { count ≤ length bytes.old.items }
-    ensures { bytes.new.items ≡ drop count bytes.old.items }
-{
-    let _ = bytes.drain(..count);
 }

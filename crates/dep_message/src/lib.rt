@@ -1,12 +1,14 @@
 //! The messages of a connection: its bytes come in pieces, and whole requests are taken from them (RFC 9112).
 #![tactic(auto)]
 
-mod body;
+mod buffer;
 mod first;
 mod heads;
 mod intake;
 pub mod laws;
 mod message;
+mod progress;
+mod work;
 
 pub use heads::{closes, is_without_body};
 pub use intake::{Intake, Step};

@@ -2,7 +2,7 @@ use Rattle.std.proofs.Common.{take, drop, sym, ◌∙◌}
 use Rattle.std.proofs.lemmas.List.{take-append-drop}
 use Rattle.dep_message.specs.Stream.{bad_framing}
 use Rattle.dep_message.proofs.Bodies.{waiting_head, due_now}
-use Rattle.dep_message.proofs.first.behind_head.Goals as goal
+use Rattle.dep_message.proofs.first.framed.Goals as goal
 
 pub returns-in-Err : goal.returns-in-Err
 returns-in-Err c = (

@@ -4,12 +4,12 @@ use Rattle.dep_head.specs.Head.{head_end}
 use Rattle.dep_head.proofs.HeadEnd.{end_within, end_take, none_front, front_before}
 use Rattle.dep_message.specs.Stream.{no_head}
 use Rattle.dep_message.proofs.Reading.{has_bytes}
-use Rattle.dep_message.proofs.first.first.Goals as goal
+use Rattle.dep_message.proofs.first.first_head.Goals as goal
 
 pub returns-then-bytes-ge-HEAD_LIMIT : goal.returns-then-bytes-ge-HEAD_LIMIT
 returns-then-bytes-ge-HEAD_LIMIT c =
     let bytes = c.args.bytes.now in
-    let none : head_end bytes ≡ None = sym c.find_end.ensures ∙ c.in_default.is in (
+    let none : head_end bytes ≡ None = sym c.find_end_from.ensures ∙ c.in_default.is in (
       take 16384 bytes,
       drop 16384 bytes,
       sym (take-append-drop 16384 bytes),

@@ -1,0 +1,32 @@
+use Rattle.std.proofs.Common.{◌≡◌, ◌≤◌, ◌<◌, ◌∙◌, length, take, drop, sym, ap, refl, arith}
+use Rattle.std.proofs.lemmas.List.{length-take-le, take_all}
+use Rattle.dep_message.proofs.Slices.{come_is}
+use Rattle.dep_message.proofs.Keeping.{unchanged, takes_request, waits_behind, keeps_apart}
+use Rattle.dep_message.proofs.work.Work.begin_sized.Goals as goal
+
+pub returns-in_default : goal.returns-in_default
+returns-in_default c = unchanged c.args.self.now c.args.head_length c.args.head _ c.requires.fresh c.requires.within c.requires.begun
+
+pub returns-then-come-size : goal.returns-then-come-size
+returns-then-come-size c =
+    let buffer = c.args.self.now.buffer in
+    let n = c.args.head_length in
+    let part = come_is buffer c.as_slice.result.now n c.args.size c.min-come.result c.in-Ok.content.items c.as_slice.ensures c.min-come.ensures c.in-Ok.ensures.items in
+    let full : c.args.size ≤ length (drop n buffer) = omega (arith, part.0, c.if-come-size.true) in
+    rw c.take.ensures.whole
+    (takes_request c.args.self.now.limit c.args.self.now.continued buffer n c.args.size _ _ c.take.new.self c.requires.within c.requires.begun
+    (length-take-le c.args.size (drop n buffer) full, part.1 ∙ ap (λ k. take k (drop n buffer)) c.if-come-size.true) c.take.ensures.left)
+
+pub returns : goal.returns
+returns c =
+    let buffer = c.args.self.now.buffer in
+    let n = c.args.head_length in
+    let part = come_is buffer c.as_slice.result.now n c.args.size c.min-come.result c.in-Ok.content.items c.as_slice.ensures c.min-come.ensures c.in-Ok.ensures.items in
+    let less : length (drop n buffer) < c.args.size = omega (arith, part.0, c.if-come-size.false) in
+    let all : length (drop n buffer) ≤ c.min-come.result = omega (arith, part.0) in
+    let place = c.keep_place.ensures in (
+      waits_behind c.args.self.now.limit c.args.self.now.continued buffer n c.args.head _ c.requires.begun less,
+      keeps_apart c.args.self.now c.keep_place.new.self n (record { head = c.args.head; length = c.args.size; behind = c.in-Ok.content }) c.requires.begun
+      (part.1 ∙ take_all c.min-come.result (drop n buffer) all)
+      (ap (λ w. w.limit) place) (ap (λ w. w.continued) place) (ap (λ w. w.buffer) place ∙ c.truncate.ensures) (ap (λ w. w.progress) place),
+    )

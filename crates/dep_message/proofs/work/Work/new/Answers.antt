@@ -1,0 +1,12 @@
+use Rattle.std.proofs.Common.{[], ◌++◌, refl, sym, subst, ap, List, ℕ}
+use Rattle.dep_message.specs.Working.{IsSearched}
+use Rattle.dep_message.proofs.SearchOn.{searched_none}
+use Rattle.dep_message.proofs.work.Work.new.Goals as goal
+
+pub returns : goal.returns
+returns c = record {
+  limit_is = refl;
+  continued_is = refl;
+  bytes_are = ap (λ (l : List ℕ). l ++ []) c.new.ensures;
+  known = searched_none c.new.result;
+}

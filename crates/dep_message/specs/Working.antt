@@ -1,0 +1,102 @@
+-- Words of private functions: the bytes that are kept, and what is known of the first request of them.
+use Rattle.std.specs.Prelude.{◌≡◌, ℕ, ◌+◌, ◌<◌, ◌≤◌, Bool, true, false, List, [], ◌++◌, length, take, drop, if◌then◌else◌, None, Result, Ok, MatchResult}
+use Rattle.std.specs.declared.alloc.AllocError.{AllocError}
+use Rattle.dep_head.specs.Head.{HeadParts, IsHeadText, head_end, head_limit}
+use Rattle.dep_body.specs.Framing.{framing}
+use Rattle.dep_body.specs.Body.{IsPartOfBody}
+use Rattle.dep_body.specs.Feeding.{HasFed}
+use Rattle.dep_body.specs.declared.frame.Framing.{Framing}
+use Rattle.dep_body.specs.declared.frame.Framing.TheVariants.{Length, Chunked as InChunks}
+use Rattle.dep_message.specs.Heads.{is_due}
+use Rattle.dep_message.specs.Places.{Reading, Open, Shut, HasBytes}
+use Rattle.dep_message.specs.Stream.{IsContinueText, IsFaultText, IsRequestText, Waits}
+use Rattle.dep_message.specs.declared.first.First.{First}
+use Rattle.dep_message.specs.declared.first.First.TheVariants as H
+use Rattle.dep_message.specs.declared.progress.ChunkedRequest.{ChunkedRequest}
+use Rattle.dep_message.specs.declared.progress.Progress.{Progress}
+use Rattle.dep_message.specs.declared.progress.Progress.TheVariants.{Searched, Sized, Chunked}
+use Rattle.dep_message.specs.declared.work.Found.{Found}
+use Rattle.dep_message.specs.declared.work.Found.TheVariants as F
+use Rattle.dep_message.specs.declared.work.Work.{Work}
+
+-- no head ends in so many bytes
+pub record IsSearched (searched : ℕ) (bytes : List ℕ) : Type 0 where
+  pub within : searched ≤ length bytes
+  pub no_end : head_end (take searched bytes) ≡ None
+
+-- a head, and the framing of the body that may come
+pub record IsBegun (limit : ℕ) (continued : Bool) (front : List ℕ) (head : HeadParts) (frame : Framing) : Type 0 where
+  pub is_head : IsHeadText front head
+  pub framed : framing limit head ≡ Ok frame
+  pub due_is : is_due continued head frame ≡ false
+
+-- the bytes behind the head are in chunks, and the reader was fed the first of them, which are no whole body
+pub record ReadsChunks (limit : ℕ) (continued : Bool) (bytes : List ℕ) (request : ChunkedRequest) : Type 0 where
+  pub begun : IsBegun limit continued (take request.head_length bytes) request.head InChunks
+  pub within : request.head_length + request.read ≤ length bytes
+  pub limit_is : request.reader.limit ≡ limit
+  pub fed : HasFed request.reader (take request.read (drop request.head_length bytes))
+  pub part : IsPartOfBody limit InChunks (take request.read (drop request.head_length bytes))
+
+-- the bytes that stand apart from the buffer, behind it
+abbrev pub bytes_apart : Progress → List ℕ
+bytes_apart (Searched n) = []
+bytes_apart (Sized request) = request.behind.items
+bytes_apart (Chunked request) = []
+
+-- all bytes that are kept
+abbrev pub kept_bytes : Work → List ℕ
+kept_bytes work = work.buffer ++ bytes_apart work.progress
+
+-- what is known of the first request is so
+abbrev pub IsKnown : ℕ → Bool → List ℕ → Progress → Type 0
+IsKnown limit continued buffer (Searched n) = IsSearched n buffer
+IsKnown limit continued buffer (Sized request) = IsBegun limit continued buffer request.head (Length request.length)
+IsKnown limit continued buffer (Chunked request) = ReadsChunks limit continued buffer request
+
+-- the request before is done with, and nothing is known of the next
+abbrev pub IsFresh : Work → Type 0
+IsFresh work = work.progress ≡ Searched 0
+
+abbrev pub IsWorking : Work → Type 0
+IsWorking work = IsKnown work.limit work.continued work.buffer work.progress
+
+-- where the reading stands
+abbrev pub reading_of : (is_shut : Bool) → Work → Reading
+reading_of is_shut work =
+    record { limit = work.limit; place = if is_shut then Shut else Open work.continued (kept_bytes work) }
+
+-- just these bytes are kept
+pub record Keeps (limit : ℕ) (continued : Bool) (bytes : List ℕ) (work : Work) : Type 0 where
+  pub limit_is : work.limit ≡ limit
+  pub continued_is : work.continued ≡ continued
+  pub bytes_are : kept_bytes work ≡ bytes
+  pub known : IsWorking work
+
+-- the bytes begin with a text of this kind
+abbrev pub Begins : (List ℕ → Type 0) → List ℕ → Type 0
+Begins IsText bytes = (text : List ℕ) × (behind : List ℕ) × (bytes ≡ text ++ behind) × IsText text
+
+-- the head that stands first in the bytes
+abbrev pub FindsHead : ℕ → Bool → List ℕ → First → Type 0
+FindsHead limit continued bytes (H.Head first) =
+    (first.length ≤ length bytes) × IsBegun limit continued (take first.length bytes) first.head first.framing
+FindsHead limit continued bytes H.Continue = Begins (IsContinueText limit continued) bytes
+FindsHead limit continued bytes (H.Fault refusal bare) = Begins (λ text. IsFaultText limit continued text refusal bare) bytes
+FindsHead limit continued bytes H.Nothing = (head_end bytes ≡ None) × (length bytes < head_limit)
+
+-- what stands first in the bytes, and what is kept then
+abbrev pub Finds : ℕ → Bool → List ℕ → Work → Found → Type 0
+Finds limit continued bytes new (F.Message m) =
+    (text : List ℕ) × (behind : List ℕ) × (bytes ≡ text ++ behind) × IsRequestText limit continued text m × (0 < length text)
+    × Keeps limit false behind new
+Finds limit continued bytes new F.Continue = Begins (IsContinueText limit continued) bytes × Keeps limit true bytes new
+Finds limit continued bytes new (F.Fault refusal bare) =
+    Begins (λ text. IsFaultText limit continued text refusal bare) bytes × (new.limit ≡ limit) × IsWorking new
+Finds limit continued bytes new F.Nothing = Waits limit (Open continued bytes) × Keeps limit continued bytes new
+
+-- what `next` gives over these bytes: for want of memory it changes nothing, and some byte was there
+abbrev pub FindsNext : ℕ → Bool → List ℕ → Work → Result Found AllocError → Type 0
+FindsNext limit continued bytes new result =
+    MatchResult result (Finds limit continued bytes new)
+    (λ _. Keeps limit continued bytes new × HasBytes (Open continued bytes))

@@ -1,0 +1,80 @@
+//! Bytes that come at the end and go at the front.
+ghost use Rattle.std.specs.Prelude.{◌≡◌, ◌≤◌, ◌++◌, [], length, take, drop, OnOk, OnErr};
+
+use std::alloc::{AllocError, Global};
+use std::marker::Model;
+
+/// Bytes that come at the end and go at the front. What is left isn't moved when some go, until it is less than a
+/// quarter of the room.
+#[derive(Drop)]
+pub struct Buffer {
+    alloc: Global,
+    bytes: Vec<u8>,
+    /// How many of the bytes, at the front, are gone.
+    gone: usize,
+}
+
+impl Model for Buffer {
+    ghost use Rattle.std.specs.Prelude.{List, ℕ, ◌≤◌, drop, length};
+
+    ghost Value = { List ℕ };
+
+    ghost view = { λ b. drop b.gone b.bytes.items };
+
+    ghost invariant = { λ b. b.gone ≤ length b.bytes.items };
+}
+
+impl Buffer {
+    pub fn new(alloc: Global) -> Buffer
+        ensures { result ≡ [] }
+    {
+        Buffer {
+            alloc,
+            bytes: Vec::new(alloc),
+            gone: 0,
+        }
+    }
+
+    pub fn as_slice(&self) -> &[u8]
+        ensures { result.now ≡ self.now }
+    {
+        &self.bytes.as_slice()[self.gone..]
+    }
+
+    pub fn append(&mut self, piece: &[u8]) -> Result<(), AllocError>
+        ensures ok { OnOk result (self.new ≡ self.old ++ piece.now) }
+        ensures err { OnErr result (self.new ≡ self.old) }
+    {
+        self.bytes.extend_from_slice(piece)
+    }
+
+    pub fn drop_front(&mut self, count: usize)
+        requires { count ≤ length self.old }
+        ensures { self.new ≡ drop count self.old }
+    {
+        self.gone += count;
+        self.free_room();
+    }
+
+    pub fn truncate(&mut self, count: usize)
+        requires { count ≤ length self.old }
+        ensures { self.new ≡ take count self.old }
+    {
+        self.bytes.truncate(self.gone + count);
+        self.free_room();
+    }
+
+    // Moves what is left into room of its own size, where it is less than a quarter of the room and memory allows. So no
+    // more bytes are moved than are gone.
+    fn free_room(&mut self)
+        ensures { self.new ≡ self.old }
+    {
+        if self.as_slice().len() >= self.bytes.capacity() / 4 {
+            return;
+        }
+        if let Ok(bytes) = Vec::from_slice(self.alloc, self.as_slice()) {
+            self.bytes = bytes;
+            self.gone = 0;
+        }
+    }
+}

@@ -1,0 +1,54 @@
+//! How far the first request of a connection's bytes was read.
+ghost use Rattle.std.specs.Prelude.{◌≡◌, ◌++◌, OnOk, OnErr};
+
+use dep_body::ChunkReader;
+use dep_head::Head;
+use std::alloc::AllocError;
+
+/// A request whose body has a known length, and had not come whole with its head.
+#[derive(Drop)]
+pub struct SizedRequest {
+    pub head: Head,
+    /// How many bytes the body has.
+    pub length: usize,
+    /// The bytes behind the head, which grow as they come.
+    pub behind: Vec<u8>,
+}
+
+/// A request whose body is in chunks.
+#[derive(Drop)]
+pub struct ChunkedRequest {
+    pub head: Head,
+    /// How many bytes the head has.
+    pub head_length: usize,
+    pub reader: ChunkReader,
+    /// How many of the bytes behind the head the reader has read.
+    pub read: usize,
+}
+
+/// How far the first request was read.
+#[derive(Drop)]
+pub enum Progress {
+    /// No head ends in so many bytes.
+    Searched(usize),
+    Sized(SizedRequest),
+    Chunked(ChunkedRequest),
+}
+
+impl SizedRequest {
+    /// Takes the next piece of the stream. The room grows to twice as much at most, and for the body alone to no more
+    /// than its length.
+    pub fn append(&mut self, piece: &[u8]) -> Result<(), AllocError>
+        ensures head { self.new.head ≡ self.old.head }
+        ensures length { self.new.length ≡ self.old.length }
+        ensures ok { OnOk result (self.new.behind.items ≡ self.old.behind.items ++ piece.now) }
+        ensures err { OnErr result (self.new.behind.items ≡ self.old.behind.items) }
+    {
+        let come = self.behind.len();
+        if self.behind.capacity() - come < piece.len() {
+            let twice = come.min(self.length.saturating_sub(come));
+            self.behind.reserve_exact(twice.max(piece.len()))?;
+        }
+        self.behind.extend_from_slice(piece)
+    }
+}

@@ -1,0 +1,221 @@
+//! The bytes of a connection that no item has used, and what is known of them.
+ghost use Rattle.std.specs.Prelude.{◌≡◌, ◌≤◌, [], ◌++◌, false, length, take, drop, OnOk, OnErr};
+ghost use Rattle.dep_message.specs.Stream.{refusal_of};
+ghost use Rattle.dep_message.specs.Heads.{is_bare};
+ghost use Rattle.dep_message.specs.Working.{IsFresh, IsSearched, IsBegun, ReadsChunks, Keeps, FindsNext, IsWorking, kept_bytes};
+
+use crate::buffer::Buffer;
+use crate::first::{First, FramedHead, first_head, refusal_for};
+use crate::heads::is_without_body;
+use crate::message::{Content, Message};
+use crate::progress::{ChunkedRequest, Progress, SizedRequest};
+use dep_body::{ChunkReader, Fed, FrameFault, Framing};
+use dep_head::Head;
+use dep_types::Refusal;
+use std::alloc::{AllocError, Global};
+use std::mem;
+
+/// What stands first in the bytes.
+#[derive(Drop)]
+pub enum Found {
+    /// A whole request, whose bytes are gone.
+    Message(Message),
+    /// The head of a request whose client is to be told to go on.
+    Continue,
+    Fault(Refusal, bool),
+    Nothing,
+}
+
+/// The bytes of a connection that no item has used, and how far the first request of them was read.
+#[derive(Drop)]
+pub struct Work {
+    pub alloc: Global,
+    pub limit: u64,
+    /// The client of the first request was told to go on.
+    pub continued: bool,
+    pub buffer: Buffer,
+    pub progress: Progress,
+}
+
+impl Work {
+    pub fn new(alloc: Global, limit: u64) -> Work
+        ensures { Keeps limit false [] result }
+    {
+        Work {
+            alloc,
+            limit,
+            continued: false,
+            buffer: Buffer::new(alloc),
+            progress: Progress::Searched(0),
+        }
+    }
+
+    /// Takes the next piece of the stream. An `Err` changes nothing.
+    pub fn feed(&mut self, piece: &[u8]) -> Result<(), AllocError>
+        requires { IsWorking self.old }
+        ensures ok { OnOk result (Keeps self.old.limit self.old.continued (kept_bytes self.old ++ piece.now) self.new) }
+        ensures err { OnErr result (Keeps self.old.limit self.old.continued (kept_bytes self.old) self.new) }
+    {
+        match &mut self.progress {
+            Progress::Sized(request) => request.append(piece),
+            _ => self.buffer.append(piece),
+        }
+    }
+
+    /// Takes the first item, where one is complete. An `Err` changes nothing.
+    pub fn next(&mut self) -> Result<Found, AllocError>
+        requires { IsWorking self.old }
+        ensures { FindsNext self.old.limit self.old.continued (kept_bytes self.old) self.new result }
+    {
+        match mem::replace(&mut self.progress, Progress::Searched(0)) {
+            Progress::Searched(searched) => self.search(searched),
+            Progress::Sized(request) => self.read_sized(request),
+            Progress::Chunked(request) => self.read_chunks(request),
+        }
+    }
+
+    // Reads on where no head ends in so many bytes.
+    fn search(&mut self, searched: usize) -> Result<Found, AllocError>
+        requires fresh { IsFresh self.old }
+        requires searched { IsSearched searched self.old.buffer }
+        ensures { FindsNext self.old.limit self.old.continued self.old.buffer self.new result }
+    {
+        let bytes = self.buffer.as_slice();
+        match first_head(self.alloc, self.limit, self.continued, searched, bytes)? {
+            First::Nothing => {
+                let searched = bytes.len();
+                self.keep_place(Progress::Searched(searched));
+                Ok(Found::Nothing)
+            }
+            First::Fault(refusal, bare) => Ok(Found::Fault(refusal, bare)),
+            First::Continue => {
+                self.continued = true;
+                Ok(Found::Continue)
+            }
+            First::Head(first) => self.begin(first),
+        }
+    }
+
+    // Reads the body behind the first head.
+    fn begin(&mut self, first: FramedHead) -> Result<Found, AllocError>
+        requires fresh { IsFresh self.old }
+        requires within { first.length ≤ length self.old.buffer }
+        requires begun { IsBegun self.old.limit self.old.continued (take first.length self.old.buffer) first.head first.framing }
+        ensures { FindsNext self.old.limit self.old.continued self.old.buffer self.new result }
+    {
+        match first.framing {
+            Framing::Empty => Ok(self.take(first.length, first.head, Vec::new(self.alloc))),
+            Framing::Length(length) => self.begin_sized(first.head, first.length, length as usize),
+            Framing::Chunked => self.read_chunks(ChunkedRequest {
+                head: first.head,
+                head_length: first.length,
+                reader: ChunkReader::new(self.alloc, self.limit),
+                read: 0,
+            }),
+        }
+    }
+
+    fn begin_sized(
+        &mut self,
+        head: Head,
+        head_length: usize,
+        size: usize,
+    ) -> Result<Found, AllocError>
+        requires fresh { IsFresh self.old }
+        requires within { head_length ≤ length self.old.buffer }
+        requires begun { IsBegun self.old.limit self.old.continued (take head_length self.old.buffer) head (Framing.Length size) }
+        ensures { FindsNext self.old.limit self.old.continued self.old.buffer self.new result }
+    {
+        let behind = &self.buffer.as_slice()[head_length..];
+        let come = behind.len().min(size);
+        let Ok(content) = Vec::from_slice(self.alloc, &behind[..come]) else {
+            return Err(AllocError);
+        };
+        if come == size {
+            return Ok(self.take(head_length + size, head, content));
+        }
+        self.buffer.truncate(head_length);
+        self.keep_place(Progress::Sized(SizedRequest {
+            head,
+            length: size,
+            behind: content,
+        }));
+        Ok(Found::Nothing)
+    }
+
+    // Reads on where the bytes are a head, and those behind it stand apart.
+    fn read_sized(&mut self, mut request: SizedRequest) -> Result<Found, AllocError>
+        requires fresh { IsFresh self.old }
+        requires begun { IsBegun self.old.limit self.old.continued self.old.buffer request.head (Framing.Length request.length) }
+        ensures { FindsNext self.old.limit self.old.continued (self.old.buffer ++ request.behind.items) self.new result }
+    {
+        if request.behind.len() < request.length {
+            self.keep_place(Progress::Sized(request));
+            return Ok(Found::Nothing);
+        }
+        let head_length = self.buffer.as_slice().len();
+        match self.buffer.append(&request.behind[request.length..]) {
+            Err(error) => {
+                self.keep_place(Progress::Sized(request));
+                Err(error)
+            }
+            Ok(()) => {
+                request.behind.truncate(request.length);
+                Ok(self.take(head_length, request.head, request.behind))
+            }
+        }
+    }
+
+    // Reads on where the first request comes in chunks.
+    fn read_chunks(&mut self, mut request: ChunkedRequest) -> Result<Found, AllocError>
+        requires fresh { IsFresh self.old }
+        requires reads { ReadsChunks self.old.limit self.old.continued self.old.buffer request }
+        ensures { FindsNext self.old.limit self.old.continued self.old.buffer self.new result }
+    {
+        let bytes = self.buffer.as_slice();
+        let read = request.head_length + request.read;
+        match request.reader.feed(&bytes[read..]) {
+            Err(error) => {
+                self.keep_place(Progress::Chunked(request));
+                Err(error)
+            }
+            Ok(Fed::More) => {
+                request.read = bytes.len() - request.head_length;
+                self.keep_place(Progress::Chunked(request));
+                Ok(Found::Nothing)
+            }
+            Ok(Fed::Done(used)) => {
+                Ok(self.take(read + used, request.head, request.reader.content()))
+            }
+            Ok(Fed::Bad) => Ok(fault_of(&request.head, FrameFault::Bad)),
+            Ok(Fed::TooLarge) => Ok(fault_of(&request.head, FrameFault::TooLarge)),
+        }
+    }
+
+    fn keep_place(&mut self, progress: Progress)
+        ensures { self.new ≡ record self.old { progress = progress } }
+    {
+        self.progress = progress;
+    }
+
+    // Takes a whole request, which has so many bytes of the buffer.
+    fn take(&mut self, count: usize, head: Head, content: Vec<u8>) -> Found
+        requires fresh { IsFresh self.old }
+        requires within { count ≤ length self.old.buffer }
+        ensures whole { result ≡ Found.Message (record { head = head; content = content.items }) }
+        ensures left { Keeps self.old.limit false (drop count self.old.buffer) self.new }
+    {
+        self.buffer.drop_front(count);
+        self.continued = false;
+        Found::Message(Message {
+            head,
+            content: Content::from_vec(content),
+        })
+    }
+}
+
+fn fault_of(head: &Head, fault: FrameFault) -> Found
+    ensures { result ≡ Found.Fault (refusal_of fault) (is_bare head.now) }
+{
+    Found::Fault(refusal_for(fault), is_without_body(head))
+}
