@@ -1,5 +1,5 @@
 -- A head, and the body behind it.
-use Rattle.std.proofs.Common.{◌≡◌, ℕ, ◌+◌, ◌≤◌, ◌<◌, ◌&&◌, not, Bool, true, false, List, [], ◌++◌, length, take, drop, Ok, refl, sym, ap, ◌∙◌, append_assoc, append-nil, arith, length-take, inr}
+use Rattle.std.proofs.Common.{◌≡◌, ℕ, ◌<◌, ◌&&◌, not, Bool, true, false, List, [], ◌++◌, length, take, drop, Ok, refl, sym, ap, ◌∙◌, append_assoc, append-nil, arith, inr}
 use Rattle.std.proofs.lemmas.List.{take-append-drop}
 use Rattle.dep_head.specs.Head.{HeadParts, IsHeadText}
 use Rattle.dep_head.proofs.HeadEnd.{end_within}

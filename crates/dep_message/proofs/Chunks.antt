@@ -1,10 +1,10 @@
 -- Chunks behind a head, of which a reader was fed the first bytes.
-use Rattle.std.proofs.Common.{◌≡◌, ℕ, ◌+◌, ◌-◌, ◌≤◌, ◌<◌, Bool, false, List, [], ◌++◌, length, take, drop, sym, ap, subst, ◌∙◌, length-drop, length-append, arith, refl, inl, inr}
+use Rattle.std.proofs.Common.{◌≡◌, ℕ, ◌+◌, ◌-◌, ◌≤◌, ◌<◌, Bool, List, [], ◌++◌, length, take, drop, sym, ap, subst, ◌∙◌, length-drop, arith, refl, inl, inr}
 use Rattle.std.proofs.lemmas.Bool.{cases_lt}
-use Rattle.std.proofs.lemmas.List.{length-take-le, take-append-drop, drop-drop, take-append-le, take_all}
+use Rattle.std.proofs.lemmas.List.{length-take-le, take-append-drop, drop-drop, take-append-le}
 use Rattle.std.proofs.Math.Seq.{take-append_seam}
 use Rattle.dep_head.specs.Head.{HeadParts}
-use Rattle.dep_body.specs.Body.{IsBodyText, IsBodyFault, IsChunkedPart, IsPartOfBody, begun_line}
+use Rattle.dep_body.specs.Body.{IsBodyText, IsChunkedPart, IsPartOfBody, begun_line}
 use Rattle.dep_body.specs.Feeding.{EndsBody, ShowsFault, HasFed}
 use Rattle.dep_body.specs.ReaderValue.{ReaderValue}
 use Rattle.dep_body.specs.declared.frame.Framing.TheVariants.{Chunked as InChunks}
@@ -46,9 +46,9 @@ pub ends_behind : (limit : ℕ) (content fed piece : List ℕ) (used : ℕ) (e :
 ends_behind limit content fed piece used e part =
     elim (cases_lt (length e.text) (length fed)) as (λ _. length e.text ≡ length fed + used) [
       | inl less ↦ (
-        let front = front_of fed e.text piece e.behind e.stream_is less in
-        absurd (body_no_part limit InChunks e.text front.0 content e.body (subst (λ (l : List ℕ). IsPartOfBody limit InChunks l) (sym front.1) part))
-      )
+          let front = front_of fed e.text piece e.behind e.stream_is less in
+          absurd (body_no_part limit InChunks e.text front.0 content e.body (subst (λ (l : List ℕ). IsPartOfBody limit InChunks l) (sym front.1) part))
+          )
       | inr within ↦ omega (arith, e.used_is, within)
     ]
 

@@ -1,10 +1,10 @@
 -- What is kept of the bytes.
-use Rattle.std.proofs.Common.{◌≡◌, ℕ, ◌+◌, ◌-◌, ◌≤◌, ◌<◌, Bool, false, List, [], ◌++◌, length, take, drop, sym, ap, subst, ◌∙◌, append-nil, append_assoc, length-append, arith, refl}
+use Rattle.std.proofs.Common.{◌≡◌, ℕ, ◌+◌, ◌-◌, ◌≤◌, ◌<◌, Bool, false, List, ◌++◌, length, take, drop, sym, ap, subst, ◌∙◌, append-nil, append_assoc, length-append, arith, refl}
 use Rattle.std.proofs.lemmas.List.{length-take-le, take-append-drop}
 use Rattle.std.proofs.Math.Seq.{take-add, drop-append_seam}
 use Rattle.dep_head.specs.Head.{HeadParts}
 use Rattle.dep_body.specs.declared.frame.Framing.{Framing}
-use Rattle.dep_message.specs.Places.{Reading, Place, Open, Shut, HasBytes, more}
+use Rattle.dep_message.specs.Places.{Reading, Place, Open, HasBytes, more}
 use Rattle.dep_message.specs.Working.{IsFresh, IsKnown, IsBegun, ReadsChunks, Keeps, Finds, bytes_apart, kept_bytes, reading_of}
 use Rattle.dep_message.specs.Stream.{Waits}
 use Rattle.dep_message.specs.declared.message.Message.{Message}
@@ -12,7 +12,7 @@ use Rattle.dep_message.specs.declared.work.Found.TheVariants as F
 use Rattle.dep_body.specs.Body.{IsBodyText, IsPartOfBody}
 use Rattle.dep_body.specs.declared.frame.Framing.TheVariants.{Length}
 use Rattle.dep_message.specs.declared.progress.Progress.{Progress}
-use Rattle.dep_message.specs.declared.progress.Progress.TheVariants.{Searched, Sized, Chunked}
+use Rattle.dep_message.specs.declared.progress.Progress.TheVariants.{Sized, Chunked}
 use Rattle.dep_message.specs.declared.progress.SizedRequest.{SizedRequest}
 use Rattle.dep_message.specs.declared.progress.ChunkedRequest.{ChunkedRequest}
 use Rattle.dep_message.specs.declared.work.Work.{Work}
@@ -119,5 +119,5 @@ stands_still work new is_shut reading piece is_open was some keeps =
     λ i. record { limit = keeps.limit_is i; place = Open (keeps.continued_is i) (keeps.bytes_are i) } in (
       ap (λ b. reading_of b new) is_open ∙ (new_is ∙ is),
       subst (λ (p : Place). HasBytes (more p piece)) place
-      (has_bytes work.continued (kept_bytes work ++ piece) (omega (arith, length-append (kept_bytes work) piece))),
+          (has_bytes work.continued (kept_bytes work ++ piece) (omega (arith, length-append (kept_bytes work) piece))),
     )

@@ -1,7 +1,7 @@
 -- What an intake gives.
-use Rattle.std.specs.Prelude.{◌≡◌, ◌<◌, ◌≤◌, ℕ, Bool, List, ◌++◌, length, take}
-use Rattle.dep_message.specs.Places.{Open, Shut, Reading, IsOpen, left_to_read}
-use Rattle.dep_message.specs.Stream.{Item, Fault, Continue, Request, FirstAt, Waits, IsRequestText, IsContinueText, IsFaultText}
+use Rattle.std.specs.Prelude.{◌≡◌, ◌<◌}
+use Rattle.dep_message.specs.Places.{Shut, Reading, IsOpen, left_to_read}
+use Rattle.dep_message.specs.Stream.{Item, Fault, Continue, Request, FirstAt, Waits}
 use Rattle.dep_message.specs.declared.intake.Step.{Step}
 use Rattle.dep_message.specs.declared.intake.Step.TheVariants.{Continue100, Message, Refused, NeedMore, Dead}
 

@@ -1,6 +1,4 @@
-use Rattle.std.proofs.Common.{◌≡◌, ◌+◌, ◌≤◌, arith, sym, ap, ◌∙◌, Some, length}
-use Rattle.std.specs.Option.{option_map}
-use Rattle.dep_head.specs.Head.{head_end}
+use Rattle.std.proofs.Common.{◌+◌, arith, sym, Some}
 use Rattle.dep_head.proofs.HeadEnd.{end_within}
 use Rattle.dep_message.proofs.SearchOn.{end_found}
 use Rattle.dep_message.proofs.first.find_end_from.Goals as goal

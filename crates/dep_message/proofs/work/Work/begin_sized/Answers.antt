@@ -1,4 +1,4 @@
-use Rattle.std.proofs.Common.{◌≡◌, ◌≤◌, ◌<◌, ◌∙◌, length, take, drop, sym, ap, refl, arith}
+use Rattle.std.proofs.Common.{◌≤◌, ◌<◌, ◌∙◌, length, take, drop, ap, arith}
 use Rattle.std.proofs.lemmas.List.{length-take-le, take_all}
 use Rattle.dep_message.proofs.Slices.{come_is}
 use Rattle.dep_message.proofs.Keeping.{unchanged, takes_request, waits_behind, keeps_apart}
@@ -27,6 +27,6 @@ returns c =
     let place = c.keep_place.ensures in (
       waits_behind c.args.self.now.limit c.args.self.now.continued buffer n c.args.head _ c.requires.begun less,
       keeps_apart c.args.self.now c.keep_place.new.self n (record { head = c.args.head; length = c.args.size; behind = c.in-Ok.content }) c.requires.begun
-      (part.1 ∙ take_all c.min-come.result (drop n buffer) all)
-      (ap (λ w. w.limit) place) (ap (λ w. w.continued) place) (ap (λ w. w.buffer) place ∙ c.truncate.ensures) (ap (λ w. w.progress) place),
+          (part.1 ∙ take_all c.min-come.result (drop n buffer) all)
+          (ap (λ w. w.limit) place) (ap (λ w. w.continued) place) (ap (λ w. w.buffer) place ∙ c.truncate.ensures) (ap (λ w. w.progress) place),
     )

@@ -1,5 +1,4 @@
-use Rattle.std.proofs.Common.{[], ◌++◌, refl, sym, subst, ap, List, ℕ}
-use Rattle.dep_message.specs.Working.{IsSearched}
+use Rattle.std.proofs.Common.{[], ◌++◌, refl, ap, List, ℕ}
 use Rattle.dep_message.proofs.SearchOn.{searched_none}
 use Rattle.dep_message.proofs.work.Work.new.Goals as goal
 

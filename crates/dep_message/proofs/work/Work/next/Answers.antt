@@ -1,4 +1,4 @@
-use Rattle.std.proofs.Common.{sym, ◌∙◌, ◌++◌, ap, subst, append-nil, List, ℕ}
+use Rattle.std.proofs.Common.{sym, ◌∙◌, ◌++◌, subst, append-nil, List, ℕ}
 use Rattle.dep_message.specs.Working.{FindsNext, bytes_apart}
 use Rattle.dep_message.specs.declared.progress.Progress.{Progress}
 use Rattle.dep_message.proofs.work.Work.next.Goals as goal
