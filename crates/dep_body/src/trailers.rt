@@ -1,10 +1,9 @@
 //! Trailer lines, byte by byte.
 ghost use Rattle.std.specs.Prelude.{◌≡◌, ◌<◌, true, false};
-ghost use Rattle.dep_octets.specs.Octets.{is_token_octet};
 ghost use Rattle.dep_body.specs.Lines.{is_trailer_octet};
 ghost use Rattle.dep_body.specs.Reading.{trailer_after, next_trailer};
 
-use dep_octets::is_token;
+use dep_octets::is_token_octet;
 
 /// How many bytes the trailers have at most, with the last CR LF.
 pub(crate) const SECTION_LIMIT: usize = 16_384;
@@ -73,12 +72,6 @@ impl TrailerReading {
             _ => TrailerReading::Broken,
         }
     }
-}
-
-fn is_token_octet(byte: u8) -> bool
-    ensures { result ≡ is_token_octet byte }
-{
-    is_token(&[byte])
 }
 
 fn is_trailer_octet(byte: u8) -> bool

@@ -12,4 +12,4 @@ mod work;
 
 pub use heads::{closes, is_without_body};
 pub use intake::{Intake, Step};
-pub use message::{Content, Message};
+pub use message::Message;

@@ -7,11 +7,11 @@ ghost use Rattle.dep_message.specs.Working.{IsFresh, IsSearched, IsBegun, ReadsC
 use crate::buffer::Buffer;
 use crate::first::{First, FramedHead, first_head, refusal_for};
 use crate::heads::is_without_body;
-use crate::message::{Content, Message};
+use crate::message::Message;
 use crate::progress::{ChunkedRequest, Progress, SizedRequest};
 use dep_body::{ChunkReader, Fed, FrameFault, Framing};
 use dep_head::Head;
-use dep_types::Refusal;
+use dep_types::{Octets, Refusal};
 use std::alloc::{AllocError, Global};
 use std::mem;
 
@@ -209,7 +209,7 @@ impl Work {
         self.continued = false;
         Found::Message(Message {
             head,
-            content: Content::from_vec(content),
+            content: Octets::from_vec(content),
         })
     }
 }
