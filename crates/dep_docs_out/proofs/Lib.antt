@@ -1,2 +1,3 @@
-pub mod Lists
-pub mod StatusLemmas
+pub mod TokenLemmas
+pub mod Loops
+pub mod Waiting

@@ -1,12 +1,17 @@
 -- The documents that the server writes (SWORD 3.0), as JSON data and as bytes.
-use Rattle.std.specs.Prelude.{ℕ, min, Bool, true, List, [], ◌∷◌, ◌++◌, map, Option, Some, None, codes, decimal, if◌then◌else◌}
+use Rattle.std.specs.Prelude.{ℕ, ◌==◌, min, not, Bool, true, List, [], ◌∷◌, ◌++◌, map, filter, Option, Some, None, codes, decimal, if◌then◌else◌}
+use Rattle.std.specs.List.{list_any, range_with_len}
+use Rattle.std.specs.FinMap as finmap
 use Rattle.serde_json.specs.Data.{Data, boolean}
 use Rattle.serde_json.specs.Written.{compact_text}
 use Rattle.dep_types.specs.Refusals.{facts_of}
 use Rattle.dep_types.specs.declared.refusal.Refusal.{Refusal}
 use Rattle.dep_types.specs.declared.config.Config.{Config}
 use Rattle.dep_types.specs.declared.rows.FileRow.{FileRow}
+use Rattle.dep_types.specs.declared.rows.ObjectRow.{ObjectRow}
 use Rattle.dep_types.specs.declared.rows.ObjectView.{ObjectView}
+use Rattle.dep_types.specs.declared.rows.UploadRow.{UploadRow}
+use Rattle.dep_types.specs.State.{Texts}
 use Rattle.dep_types.specs.Names.{binary}
 use Rattle.dep_moment.specs.Civil.{rfc3339_text}
 use Rattle.dep_moment.specs.Greatest.{greatest_moment}
@@ -31,29 +36,47 @@ files_url config n = object_url config n ++ codes "/files"
 abbrev pub file_url : Config → (n f : ℕ) → List ℕ
 file_url config n f = object_url config n ++ codes "/files/" ++ decimal f
 
--- what the server offers, and its limits
-unfoldable pub service_data : Config → Data
-service_data config = document
-    (context
-    ∷ (codes "@id", text (url config (codes "/service")))
+abbrev pub upload_url : Config → (n : ℕ) → List ℕ
+upload_url config n = url config (codes "/staging/" ++ decimal n)
+
+-- what the server takes
+unfoldable pub service_offers : (root : List ℕ) → List (List ℕ × Data)
+service_offers root =
+    context
+    ∷ (codes "@id", text root)
     ∷ (codes "@type", text (codes "ServiceDocument"))
     ∷ (codes "accept", only (codes "*/*"))
     ∷ (codes "acceptDeposits", boolean true)
     ∷ (codes "acceptMetadata", only (codes "http://purl.org/net/sword/3.0/types/Metadata"))
     ∷ (codes "acceptPackaging", only (codes "http://purl.org/net/sword/3.0/package/Binary"))
-    ∷ (codes "byReferenceDeposit", boolean true)
+    ∷ []
+
+-- what it is called, and its limits
+unfoldable pub service_limits : Config → List (List ℕ × Data)
+service_limits config =
+    (codes "byReferenceDeposit", boolean true)
     ∷ (codes "dc:title", text config.title)
     ∷ (codes "dcterms:abstract", text config.abstract_text)
     ∷ (codes "digest", only (codes "SHA-256"))
     ∷ (codes "maxAssembledSize", whole config.max_assembled)
     ∷ (codes "maxSegments", whole config.max_segments)
     ∷ (codes "maxUploadSize", whole config.max_upload)
-    ∷ (codes "onBehalfOf", boolean config.on_behalf_of)
-    ∷ (codes "root", text (url config (codes "/service")))
-    ∷ (codes "staging", text (url config (codes "/staging")))
+    ∷ []
+
+-- where it takes it
+unfoldable pub service_places : Config → (root staging : List ℕ) → List (List ℕ × Data)
+service_places config root staging =
+    (codes "onBehalfOf", boolean config.on_behalf_of)
+    ∷ (codes "root", text root)
+    ∷ (codes "staging", text staging)
     ∷ (codes "stagingMaxIdle", whole config.staging_max_idle)
     ∷ (codes "version", text (codes "http://purl.org/net/sword/3.0"))
-    ∷ [])
+    ∷ []
+
+-- what the server offers, and its limits
+unfoldable pub service_data : Config → Data
+service_data config = let root = url config (codes "/service") in let staging = url config (codes "/staging") in
+    document (service_offers root ++ service_limits config ++ service_places config root staging)
 
 -- why a request was refused, at this second
 unfoldable pub error_data : Refusal → (clock : ℕ) → Data
@@ -83,6 +106,15 @@ actions_data = document
 unfoldable pub part_data : (url : List ℕ) → (tag : ℕ) → Data
 part_data url tag = document ((codes "@id", text url) ∷ (codes "eTag", text (decimal tag)) ∷ [])
 
+-- where a file stands, and how it came
+unfoldable pub deposit_members : Config → (place : List ℕ) → FileRow → List (List ℕ × Data)
+deposit_members config place file =
+    (codes "@id", text place)
+    ∷ (codes "contentType", text file.media)
+    ∷ (codes "depositedBy", text config.depositor)
+    ∷ (codes "depositedOn", text (rfc3339_text (min file.deposited greatest_moment)))
+    ∷ []
+
 -- on whose behalf a file was deposited, where one was told
 abbrev pub behalf_members : Option (List ℕ) → List (List ℕ × Data)
 behalf_members None = []
@@ -101,19 +133,18 @@ relations_data by_reference = list
     ∷ text (codes "http://purl.org/net/sword/3.0/terms/fileSetFile")
     ∷ [])
 
--- a file of the object of this number
-unfoldable pub link_data : Config → (n : ℕ) → FileRow → Data
-link_data config n file = document
-    ((codes "@id", text (file_url config n file.file))
-    ∷ (codes "contentType", text file.media)
-    ∷ (codes "depositedBy", text config.depositor)
-    ∷ (codes "depositedOn", text (rfc3339_text (min file.deposited greatest_moment)))
-    ∷ behalf_members file.behalf
-    ++ (codes "eTag", text (decimal file.tag))
+-- what a file is in the file set
+unfoldable pub kept_members : FileRow → List (List ℕ × Data)
+kept_members file =
+    (codes "eTag", text (decimal file.tag))
     ∷ (codes "packaging", text binary)
     ∷ (codes "rel", relations_data file.by_reference)
     ∷ (codes "status", text (codes "http://purl.org/net/sword/3.0/filestate/ingested"))
-    ∷ [])
+    ∷ []
+
+-- a file of the object of this number
+unfoldable pub link_data : Config → (n : ℕ) → FileRow → Data
+link_data config n file = document (deposit_members config (file_url config n file.file) file ++ behalf_members file.behalf ++ kept_members file)
 
 -- whether the deposit of an object is complete
 abbrev pub state_id : (ingested : Bool) → List ℕ
@@ -121,22 +152,79 @@ state_id ingested =
     if ingested then codes "http://purl.org/net/sword/3.0/state/ingested"
     else codes "http://purl.org/net/sword/3.0/state/inProgress"
 
-unfoldable pub state_data : (ingested : Bool) → Data
-state_data ingested = document ((codes "@id", text (state_id ingested)) ∷ [])
+-- the same as a list of one state
+unfoldable pub states_data : (ingested : Bool) → Data
+states_data ingested = list (document ((codes "@id", text (state_id ingested)) ∷ []) ∷ [])
+
+-- an object: where it stands, what may be done with it, its tags
+unfoldable pub object_members : Config → ObjectRow → List (List ℕ × Data)
+object_members config row =
+    context
+    ∷ (codes "@id", text (object_url config row.object))
+    ∷ (codes "@type", text (codes "Status"))
+    ∷ (codes "actions", actions_data)
+    ∷ (codes "eTag", text (decimal row.object_tag))
+    ∷ (codes "fileSet", part_data (files_url config row.object) row.files_tag)
+    ∷ []
+
+-- the rest of what is told of it, behind its links
+unfoldable pub state_members : Config → ObjectRow → List (List ℕ × Data)
+state_members config row =
+    (codes "metadata", part_data (metadata_url config row.object) row.metadata_tag)
+    ∷ (codes "service", text (url config (codes "/service")))
+    ∷ (codes "state", states_data row.ingested)
+    ∷ []
+
+-- a link for each file of an object
+unfoldable pub links_data : Config → ObjectView → Data
+links_data config view = list (map (link_data config view.object.object) view.files)
 
 -- an object, with a link for each of its files
 unfoldable pub status_data : Config → ObjectView → Data
-status_data config view = let n = view.object.object in document
+status_data config view =
+    document (object_members config view.object ++ (codes "links", links_data config view) ∷ state_members config view.object)
+
+-- a list of one text is written as the text
+abbrev pub texts_data : List (List ℕ) → Data
+texts_data (s ∷ []) = text s
+texts_data ss = list (map text ss)
+
+-- each name with its texts, by ascending name
+abbrev pub texts_members : Texts → List (List ℕ × Data)
+texts_members texts = map (λ e. (e.0, texts_data e.1)) (finmap.entries texts)
+
+-- the metadata of the object of this number
+unfoldable pub metadata_data : Config → (n : ℕ) → Texts → Data
+metadata_data config n texts = document
     (context
-    ∷ (codes "@id", text (object_url config n))
-    ∷ (codes "@type", text (codes "Status"))
-    ∷ (codes "actions", actions_data)
-    ∷ (codes "eTag", text (decimal view.object.object_tag))
-    ∷ (codes "fileSet", part_data (files_url config n) view.object.files_tag)
-    ∷ (codes "links", list (map (link_data config n) view.files))
-    ∷ (codes "metadata", part_data (metadata_url config n) view.object.metadata_tag)
-    ∷ (codes "service", text (url config (codes "/service")))
-    ∷ (codes "state", list (state_data view.object.ingested ∷ []))
+    ∷ (codes "@id", text (metadata_url config n))
+    ∷ (codes "@type", text (codes "Metadata"))
+    ∷ texts_members texts)
+
+-- the same in a bag, where it has no URL
+unfoldable pub bag_metadata_data : Texts → Data
+bag_metadata_data texts = document (context ∷ (codes "@type", text (codes "Metadata")) ∷ texts_members texts)
+
+-- the segments of an upload that are still to come, where these were received
+abbrev pub expecting : (count : ℕ) (received : List ℕ) → List ℕ
+expecting count received = filter (λ k. not (list_any (λ j. j == k) received)) (range_with_len 1 count)
+
+-- which segments an upload waits for, and which it has
+unfoldable pub segments_data : UploadRow → (received : List ℕ) → Data
+segments_data row received = document
+    ((codes "expecting", list (map whole (expecting row.count received)))
+    ∷ (codes "received", list (map whole received))
+    ∷ (codes "segment_size", whole row.segment_size)
+    ∷ (codes "size", whole row.size)
+    ∷ [])
+
+-- an upload of which these segments were received
+unfoldable pub upload_data : Config → UploadRow → (received : List ℕ) → Data
+upload_data config row received = document
+    (context
+    ∷ (codes "@id", text (upload_url config row.upload))
+    ∷ (codes "@type", text (codes "Temporary"))
+    ∷ (codes "segments", segments_data row received)
     ∷ [])
 
 abbrev pub service_document : Config → List ℕ
@@ -147,3 +235,12 @@ error_document refusal clock = compact_text (error_data refusal clock)
 
 abbrev pub status_document : Config → ObjectView → List ℕ
 status_document config view = compact_text (status_data config view)
+
+abbrev pub metadata_document : Config → (n : ℕ) → Texts → List ℕ
+metadata_document config n texts = compact_text (metadata_data config n texts)
+
+unfoldable pub bag_metadata_document : Texts → List ℕ
+bag_metadata_document texts = compact_text (bag_metadata_data texts)
+
+abbrev pub upload_document : Config → UploadRow → (received : List ℕ) → List ℕ
+upload_document config row received = compact_text (upload_data config row received)

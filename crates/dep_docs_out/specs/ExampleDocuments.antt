@@ -1,7 +1,8 @@
 -- Whole documents.
 use Rattle.std.specs.Prelude.{ℕ, false, true, List, [], ◌∷◌, None, codes}
 use Rattle.std.specs.FinMap as finmap
-use Rattle.dep_types.specs.State.{Object, File}
+use Rattle.dep_types.specs.State.{Object, File, Texts}
+use Rattle.dep_types.specs.declared.rows.UploadRow.{UploadRow}
 use Rattle.dep_types.specs.declared.config.Config.{Config}
 
 abbrev pub example_config : Config
@@ -42,6 +43,17 @@ example_object = record {
   changed = 1523836800;
 }
 
+-- three titles, and one
+abbrev pub example_titles : Texts
+example_titles = finmap.from_sorted ((codes "dc:title", codes "T" ∷ codes "U" ∷ codes "V" ∷ []) ∷ [])
+
+abbrev pub example_title : Texts
+example_title = finmap.from_sorted ((codes "dc:title", codes "T" ∷ []) ∷ [])
+
+-- an upload of five bytes in segments of two
+abbrev pub example_upload : UploadRow
+example_upload = record { upload = 1; size = 5; count = 3; segment_size = 2; sha256 = None; last = 0 }
+
 unfoldable pub service_text : List ℕ
 service_text = codes "{\"@context\":\"https://swordapp.github.io/swordv3/swordv3.jsonld\",\"@id\":\"http://127.0.0.1:8080/service\",\"@type\":\"ServiceDocument\",\"accept\":[\"*/*\"],\"acceptDeposits\":true,\"acceptMetadata\":[\"http://purl.org/net/sword/3.0/types/Metadata\"],\"acceptPackaging\":[\"http://purl.org/net/sword/3.0/package/Binary\"],\"byReferenceDeposit\":true,\"dc:title\":\"swordd\",\"dcterms:abstract\":\"Deposit service\",\"digest\":[\"SHA-256\"],\"maxAssembledSize\":536870912,\"maxSegments\":1000,\"maxUploadSize\":16777216,\"onBehalfOf\":false,\"root\":\"http://127.0.0.1:8080/service\",\"staging\":\"http://127.0.0.1:8080/staging\",\"stagingMaxIdle\":3600,\"version\":\"http://purl.org/net/sword/3.0\"}"
 
@@ -50,3 +62,12 @@ error_text = codes "{\"@context\":\"https://swordapp.github.io/swordv3/swordv3.j
 
 unfoldable pub status_text : List ℕ
 status_text = codes "{\"@context\":\"https://swordapp.github.io/swordv3/swordv3.jsonld\",\"@id\":\"http://127.0.0.1:8080/objects/1\",\"@type\":\"Status\",\"actions\":{\"appendFiles\":true,\"appendMetadata\":true,\"deleteFiles\":true,\"deleteMetadata\":true,\"deleteObject\":true,\"getFiles\":true,\"getMetadata\":true,\"replaceFiles\":true,\"replaceMetadata\":true},\"eTag\":\"1\",\"fileSet\":{\"@id\":\"http://127.0.0.1:8080/objects/1/files\",\"eTag\":\"1\"},\"links\":[{\"@id\":\"http://127.0.0.1:8080/objects/1/files/1\",\"contentType\":\"text/plain\",\"depositedBy\":\"depositor\",\"depositedOn\":\"2018-04-16T00:00:00Z\",\"eTag\":\"1\",\"packaging\":\"http://purl.org/net/sword/3.0/package/Binary\",\"rel\":[\"http://purl.org/net/sword/3.0/terms/originalDeposit\",\"http://purl.org/net/sword/3.0/terms/fileSetFile\"],\"status\":\"http://purl.org/net/sword/3.0/filestate/ingested\"}],\"metadata\":{\"@id\":\"http://127.0.0.1:8080/objects/1/metadata\",\"eTag\":\"1\"},\"service\":\"http://127.0.0.1:8080/service\",\"state\":[{\"@id\":\"http://purl.org/net/sword/3.0/state/ingested\"}]}"
+
+unfoldable pub metadata_text : List ℕ
+metadata_text = codes "{\"@context\":\"https://swordapp.github.io/swordv3/swordv3.jsonld\",\"@id\":\"http://127.0.0.1:8080/objects/1/metadata\",\"@type\":\"Metadata\",\"dc:title\":[\"T\",\"U\",\"V\"]}"
+
+unfoldable pub bag_metadata_text : List ℕ
+bag_metadata_text = codes "{\"@context\":\"https://swordapp.github.io/swordv3/swordv3.jsonld\",\"@type\":\"Metadata\",\"dc:title\":\"T\"}"
+
+unfoldable pub upload_text : List ℕ
+upload_text = codes "{\"@context\":\"https://swordapp.github.io/swordv3/swordv3.jsonld\",\"@id\":\"http://127.0.0.1:8080/staging/1\",\"@type\":\"Temporary\",\"segments\":{\"expecting\":[2],\"received\":[1,3],\"segment_size\":2,\"size\":5}}"

@@ -3,7 +3,7 @@ ghost use Rattle.std.specs.Prelude.{◌≡◌, ◌++◌, IfOk, codes, decimal, s
 ghost use Rattle.dep_types.specs.Refusals.{facts_of};
 ghost use Rattle.dep_docs_out.specs.Documents as spec;
 
-use crate::object::Object;
+use crate::document::{CONTEXT, Document};
 use dep_moment::Moment;
 use dep_types::Refusal;
 use itoa::Buffer;
@@ -14,16 +14,15 @@ pub fn error_doc(alloc: Global, refusal: Refusal, clock: Moment) -> Result<Vec<u
     ensures { IfOk result (λ bytes. bytes.items ≡ spec.error_document refusal clock) }
 {
     let log = log_text(alloc, refusal)?;
-    let mut document = Object::new(alloc);
-    document.text(
-        "@context",
-        "https://swordapp.github.io/swordv3/swordv3.jsonld",
-    )?;
+    let mut document = Document::new(alloc)?;
+    document.begin_object()?;
+    document.text("@context", CONTEXT)?;
     document.text("@type", refusal.name())?;
     document.text("error", refusal.text())?;
     document.text("log", log.as_str())?;
     document.moment("timestamp", clock)?;
-    document.into_value().to_vec(alloc)
+    document.end_object()?;
+    Ok(document.into_text())
 }
 
 // The number of the refusal, as the log tells it.

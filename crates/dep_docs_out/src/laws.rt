@@ -1,7 +1,7 @@
 //! Whole documents, computed.
-ghost use Rattle.std.specs.Prelude.{◌≡◌};
+ghost use Rattle.std.specs.Prelude.{◌≡◌, ◌∷◌, []};
 ghost use Rattle.dep_docs_out.specs.Documents as spec;
-ghost use Rattle.dep_docs_out.specs.ExampleDocuments.{example_config, example_object, service_text, error_text, status_text};
+ghost use Rattle.dep_docs_out.specs.ExampleDocuments.{example_config, example_object, example_title, example_titles, example_upload, bag_metadata_text, error_text, metadata_text, service_text, status_text, upload_text};
 ghost use Rattle.dep_types.specs.Rows.{object_view};
 ghost use Rattle.dep_types.specs.declared.refusal.Refusal.TheVariants.{DigestMismatch};
 
@@ -18,4 +18,19 @@ pub fn error_document_of_example()
 /// The status document of an object that has one file.
 pub fn status_document_of_example()
     ensures { spec.status_document example_config (object_view 1 example_object) ≡ status_text }
+{}
+
+/// The metadata document of an object that has three titles.
+pub fn metadata_document_of_example()
+    ensures { spec.metadata_document example_config 1 example_titles ≡ metadata_text }
+{}
+
+/// The metadata document of an object that has one title, in its bag.
+pub fn bag_metadata_document_of_example()
+    ensures { spec.bag_metadata_document example_title ≡ bag_metadata_text }
+{}
+
+/// The document of an upload whose second segment of three is still to come.
+pub fn upload_document_of_example()
+    ensures { spec.upload_document example_config example_upload (1 ∷ 3 ∷ []) ≡ upload_text }
 {}

@@ -1,13 +1,17 @@
 //! The documents that the server writes: compact JSON (RFC 8259) with the members in the order of their names' bytes.
 #![tactic(auto)]
 
+mod document;
 mod error;
 pub mod laws;
-mod object;
+mod metadata;
 mod service;
 mod status;
+mod upload;
 mod urls;
 
 pub use error::error_doc;
+pub use metadata::{bag_metadata_doc, metadata_doc};
 pub use service::service_doc;
 pub use status::status_doc;
+pub use upload::upload_doc;

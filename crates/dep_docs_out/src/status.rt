@@ -1,16 +1,12 @@
 //! The status document.
-ghost use Rattle.std.specs.Prelude.{◌≡◌, [], ◌∷◌, map, IfOk, OnOk, string_bytes};
-ghost use Rattle.serde_json.specs.View.{view as data_of};
+ghost use Rattle.std.specs.Prelude.{◌≡◌, [], ◌∷◌, IfOk, OnOk, codes};
 ghost use Rattle.dep_docs_out.specs.Documents as spec;
-ghost use Rattle.dep_docs_out.specs.Json.{list};
-ghost use Rattle.dep_docs_out.specs.JsonObject.{written};
-ghost use Rattle.dep_docs_out.specs.StatusSteps.{with_places, with_parts, with_deposit, with_file_actions, with_metadata_actions};
+ghost use Rattle.dep_docs_out.specs.Json.{AddsItems, AddsMembers};
 
-use crate::object::Object;
+use crate::document::{CONTEXT, Document, PACKAGING};
 use crate::urls::{file_url, files_url, metadata_url, object_url, url};
 use dep_moment::Moment;
 use dep_types::{Config, FileRow, ObjectRow, ObjectView};
-use serde_json::Value;
 use std::alloc::{AllocError, Global};
 
 /// The status document of SWORD 3.0: an object, and a link for each of its files in their order. A file's moment
@@ -18,139 +14,138 @@ use std::alloc::{AllocError, Global};
 pub fn status_doc(alloc: Global, config: &Config, view: &ObjectView) -> Result<Vec<u8>, AllocError>
     ensures { IfOk result (λ bytes. bytes.items ≡ spec.status_document config.now view.now) }
 {
-    let mut document = Object::new(alloc);
-    add_places(&mut document, alloc, config, view.object.object)?;
-    document.set("actions", actions(alloc)?)?;
-    document.decimal("eTag", view.object.object_tag)?;
-    document.set("links", links(alloc, config, view)?)?;
-    add_parts(&mut document, alloc, config, &view.object)?;
-    document.set("state", states(alloc, view.object.ingested)?)?;
-    document.into_value().to_vec(alloc)
+    let mut document = Document::new(alloc)?;
+    document.begin_object()?;
+    add_object(&mut document, alloc, config, &view.object)?;
+    add_links(&mut document, alloc, config, view)?;
+    add_state(&mut document, alloc, config, &view.object)?;
+    document.end_object()?;
+    Ok(document.into_text())
 }
 
-// Where the object and the service stand.
-#[tactic(auto, unfolding(crate::specs::StatusSteps::with_places))]
-fn add_places(
-    document: &mut Object,
-    alloc: Global,
-    config: &Config,
-    object: u64,
-) -> Result<(), AllocError>
-    ensures { OnOk result (written document.new ≡ with_places config.now object (written document.old)) }
-{
-    document.text(
-        "@context",
-        "https://swordapp.github.io/swordv3/swordv3.jsonld",
-    )?;
-    document.string("@id", object_url(alloc, config, object)?)?;
-    document.text("@type", "Status")?;
-    document.string("service", url(alloc, config, "/service")?)
-}
-
-// The file set and the metadata.
-#[tactic(auto, unfolding(crate::specs::StatusSteps::with_parts))]
-fn add_parts(
-    document: &mut Object,
+// Where the object stands, what may be done with it, and its tags.
+#[tactic(auto, unfolding(crate::specs::Documents::object_members))]
+fn add_object(
+    document: &mut Document,
     alloc: Global,
     config: &Config,
     object: &ObjectRow,
 ) -> Result<(), AllocError>
-    ensures { OnOk result (written document.new ≡ with_parts config.now object.now (written document.old)) }
+    ensures { OnOk result (AddsMembers document.old document.new (spec.object_members config.now object.now)) }
 {
+    let place = object_url(alloc, config, object.object)?;
     let files = files_url(alloc, config, object.object)?;
-    let metadata = metadata_url(alloc, config, object.object)?;
-    document.set("fileSet", part(alloc, files, object.files_tag)?)?;
-    document.set("metadata", part(alloc, metadata, object.metadata_tag)?)
-}
-
-// A part of an object: where it stands, and its entity tag.
-fn part(alloc: Global, url: String, tag: u64) -> Result<Value, AllocError>
-    ensures { IfOk result (λ value. data_of value ≡ spec.part_data (string_bytes url) tag) }
-{
-    let mut part = Object::new(alloc);
-    part.string("@id", url)?;
-    part.decimal("eTag", tag)?;
-    Ok(part.into_value())
+    document.text("@context", CONTEXT)?;
+    document.text("@id", place.as_str())?;
+    document.text("@type", "Status")?;
+    add_actions(document)?;
+    document.decimal("eTag", object.object_tag)?;
+    add_part(document, "fileSet", files.as_str(), object.files_tag)
 }
 
 // What may be done with an object: everything.
-fn actions(alloc: Global) -> Result<Value, AllocError>
-    ensures { IfOk result (λ value. data_of value ≡ spec.actions_data) }
+fn add_actions(document: &mut Document) -> Result<(), AllocError>
+    ensures { OnOk result (AddsMembers document.old document.new ((codes "actions", spec.actions_data) ∷ [])) }
 {
-    let mut actions = Object::new(alloc);
-    add_file_actions(&mut actions)?;
-    add_metadata_actions(&mut actions)?;
-    actions.flag("deleteObject", true)?;
-    Ok(actions.into_value())
+    document.name("actions")?;
+    document.begin_object()?;
+    document.flag("appendFiles", true)?;
+    document.flag("appendMetadata", true)?;
+    document.flag("deleteFiles", true)?;
+    document.flag("deleteMetadata", true)?;
+    document.flag("deleteObject", true)?;
+    document.flag("getFiles", true)?;
+    document.flag("getMetadata", true)?;
+    document.flag("replaceFiles", true)?;
+    document.flag("replaceMetadata", true)?;
+    document.end_object()
 }
 
-#[tactic(auto, unfolding(crate::specs::StatusSteps::with_file_actions))]
-fn add_file_actions(actions: &mut Object) -> Result<(), AllocError>
-    ensures { OnOk result (written actions.new ≡ with_file_actions (written actions.old)) }
+// A part of an object: where it stands, and its entity tag.
+fn add_part(document: &mut Document, name: &str, place: &str, tag: u64) -> Result<(), AllocError>
+    ensures { OnOk result (AddsMembers document.old document.new ((name.now, spec.part_data place.now tag) ∷ [])) }
 {
-    actions.flag("appendFiles", true)?;
-    actions.flag("deleteFiles", true)?;
-    actions.flag("getFiles", true)?;
-    actions.flag("replaceFiles", true)
+    document.name(name)?;
+    document.begin_object()?;
+    document.text("@id", place)?;
+    document.decimal("eTag", tag)?;
+    document.end_object()
 }
 
-#[tactic(auto, unfolding(crate::specs::StatusSteps::with_metadata_actions))]
-fn add_metadata_actions(actions: &mut Object) -> Result<(), AllocError>
-    ensures { OnOk result (written actions.new ≡ with_metadata_actions (written actions.old)) }
+fn add_links(
+    document: &mut Document,
+    alloc: Global,
+    config: &Config,
+    view: &ObjectView,
+) -> Result<(), AllocError>
+    ensures { OnOk result (AddsMembers document.old document.new ((codes "links", spec.links_data config.now view.now) ∷ [])) }
 {
-    actions.flag("appendMetadata", true)?;
-    actions.flag("deleteMetadata", true)?;
-    actions.flag("getMetadata", true)?;
-    actions.flag("replaceMetadata", true)
-}
-
-// A link for each file.
-fn links(alloc: Global, config: &Config, view: &ObjectView) -> Result<Value, AllocError>
-    ensures { IfOk result (λ value. data_of value ≡ list (map (spec.link_data config.now view.now.object.object) view.now.files)) }
-{
-    let mut links = Vec::new(alloc);
+    document.name("links")?;
+    document.begin_list()?;
     for file in view.files.as_slice() {
-        links.push(link(alloc, config, view.object.object, file)?)?;
+        add_link(document, alloc, config, view.object.object, file)?;
     }
-    Ok(Value::Array(links))
+    document.end_list()
 }
 
-// A file of the object with this number.
-fn link(alloc: Global, config: &Config, object: u64, file: &FileRow) -> Result<Value, AllocError>
-    ensures { IfOk result (λ value. data_of value ≡ spec.link_data config.now object file.now) }
+fn add_link(
+    document: &mut Document,
+    alloc: Global,
+    config: &Config,
+    object: u64,
+    file: &FileRow,
+) -> Result<(), AllocError>
+    ensures { OnOk result (AddsItems document.old document.new (spec.link_data config.now object file.now ∷ [])) }
 {
-    let mut link = Object::new(alloc);
-    link.string("@id", file_url(alloc, config, object, file.file)?)?;
-    link.text("contentType", file.media.as_str())?;
-    add_deposit(&mut link, config, file)?;
-    link.decimal("eTag", file.tag)?;
-    link.text("packaging", "http://purl.org/net/sword/3.0/package/Binary")?;
-    link.set("rel", relations(alloc, file.by_reference)?)?;
-    link.text("status", "http://purl.org/net/sword/3.0/filestate/ingested")?;
-    Ok(link.into_value())
+    let place = file_url(alloc, config, object, file.file)?;
+    document.begin_object()?;
+    add_deposit(document, config, place.as_str(), file)?;
+    if let Some(behalf) = &file.behalf {
+        document.text("depositedOnBehalfOf", behalf.as_str())?;
+    }
+    add_kept(document, file)?;
+    document.end_object()
 }
 
-// Who deposited a file, when, and on whose behalf.
-#[tactic(auto, unfolding(crate::specs::StatusSteps::with_deposit))]
-fn add_deposit(link: &mut Object, config: &Config, file: &FileRow) -> Result<(), AllocError>
-    ensures { OnOk result (written link.new ≡ with_deposit config.now file.now (written link.old)) }
+// Where a file stands, and how it came.
+#[tactic(auto, unfolding(crate::specs::Documents::deposit_members))]
+fn add_deposit(
+    document: &mut Document,
+    config: &Config,
+    place: &str,
+    file: &FileRow,
+) -> Result<(), AllocError>
+    ensures { OnOk result (AddsMembers document.old document.new (spec.deposit_members config.now place.now file.now)) }
 {
-    link.text("depositedBy", config.depositor.as_str())?;
-    link.moment("depositedOn", Moment::new(file.deposited))?;
-    match &file.behalf {
-        Some(name) => link.text("depositedOnBehalfOf", name.as_str()),
-        None => Ok(()),
-    }
+    document.text("@id", place)?;
+    document.text("contentType", file.media.as_str())?;
+    document.text("depositedBy", config.depositor.as_str())?;
+    document.moment("depositedOn", Moment::new(file.deposited))
+}
+
+// What a file is in the file set.
+#[tactic(auto, unfolding(crate::specs::Documents::kept_members))]
+fn add_kept(document: &mut Document, file: &FileRow) -> Result<(), AllocError>
+    ensures { OnOk result (AddsMembers document.old document.new (spec.kept_members file.now)) }
+{
+    document.decimal("eTag", file.tag)?;
+    document.text("packaging", PACKAGING)?;
+    add_relations(document, file.by_reference)?;
+    document.text(
+        "status",
+        "http://purl.org/net/sword/3.0/filestate/ingested",
+    )
 }
 
 // How a file came, and that it belongs to the file set.
-fn relations(alloc: Global, by_reference: bool) -> Result<Value, AllocError>
-    ensures { IfOk result (λ value. data_of value ≡ spec.relations_data by_reference) }
+fn add_relations(document: &mut Document, by_reference: bool) -> Result<(), AllocError>
+    ensures { OnOk result (AddsMembers document.old document.new ((codes "rel", spec.relations_data by_reference) ∷ [])) }
 {
-    let mut list = Vec::new(alloc);
-    list.push(Value::try_from_str(alloc, deposit_relation(by_reference))?)?;
-    list.push(Value::try_from_str(alloc, "http://purl.org/net/sword/3.0/terms/fileSetFile")?)?;
-    Ok(Value::Array(list))
+    document.name("rel")?;
+    document.begin_list()?;
+    document.text_item(deposit_relation(by_reference))?;
+    document.text_item("http://purl.org/net/sword/3.0/terms/fileSetFile")?;
+    document.end_list()
 }
 
 fn deposit_relation(by_reference: bool) -> &'static str
@@ -163,15 +158,33 @@ fn deposit_relation(by_reference: bool) -> &'static str
     }
 }
 
-// Whether the deposit of an object is complete, in a list of one.
-fn states(alloc: Global, ingested: bool) -> Result<Value, AllocError>
-    ensures { IfOk result (λ value. data_of value ≡ list (spec.state_data ingested ∷ [])) }
+// The rest of what is told of an object, behind its links.
+#[tactic(auto, unfolding(crate::specs::Documents::state_members))]
+fn add_state(
+    document: &mut Document,
+    alloc: Global,
+    config: &Config,
+    object: &ObjectRow,
+) -> Result<(), AllocError>
+    ensures { OnOk result (AddsMembers document.old document.new (spec.state_members config.now object.now)) }
 {
-    let mut state = Object::new(alloc);
-    state.text("@id", state_id(ingested))?;
-    let mut list = Vec::new(alloc);
-    list.push(state.into_value())?;
-    Ok(Value::Array(list))
+    let metadata = metadata_url(alloc, config, object.object)?;
+    let service = url(alloc, config, "/service")?;
+    add_part(document, "metadata", metadata.as_str(), object.metadata_tag)?;
+    document.text("service", service.as_str())?;
+    add_states(document, object.ingested)
+}
+
+// Whether the deposit is complete, as a list of one state.
+fn add_states(document: &mut Document, ingested: bool) -> Result<(), AllocError>
+    ensures { OnOk result (AddsMembers document.old document.new ((codes "state", spec.states_data ingested) ∷ [])) }
+{
+    document.name("state")?;
+    document.begin_list()?;
+    document.begin_object()?;
+    document.text("@id", state_id(ingested))?;
+    document.end_object()?;
+    document.end_list()
 }
 
 fn state_id(ingested: bool) -> &'static str

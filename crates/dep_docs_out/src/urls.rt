@@ -58,3 +58,13 @@ pub fn file_url(
     text.push_str(digits.format(file))?;
     Ok(text)
 }
+
+/// The Temporary-URL of the upload with this number.
+pub fn upload_url(alloc: Global, config: &Config, upload: u64) -> Result<String, AllocError>
+    ensures { IfOk result (λ text. string_bytes text ≡ spec.upload_url config.now upload) }
+{
+    let mut digits = Buffer::new();
+    let mut text = url(alloc, config, "/staging/")?;
+    text.push_str(digits.format(upload))?;
+    Ok(text)
+}

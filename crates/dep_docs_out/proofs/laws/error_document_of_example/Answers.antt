@@ -2,10 +2,10 @@ use Rattle.std.proofs.Common.{refl}
 use Rattle.std.specs.Fmt.{digits}
 use Rattle.serde_json.proofs.OnLiterals.{serde_json_on_literals}
 use Rattle.dep_moment.proofs.OnLiterals.{moment_on_literals}
-use Rattle.dep_docs_out.specs.Documents.{service_data, error_data}
-use Rattle.dep_docs_out.specs.ExampleDocuments.{service_text, error_text}
+use Rattle.dep_docs_out.specs.Documents.{error_data}
+use Rattle.dep_docs_out.specs.ExampleDocuments.{error_text}
 use Rattle.dep_docs_out.proofs.laws.error_document_of_example.Goals as goal
 
 pub returns : goal.returns
-unfolding serde_json_on_literals moment_on_literals digits service_data error_data service_text error_text
+unfolding serde_json_on_literals moment_on_literals digits error_data error_text
 returns c = refl

@@ -3,10 +3,10 @@ use Rattle.std.specs.FinMap as finmap
 use Rattle.std.specs.Fmt.{digits}
 use Rattle.serde_json.proofs.OnLiterals.{serde_json_on_literals}
 use Rattle.dep_moment.proofs.OnLiterals.{moment_on_literals}
-use Rattle.dep_docs_out.specs.Documents.{status_data, actions_data, part_data, relations_data, link_data, state_data}
+use Rattle.dep_docs_out.specs.Documents.{status_data, object_members, links_data, state_members, actions_data, part_data, link_data, deposit_members, relations_data, kept_members, states_data}
 use Rattle.dep_docs_out.specs.ExampleDocuments.{status_text, example_file}
 use Rattle.dep_docs_out.proofs.laws.status_document_of_example.Goals as goal
 
 pub returns : goal.returns
-unfolding serde_json_on_literals moment_on_literals digits status_data actions_data part_data relations_data link_data state_data status_text
+unfolding serde_json_on_literals moment_on_literals digits status_data object_members links_data state_members actions_data part_data link_data deposit_members relations_data kept_members states_data status_text
 returns c = rw (finmap.entries-from_sorted nat_cmp ((1, example_file) ∷ []) tt) refl

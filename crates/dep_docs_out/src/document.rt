@@ -1,0 +1,160 @@
+//! A document of JSON that is being written.
+ghost use Rattle.std.specs.Prelude.{◌≡◌, ◌∷◌, [], IfOk, OnOk, decimal};
+ghost use Rattle.json.specs.Token.{begin_object, end_object, begin_array, end_array, key};
+ghost use Rattle.json.specs.Print.{print};
+ghost use Rattle.serde_json.specs.Data.{boolean};
+ghost use Rattle.dep_moment.specs.Civil.{rfc3339_text};
+ghost use Rattle.dep_docs_out.specs.Json as spec;
+ghost use Rattle.dep_docs_out.specs.Json.{Adds, AddsItems, AddsMembers};
+
+use dep_moment::Moment;
+use itoa::Buffer;
+use json::Writer;
+use std::alloc::{AllocError, Global};
+use std::marker::Model;
+
+/// What the names in each document mean (JSON-LD 1.1, section 3.1).
+pub const CONTEXT: &str = "https://swordapp.github.io/swordv3/swordv3.jsonld";
+
+/// The one format of packages (SWORD 3.0, a file as it stands).
+pub const PACKAGING: &str = "http://purl.org/net/sword/3.0/package/Binary";
+
+/// A document of JSON that is being written, of which only the text is kept. Contracts see the tokens so far.
+#[derive(Drop)]
+pub struct Document {
+    out: Writer,
+}
+
+impl Model for Document {
+    ghost use Rattle.std.specs.Prelude.{◌≡◌, List, []};
+    ghost use Rattle.json.specs.Token.{Token, tokens_code};
+
+    ghost Value = { List Token };
+
+    ghost coded = { tokens_code };
+
+    ghost view = { λ d. d.out.tokens };
+
+    ghost invariant = { λ d. d.out.before ≡ [] };
+}
+
+impl Document {
+    /// Nothing as yet.
+    pub fn new(alloc: Global) -> Result<Self, AllocError>
+        ensures { IfOk result (λ document. document ≡ []) }
+    {
+        let text = Vec::with_capacity(alloc, 1024)?;
+        Ok(Document {
+            out: Writer::new(text),
+        })
+    }
+
+    /// Begins an object.
+    pub fn begin_object(&mut self) -> Result<(), AllocError>
+        ensures { OnOk result (Adds self.old self.new (begin_object ∷ [])) }
+    {
+        self.out.begin_object()
+    }
+
+    /// Ends an object.
+    pub fn end_object(&mut self) -> Result<(), AllocError>
+        ensures { OnOk result (Adds self.old self.new (end_object ∷ [])) }
+    {
+        self.out.end_object()
+    }
+
+    /// Begins a list.
+    pub fn begin_list(&mut self) -> Result<(), AllocError>
+        ensures { OnOk result (Adds self.old self.new (begin_array ∷ [])) }
+    {
+        self.out.begin_array()
+    }
+
+    /// Ends a list.
+    pub fn end_list(&mut self) -> Result<(), AllocError>
+        ensures { OnOk result (Adds self.old self.new (end_array ∷ [])) }
+    {
+        self.out.end_array()
+    }
+
+    /// The name of a member.
+    pub fn name(&mut self, name: &str) -> Result<(), AllocError>
+        ensures { OnOk result (Adds self.old self.new (key name.now ∷ [])) }
+    {
+        self.out.key(name)
+    }
+
+    /// A text that is an item of a list.
+    pub fn text_item(&mut self, text: &str) -> Result<(), AllocError>
+        ensures { OnOk result (AddsItems self.old self.new (spec.text text.now ∷ [])) }
+    {
+        self.out.string(text)
+    }
+
+    /// A whole number that is an item of a list.
+    pub fn whole_item(&mut self, number: u64) -> Result<(), AllocError>
+        ensures { OnOk result (AddsItems self.old self.new (spec.whole number ∷ [])) }
+    {
+        self.out.u64(number)
+    }
+
+    /// A member that is a text.
+    pub fn text(&mut self, name: &str, text: &str) -> Result<(), AllocError>
+        ensures { OnOk result (AddsMembers self.old self.new ((name.now, spec.text text.now) ∷ [])) }
+    {
+        self.name(name)?;
+        self.text_item(text)
+    }
+
+    /// A member that is a number, as the text of its decimal digits.
+    pub fn decimal(&mut self, name: &str, number: u64) -> Result<(), AllocError>
+        ensures { OnOk result (AddsMembers self.old self.new ((name.now, spec.text (decimal number)) ∷ [])) }
+    {
+        let mut digits = Buffer::new();
+        self.text(name, digits.format(number))
+    }
+
+    /// A member that is a moment, as the text of its day and its time of day in UTC (RFC 3339).
+    pub fn moment(&mut self, name: &str, moment: Moment) -> Result<(), AllocError>
+        ensures { OnOk result (AddsMembers self.old self.new ((name.now, spec.text (rfc3339_text moment)) ∷ [])) }
+    {
+        let bytes = moment.rfc3339();
+        let Ok(text) = str::from_utf8(&bytes) else {
+            unreachable!();
+        };
+        self.text(name, text)
+    }
+
+    /// A member that is a whole number.
+    pub fn whole(&mut self, name: &str, number: u64) -> Result<(), AllocError>
+        ensures { OnOk result (AddsMembers self.old self.new ((name.now, spec.whole number) ∷ [])) }
+    {
+        self.name(name)?;
+        self.whole_item(number)
+    }
+
+    /// A member that is a truth value.
+    pub fn flag(&mut self, name: &str, flag: bool) -> Result<(), AllocError>
+        ensures { OnOk result (AddsMembers self.old self.new ((name.now, boolean flag) ∷ [])) }
+    {
+        self.name(name)?;
+        self.out.boolean(flag)
+    }
+
+    /// A member that is a list of one text.
+    pub fn only(&mut self, name: &str, text: &str) -> Result<(), AllocError>
+        ensures { OnOk result (AddsMembers self.old self.new ((name.now, spec.only text.now) ∷ [])) }
+    {
+        self.name(name)?;
+        self.begin_list()?;
+        self.text_item(text)?;
+        self.end_list()
+    }
+
+    /// The text of the document.
+    pub fn into_text(self) -> Vec<u8>
+        ensures { result.items ≡ print self }
+    {
+        self.out.into_inner()
+    }
+}

@@ -1,0 +1,73 @@
+//! The metadata document.
+ghost use Rattle.std.specs.Prelude.{◌≡◌, [], ◌∷◌, map, IfOk, OnOk};
+ghost use Rattle.dep_docs_out.specs.Documents as spec;
+ghost use Rattle.dep_docs_out.specs.Json as json_spec;
+ghost use Rattle.dep_docs_out.specs.Json.{AddsItems, AddsMembers};
+
+use crate::document::{CONTEXT, Document};
+use crate::urls::metadata_url;
+use dep_types::{Config, Metadata, MetadataEntry, Text};
+use std::alloc::{AllocError, Global};
+
+/// The metadata document of SWORD 3.0: the metadata of the object with this number. A name that has one text has it
+/// as the text, and not as a list.
+pub fn metadata_doc(
+    alloc: Global,
+    config: &Config,
+    object: u64,
+    metadata: &Metadata,
+) -> Result<Vec<u8>, AllocError>
+    ensures { IfOk result (λ bytes. bytes.items ≡ spec.metadata_document config.now object metadata.now) }
+{
+    let place = metadata_url(alloc, config, object)?;
+    let mut document = Document::new(alloc)?;
+    document.begin_object()?;
+    document.text("@context", CONTEXT)?;
+    document.text("@id", place.as_str())?;
+    document.text("@type", "Metadata")?;
+    add_metadata(&mut document, metadata)?;
+    document.end_object()?;
+    Ok(document.into_text())
+}
+
+/// The metadata document of an object as it stands in the object's bag, where it has no URL.
+pub fn bag_metadata_doc(alloc: Global, metadata: &Metadata) -> Result<Vec<u8>, AllocError>
+    ensures { IfOk result (λ bytes. bytes.items ≡ spec.bag_metadata_document metadata.now) }
+{
+    let mut document = Document::new(alloc)?;
+    document.begin_object()?;
+    document.text("@context", CONTEXT)?;
+    document.text("@type", "Metadata")?;
+    add_metadata(&mut document, metadata)?;
+    document.end_object()?;
+    Ok(document.into_text())
+}
+
+fn add_metadata(document: &mut Document, metadata: &Metadata) -> Result<(), AllocError>
+    ensures { OnOk result (AddsMembers document.old document.new (spec.texts_members metadata.now)) }
+{
+    for entry in metadata.entries() {
+        add_entry(document, entry)?;
+    }
+    Ok(())
+}
+
+fn add_entry(document: &mut Document, entry: &MetadataEntry) -> Result<(), AllocError>
+    ensures { OnOk result (AddsMembers document.old document.new ((entry.now.name, spec.texts_data entry.now.texts) ∷ [])) }
+{
+    match entry.texts.as_slice() {
+        [text] => document.text(entry.name.as_str(), text.as_str()),
+        texts => add_texts(document, entry.name.as_str(), texts),
+    }
+}
+
+fn add_texts(document: &mut Document, name: &str, texts: &[Text]) -> Result<(), AllocError>
+    ensures { OnOk result (AddsMembers document.old document.new ((name.now, json_spec.list (map json_spec.text texts.now)) ∷ [])) }
+{
+    document.name(name)?;
+    document.begin_list()?;
+    for text in texts {
+        document.text_item(text.as_str())?;
+    }
+    document.end_list()
+}

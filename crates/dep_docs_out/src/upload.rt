@@ -1,0 +1,86 @@
+//! The document of an upload.
+ghost use Rattle.std.specs.Prelude.{◌≡◌, ◌≤◌, [], ◌∷◌, All, map, IfOk, OnOk, codes};
+ghost use Rattle.std.specs.List.Sorted.{IsStrictlyIncreasing};
+ghost use Rattle.dep_docs_out.specs.Documents as spec;
+ghost use Rattle.dep_docs_out.specs.Json as json_spec;
+ghost use Rattle.dep_docs_out.specs.Json.{AddsItems, AddsMembers};
+
+use crate::document::{CONTEXT, Document};
+use crate::urls::upload_url;
+use dep_types::{Config, UploadRow};
+use std::alloc::{AllocError, Global};
+
+/// The document of a staged upload (SWORD 3.0, segmented upload): which of its segments were received, and which are
+/// still to come. It takes the numbers of those that were received.
+pub fn upload_doc(
+    alloc: Global,
+    config: &Config,
+    upload: &UploadRow,
+    received: &[u64],
+) -> Result<Vec<u8>, AllocError>
+    requires first { All (λ k. 1 ≤ k) received.now }
+    requires rising { IsStrictlyIncreasing received.now }
+    ensures { IfOk result (λ bytes. bytes.items ≡ spec.upload_document config.now upload.now received.now) }
+{
+    let place = upload_url(alloc, config, upload.upload)?;
+    let mut document = Document::new(alloc)?;
+    document.begin_object()?;
+    document.text("@context", CONTEXT)?;
+    document.text("@id", place.as_str())?;
+    document.text("@type", "Temporary")?;
+    add_segments(&mut document, upload, received)?;
+    document.end_object()?;
+    Ok(document.into_text())
+}
+
+// Which segments it waits for, and which it has.
+fn add_segments(
+    document: &mut Document,
+    upload: &UploadRow,
+    received: &[u64],
+) -> Result<(), AllocError>
+    requires first { All (λ k. 1 ≤ k) received.now }
+    requires rising { IsStrictlyIncreasing received.now }
+    ensures { OnOk result (AddsMembers document.old document.new ((codes "segments", spec.segments_data upload.now received.now) ∷ [])) }
+{
+    document.name("segments")?;
+    document.begin_object()?;
+    add_expecting(document, upload.count, received)?;
+    add_received(document, received)?;
+    document.whole("segment_size", upload.segment_size)?;
+    document.whole("size", upload.size)?;
+    document.end_object()
+}
+
+fn add_expecting(
+    document: &mut Document,
+    count: u64,
+    received: &[u64],
+) -> Result<(), AllocError>
+    requires first { All (λ k. 1 ≤ k) received.now }
+    requires rising { IsStrictlyIncreasing received.now }
+    ensures { OnOk result (AddsMembers document.old document.new ((codes "expecting", json_spec.list (map json_spec.whole (spec.expecting count received.now))) ∷ [])) }
+{
+    document.name("expecting")?;
+    document.begin_list()?;
+    let mut left = received;
+    for before in 0..count {
+        let number = before + 1;
+        match left.split_first() {
+            Some((first, rest)) if *first == number => left = rest,
+            _ => document.whole_item(number)?,
+        }
+    }
+    document.end_list()
+}
+
+fn add_received(document: &mut Document, received: &[u64]) -> Result<(), AllocError>
+    ensures { OnOk result (AddsMembers document.old document.new ((codes "received", json_spec.list (map json_spec.whole received.now)) ∷ [])) }
+{
+    document.name("received")?;
+    document.begin_list()?;
+    for number in received {
+        document.whole_item(*number)?;
+    }
+    document.end_list()
+}
