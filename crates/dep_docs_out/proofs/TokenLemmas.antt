@@ -9,7 +9,6 @@ use Rattle.serde_json.proofs.Texts.{print-outline}
 use Rattle.dep_docs_out.specs.Json.{Adds, AddsItems, AddsMembers, document, list, items, members, value_tokens, member_tokens, item_tokens}
 
 infixl 10 ◌⨾◌
-
 member_tokens-append : (a b : List (List ℕ × Data)) → member_tokens (a ++ b) ≡ member_tokens a ++ member_tokens b
 member_tokens-append [] b = refl
 member_tokens-append (m ∷ a) b =

@@ -12,7 +12,7 @@ use Rattle.dep_types.specs.declared.rows.ObjectRow.{ObjectRow}
 use Rattle.dep_types.specs.declared.rows.ObjectView.{ObjectView}
 use Rattle.dep_types.specs.declared.rows.UploadRow.{UploadRow}
 use Rattle.dep_types.specs.State.{Texts}
-use Rattle.dep_types.specs.Names.{binary}
+use Rattle.dep_types.specs.Names.{binary, metadata_format}
 use Rattle.dep_moment.specs.Civil.{rfc3339_text}
 use Rattle.dep_moment.specs.Greatest.{greatest_moment}
 use Rattle.dep_docs_out.specs.Json.{text, whole, list, only, document}
@@ -47,8 +47,8 @@ service_offers root =
     ∷ (codes "@type", text (codes "ServiceDocument"))
     ∷ (codes "accept", only (codes "*/*"))
     ∷ (codes "acceptDeposits", boolean true)
-    ∷ (codes "acceptMetadata", only (codes "http://purl.org/net/sword/3.0/types/Metadata"))
-    ∷ (codes "acceptPackaging", only (codes "http://purl.org/net/sword/3.0/package/Binary"))
+    ∷ (codes "acceptMetadata", only metadata_format)
+    ∷ (codes "acceptPackaging", only binary)
     ∷ []
 
 -- what it is called, and its limits

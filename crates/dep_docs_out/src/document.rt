@@ -16,9 +16,6 @@ use std::marker::Model;
 /// What the names in each document mean (JSON-LD 1.1, section 3.1).
 pub const CONTEXT: &str = "https://swordapp.github.io/swordv3/swordv3.jsonld";
 
-/// The one format of packages (SWORD 3.0, a file as it stands).
-pub const PACKAGING: &str = "http://purl.org/net/sword/3.0/package/Binary";
-
 /// A document of JSON that is being written, of which only the text is kept. Contracts see the tokens so far.
 #[derive(Drop)]
 pub struct Document {

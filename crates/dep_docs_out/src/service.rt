@@ -3,9 +3,9 @@ ghost use Rattle.std.specs.Prelude.{◌≡◌, IfOk, OnOk};
 ghost use Rattle.dep_docs_out.specs.Documents as spec;
 ghost use Rattle.dep_docs_out.specs.Json.{AddsMembers};
 
-use crate::document::{CONTEXT, Document, PACKAGING};
+use crate::document::{CONTEXT, Document};
 use crate::urls::url;
-use dep_types::Config;
+use dep_types::{BINARY_PACKAGING, Config, METADATA_FORMAT};
 use std::alloc::{AllocError, Global};
 
 /// The service document of SWORD 3.0: what the server offers, and its limits.
@@ -33,11 +33,8 @@ fn add_offers(document: &mut Document, root: &str) -> Result<(), AllocError>
     document.text("@type", "ServiceDocument")?;
     document.only("accept", "*/*")?;
     document.flag("acceptDeposits", true)?;
-    document.only(
-        "acceptMetadata",
-        "http://purl.org/net/sword/3.0/types/Metadata",
-    )?;
-    document.only("acceptPackaging", PACKAGING)
+    document.only("acceptMetadata", METADATA_FORMAT)?;
+    document.only("acceptPackaging", BINARY_PACKAGING)
 }
 
 // What it is called, and its limits.

@@ -3,10 +3,10 @@ ghost use Rattle.std.specs.Prelude.{◌≡◌, [], ◌∷◌, IfOk, OnOk, codes}
 ghost use Rattle.dep_docs_out.specs.Documents as spec;
 ghost use Rattle.dep_docs_out.specs.Json.{AddsItems, AddsMembers};
 
-use crate::document::{CONTEXT, Document, PACKAGING};
+use crate::document::{CONTEXT, Document};
 use crate::urls::{file_url, files_url, metadata_url, object_url, url};
 use dep_moment::Moment;
-use dep_types::{Config, FileRow, ObjectRow, ObjectView};
+use dep_types::{BINARY_PACKAGING, Config, FileRow, ObjectRow, ObjectView};
 use std::alloc::{AllocError, Global};
 
 /// The status document of SWORD 3.0: an object, and a link for each of its files in their order. A file's moment
@@ -129,12 +129,9 @@ fn add_kept(document: &mut Document, file: &FileRow) -> Result<(), AllocError>
     ensures { OnOk result (AddsMembers document.old document.new (spec.kept_members file.now)) }
 {
     document.decimal("eTag", file.tag)?;
-    document.text("packaging", PACKAGING)?;
+    document.text("packaging", BINARY_PACKAGING)?;
     add_relations(document, file.by_reference)?;
-    document.text(
-        "status",
-        "http://purl.org/net/sword/3.0/filestate/ingested",
-    )
+    document.text("status", "http://purl.org/net/sword/3.0/filestate/ingested")
 }
 
 // How a file came, and that it belongs to the file set.

@@ -52,11 +52,7 @@ fn add_segments(
     document.end_object()
 }
 
-fn add_expecting(
-    document: &mut Document,
-    count: u64,
-    received: &[u64],
-) -> Result<(), AllocError>
+fn add_expecting(document: &mut Document, count: u64, received: &[u64]) -> Result<(), AllocError>
     requires first { All (λ k. 1 ≤ k) received.now }
     requires rising { IsStrictlyIncreasing received.now }
     ensures { OnOk result (AddsMembers document.old document.new ((codes "expecting", json_spec.list (map json_spec.whole (spec.expecting count received.now))) ∷ [])) }

@@ -6,12 +6,9 @@ ghost use Rattle.dep_router.specs.Targets.{segments, resource_of, is_bag_file};
 
 use crate::segments::next_segment;
 use dep_octets::positive_decimal;
-use dep_types::{Octets, Resource};
+use dep_types::{GREATEST_NUMBER, Octets, Resource};
 use percent_encoding::percent_decode;
 use std::alloc::{AllocError, Global};
-
-// The greatest number of an object, a file or an upload.
-const GREATEST_NUMBER: u64 = 4_000_000_000_000_000_000;
 
 pub fn resource_at(alloc: Global, path: &[u8]) -> Result<Option<Resource>, AllocError>
     ensures ok { IfOk result (λ resource. resource ≡ resource_of (segments path.now)) }

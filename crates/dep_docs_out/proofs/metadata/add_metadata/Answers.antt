@@ -1,5 +1,4 @@
 use Rattle.std.proofs.Common.{◌≡◌, ◌∙◌, ℕ, List, [], ◌∷◌, map, refl, ap, arith, subst}
-use Rattle.std.specs.FinMap as finmap
 use Rattle.serde_json.specs.Data.{Data}
 use Rattle.dep_types.specs.MetadataEntries.{name_and_texts}
 use Rattle.dep_types.specs.declared.metadata.MetadataEntry.{MetadataEntry}

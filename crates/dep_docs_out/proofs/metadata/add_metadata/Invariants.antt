@@ -1,5 +1,4 @@
 use Rattle.std.proofs.Common.{map, take}
-use Rattle.dep_types.specs.MetadataEntries.{name_and_texts}
 use Rattle.dep_docs_out.specs.Json.{AddsMembers}
 use Rattle.dep_docs_out.specs.Documents.{texts_data}
 use Rattle.dep_docs_out.proofs.metadata.add_metadata.Given as goal

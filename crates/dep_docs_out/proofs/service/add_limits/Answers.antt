@@ -7,10 +7,10 @@ pub returns : goal.returns
 unfolding service_limits
 returns c =
     on_ok_weaker c.whole-3.result (λ e.
-      c.in_ok-flag.ensures
-      ⨾ rw c.as_str.ensures at c.in_ok-text.ensures
-      ⨾ rw c.as_str-2.ensures at c.in_ok-text-2.ensures
-      ⨾ c.in_ok-only.ensures
-      ⨾ c.in_ok-whole.ensures
-      ⨾ c.in_ok-whole-2.ensures
-      ⨾ e) c.whole-3.ensures
+    c.in_ok-flag.ensures
+    ⨾ rw c.as_str.ensures at c.in_ok-text.ensures
+    ⨾ rw c.as_str-2.ensures at c.in_ok-text-2.ensures
+    ⨾ c.in_ok-only.ensures
+    ⨾ c.in_ok-whole.ensures
+    ⨾ c.in_ok-whole-2.ensures
+    ⨾ e) c.whole-3.ensures

@@ -7,10 +7,10 @@ pub returns : goal.returns
 unfolding service_offers
 returns c =
     on_ok_weaker c.only-3.result (λ e.
-      c.in_ok-text.ensures
-      ⨾ c.in_ok-text-2.ensures
-      ⨾ c.in_ok-text-3.ensures
-      ⨾ c.in_ok-only.ensures
-      ⨾ c.in_ok-flag.ensures
-      ⨾ c.in_ok-only-2.ensures
-      ⨾ e) c.only-3.ensures
+    c.in_ok-text.ensures
+    ⨾ c.in_ok-text-2.ensures
+    ⨾ c.in_ok-text-3.ensures
+    ⨾ c.in_ok-only.ensures
+    ⨾ c.in_ok-flag.ensures
+    ⨾ c.in_ok-only-2.ensures
+    ⨾ e) c.only-3.ensures

@@ -7,8 +7,8 @@ pub returns : goal.returns
 unfolding service_places
 returns c =
     on_ok_weaker c.text-3.result (λ e.
-      c.in_ok-flag.ensures
-      ⨾ c.in_ok-text.ensures
-      ⨾ c.in_ok-text-2.ensures
-      ⨾ c.in_ok-whole.ensures
-      ⨾ e) c.text-3.ensures
+    c.in_ok-flag.ensures
+    ⨾ c.in_ok-text.ensures
+    ⨾ c.in_ok-text-2.ensures
+    ⨾ c.in_ok-whole.ensures
+    ⨾ e) c.text-3.ensures

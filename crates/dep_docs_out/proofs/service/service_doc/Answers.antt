@@ -1,4 +1,4 @@
-use Rattle.std.proofs.Common.{◌∙◌, ◌++◌}
+use Rattle.std.proofs.Common.{◌∙◌}
 use Rattle.dep_docs_out.specs.Documents.{service_data}
 use Rattle.dep_docs_out.specs.Json.{AddsMembers}
 use Rattle.dep_docs_out.proofs.TokenLemmas.{◌⨾◌, text_of}

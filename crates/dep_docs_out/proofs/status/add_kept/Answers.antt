@@ -7,4 +7,4 @@ pub returns : goal.returns
 unfolding kept_members
 returns c =
     on_ok_weaker c.text-2.result (λ e.
-      c.in_ok-decimal.ensures ⨾ c.in_ok-text.ensures ⨾ c.in_ok-add_relations.ensures ⨾ e) c.text-2.ensures
+    c.in_ok-decimal.ensures ⨾ c.in_ok-text.ensures ⨾ c.in_ok-add_relations.ensures ⨾ e) c.text-2.ensures

@@ -1,4 +1,3 @@
-use Rattle.std.proofs.Common.{◌≡◌}
 use Rattle.std.proofs.lemmas.Result.{on_ok_weaker}
 use Rattle.dep_docs_out.specs.Json.{AddsMembers}
 use Rattle.dep_docs_out.specs.Documents.{behalf_members, link_data}
@@ -16,4 +15,4 @@ returns c =
       | in_default w ↦ rw (w.document-is, w.in_default.is) (no_members_more _)
     ] in
     on_ok_weaker c.end_object.result (λ e.
-      object_item c.in_ok-begin_object.ensures (deposit ⨾ behalf ⨾ c.in_ok-add_kept.ensures) e) c.end_object.ensures
+    object_item c.in_ok-begin_object.ensures (deposit ⨾ behalf ⨾ c.in_ok-add_kept.ensures) e) c.end_object.ensures

@@ -1,4 +1,4 @@
-use Rattle.std.proofs.Common.{◌≡◌, map, arith}
+use Rattle.std.proofs.Common.{map, arith}
 use Rattle.std.proofs.lemmas.Result.{on_ok_weaker}
 use Rattle.dep_docs_out.specs.Json.{AddsItems}
 use Rattle.dep_docs_out.specs.Documents.{link_data, links_data}

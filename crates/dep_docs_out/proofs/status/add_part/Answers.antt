@@ -7,4 +7,4 @@ pub returns : goal.returns
 unfolding part_data
 returns c =
     on_ok_weaker c.end_object.result (λ e.
-      object_member c.in_ok-name.ensures c.in_ok-begin_object.ensures (c.in_ok-text.ensures ⨾ c.in_ok-decimal.ensures) e) c.end_object.ensures
+    object_member c.in_ok-name.ensures c.in_ok-begin_object.ensures (c.in_ok-text.ensures ⨾ c.in_ok-decimal.ensures) e) c.end_object.ensures

@@ -1,4 +1,4 @@
-use Rattle.std.proofs.Common.{◌≡◌, ◌∙◌, ◌+◌, ◌≤◌, ℕ, List, [], ◌∷◌, ◌++◌, map, ap, sym, subst, arith}
+use Rattle.std.proofs.Common.{◌≡◌, ◌∙◌, ◌+◌, ℕ, List, [], ◌∷◌, ◌++◌, map, ap, sym, subst, arith}
 use Rattle.std.proofs.lemmas.List.{map-append, nil_from_length}
 use Rattle.json.specs.Token.{Token}
 use Rattle.std.proofs.lemmas.Result.{on_ok_weaker}

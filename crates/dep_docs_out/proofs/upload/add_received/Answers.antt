@@ -1,4 +1,4 @@
-use Rattle.std.proofs.Common.{◌≡◌, arith}
+use Rattle.std.proofs.Common.{arith}
 use Rattle.std.proofs.lemmas.Result.{on_ok_weaker}
 use Rattle.dep_docs_out.specs.Json.{whole}
 use Rattle.dep_docs_out.proofs.TokenLemmas.{list_member}
