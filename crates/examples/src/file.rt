@@ -7,7 +7,8 @@ use std::alloc::Global;
 use std::io;
 
 /// Plays the examples of a file, and prints what is not as it is written. Each example begins at a line with `# ` and
-/// its title, and what stands before the first are texts for all that follow, in later files too.
+/// its title, and what stands before the first are texts for all that follow, in later files too: where one of these
+/// is wrong, none is played.
 pub fn play_file(
     rt: &impl Print,
     alloc: Global,
@@ -30,6 +31,9 @@ pub fn play_file(
             Err(wrong) => {
                 println!(rt; "{name}:{wrong}")?;
                 verdict = verdict.and(wrong.verdict());
+                if i == 0 {
+                    return Ok(verdict);
+                }
             }
         }
         line = line.saturating_add(lines.split('\n').count());

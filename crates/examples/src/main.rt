@@ -37,6 +37,10 @@ fn main(rt: HostRuntime) -> io::Result<ExitCode> {
     let mut words = Words::new(rt.alloc());
     let mut verdict = played(&rt, &mut words, first.as_str())?;
     for name in names {
+        // The texts of the next file may be missing.
+        if matches!(verdict, Verdict::Unknown) {
+            break;
+        }
         verdict = verdict.and(played(&rt, &mut words, name.as_str())?);
     }
     Ok(verdict.status())

@@ -118,6 +118,9 @@ impl Play {
 
     // It goes on with another side.
     fn turns(&mut self, word: &str, rest: &str) -> Result<(), Trouble> {
+        if word != "if-match" {
+            blank(rest)?;
+        }
         let side = match word.as_bytes() {
             b"full" => self.is_full()?,
             b"restart" => Side::Archive(self.side().into_store()?),

@@ -42,7 +42,8 @@ impl Server {
                 self.hub.close(connection);
                 Ok(())
             }
-            _ => self.crowd(number),
+            b"crowd" => self.crowd(number),
+            _ => Err(Trouble::Line("no line of an example begins so")),
         }
     }
 
