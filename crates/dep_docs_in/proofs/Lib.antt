@@ -1,0 +1,5 @@
+pub mod Contents
+pub mod Names
+pub mod Items
+pub mod Keeping
+pub mod FitDocuments

@@ -1,0 +1,8 @@
+use Rattle.dep_docs_in.proofs.Contents.{document-is, no_document}
+use Rattle.dep_docs_in.proofs.document.document.Goals as goal
+
+pub returns-in-Ok : goal.returns-in-Ok
+returns-in-Ok c = document-is c.args.content.now _ c.in-Ok.ensures.ok.0 c.in-Ok.ensures.ok.1
+
+pub returns-in_default : goal.returns-in_default
+returns-in_default c = no_document c.args.content.now (c.in-Err.ensures.err (λ memory. c.in_default.not-Memory (c.classify.ensures.memory.1 memory)))

@@ -1,0 +1,21 @@
+-- How a reader's answer stands to what there is to be read.
+use Rattle.std.specs.Prelude.{◌≡◌, ℕ, Option, Some, None, Result, Ok, Err}
+use Rattle.dep_docs_in.specs.declared.fault.DocFault.{DocFault}
+use Rattle.dep_docs_in.specs.declared.fault.DocFault.TheVariants.{Malformed, Memory}
+
+abbrev pub fault_number : DocFault → ℕ
+fault_number Malformed = 1
+fault_number Memory = 2
+
+-- there is nothing to be read, unless memory was wanting
+abbrev pub Fails : {Y : Type 0} → DocFault → Option Y → Type 0
+Fails Malformed read = read ≡ None
+Fails Memory read = Unit {0}
+
+-- what is answered, seen by view, is what there is to be read; unless memory was wanting
+abbrev pub GivesBy : {X Y : Type 0} → (X → Y) → Result X DocFault → Option Y → Type 0
+GivesBy view (Ok x) read = read ≡ Some (view x)
+GivesBy view (Err e) read = Fails e read
+
+abbrev pub Gives : {X : Type 0} → Result X DocFault → Option X → Type 0
+Gives result read = GivesBy (λ x. x) result read

@@ -1,0 +1,14 @@
+//! The documents that senders write: metadata, and references to staged uploads.
+#![tactic(auto)]
+
+mod document;
+mod fault;
+pub mod laws;
+mod metadata;
+mod reference;
+mod references;
+
+pub use fault::DocFault;
+pub use metadata::read_metadata;
+pub use reference::{Pointed, Reference, References};
+pub use references::read_references;

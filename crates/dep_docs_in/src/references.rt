@@ -1,0 +1,223 @@
+//! Documents of references.
+ghost use Rattle.std.specs.Prelude.{◌≡◌, option_and_then};
+ghost use Rattle.std.specs.Option.{option_copied};
+ghost use Rattle.serde_json.specs.Find.{as_str};
+ghost use Rattle.serde_json.specs.View.{view, items_view};
+ghost use Rattle.dep_fixity.specs.Fixity.{digest_field};
+ghost use Rattle.dep_docs_in.specs.Documents.{behind, digest_of, each_read, form_name, length_of, media_in, media_of, name_of, packaging_of, pointed_by, reference_in, references_read, target_of, upload_number};
+ghost use Rattle.dep_docs_in.specs.Faults.{Gives, GivesBy};
+
+use crate::document::{document, has_type, text_of};
+use crate::fault::DocFault;
+use crate::reference::{Pointed, Reference, References};
+use dep_fixity::{DigestList, read_digest_field};
+use dep_octets::positive_decimal;
+use dep_params::{Disposition, ParamFault, read_disposition};
+use dep_types::{Config, GREATEST_NUMBER, Text, is_media};
+use serde_json::Value;
+use std::alloc::Global;
+use url::{ParseError, Url};
+
+/// Reads a document of references (SWORD 3.0, by-reference deposit): an object of JSON whose `@type` is absent or
+/// `ByReference`, with entries under `byReferenceFiles`, at least one. Each entry has in `@id` a URL and in
+/// `contentDisposition` an attachment with a file name; where they are there, `contentType` is a media type,
+/// `contentLength` a number of at most 64 bits, `packaging` a text, and `digest` a Digest text. Other members, as `ttl`
+/// and `dereference`, may be anything.
+pub fn read_references(
+    alloc: Global,
+    config: &Config,
+    content: &[u8],
+) -> Result<References, DocFault>
+    ensures { Gives result (references_read config.now content.now) }
+{
+    let document = document(alloc, content)?;
+    if !has_type(&document, "ByReference") {
+        return Err(DocFault::Malformed);
+    }
+    let Some(entries) = document.get("byReferenceFiles").and_then(Value::as_array) else {
+        return Err(DocFault::Malformed);
+    };
+    let references = entries_in(alloc, config, entries)?;
+    if references.is_empty() {
+        return Err(DocFault::Malformed);
+    }
+    Ok(References::from_vec(references))
+}
+
+fn entries_in(alloc: Global, config: &Config, entries: &[Value]) -> Result<Vec<Reference>, DocFault>
+    ensures { GivesBy (λ references. references.items) result (each_read (reference_in config.now) (items_view entries.now)) }
+{
+    let mut references = Vec::new(alloc);
+    for entry in entries {
+        references.push(reference_in(alloc, config, entry)?)?;
+    }
+    Ok(references)
+}
+
+#[tactic(auto, unfolding(crate::specs::Documents::reference_in))]
+fn reference_in(alloc: Global, config: &Config, entry: &Value) -> Result<Reference, DocFault>
+    ensures { Gives result (reference_in config.now (view entry.now)) }
+{
+    let target = target_of(alloc, config, entry)?;
+    let name = name_of(alloc, entry)?;
+    let media = media_of(alloc, entry)?;
+    let length = length_of(entry)?;
+    let packaging = packaging_of(alloc, entry)?;
+    let digest = digest_of(entry)?;
+    Ok(Reference {
+        target,
+        name,
+        media,
+        length,
+        packaging,
+        digest,
+    })
+}
+
+// What the URL of an entry points at.
+#[tactic(auto, unfolding(crate::specs::Documents::target_of))]
+fn target_of(alloc: Global, config: &Config, entry: &Value) -> Result<Pointed, DocFault>
+    ensures { Gives result (target_of config.now (view entry.now)) }
+{
+    let Some(text) = text_of(entry, "@id") else {
+        return Err(DocFault::Malformed);
+    };
+    match Url::parse(alloc, text) {
+        Ok(url) => Ok(pointed_by(config, url.as_str().as_bytes())),
+        Err(ParseError::OutOfMemory | ParseError::Overflow) => Err(DocFault::Memory),
+        Err(_) => Err(DocFault::Malformed),
+    }
+}
+
+// An upload of this server, or elsewhere, by the text of a URL.
+fn pointed_by(config: &Config, url: &[u8]) -> Pointed
+    ensures { result ≡ pointed_by config.now url.now }
+{
+    match upload_number(config, url) {
+        Some(upload) => Pointed::Upload(upload),
+        None => Pointed::Elsewhere,
+    }
+}
+
+fn upload_number(config: &Config, url: &[u8]) -> Option<u64>
+    ensures { result ≡ upload_number config.now url.now }
+{
+    let path = behind(config.base.as_str().as_bytes(), url)?;
+    positive_decimal(behind(b"/staging/", path)?, GREATEST_NUMBER)
+}
+
+// What follows this front, where the text begins with it.
+fn behind<'a>(front: &[u8], text: &'a [u8]) -> Option<&'a [u8]>
+    ensures { option_copied result ≡ behind front.now text.now }
+{
+    if text.starts_with(front) {
+        Some(&text[front.len()..])
+    } else {
+        None
+    }
+}
+
+// The file name that the disposition of an entry gives.
+#[tactic(auto, unfolding(crate::specs::Documents::name_of))]
+fn name_of(alloc: Global, entry: &Value) -> Result<Text, DocFault>
+    ensures { Gives result (name_of (view entry.now)) }
+{
+    let Some(text) = text_of(entry, "contentDisposition") else {
+        return Err(DocFault::Malformed);
+    };
+    match read_disposition(alloc, text.as_bytes()) {
+        Ok(disposition) => attachment_name(alloc, &disposition),
+        Err(ParamFault::Malformed) => Err(DocFault::Malformed),
+        Err(ParamFault::Repeated) => Err(DocFault::Malformed),
+        Err(ParamFault::Memory) => Err(DocFault::Memory),
+        Err(ParamFault::NoName) => unreachable!(),
+    }
+}
+
+// The file name that an attachment gives.
+fn attachment_name(alloc: Global, disposition: &Disposition) -> Result<Text, DocFault>
+    ensures { Gives result (form_name disposition.now) }
+{
+    if disposition.form() != b"attachment".as_slice() {
+        return Err(DocFault::Malformed);
+    }
+    match disposition.file_name(alloc) {
+        Ok(name) => Ok(Text::new(name)),
+        Err(ParamFault::NoName) => Err(DocFault::Malformed),
+        Err(_) => Err(DocFault::Memory),
+    }
+}
+
+// The media type of an entry, or the one of unknown bytes.
+#[tactic(auto, unfolding(crate::specs::Documents::media_of))]
+fn media_of(alloc: Global, entry: &Value) -> Result<Text, DocFault>
+    ensures { Gives result (media_of (view entry.now)) }
+{
+    match entry.get("contentType") {
+        Some(value) => media_in(alloc, value),
+        None => Ok(Text::copied(alloc, "application/octet-stream")?),
+    }
+}
+
+fn media_in(alloc: Global, value: &Value) -> Result<Text, DocFault>
+    ensures { Gives result (media_in (view value.now)) }
+{
+    let Some(text) = value.as_str() else {
+        return Err(DocFault::Malformed);
+    };
+    if !is_media(text.as_bytes()) {
+        return Err(DocFault::Malformed);
+    }
+    Ok(Text::copied(alloc, text)?)
+}
+
+// How many bytes an entry is said to have.
+#[tactic(auto, unfolding(crate::specs::Documents::length_of))]
+fn length_of(entry: &Value) -> Result<Option<u64>, DocFault>
+    ensures { Gives result (length_of (view entry.now)) }
+{
+    let Some(value) = entry.get("contentLength") else {
+        return Ok(None);
+    };
+    match value.as_u64() {
+        Some(length) => Ok(Some(length)),
+        None => Err(DocFault::Malformed),
+    }
+}
+
+// The packaging that is told of an entry.
+#[tactic(auto, unfolding(crate::specs::Documents::packaging_of))]
+fn packaging_of(alloc: Global, entry: &Value) -> Result<Option<Text>, DocFault>
+    ensures { Gives result (packaging_of (view entry.now)) }
+{
+    let Some(value) = entry.get("packaging") else {
+        return Ok(None);
+    };
+    match value.as_str() {
+        Some(text) => Ok(Some(Text::copied(alloc, text)?)),
+        None => Err(DocFault::Malformed),
+    }
+}
+
+// The digests that are promised of an entry.
+#[tactic(auto, unfolding(crate::specs::Documents::digest_of))]
+fn digest_of(entry: &Value) -> Result<DigestList, DocFault>
+    ensures { Gives result (digest_of (view entry.now)) }
+{
+    let Some(value) = entry.get("digest") else {
+        return Ok(DigestList { sha256: None });
+    };
+    digest_in(value)
+}
+
+fn digest_in(value: &Value) -> Result<DigestList, DocFault>
+    ensures { Gives result (option_and_then digest_field (as_str (view value.now))) }
+{
+    let Some(text) = value.as_str() else {
+        return Err(DocFault::Malformed);
+    };
+    match read_digest_field(text.as_bytes()) {
+        Ok(digest) => Ok(digest),
+        Err(_) => Err(DocFault::Malformed),
+    }
+}
