@@ -1,0 +1,147 @@
+-- What was given so far, what is left, and what a fault leaves.
+use Rattle.std.proofs.Common.{◌≡◌, ◌≢◌, ℕ, List, [], ◌∷◌, ◌++◌, Option, Ok, Err, refl, sym, ap, subst, ◌∙◌, append_assoc, append-nil}
+use Rattle.std.specs.Io.KnownBytes.{Appends, Keeps}
+use Rattle.std.proofs.KnownBytes.{Appends-nil, Appends-trans, Appends-kept}
+use Rattle.std.specs.Prelude.{Result}
+use Rattle.std.specs.Result.{IsErrAnd}
+use Rattle.dep_types.specs.Sinks.{IsFront, file_begun, file_given}
+use Rattle.dep_types.specs.Writing.{IsProperPrefix}
+use Rattle.dep_bag.specs.Giving.{IsGivenAt, IsGiven, Gives}
+use Rattle.dep_bag.specs.declared.export_fault.ExportFault.{ExportFault}
+use Rattle.dep_bag.specs.declared.export_fault.ExportFault.TheVariants.{NoSuchObject, Sink, Store, Memory}
+
+-- what was given from before until now, and this is left of the whole
+pub record Leaves (before now : Option (List ℕ)) (whole left : List ℕ) : Type 0 where
+  pub given : List ℕ
+  pub appends : Appends before now given
+  pub joined : whole ≡ given ++ left
+
+pub leaves_all : (before : Option (List ℕ)) (whole : List ℕ) → Leaves before before whole whole
+leaves_all before whole = record { given = []; appends = Appends-nil before; joined = refl }
+
+pub leaves_less : (a b c : Option (List ℕ)) (whole one left : List ℕ) → Leaves a b whole (one ++ left) → Appends b c one → Leaves a c whole left
+leaves_less a b c whole one left l adds = record {
+  given = l.given ++ one;
+  appends = Appends-trans a b c l.given one l.appends adds;
+  joined = l.joined ∙ sym (append_assoc l.given one left);
+}
+
+-- what was given whole was added
+pub added : {X : Type 0} (b c : Option (List ℕ)) (one : List ℕ) (x : X) → Gives b c one (Ok x) → Appends b c one
+added b c one x g = subst (Appends b c) g.2 g.1
+
+pub kept : (a b c : Option (List ℕ)) (one : List ℕ) → Appends a b one → Keeps b c → Appends a c one
+kept a b c one adds keeps = Appends-kept a b c one adds keeps
+
+-- no fault of ours says that the object is not there
+abbrev pub IsOurs : ExportFault → Type 0
+IsOurs NoSuchObject = ⊥
+IsOurs Sink = Unit {0}
+IsOurs Store = Unit {0}
+IsOurs Memory = Unit {0}
+
+pub front_given : (e : ExportFault) (whole given : List ℕ) → IsOurs e → IsFront given whole → IsGivenAt e whole given
+front_given NoSuchObject whole given ours f = ours
+front_given Sink whole given ours f = f
+front_given Store whole given ours f = f
+front_given Memory whole given ours f = f
+
+pub given_front : (e : ExportFault) (whole given : List ℕ) → IsGivenAt e whole given → IsOurs e × IsFront given whole
+given_front NoSuchObject whole given f = absurd f
+given_front Sink whole given f = (tt, f)
+given_front Store whole given f = (tt, f)
+given_front Memory whole given f = (tt, f)
+
+-- an error that is this fault, after a front
+pub faulty : {X : Type 0} (r : Result X ExportFault) (fault : ExportFault) (whole given : List ℕ) → IsErrAnd r (λ e. e ≡ fault) → IsOurs fault → IsFront given whole → IsGiven whole given r
+faulty (Ok x) fault whole given h ours f = absurd h
+faulty (Err e) fault whole given h ours f = subst (λ e. IsGivenAt e whole given) (sym h) (front_given fault whole given ours f)
+
+-- a fault before the rest of it was begun
+pub stops : {X : Type 0} (a b : Option (List ℕ)) (whole left : List ℕ) (r : Result X ExportFault) (e : ExportFault) → Leaves a b whole left → IsErrAnd r (λ x. x ≡ e) → IsOurs e → Gives a b whole r
+stops a b whole left r e l err ours = (l.given, l.appends, faulty r e whole l.given err ours (record { rest = left; joined = l.joined }))
+
+regroup : (given front rest left : List ℕ) → given ++ ((front ++ rest) ++ left) ≡ (given ++ front) ++ (rest ++ left)
+regroup given front rest left = simp append_assoc
+
+-- a front of what is left next was added
+pub breaks : {X : Type 0} (a b c : Option (List ℕ)) (whole one left front : List ℕ) (r : Result X ExportFault) (e : ExportFault) → Leaves a b whole (one ++ left)
+    → Appends b c front → IsFront front one → IsErrAnd r (λ x. x ≡ e) → IsOurs e → Gives a c whole r
+breaks a b c whole one left front r e l adds part err ours = (
+  l.given ++ front,
+  Appends-trans a b c l.given front l.appends adds,
+  faulty r e whole (l.given ++ front) err ours
+      (record { rest = part.rest ++ left; joined = l.joined ∙ ap (λ o. l.given ++ (o ++ left)) part.joined ∙ regroup l.given front part.rest left }),
+)
+
+pub fails : {X Y : Type 0} (a b c : Option (List ℕ)) (whole one left : List ℕ) (q : Result X ExportFault) (r : Result Y ExportFault) (e : ExportFault) → Leaves a b whole (one ++ left)
+    → q ≡ Err e → Gives b c one q → IsErrAnd r (λ x. x ≡ e) → Gives a c whole r
+fails a b c whole one left q r e l is g err =
+    let f = given_front e one g.0 (subst (IsGiven one g.0) is g.2) in
+    breaks a b c whole one left g.0 r e l g.1 f.1 err f.0
+
+-- nothing is left
+pub ends : {X : Type 0} (a b : Option (List ℕ)) (whole : List ℕ) (x : X) → Leaves a b whole [] → Gives a b whole (Ok x)
+ends a b whole x l = (l.given, l.appends, sym (l.joined ∙ append-nil l.given))
+
+-- a proper prefix is a front
+pub prefix_front : (part whole : List ℕ) → IsProperPrefix part whole → IsFront part whole
+prefix_front part whole p = record { rest = p.rest; joined = p.joined }
+
+pub nothing_given : (a b : Option (List ℕ)) → Keeps a b → Appends a b []
+nothing_given a b keeps = kept a a b [] (Appends-nil a) keeps
+
+pub nothing_front : (whole : List ℕ) → IsFront [] whole
+nothing_front whole = record { rest = whole; joined = refl }
+
+-- a front of a file's bytes, behind its beginning
+pub file_front : (path part bytes : List ℕ) → IsFront part bytes → IsFront (file_begun path ++ part) (file_given (path, bytes))
+file_front path part bytes f = record { rest = f.rest; joined = ap (λ t. file_begun path ++ t) f.joined ∙ sym (append_assoc (file_begun path) part f.rest) }
+
+pub whole_front : (whole : List ℕ) → IsFront whole whole
+whole_front whole = record { rest = []; joined = sym (append-nil whole) }
+
+pub text_breaks : {X : Type 0} (a b c : Option (List ℕ)) (path text seen : List ℕ) (r : Result X ExportFault) → seen ≡ text → Appends a b (file_begun path)
+    → (x : List ℕ) × IsProperPrefix x seen × Appends b c x → IsErrAnd r (λ e. e ≡ Sink) → Gives a c (file_given (path, text)) r
+text_breaks a b c path text seen r is begun p err = (
+  file_begun path ++ p.0,
+  Appends-trans a b c (file_begun path) p.0 begun p.2,
+  faulty r Sink (file_given (path, text)) (file_begun path ++ p.0) err tt (file_front path p.0 text (subst (IsFront p.0) is (prefix_front p.0 seen p.1))),
+)
+
+pub text_unended : {X : Type 0} (a b c d : Option (List ℕ)) (path text seen : List ℕ) (r : Result X ExportFault) → seen ≡ text → Appends a b (file_begun path)
+    → Appends b c seen → Keeps c d → IsErrAnd r (λ e. e ≡ Sink) → Gives a d (file_given (path, text)) r
+text_unended a b c d path text seen r is begun adds keeps err = (
+  file_begun path ++ seen,
+  kept a c d (file_begun path ++ seen) (Appends-trans a b c (file_begun path) seen begun adds) keeps,
+  faulty r Sink (file_given (path, text)) (file_begun path ++ seen) err tt (file_front path seen text (subst (IsFront seen) is (whole_front seen))),
+)
+
+-- a whole file was given next
+pub text_given : (a b c : Option (List ℕ)) (whole left path text want : List ℕ) → text ≡ want → Leaves a b whole (file_given (path, want) ++ left)
+    → (x : List ℕ) × Appends b c x × (x ≡ file_given (path, text)) → Leaves a c whole left
+text_given a b c whole left path text want is l g =
+    leaves_less a b c whole (file_given (path, want)) left l (subst (Appends b c) (g.2 ∙ ap (λ t. file_given (path, t)) is) g.1)
+
+-- and a front of it, at a fault
+pub text_fails : {X : Type 0} (a b c : Option (List ℕ)) (whole left path text want : List ℕ) (r : Result X ExportFault) (e : ExportFault) → text ≡ want
+    → Leaves a b whole (file_given (path, want) ++ left) → (x : List ℕ) × Appends b c x × IsGivenAt e (file_given (path, text)) x
+    → IsErrAnd r (λ x. x ≡ e) → Gives a c whole r
+text_fails a b c whole left path text want r e is l g err =
+    let f = given_front e (file_given (path, text)) g.0 g.2 in
+    breaks a b c whole (file_given (path, want)) left g.0 r e l g.1 (subst (λ t. IsFront g.0 (file_given (path, t))) is f.1) err f.0
+
+-- the last file is given as far as it is
+pub text_last : {X : Type 0} (a b c : Option (List ℕ)) (whole path text want : List ℕ) (r : Result X ExportFault) → text ≡ want
+    → Leaves a b whole (file_given (path, want) ++ []) → Gives b c (file_given (path, text)) r → Gives a c whole r
+text_last a b c whole path text want (Ok x) is l g = ends a c whole x (text_given a b c whole [] path text want is l g)
+text_last {X} a b c whole path text want (Err e) is l g =
+    let r : Result X ExportFault = Err e in
+    text_fails a b c whole [] path text want r e is l g refl
+
+-- a fault that is another than that the object isn't there
+pub there_is_ours : {X : Type 0} (e : ExportFault) → (◌≡◌ {A = Result X ExportFault} (Err e) (Err NoSuchObject) → ⊥) → IsOurs e
+there_is_ours NoSuchObject h = h refl
+there_is_ours Sink h = tt
+there_is_ours Store h = tt
+there_is_ours Memory h = tt

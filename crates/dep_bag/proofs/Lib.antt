@@ -1,0 +1,16 @@
+pub mod Lines
+pub mod Encoding
+pub mod Fronts
+pub mod FourLines
+pub mod FoundFiles
+pub mod ToldBag
+pub mod GivenParts
+pub mod StoredFiles
+pub mod Payload
+pub mod Exported
+pub mod Keys
+pub mod PayloadPaths
+pub mod Files
+pub mod Whole
+pub mod Tells
+pub mod Names

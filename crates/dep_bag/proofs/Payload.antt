@@ -1,0 +1,136 @@
+-- The files of a payload, one after another.
+use Rattle.std.proofs.Common.{◌≡◌, ℕ, suc, ◌+◌, ◌<◌, arith, List, [], ◌∷◌, ◌++◌, length, drop, get_or, drop-cons, Option, Ok, Err, refl, sym, ap, subst, ◌∙◌, append_assoc, append-nil}
+use Rattle.std.specs.Prelude.{Result, flat_map, map as each}
+use Rattle.std.specs.Io.KnownBytes.{Appends}
+use Rattle.std.proofs.KnownBytes.{Appends-nil, Appends-trans}
+use Rattle.std.proofs.lemmas.Grind.{flat_map-append}
+use Rattle.dep_types.specs.State.{State}
+use Rattle.dep_types.specs.Sinks.{Entry, IsFront, file_given}
+use Rattle.dep_types.specs.declared.rows.FileRow.{FileRow}
+use Rattle.dep_bag.specs.Source.{HasContent}
+use Rattle.dep_bag.specs.Parts.{row_path}
+use Rattle.std.specs.Result.{IsErrAnd}
+use Rattle.dep_bag.specs.Giving.{IsGivenAt, IsGiven, AreFilesOf}
+use Rattle.dep_bag.specs.declared.export_fault.ExportFault.{ExportFault}
+use Rattle.dep_bag.proofs.GivenParts.{IsOurs, faulty, given_front}
+
+-- the files that were given, and those of the rows that are left
+pub record IsSplit (s : State) (left : List FileRow) (files : List Entry) (given : List ℕ) : Type 0 where
+  pub done : List Entry
+  pub rest : List Entry
+  pub joined : files ≡ done ++ rest
+  pub are : AreFilesOf s left rest
+  pub is : given ≡ flat_map file_given done
+
+-- what was given for the rows so far
+pub record SoFar {A : Type 0} (stands : A → State → Type 0) (is_clean : A → Type 0) (old now : A) (before after : Option (List ℕ)) (rows left : List FileRow) : Type 0 where
+  pub given : List ℕ
+  pub appends : Appends before after given
+  pub clean : is_clean now → is_clean old
+  pub kept : is_clean now → (s : State) → stands old s → stands now s
+  pub split : is_clean now → (s : State) → stands old s → (files : List Entry) → AreFilesOf s rows files → IsSplit s left files given
+
+pub none_so_far : {A : Type 0} (stands : A → State → Type 0) (is_clean : A → Type 0) (old : A) (before : Option (List ℕ)) (rows : List FileRow)
+    → SoFar stands is_clean old old before before rows rows
+none_so_far stands is_clean old before rows = record {
+  given = [];
+  appends = Appends-nil before;
+  clean = λ c. c;
+  kept = λ c s at. at;
+  split = λ c s at files are. record { done = []; rest = files; joined = refl; are = are; is = refl };
+}
+
+regroup : {X : Type 0} (done : List X) (file : X) (rest : List X) → done ++ file ∷ rest ≡ (done ++ file ∷ []) ++ rest
+regroup done file rest = sym (append_assoc done (file ∷ []) rest)
+
+-- one more file was given
+split_more : (s : State) (row : FileRow) (left : List FileRow) (files : List Entry) (given more : List ℕ) (done rest : List Entry)
+    → files ≡ done ++ rest → AreFilesOf s (row ∷ left) rest → given ≡ flat_map file_given done
+    → ((bytes : List ℕ) → HasContent s row.file bytes → more ≡ file_given (row_path row, bytes)) → IsSplit s left files (given ++ more)
+split_more s row left files given more done [] joined are is gives = absurd are
+split_more s row left files given more done (file ∷ rest) joined are is gives = record {
+  done = done ++ file ∷ [];
+  rest = rest;
+  joined = joined ∙ regroup done file rest;
+  are = are.2;
+  is = (λ i. is i ++ (gives file.1 are.1 ∙ ap (λ p. file_given (p, file.1)) (sym are.0) ∙ sym (append-nil (file_given file))) i)
+      ∙ sym (flat_map-append file_given done (file ∷ []));
+}
+
+moved : (given more rest after : List ℕ) → given ++ ((more ++ rest) ++ after) ≡ (given ++ more) ++ (rest ++ after)
+moved given more rest after = simp append_assoc
+
+-- the fault came in the middle of a file
+split_front : (s : State) (row : FileRow) (left : List FileRow) (files : List Entry) (given more : List ℕ) (done rest : List Entry)
+    → files ≡ done ++ rest → AreFilesOf s (row ∷ left) rest → given ≡ flat_map file_given done
+    → ((bytes : List ℕ) → HasContent s row.file bytes → IsFront more (file_given (row_path row, bytes))) → IsFront (given ++ more) (flat_map file_given files)
+split_front s row left files given more done [] joined are is gives = absurd are
+split_front s row left files given more done (file ∷ rest) joined are is gives =
+    let front = gives file.1 are.1 in
+    let whole : file_given file ≡ more ++ front.rest = ap (λ p. file_given (p, file.1)) are.0 ∙ front.joined in
+    record {
+      rest = front.rest ++ flat_map file_given rest;
+      joined = ap (flat_map file_given) joined ∙ flat_map-append file_given done (file ∷ rest)
+          ∙ (λ i. sym is i ++ (whole i ++ flat_map file_given rest)) ∙ moved given more front.rest (flat_map file_given rest);
+    }
+
+next_row : (rows : List FileRow) (i : ℕ) (row : FileRow) → i < length rows → row ≡ get_or rows i row → drop i rows ≡ row ∷ drop (i + 1) rows
+next_row rows i row inside is =
+    let one_more : suc i ≡ i + 1 = omega arith in
+    drop-cons rows i row inside ∙ ap (λ r. r ∷ drop (suc i) rows) (sym is) ∙ ap (λ k. row ∷ drop k rows) one_more
+
+pub one_more : {A : Type 0} (stands : A → State → Type 0) (is_clean : A → Type 0) (old mid now : A) (before between after : Option (List ℕ))
+    (rows : List FileRow) (i : ℕ) (row : FileRow) → i < length rows → row ≡ get_or rows i row
+    → SoFar stands is_clean old mid before between rows (drop i rows)
+    → (more : List ℕ) × Appends between after more
+    × (is_clean now → (s : State) → stands mid s → (bytes : List ℕ) → HasContent s row.file bytes → more ≡ file_given (row_path row, bytes))
+    → (is_clean now → is_clean mid) → (is_clean now → (s : State) → stands mid s → stands now s)
+    → SoFar stands is_clean old now before after rows (drop (i + 1) rows)
+one_more stands is_clean old mid now before between after rows i row inside is far gives clean kept =
+    let next = next_row rows i row inside is in
+    record {
+      given = far.given ++ gives.0;
+      appends = Appends-trans before between after far.given gives.0 far.appends gives.1;
+      clean = λ c. far.clean (clean c);
+      kept = λ c s at. kept c s (far.kept (clean c) s at);
+      split = λ c s at files are.
+          let was = far.split (clean c) s at files are in
+          split_more s row (drop (i + 1) rows) files far.given gives.0 was.done was.rest was.joined (subst (λ l. AreFilesOf s l was.rest) next was.are) was.is
+          (λ bytes has. gives.2 c s (far.kept (clean c) s at) bytes has);
+    }
+
+pub one_fails : {A X : Type 0} (stands : A → State → Type 0) (is_clean : A → Type 0) (old mid now : A) (before between after : Option (List ℕ))
+    (rows : List FileRow) (i : ℕ) (row : FileRow) (e : ExportFault) (r : Result X ExportFault) → i < length rows → row ≡ get_or rows i row
+    → SoFar stands is_clean old mid before between rows (drop i rows)
+    → (more : List ℕ) × Appends between after more
+    × (is_clean now → (s : State) → stands mid s → (bytes : List ℕ) → HasContent s row.file bytes → IsGivenAt e (file_given (row_path row, bytes)) more)
+    → (is_clean now → is_clean mid) → IsOurs e → IsErrAnd r (λ x. x ≡ e)
+    → (given : List ℕ) × Appends before after given
+    × (is_clean now → (s : State) → stands old s → (files : List Entry) → AreFilesOf s rows files → IsGiven (flat_map file_given files) given r)
+one_fails stands is_clean old mid now before between after rows i row e r inside is far gives clean ours err =
+    let next = next_row rows i row inside is in (
+      far.given ++ gives.0,
+      Appends-trans before between after far.given gives.0 far.appends gives.1,
+      λ c s at files are.
+          let was = far.split (clean c) s at files are in
+          let front = split_front s row (drop (i + 1) rows) files far.given gives.0 was.done was.rest was.joined (subst (λ l. AreFilesOf s l was.rest) next was.are) was.is
+          (λ bytes has. (given_front e (file_given (row_path row, bytes)) gives.0 (gives.2 c s (far.kept (clean c) s at) bytes has)).1) in
+          faulty r e (flat_map file_given files) (far.given ++ gives.0) err ours front,
+    )
+
+all_done : (s : State) (files : List Entry) (given : List ℕ) (done rest : List Entry) → files ≡ done ++ rest → AreFilesOf s [] rest → given ≡ flat_map file_given done
+    → given ≡ flat_map file_given files
+all_done s files given done [] joined are is = is ∙ ap (flat_map file_given) (sym (append-nil done) ∙ sym joined)
+all_done s files given done (file ∷ rest) joined are is = absurd are
+
+-- every file was given
+pub all_given : {A : Type 0} (stands : A → State → Type 0) (is_clean : A → Type 0) (old now : A) (before after : Option (List ℕ)) (rows left : List FileRow) → left ≡ []
+    → SoFar stands is_clean old now before after rows left
+    → (given : List ℕ) × Appends before after given
+    × (is_clean now → (s : State) → stands old s → (files : List Entry) → AreFilesOf s rows files → given ≡ flat_map file_given files)
+all_given stands is_clean old now before after rows left none far = (
+  far.given,
+  far.appends,
+  λ c s at files are. let was = far.split c s at files are in
+      all_done s files far.given was.done was.rest was.joined (subst (λ l. AreFilesOf s l was.rest) none was.are) was.is,
+)

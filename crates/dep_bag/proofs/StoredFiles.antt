@@ -1,0 +1,34 @@
+-- A file as a source streams it.
+use Rattle.std.proofs.Common.{◌≡◌, ℕ, List, [], ◌∷◌, ◌++◌, Option, Some, Ok, Err, refl, sym, ap, subst, ◌∙◌}
+use Rattle.std.specs.Prelude.{Result}
+use Rattle.dep_types.specs.State.{State, File, file_at}
+use Rattle.dep_types.specs.Sound.{IsSound}
+use Rattle.dep_types.specs.Sinks.{IsFront, file_begun, file_given}
+use Rattle.dep_bag.specs.Source.{HasContent, IsPartOfContent}
+use Rattle.dep_bag.proofs.GivenParts.{file_front, whole_front}
+
+same_file : (x y : File) → Some x ≡ Some y → x ≡ y
+same_file x y e = cc
+
+-- of a sound state a file has one content
+pub same_content : (s : State) → IsSound s → (f : ℕ) (a b : List ℕ) → HasContent s f a → HasContent s f b → a ≡ b
+same_content s sound f a b x y =
+    let place = sound.one_place x.object y.object f x.file y.file x.held y.held in
+    let file = same_file x.file y.file (sym x.held ∙ ap (λ n. file_at s n f) place ∙ y.held) in
+    sym x.is ∙ ap (λ (file : File). file.content) file ∙ y.is
+
+-- a front of it, behind the beginning of the file
+pub part_sent : (s : State) → IsSound s → (f : ℕ) (path sent bytes : List ℕ) → IsPartOfContent s f sent → HasContent s f bytes
+    → IsFront (file_begun path ++ sent) (file_given (path, bytes))
+part_sent s sound f path sent bytes p has =
+    file_front path sent bytes (subst (IsFront sent) (same_content s sound f p.whole bytes p.has has) p.front)
+
+-- all of it
+pub all_sent : (s : State) → IsSound s → (f : ℕ) (path sent bytes : List ℕ) → HasContent s f sent → HasContent s f bytes
+    → file_begun path ++ sent ≡ file_given (path, bytes)
+all_sent s sound f path sent bytes has held = ap (λ t. file_begun path ++ t) (same_content s sound f sent bytes has held)
+
+pub all_front : (s : State) → IsSound s → (f : ℕ) (path sent bytes : List ℕ) → HasContent s f sent → HasContent s f bytes
+    → IsFront (file_begun path ++ sent) (file_given (path, bytes))
+all_front s sound f path sent bytes has held =
+    file_front path sent bytes (subst (IsFront sent) (same_content s sound f sent bytes has held) (whole_front sent))

@@ -1,0 +1,30 @@
+use Rattle.std.proofs.Common.{◌++◌, sym, subst, ◌∙◌}
+use Rattle.std.proofs.KnownBytes.{Appends-trans}
+use Rattle.dep_bag.specs.Bag.{payload}
+use Rattle.dep_bag.specs.Giving.{AreFilesOf}
+use Rattle.dep_bag.proofs.Exported.{found_view, are_payload, tags_exported, all_exported}
+use Rattle.dep_bag.proofs.exporting.export.Goals as goal
+
+pub returns-in_err-give_tag_files-clause-gives : goal.returns-in_err-give_tag_files-clause-gives
+returns-in_err-give_tag_files-clause-gives g c =
+    let gave = c.in_err-give_tag_files.ensures.gives in
+    let n = c.args.object in (
+      gave.0,
+      gave.1,
+      λ clean s at. let v = found_view s n c.in-Ok-Some.view (sym c.in-Ok-Some.field-0-is ∙ c.in-Ok-Some.ensures.ok clean s at) in
+          tags_exported s n c.in-Ok-Some.view v c.in_err-give_tag_files.field-0.0 gave.0 c.from_residual.result gave.2 c.from_residual.ensures.1,
+    )
+
+pub returns-clause-gives : goal.returns-clause-gives
+returns-clause-gives g c =
+    let tags = c.in_ok-give_tag_files.ensures.gives in
+    let more = c.give_payload.ensures.gives in
+    let n = c.args.object in (
+      tags.0 ++ more.0,
+      Appends-trans (g.K.Outlet.taken c.args.sink.now) (g.K.Outlet.taken c.give_tag_files.new.sink) (g.K.Outlet.taken c.give_payload.new.sink) tags.0 more.0 tags.1 more.1,
+      λ clean s at. let before = c.give_payload.ensures.clean clean in
+          let v = found_view s n c.in-Ok-Some.view (sym c.in-Ok-Some.field-0-is ∙ c.in-Ok-Some.ensures.ok before s at) in
+          all_exported s n c.in-Ok-Some.view v tags.0 more.0 c.give_payload.result tags.2
+          (more.2 clean s (c.in-Ok-Some.ensures.kept before s at) (payload v.object)
+          (subst (λ rows. AreFilesOf s rows (payload v.object)) (sym c.as_slice.ensures) (are_payload s n c.in-Ok-Some.view v))),
+    )

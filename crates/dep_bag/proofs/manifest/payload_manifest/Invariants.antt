@@ -1,0 +1,8 @@
+use Rattle.std.proofs.Common.{◌≡◌, map, take}
+use Rattle.dep_bag.specs.Manifest.{manifest}
+use Rattle.dep_bag.specs.Parts.{row_checksum}
+use Rattle.dep_bag.proofs.manifest.payload_manifest.Given as goal
+
+-- a line for each file so far
+abbrev pub invariant-loop-row : goal.invariant-loop-row
+invariant-loop-row l = l.text.items ≡ manifest (map row_checksum (take l.row-index l.row-items))

@@ -1,0 +1,60 @@
+-- The bag of an object: its folder, and its files by path (RFC 8493).
+use Rattle.std.specs.Prelude.{ℕ, List, [], ◌∷◌, ◌++◌, length, map, min, sum_by, codes, decimal, flat_map, Option, option_map}
+use Rattle.std.specs.FinMap as finmap
+use Rattle.dep_types.specs.Maps.{Named}
+use Rattle.dep_types.specs.State.{State, Object, greatest_clock}
+use Rattle.dep_types.specs.BagPaths.{payload_path, bag_paths}
+use Rattle.dep_moment.specs.Civil.{day_text}
+use Rattle.dep_docs_out.specs.Documents.{bag_metadata_document}
+use Rattle.dep_types.specs.Sinks.{Entry}
+use Rattle.dep_bag.specs.Manifest.{Digest, sha256_digest, manifest_of}
+
+-- a list of folders, and bytes by path
+pub record Bag : Type 0 where
+  pub folders : List (List ℕ)
+  pub files : Named (List ℕ)
+
+abbrev pub bagit_text : List ℕ
+bagit_text = codes "BagIt-Version: 1.0\nTag-File-Character-Encoding: UTF-8\n"
+
+-- so many bytes, a dot, and so many files
+abbrev pub oxum_text : (octets count : ℕ) → List ℕ
+oxum_text octets count = decimal octets ++ codes "." ++ decimal count
+
+abbrev pub oxum : List Entry → List ℕ
+oxum files = oxum_text (sum_by (λ f. length f.1) files) (length files)
+
+-- the day of the last change, and what the payload has
+abbrev pub info_text : (changed : ℕ) → (payload_oxum : List ℕ) → List ℕ
+info_text changed payload_oxum =
+    codes "Bagging-Date: " ++ day_text (min changed greatest_clock) ++ codes "\nPayload-Oxum: " ++ payload_oxum ++ codes "\n"
+
+abbrev pub payload : Object → List Entry
+payload o = map (λ e. (payload_path e.0 e.1.name, e.1.content)) (finmap.entries o.files)
+
+-- the files that the tag manifest names
+abbrev pub listed_files : Object → List Entry
+listed_files o =
+    (codes "bagit.txt", bagit_text)
+    ∷ (codes "bag-info.txt", info_text o.changed (oxum (payload o)))
+    ∷ (codes "manifest-sha256.txt", manifest_of sha256_digest (payload o))
+    ∷ (codes "metadata/sword.json", bag_metadata_document o.metadata)
+    ∷ []
+
+abbrev pub tag_manifest : Object → Entry
+tag_manifest o = (codes "tagmanifest-sha256.txt", manifest_of sha256_digest (listed_files o))
+
+-- every file of the bag, in order
+unfoldable pub bag_files : Object → List Entry
+bag_files o = listed_files o ++ tag_manifest o ∷ payload o
+
+abbrev pub bag_of : Object → Bag
+bag_of o = record { folders = codes "data" ∷ []; files = finmap.from_entries (bag_files o) }
+
+-- the bag of the object with this number
+abbrev pub bag_at : State → ℕ → Option Bag
+bag_at s n = option_map bag_of (finmap.get s.objects n)
+
+-- the list of these paths
+abbrev pub list_text : List (List ℕ) → List ℕ
+list_text paths = flat_map (λ path. path ++ codes "\n") paths

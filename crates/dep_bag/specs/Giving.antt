@@ -1,0 +1,37 @@
+-- How files are given to a sink, one after another.
+use Rattle.std.specs.Prelude.{◌≡◌, ℕ, List, [], ◌∷◌, ◌++◌, flat_map, codes, Option, Result, Ok, Err, ⊤}
+use Rattle.std.specs.Io.KnownBytes.{Appends}
+use Rattle.dep_types.specs.State.{State}
+use Rattle.dep_types.specs.Sinks.{Entry, folder_made, file_given, IsFront}
+use Rattle.dep_types.specs.declared.rows.FileRow.{FileRow}
+use Rattle.dep_types.specs.declared.rows.ObjectView.{ObjectView}
+use Rattle.dep_bag.specs.Source.{HasContent}
+use Rattle.dep_bag.specs.Parts.{row_path, told_tag_files}
+use Rattle.dep_bag.specs.declared.export_fault.ExportFault.{ExportFault}
+use Rattle.dep_bag.specs.declared.export_fault.ExportFault.TheVariants.{NoSuchObject, Sink, Store, Memory}
+
+-- a front of it was given; no such fault says that the object isn't there
+abbrev pub IsGivenAt : ExportFault → (whole given : List ℕ) → Type 0
+IsGivenAt NoSuchObject whole given = ⊥
+IsGivenAt Sink whole given = IsFront given whole
+IsGivenAt Store whole given = IsFront given whole
+IsGivenAt Memory whole given = IsFront given whole
+
+-- all of it was given, or after a fault a front of it
+abbrev pub IsGiven : {X : Type 0} → (whole given : List ℕ) → Result X ExportFault → Type 0
+IsGiven whole given (Ok x) = given ≡ whole
+IsGiven whole given (Err fault) = IsGivenAt fault whole given
+
+abbrev pub Gives : {X : Type 0} → Option (List ℕ) → Option (List ℕ) → (whole : List ℕ) → Result X ExportFault → Type 0
+Gives before after whole result = (given : List ℕ) × Appends before after given × IsGiven whole given result
+
+-- the folder of the payload, and the files that are not payload
+abbrev pub tag_transcript : ObjectView → List ℕ
+tag_transcript view = folder_made (codes "data") ++ flat_map file_given (told_tag_files view)
+
+-- these are the files of the rows: their paths, and their contents in the state
+abbrev pub AreFilesOf : State → List FileRow → List Entry → Type 0
+AreFilesOf s [] [] = ⊤
+AreFilesOf s [] (file ∷ files) = ⊥
+AreFilesOf s (row ∷ rows) [] = ⊥
+AreFilesOf s (row ∷ rows) (file ∷ files) = (file.0 ≡ row_path row) × HasContent s row.file file.1 × AreFilesOf s rows files

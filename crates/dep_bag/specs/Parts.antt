@@ -1,0 +1,82 @@
+-- What a view of an object tells of its bag: its paths, and what stands at each.
+use Rattle.std.specs.Prelude.{ℕ, List, [], ◌∷◌, ◌++◌, length, map, sum_by, find, codes, bytes_eq, Option, Some, None, option_map}
+use Rattle.std.specs.FinMap as finmap
+use Rattle.dep_types.specs.State.{Object}
+use Rattle.dep_types.specs.BagPaths.{tag_paths, payload_path}
+use Rattle.dep_types.specs.declared.rows.FileRow.{FileRow}
+use Rattle.dep_types.specs.declared.rows.ObjectView.{ObjectView}
+use Rattle.dep_docs_out.specs.Documents.{bag_metadata_document}
+use Rattle.dep_types.specs.Sinks.{Entry}
+use Rattle.dep_bag.specs.Manifest.{Checksum, sha256_digest, manifest, manifest_of}
+use Rattle.dep_bag.specs.Bag.{bagit_text, oxum_text, info_text}
+use Rattle.dep_bag.specs.declared.part.BagPart.{BagPart}
+use Rattle.dep_bag.specs.declared.part.BagPart.TheVariants.{Bytes, Stored}
+
+-- a name in the folder of a number
+abbrev pub in_folder : (digits name : List ℕ) → List ℕ
+in_folder digits name = codes "data/" ++ digits ++ codes "/" ++ name
+
+-- where a file stands
+abbrev pub row_path : FileRow → List ℕ
+row_path row = payload_path row.file row.name
+
+abbrev pub row_checksum : FileRow → Checksum
+row_checksum row = record { path = row_path row; value = row.sha256 }
+
+abbrev pub told_oxum : List FileRow → List ℕ
+told_oxum rows = oxum_text (sum_by (λ row. row.size) rows) (length rows)
+
+abbrev pub told_info : ObjectView → List ℕ
+told_info view = info_text view.object.changed (told_oxum view.files)
+
+abbrev pub told_manifest : ObjectView → List ℕ
+told_manifest view = manifest (map row_checksum view.files)
+
+-- the files that the tag manifest names
+abbrev pub told_listed : ObjectView → List Entry
+told_listed view =
+    (codes "bagit.txt", bagit_text)
+    ∷ (codes "bag-info.txt", told_info view)
+    ∷ (codes "manifest-sha256.txt", told_manifest view)
+    ∷ (codes "metadata/sword.json", bag_metadata_document view.metadata)
+    ∷ []
+
+abbrev pub told_tag_manifest : ObjectView → List ℕ
+told_tag_manifest view = manifest_of sha256_digest (told_listed view)
+
+-- the files that are not payload
+abbrev pub told_tag_files : ObjectView → List Entry
+told_tag_files view = told_listed view ++ (codes "tagmanifest-sha256.txt", told_tag_manifest view) ∷ []
+
+-- the paths of the bag, in order
+abbrev pub told_paths : ObjectView → List (List ℕ)
+told_paths view = tag_paths ++ map row_path view.files
+
+abbrev pub text_part : Entry → List ℕ × BagPart
+text_part file = (file.0, Bytes file.1)
+
+abbrev pub stored_part : FileRow → List ℕ × BagPart
+stored_part row = (row_path row, Stored row.file)
+
+-- each path with what stands there, in order
+abbrev pub told_parts : ObjectView → List (List ℕ × BagPart)
+told_parts view =
+    map text_part (told_listed view)
+    ++ text_part (codes "tagmanifest-sha256.txt", told_tag_manifest view)
+    ∷ map stored_part view.files
+
+-- what stands at a path
+abbrev pub told_part : ObjectView → List ℕ → Option BagPart
+told_part view path = option_map (λ part. part.1) (find (λ part. bytes_eq path part.0) (told_parts view))
+
+-- the bytes of a part of the object's bag, if it has them
+abbrev pub part_bytes : Object → BagPart → Option (List ℕ)
+part_bytes o (Bytes bytes) = Some bytes
+part_bytes o (Stored file) = option_map (λ f. f.content) (finmap.get o.files file)
+
+-- a path, with the bytes of the part there
+abbrev pub told_bytes : Object → List ℕ × BagPart → List ℕ × Option (List ℕ)
+told_bytes o part = (part.0, part_bytes o part.1)
+
+abbrev pub held_bytes : Entry → List ℕ × Option (List ℕ)
+held_bytes file = (file.0, Some file.1)

@@ -1,0 +1,74 @@
+//! Why a bag was not exported whole.
+ghost use Rattle.std.specs.Prelude.{◌≡◌};
+ghost use Rattle.dep_bag.specs.declared.export_fault.ExportFault.TheVariants.{Sink, Memory};
+
+use dep_types::{SinkFailed, WriteFailed};
+use std::alloc::AllocError;
+use std::error::Error;
+use std::fmt;
+
+/// Why a bag was not exported whole.
+#[derive(Clone, Copy, Debug, PartialEq, Eq)]
+pub enum ExportFault {
+    /// There is no such object. Nothing was given to the sink.
+    NoSuchObject,
+    /// The sink failed.
+    Sink,
+    /// The source failed.
+    Store,
+    /// Memory was refused.
+    Memory,
+}
+
+impl ExportFault {
+    ghost use Rattle.dep_bag.specs.ExportFaults.{export_fault_number};
+
+    /// The number of the fault, 1 to 4.
+    pub fn number(self) -> u8
+        ensures { result ≡ export_fault_number self }
+    {
+        match self {
+            ExportFault::NoSuchObject => 1,
+            ExportFault::Sink => 2,
+            ExportFault::Store => 3,
+            ExportFault::Memory => 4,
+        }
+    }
+}
+
+impl fmt::Display for ExportFault {
+    fn fmt<W: fmt::Write>(&self, f: &mut fmt::Formatter<W>) -> fmt::Result {
+        match self {
+            ExportFault::NoSuchObject => write!(f, "no such object"),
+            ExportFault::Sink => write!(f, "the sink failed"),
+            ExportFault::Store => write!(f, "the store failed"),
+            ExportFault::Memory => write!(f, "out of memory"),
+        }
+    }
+}
+
+impl Error for ExportFault {}
+
+impl From<AllocError> for ExportFault {
+    ghost from_gives = { λ _ fault. fault ≡ Memory };
+
+    fn from(_error: AllocError) -> ExportFault {
+        ExportFault::Memory
+    }
+}
+
+impl From<SinkFailed> for ExportFault {
+    ghost from_gives = { λ _ fault. fault ≡ Sink };
+
+    fn from(_error: SinkFailed) -> ExportFault {
+        ExportFault::Sink
+    }
+}
+
+impl From<WriteFailed> for ExportFault {
+    ghost from_gives = { λ _ fault. fault ≡ Sink };
+
+    fn from(_error: WriteFailed) -> ExportFault {
+        ExportFault::Sink
+    }
+}

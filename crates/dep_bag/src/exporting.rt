@@ -1,0 +1,39 @@
+//! The export of a bag.
+ghost use Rattle.std.specs.Prelude.{◌≡◌, ℕ, List, OnOk, Err};
+ghost use Rattle.std.specs.Io.KnownBytes.{Appends, Keeps};
+ghost use Rattle.dep_types.specs.State.{State};
+ghost use Rattle.dep_types.specs.Writing.{HasRisen};
+ghost use Rattle.dep_bag.specs.Exports.{IsExported};
+
+use crate::export_fault::ExportFault;
+use crate::giving::{give_payload, give_tag_files};
+use crate::source::BagSource;
+use dep_types::{BagSink, StoreFault};
+use std::alloc::Global;
+
+/// Gives a sink the folder `data` and then each file of an object's bag, in the order of the list.
+/// Contents are sent as the source streams them, and no content is held or hashed here. After a
+/// fault the sink holds a front of what it was to be given.
+pub fn export<S: BagSource, K: BagSink>(
+    alloc: Global,
+    source: &mut S,
+    object: u64,
+    sink: &mut K,
+) -> Result<(), ExportFault>
+    ensures gives { (given : List ℕ) × Appends (K.taken sink.old) (K.taken sink.new) given
+        × (S.is_clean source.new → (s : State) → S.stands source.old s → IsExported s object given result) }
+    ensures absent { result ≡ Err ExportFault.NoSuchObject → Keeps (K.taken sink.old) (K.taken sink.new) }
+    ensures count { OnOk result (K.failures sink.new ≡ K.failures sink.old) }
+    ensures cause { result ≡ Err ExportFault.Sink → HasRisen (K.failures sink.old) (K.failures sink.new) }
+    ensures kept { S.is_clean source.new → (s : State) → S.stands source.old s → OnOk result (S.stands source.new s) }
+    ensures clean { S.is_clean source.new → S.is_clean source.old }
+{
+    let view = match source.view(object) {
+        Ok(Some(view)) => view,
+        Ok(None) => return Err(ExportFault::NoSuchObject),
+        Err(StoreFault::Store) => return Err(ExportFault::Store),
+        Err(StoreFault::Memory) => return Err(ExportFault::Memory),
+    };
+    give_tag_files(alloc, &view, sink)?;
+    give_payload(alloc, source, view.files.as_slice(), sink)
+}

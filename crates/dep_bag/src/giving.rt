@@ -1,0 +1,99 @@
+//! Files that are given to a sink, one after another.
+ghost use Rattle.std.specs.Prelude.{◌≡◌, ◌≢◌, ◌++◌, ℕ, List, OnOk, Err, flat_map};
+ghost use Rattle.std.specs.Io.KnownBytes.{Appends};
+ghost use Rattle.dep_types.specs.State.{State};
+ghost use Rattle.dep_types.specs.Writing.{HasRisen};
+ghost use Rattle.dep_types.specs.Sinks.{Entry, file_given};
+ghost use Rattle.dep_bag.specs.Source.{HasContent};
+ghost use Rattle.dep_bag.specs.Parts.{row_path};
+ghost use Rattle.dep_bag.specs.Giving.{IsGiven, Gives, tag_transcript, AreFilesOf};
+
+use crate::export_fault::ExportFault;
+use crate::manifest::payload_manifest;
+use crate::paths::{BAG_INFO, BAGIT, MANIFEST, METADATA, TAG_MANIFEST, payload_path};
+use crate::source::BagSource;
+use crate::tag_files::{declaration, information, tag_manifest};
+use dep_docs_out::bag_metadata_doc;
+use dep_types::{BagSink, FileRow, ObjectView, StreamFault};
+use std::alloc::Global;
+
+/// Gives a sink the folder of the payload, and the files that are not payload.
+pub(crate) fn give_tag_files<K: BagSink>(
+    alloc: Global,
+    view: &ObjectView,
+    sink: &mut K,
+) -> Result<(), ExportFault>
+    ensures gives { Gives (K.taken sink.old) (K.taken sink.new) (tag_transcript view.now) result }
+    ensures count { OnOk result (K.failures sink.new ≡ K.failures sink.old) }
+    ensures cause { result ≡ Err ExportFault.Sink → HasRisen (K.failures sink.old) (K.failures sink.new) }
+{
+    sink.folder("data")?;
+    give_text(sink, BAGIT, declaration(alloc)?)?;
+    give_text(sink, BAG_INFO, information(alloc, view)?)?;
+    give_text(sink, MANIFEST, payload_manifest(alloc, view)?)?;
+    give_text(sink, METADATA, bag_metadata_doc(alloc, &view.metadata)?)?;
+    give_text(sink, TAG_MANIFEST, tag_manifest(alloc, view)?)
+}
+
+// Gives a file with these bytes.
+fn give_text<K: BagSink>(sink: &mut K, path: &str, text: Vec<u8>) -> Result<(), ExportFault>
+    ensures gives { Gives (K.taken sink.old) (K.taken sink.new) (file_given (path.now, text.items)) result }
+    ensures count { OnOk result (K.failures sink.new ≡ K.failures sink.old) }
+    ensures cause { result ≡ Err ExportFault.Sink → HasRisen (K.failures sink.old) (K.failures sink.new) }
+{
+    sink.begin(path)?;
+    sink.write(text.as_slice())?;
+    sink.finish()?;
+    Ok(())
+}
+
+/// Gives each of these files, as the source streams it.
+pub(crate) fn give_payload<S: BagSource, K: BagSink>(
+    alloc: Global,
+    source: &mut S,
+    rows: &[FileRow],
+    sink: &mut K,
+) -> Result<(), ExportFault>
+    ensures gives { (given : List ℕ) × Appends (K.taken sink.old) (K.taken sink.new) given
+        × (S.is_clean source.new → (s : State) → S.stands source.old s → (files : List Entry) → AreFilesOf s rows.now files
+        → IsGiven (flat_map file_given files) given result) }
+    ensures count { OnOk result (K.failures sink.new ≡ K.failures sink.old) }
+    ensures cause { result ≡ Err ExportFault.Sink → HasRisen (K.failures sink.old) (K.failures sink.new) }
+    ensures kept { S.is_clean source.new → (s : State) → S.stands source.old s → OnOk result (S.stands source.new s) }
+    ensures clean { S.is_clean source.new → S.is_clean source.old }
+    ensures there { result ≢ Err ExportFault.NoSuchObject }
+{
+    for row in rows {
+        give_stored(alloc, source, row, sink)?;
+    }
+    Ok(())
+}
+
+// Gives a file, as the source streams it.
+fn give_stored<S: BagSource, K: BagSink>(
+    alloc: Global,
+    source: &mut S,
+    row: &FileRow,
+    sink: &mut K,
+) -> Result<(), ExportFault>
+    ensures gives { (given : List ℕ) × Appends (K.taken sink.old) (K.taken sink.new) given
+        × (S.is_clean source.new → (s : State) → S.stands source.old s → (bytes : List ℕ) → HasContent s row.now.file bytes
+        → IsGiven (file_given (row_path row.now, bytes)) given result) }
+    ensures count { OnOk result (K.failures sink.new ≡ K.failures sink.old) }
+    ensures cause { result ≡ Err ExportFault.Sink → HasRisen (K.failures sink.old) (K.failures sink.new) }
+    ensures kept { S.is_clean source.new → (s : State) → S.stands source.old s → OnOk result (S.stands source.new s) }
+    ensures clean { S.is_clean source.new → S.is_clean source.old }
+    ensures there { result ≢ Err ExportFault.NoSuchObject }
+{
+    let path = payload_path(alloc, row)?;
+    sink.begin(path.as_str())?;
+    match source.stream(row.file, sink) {
+        Ok(()) => {}
+        Err(StreamFault::Writer) => return Err(ExportFault::Sink),
+        Err(StreamFault::Store) => return Err(ExportFault::Store),
+        Err(StreamFault::NoSuchFile) => return Err(ExportFault::Store),
+        Err(StreamFault::Memory) => return Err(ExportFault::Memory),
+    }
+    sink.finish()?;
+    Ok(())
+}

@@ -1,0 +1,78 @@
+//! Laws of the bag of an object, apart from any code.
+ghost use Rattle.std.specs.Prelude.{◌≡◌, ℕ, List, Some, Ok, true, All, Contains, IsTrue, [], ◌∷◌, ◌++◌, flat_map, codes, map as each};
+ghost use Rattle.std.specs.FinMap as map;
+ghost use Rattle.sha2.specs.Sha256.{sha256};
+ghost use Rattle.hex.specs.Hex.{decode_sized};
+ghost use Rattle.dep_types.specs.State.{State, Object};
+ghost use Rattle.dep_types.specs.Sound.{IsSound};
+ghost use Rattle.dep_types.specs.Names.{is_good_name};
+ghost use Rattle.dep_types.specs.BagPaths.{bag_paths, payload_path};
+ghost use Rattle.dep_bag.specs.Manifest.{encoded_path, sha256_digest, manifest_of};
+ghost use Rattle.dep_bag.specs.Bag.{Bag, oxum, list_text, bag_of, bag_at, bag_files};
+ghost use Rattle.dep_bag.specs.Valid.{IsValidBag, Line, is_payload, lines_of};
+ghost use Rattle.dep_types.specs.Rows.{object_view};
+ghost use Rattle.dep_bag.specs.Parts.{told_parts, told_bytes, held_bytes};
+ghost use Rattle.dep_bag.specs.Named.{percent_encoded};
+
+/// Paths that differ are written differently.
+pub fn encoding_keeps_apart()
+    ensures { (a b : List ℕ) → encoded_path a ≡ encoded_path b → a ≡ b }
+{}
+
+/// The bag of each object of a sound state is valid (RFC 8493, section 3).
+pub fn bag_is_valid()
+    ensures { (s : State) (n : ℕ) (b : Bag) → IsSound s → bag_at s n ≡ Some b → IsValidBag b }
+{}
+
+/// The bag holds each of the files that it is made of: none stands over another.
+pub fn bag_holds_each_file()
+    ensures { (s : State) (n : ℕ) (o : Object) → IsSound s → map.get s.objects n ≡ Some o
+        → All (λ f. map.get (bag_of o).files f.0 ≡ Some f.1) (bag_files o) }
+{}
+
+/// Their paths are those that the object's bag lists.
+pub fn bag_has_its_paths()
+    ensures { (o : Object) → each (λ f. f.0) (bag_files o) ≡ bag_paths o }
+{}
+
+/// The parts that a view of an object tells, with the contents of its files, are its bag's files.
+pub fn view_tells_bag()
+    ensures { (n : ℕ) (o : Object)
+        → each (told_bytes o) (told_parts (object_view n o)) ≡ each held_bytes (bag_files o) }
+{}
+
+/// A percent sign is written `%25`.
+pub fn percent_is_encoded()
+    ensures { encoded_path (codes "data/7/50%25 off%.txt") ≡ codes "data/7/50%2525 off%25.txt" }
+{}
+
+/// A valid bag tells the SHA-256 of each of its payload files.
+pub fn valid_bag_tells_each_file()
+    ensures { (b : Bag) (valid : IsValidBag b) (path bytes : List ℕ)
+        → is_payload path ≡ true → map.get b.files path ≡ Some bytes
+        → (line : Line) × Contains valid.manifest.lines line × (line.path ≡ encoded_path path)
+        × (decode_sized line.digits 32 ≡ Ok (sha256 bytes)) }
+{}
+
+/// Of the paths of files with good names nothing but the percent sign is written otherwise.
+pub fn good_path_is_encoded()
+    ensures { (n : ℕ) (name : List ℕ) → IsTrue (is_good_name name)
+        → encoded_path (payload_path n name) ≡ percent_encoded (payload_path n name) }
+{}
+
+/// The lines of a bag's list are its paths.
+pub fn list_reads_back()
+    ensures { (s : State) (n : ℕ) (o : Object) → IsSound s → map.get s.objects n ≡ Some o
+        → lines_of (list_text (bag_paths o)) ≡ bag_paths o ++ [] ∷ [] }
+{}
+
+/// The line of a file of three bytes.
+pub fn manifest_of_example()
+    ensures { manifest_of sha256_digest ((codes "data/1/50%.txt", codes "abc") ∷ [])
+        ≡ codes "ba7816bf8f01cfea414140de5dae2223b00361a396177a9cb410ff61f20015ad  data/1/50%25.txt\n" }
+{}
+
+/// Five bytes in two files.
+pub fn oxum_of_example()
+    ensures { oxum ((codes "data/1/a", codes "abc") ∷ (codes "data/2/b", codes "de") ∷ []) ≡ codes "5.2" }
+{}

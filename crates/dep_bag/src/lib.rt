@@ -1,0 +1,18 @@
+//! Objects as bags (RFC 8493): their files by path, and their export.
+#![tactic(auto)]
+
+mod export_fault;
+mod exporting;
+mod giving;
+pub mod laws;
+mod manifest;
+mod part;
+mod paths;
+mod source;
+mod tag_files;
+
+pub use export_fault::ExportFault;
+pub use exporting::export;
+pub use part::{BagPart, bag_file};
+pub use paths::bag_paths;
+pub use source::BagSource;
