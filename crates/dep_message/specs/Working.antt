@@ -10,8 +10,8 @@ use Rattle.dep_body.specs.declared.frame.Framing.TheVariants.{Length, Chunked as
 use Rattle.dep_message.specs.Heads.{is_due}
 use Rattle.dep_message.specs.Places.{Reading, Open, Shut, HasBytes}
 use Rattle.dep_message.specs.Stream.{IsContinueText, IsFaultText, IsRequestText, Waits}
-use Rattle.dep_message.specs.declared.first.First.{First}
-use Rattle.dep_message.specs.declared.first.First.TheVariants as H
+use Rattle.dep_message.specs.declared.first.FirstHead.{FirstHead}
+use Rattle.dep_message.specs.declared.first.FirstHead.TheVariants as H
 use Rattle.dep_message.specs.declared.progress.ChunkedRequest.{ChunkedRequest}
 use Rattle.dep_message.specs.declared.progress.Progress.{Progress}
 use Rattle.dep_message.specs.declared.progress.Progress.TheVariants.{Searched, Sized, Chunked}
@@ -25,13 +25,19 @@ pub record IsSearched (searched : ℕ) (bytes : List ℕ) : Type 0 where
   pub no_end : head_end (take searched bytes) ≡ None
 
 -- a head, and the framing of the body that may come
-pub record IsBegun (limit : ℕ) (continued : Bool) (front : List ℕ) (head : HeadParts) (frame : Framing) : Type 0 where
+pub record IsBegun (limit : ℕ) (continued : Bool) (front : List ℕ) (head : HeadParts) (frame : Framing)
+    : Type 0 where
   pub is_head : IsHeadText front head
   pub framed : framing limit head ≡ Ok frame
   pub due_is : is_due continued head frame ≡ false
 
+-- the same by what the work keeps
+abbrev pub HasBegun : Work → List ℕ → HeadParts → Framing → Type 0
+HasBegun work front head frame = IsBegun work.limit work.continued front head frame
+
 -- the bytes behind the head are in chunks, and the reader was fed the first of them, which are no whole body
-pub record ReadsChunks (limit : ℕ) (continued : Bool) (bytes : List ℕ) (request : ChunkedRequest) : Type 0 where
+pub record ReadsChunks (limit : ℕ) (continued : Bool) (bytes : List ℕ) (request : ChunkedRequest)
+    : Type 0 where
   pub begun : IsBegun limit continued (take request.head_length bytes) request.head InChunks
   pub within : request.head_length + request.read ≤ length bytes
   pub limit_is : request.reader.limit ≡ limit
@@ -78,25 +84,26 @@ abbrev pub Begins : (List ℕ → Type 0) → List ℕ → Type 0
 Begins IsText bytes = (text : List ℕ) × (behind : List ℕ) × (bytes ≡ text ++ behind) × IsText text
 
 -- the head that stands first in the bytes
-abbrev pub FindsHead : ℕ → Bool → List ℕ → First → Type 0
+abbrev pub FindsHead : ℕ → Bool → List ℕ → FirstHead → Type 0
 FindsHead limit continued bytes (H.Head first) =
     (first.length ≤ length bytes) × IsBegun limit continued (take first.length bytes) first.head first.framing
 FindsHead limit continued bytes H.Continue = Begins (IsContinueText limit continued) bytes
-FindsHead limit continued bytes (H.Fault refusal bare) = Begins (λ text. IsFaultText limit continued text refusal bare) bytes
+FindsHead limit continued bytes (H.Fault refusal bare) =
+    Begins (λ text. IsFaultText limit continued text refusal bare) bytes
 FindsHead limit continued bytes H.Nothing = (head_end bytes ≡ None) × (length bytes < head_limit)
 
 -- what stands first in the bytes, and what is kept then
 abbrev pub Finds : ℕ → Bool → List ℕ → Work → Found → Type 0
 Finds limit continued bytes new (F.Message m) =
-    (text : List ℕ) × (behind : List ℕ) × (bytes ≡ text ++ behind) × IsRequestText limit continued text m × (0 < length text)
-    × Keeps limit false behind new
+    (text : List ℕ) × (behind : List ℕ) × (bytes ≡ text ++ behind) × IsRequestText limit continued text m
+    × (0 < length text) × Keeps limit false behind new
 Finds limit continued bytes new F.Continue = Begins (IsContinueText limit continued) bytes × Keeps limit true bytes new
 Finds limit continued bytes new (F.Fault refusal bare) =
     Begins (λ text. IsFaultText limit continued text refusal bare) bytes × (new.limit ≡ limit) × IsWorking new
 Finds limit continued bytes new F.Nothing = Waits limit (Open continued bytes) × Keeps limit continued bytes new
 
--- what `next` gives over these bytes: for want of memory it changes nothing, and some byte was there
-abbrev pub FindsNext : ℕ → Bool → List ℕ → Work → Result Found AllocError → Type 0
-FindsNext limit continued bytes new result =
-    MatchResult result (Finds limit continued bytes new)
-    (λ _. Keeps limit continued bytes new × HasBytes (Open continued bytes))
+-- what is found over these bytes: for want of memory nothing changes, and some byte was there
+abbrev pub FindsNext : (old : Work) (bytes : List ℕ) (new : Work) → Result Found AllocError → Type 0
+FindsNext old bytes new result =
+    MatchResult result (Finds old.limit old.continued bytes new)
+    (λ _. Keeps old.limit old.continued bytes new × HasBytes (Open old.continued bytes))

@@ -21,7 +21,7 @@ pub struct FramedHead {
 
 /// What stands first in bytes.
 #[derive(Drop)]
-pub enum First {
+pub enum FirstHead {
     /// The head of a request, whose body may come.
     Head(FramedHead),
     /// The head of a request whose client waits to be told to go on.
@@ -39,22 +39,22 @@ pub fn first_head(
     continued: bool,
     searched: usize,
     bytes: &[u8],
-) -> Result<First, AllocError>
+) -> Result<FirstHead, AllocError>
     requires { IsSearched searched bytes.now }
     ensures { MatchResult result (FindsHead limit continued bytes.now) (λ _. HasBytes (Open continued bytes.now)) }
 {
     let Some(end) = find_end_from(searched, bytes) else {
         if bytes.len() >= HEAD_LIMIT {
-            return Ok(First::Fault(Refusal::BadRequest, false));
+            return Ok(FirstHead::Fault(Refusal::BadRequest, false));
         }
-        return Ok(First::Nothing);
+        return Ok(FirstHead::Nothing);
     };
     if end > HEAD_LIMIT {
-        return Ok(First::Fault(Refusal::BadRequest, false));
+        return Ok(FirstHead::Fault(Refusal::BadRequest, false));
     }
     match read_head(alloc, &bytes[..end]) {
         Err(HeadFault::Memory) => Err(AllocError),
-        Err(HeadFault::NotAHead) => Ok(First::Fault(Refusal::BadRequest, false)),
+        Err(HeadFault::NotAHead) => Ok(FirstHead::Fault(Refusal::BadRequest, false)),
         Ok(head) => Ok(framed(limit, continued, head, end, bytes)),
     }
 }
@@ -71,14 +71,14 @@ fn find_end_from(searched: usize, bytes: &[u8]) -> Option<usize>
     }
 }
 
-fn framed(limit: u64, continued: bool, head: Head, end: usize, bytes: &[u8]) -> First
+fn framed(limit: u64, continued: bool, head: Head, end: usize, bytes: &[u8]) -> FirstHead
     requires { (end ≤ length bytes.now) × IsHeadText (take end bytes.now) head }
     ensures { FindsHead limit continued bytes.now result }
 {
     match framing(&head, limit) {
-        Err(fault) => First::Fault(refusal_for(fault), is_without_body(&head)),
-        Ok(framing) if !continued && awaits_continue(&head, framing) => First::Continue,
-        Ok(framing) => First::Head(FramedHead {
+        Err(fault) => FirstHead::Fault(refusal_for(fault), is_without_body(&head)),
+        Ok(framing) if !continued && awaits_continue(&head, framing) => FirstHead::Continue,
+        Ok(framing) => FirstHead::Head(FramedHead {
             head,
             length: end,
             framing,

@@ -2,10 +2,10 @@
 ghost use Rattle.std.specs.Prelude.{◌≡◌, ◌≤◌, [], ◌++◌, false, length, take, drop, OnOk, OnErr};
 ghost use Rattle.dep_message.specs.Stream.{refusal_of};
 ghost use Rattle.dep_message.specs.Heads.{is_bare};
-ghost use Rattle.dep_message.specs.Working.{IsFresh, IsSearched, IsBegun, ReadsChunks, Keeps, FindsNext, IsWorking, kept_bytes};
+ghost use Rattle.dep_message.specs.Working.{IsFresh, IsSearched, HasBegun, ReadsChunks, Keeps, FindsNext, IsWorking, kept_bytes};
 
 use crate::buffer::Buffer;
-use crate::first::{First, FramedHead, first_head, refusal_for};
+use crate::first::{FirstHead, FramedHead, first_head, refusal_for};
 use crate::heads::is_without_body;
 use crate::message::Message;
 use crate::progress::{ChunkedRequest, Progress, SizedRequest};
@@ -53,8 +53,10 @@ impl Work {
     /// Takes the next piece of the stream. An `Err` changes nothing.
     pub fn feed(&mut self, piece: &[u8]) -> Result<(), AllocError>
         requires { IsWorking self.old }
-        ensures ok { OnOk result (Keeps self.old.limit self.old.continued (kept_bytes self.old ++ piece.now) self.new) }
-        ensures err { OnErr result (Keeps self.old.limit self.old.continued (kept_bytes self.old) self.new) }
+        ensures ok { OnOk result
+            (Keeps self.old.limit self.old.continued (kept_bytes self.old ++ piece.now) self.new) }
+        ensures err { OnErr result
+            (Keeps self.old.limit self.old.continued (kept_bytes self.old) self.new) }
     {
         match &mut self.progress {
             Progress::Sized(request) => request.append(piece),
@@ -65,7 +67,7 @@ impl Work {
     /// Takes the first item, where one is complete. An `Err` changes nothing.
     pub fn next(&mut self) -> Result<Found, AllocError>
         requires { IsWorking self.old }
-        ensures { FindsNext self.old.limit self.old.continued (kept_bytes self.old) self.new result }
+        ensures { FindsNext self.old (kept_bytes self.old) self.new result }
     {
         match mem::replace(&mut self.progress, Progress::Searched(0)) {
             Progress::Searched(searched) => self.search(searched),
@@ -78,21 +80,21 @@ impl Work {
     fn search(&mut self, searched: usize) -> Result<Found, AllocError>
         requires fresh { IsFresh self.old }
         requires searched { IsSearched searched self.old.buffer }
-        ensures { FindsNext self.old.limit self.old.continued self.old.buffer self.new result }
+        ensures { FindsNext self.old self.old.buffer self.new result }
     {
         let bytes = self.buffer.as_slice();
         match first_head(self.alloc, self.limit, self.continued, searched, bytes)? {
-            First::Nothing => {
+            FirstHead::Nothing => {
                 let searched = bytes.len();
                 self.keep_place(Progress::Searched(searched));
                 Ok(Found::Nothing)
             }
-            First::Fault(refusal, bare) => Ok(Found::Fault(refusal, bare)),
-            First::Continue => {
+            FirstHead::Fault(refusal, bare) => Ok(Found::Fault(refusal, bare)),
+            FirstHead::Continue => {
                 self.continued = true;
                 Ok(Found::Continue)
             }
-            First::Head(first) => self.begin(first),
+            FirstHead::Head(first) => self.begin(first),
         }
     }
 
@@ -100,8 +102,8 @@ impl Work {
     fn begin(&mut self, first: FramedHead) -> Result<Found, AllocError>
         requires fresh { IsFresh self.old }
         requires within { first.length ≤ length self.old.buffer }
-        requires begun { IsBegun self.old.limit self.old.continued (take first.length self.old.buffer) first.head first.framing }
-        ensures { FindsNext self.old.limit self.old.continued self.old.buffer self.new result }
+        requires begun { HasBegun self.old (take first.length self.old.buffer) first.head first.framing }
+        ensures { FindsNext self.old self.old.buffer self.new result }
     {
         match first.framing {
             Framing::Empty => Ok(self.take(first.length, first.head, Vec::new(self.alloc))),
@@ -123,8 +125,8 @@ impl Work {
     ) -> Result<Found, AllocError>
         requires fresh { IsFresh self.old }
         requires within { head_length ≤ length self.old.buffer }
-        requires begun { IsBegun self.old.limit self.old.continued (take head_length self.old.buffer) head (Framing.Length size) }
-        ensures { FindsNext self.old.limit self.old.continued self.old.buffer self.new result }
+        requires begun { HasBegun self.old (take head_length self.old.buffer) head (Framing.Length size) }
+        ensures { FindsNext self.old self.old.buffer self.new result }
     {
         let behind = &self.buffer.as_slice()[head_length..];
         let come = behind.len().min(size);
@@ -146,8 +148,8 @@ impl Work {
     // Reads on where the bytes are a head, and those behind it stand apart.
     fn read_sized(&mut self, mut request: SizedRequest) -> Result<Found, AllocError>
         requires fresh { IsFresh self.old }
-        requires begun { IsBegun self.old.limit self.old.continued self.old.buffer request.head (Framing.Length request.length) }
-        ensures { FindsNext self.old.limit self.old.continued (self.old.buffer ++ request.behind.items) self.new result }
+        requires begun { HasBegun self.old self.old.buffer request.head (Framing.Length request.length) }
+        ensures { FindsNext self.old (self.old.buffer ++ request.behind.items) self.new result }
     {
         if request.behind.len() < request.length {
             self.keep_place(Progress::Sized(request));
@@ -170,7 +172,7 @@ impl Work {
     fn read_chunks(&mut self, mut request: ChunkedRequest) -> Result<Found, AllocError>
         requires fresh { IsFresh self.old }
         requires reads { ReadsChunks self.old.limit self.old.continued self.old.buffer request }
-        ensures { FindsNext self.old.limit self.old.continued self.old.buffer self.new result }
+        ensures { FindsNext self.old self.old.buffer self.new result }
     {
         let bytes = self.buffer.as_slice();
         let read = request.head_length + request.read;

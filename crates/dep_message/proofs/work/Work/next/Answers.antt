@@ -6,12 +6,12 @@ use Rattle.dep_message.proofs.work.Work.next.Goals as goal
 pub returns-in-Sized : goal.returns-in-Sized
 returns-in-Sized c =
     let w = c.args.self.now in
-    subst (λ (p : Progress). FindsNext w.limit w.continued (w.buffer ++ bytes_apart p) c.read_sized.new.self c.read_sized.result)
+    subst (λ (p : Progress). FindsNext w (w.buffer ++ bytes_apart p) c.read_sized.new.self c.read_sized.result)
     (sym (sym c.replace.ensures.value ∙ c.in-Sized.is)) c.read_sized.ensures
 
 pub returns-in-Chunked : goal.returns-in-Chunked
 returns-in-Chunked c =
     let w = c.args.self.now in
-    subst (λ (p : Progress). FindsNext w.limit w.continued (w.buffer ++ bytes_apart p) c.read_chunks.new.self c.read_chunks.result)
+    subst (λ (p : Progress). FindsNext w (w.buffer ++ bytes_apart p) c.read_chunks.new.self c.read_chunks.result)
     (sym (sym c.replace.ensures.value ∙ c.in-Chunked.is))
-    (subst (λ (l : List ℕ). FindsNext w.limit w.continued l c.read_chunks.new.self c.read_chunks.result) (sym (append-nil w.buffer)) c.read_chunks.ensures)
+    (subst (λ (l : List ℕ). FindsNext w l c.read_chunks.new.self c.read_chunks.result) (sym (append-nil w.buffer)) c.read_chunks.ensures)
