@@ -15,7 +15,8 @@ use Rattle.dep_operations.specs.declared.operation.Decision.TheVariants.{Show, C
 -- the file that the content is, where its name and its media type are told
 abbrev pub posted_file : Operation → Option NewFile
 posted_file op =
-    option_and_then (λ name. option_map (λ media. record { name = name; media = media }) op.fields.media) op.fields.name
+    option_and_then
+    (λ name. option_map (λ media. record { name = name; media = media }) op.fields.media) op.fields.name
 
 -- what this method of this resource asks for: a deposit at the service
 abbrev pub decision_at : Config → Operation → Resource → Method → Option Decision

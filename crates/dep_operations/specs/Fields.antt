@@ -8,7 +8,8 @@ use Rattle.dep_operations.specs.declared.fields.DepositFields.{DepositFields}
 
 -- visible ASCII other than a semicolon, a quotation mark, a slash and a backslash
 abbrev pub is_unquoted_byte : ℕ → Bool
-is_unquoted_byte b = is_ascii_graphic b && not (b == 59) && not (b == 34) && not (b == 47) && not (b == 92)
+is_unquoted_byte b =
+    is_ascii_graphic b && not (b == 59) && not (b == 34) && not (b == 47) && not (b == 92)
 
 -- 1 to 255 such bytes that name neither a folder nor the one above it
 abbrev pub is_unquoted_name : List ℕ → Bool
@@ -18,7 +19,8 @@ is_unquoted_name name =
 
 -- what follows this front
 abbrev pub after_front : (front text : List ℕ) → Option (List ℕ)
-after_front front text = if bytes_eq (take (length front) text) front then Some (drop (length front) text) else None
+after_front front text =
+    if bytes_eq (take (length front) text) front then Some (drop (length front) text) else None
 
 -- what stands before the name
 abbrev pub attachment_front : List ℕ

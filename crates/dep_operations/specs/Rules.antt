@@ -36,7 +36,8 @@ room_refusal config s op = unless (room_for s.next (numbers_for (decision config
 -- the rules that a method meets, in their order
 abbrev pub rules_met : Config → State → Operation → Method → List (Option Refusal)
 rules_met config s op Post =
-    presence_refusal s op.target.resource ∷ name_refusal op ∷ media_refusal op ∷ room_refusal config s op ∷ []
+    presence_refusal s op.target.resource ∷ name_refusal op ∷ media_refusal op
+    ∷ room_refusal config s op ∷ []
 rules_met config s op method = presence_refusal s op.target.resource ∷ []
 
 -- the first that is broken

@@ -25,11 +25,13 @@ abbrev pub view_for : State → Operation → View
 view_for s op = record { next = s.next; has_file = has_file_at s op.target.resource }
 
 abbrev pub room_refusal_seen : Config → View → Operation → Option Refusal
-room_refusal_seen config view op = unless (room_for view.next (numbers_for (decision config op))) StoreFull
+room_refusal_seen config view op =
+    unless (room_for view.next (numbers_for (decision config op))) StoreFull
 
 abbrev pub rules_seen : Config → View → Operation → Method → List (Option Refusal)
 rules_seen config view op Post =
-    unless view.has_file NotFound ∷ name_refusal op ∷ media_refusal op ∷ room_refusal_seen config view op ∷ []
+    unless view.has_file NotFound ∷ name_refusal op ∷ media_refusal op
+    ∷ room_refusal_seen config view op ∷ []
 rules_seen config view op method = unless view.has_file NotFound ∷ []
 
 -- the first rule that is broken, by what they see

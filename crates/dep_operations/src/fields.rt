@@ -16,13 +16,14 @@ const LONGEST: usize = 255;
 /// What the fields of a request tell of the file that it carries.
 #[derive(Drop)]
 pub struct DepositFields {
-    /// The file name in the one Content-Disposition field (RFC 6266), which has to read `attachment; filename=NAME` in
-    /// this letter case, with one space. NAME is 1 to 255 bytes of visible ASCII without `;`, `"`, `/` and `\`, and is
-    /// neither `.` nor `..`. `None` is a field that isn't there, that isn't of this form, or that stands twice.
+    /// The file name in the one Content-Disposition field (RFC 6266), which has to read
+    /// `attachment; filename=NAME` in this letter case, with one space. NAME is 1 to 255 bytes of
+    /// visible ASCII without `;`, `"`, `/` and `\`, and is neither `.` nor `..`. `None` is a field
+    /// that isn't there, that isn't of this form, or that stands twice.
     pub name: Option<Text>,
-    /// The media type in the Content-Type field (RFC 9110, section 8.3), 1 to 255 bytes of 0x20 to 0x7E as they stand
-    /// there; `application/octet-stream` where there is no such field. `None` is a field that isn't of this form, or that
-    /// stands twice.
+    /// The media type in the Content-Type field (RFC 9110, section 8.3), 1 to 255 bytes of 0x20 to
+    /// 0x7E as they stand there; `application/octet-stream` where there is no such field. `None` is a
+    /// field that isn't of this form, or that stands twice.
     pub media: Option<Text>,
 }
 
@@ -52,7 +53,8 @@ fn copied(alloc: Global, text: Option<&str>) -> Result<Option<Text>, AllocError>
 
 // The file name that the values of Content-Disposition tell.
 fn file_name(head: &Head) -> Option<&str>
-    ensures { option_copied result ≡ disposition_name (values_of head.now.fields (codes "Content-Disposition")) }
+    ensures { option_copied result ≡
+        disposition_name (values_of head.now.fields (codes "Content-Disposition")) }
 {
     let mut values = head.values("Content-Disposition");
     let value = values.next()?;

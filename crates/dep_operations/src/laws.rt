@@ -15,6 +15,6 @@ pub fn fields_are_fit()
 
 /// A request that is accepted keeps a sound state sound.
 pub fn accepted_keeps_sound()
-    ensures { (config : Config) (s : State) (op : Operation) → AreFit op.fields → refusal config s op ≡ None
-        → IsSound s → IsSound (effect config s op) }
+    ensures { (config : Config) (s : State) (op : Operation) → AreFit op.fields
+        → refusal config s op ≡ None → IsSound s → IsSound (effect config s op) }
 {}

@@ -1,5 +1,5 @@
-//! What the archive does with a request: the rules by which it is refused, what it asks for, and what that makes of
-//! the state.
+//! What the archive does with a request: the rules by which it is refused, what it asks for, and
+//! what that makes of the state.
 #![tactic(auto)]
 
 mod fields;

@@ -19,8 +19,8 @@ pub const NEW_OBJECT: Counters = Counters {
     change: 1,
 };
 
-/// What the rules say of a request, where the archive is seen so: the first that is broken, or what the request asks
-/// for.
+/// What the rules say of a request, where the archive is seen so: the first that is broken, or what
+/// the request asks for.
 pub fn decide(
     alloc: Global,
     _config: &Config,

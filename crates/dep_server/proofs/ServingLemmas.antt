@@ -12,7 +12,7 @@ use Rattle.dep_server.specs.Machine.{ticked, step, replies, state_after, Fails, 
 use Rattle.dep_server.specs.Sending.{IsSentUpTo, SendsOver, SendsReply}
 use Rattle.std.proofs.Common.{inl, inr, Bool}
 use Rattle.dep_types.specs.declared.refusal.Refusal.{Refusal}
-use Rattle.dep_server.specs.Serving.{Answers, Served, ServesFrom, ServesOver, answer_after}
+use Rattle.dep_server.specs.Serving.{AnswersOver, Progress, ServesFrom, ServesOver, answer_after}
 use Rattle.dep_server.specs.declared.arrived.Arrived.{Arrived}
 use Rattle.dep_server.specs.declared.arrived.Arrived.TheVariants.{Open as StaysOpen, Closed, Cut, NoSuch}
 use Rattle.dep_server.specs.declared.sending.Answered.{Answered}
@@ -44,13 +44,13 @@ appends_both (Some xs') (Some bs) None xs ys h k = absurd k
 appends_both (Some xs') (Some bs) (Some cs) xs ys h k = k ∙ (ap (λ l. l ++ ys) h ∙ append_assoc xs' xs ys)
 
 -- nothing is served yet
-pub served_none : (config : Config) (limit : ℕ) (start : Place) (s : State) (moment : ℕ) (held : Option (List ℕ)) → Served config limit start s moment held held start s
+pub served_none : (config : Config) (limit : ℕ) (start : Place) (s : State) (moment : ℕ) (held : Option (List ℕ)) → Progress config limit start s moment held held start s
 served_none config limit start s moment held = record { items = []; sent = appends_none held; reads = refl; state = refl }
 
 -- an item more is answered
 pub served_more : {config : Config} {limit : ℕ} {start at next : Place} {s now left : State} {moment : ℕ} {held holds then : Option (List ℕ)} (item : Item)
-    → Served config limit start s moment held holds at now → FirstAt limit at item next
-    → Answers config holds then now item moment left Sent → Served config limit start s moment held then next left
+    → Progress config limit start s moment held holds at now → FirstAt limit at item next
+    → AnswersOver config holds then now item moment left Sent → Progress config limit start s moment held then next left
 served_more {config} {limit} {start} {at} {next} {s} {now} {left} {moment} {held} {holds} {then} item v f a =
     record {
       items = v.items ++ item ∷ [];
@@ -69,14 +69,14 @@ sends_up_to whole sent CutShort h = cut h
 
 -- a fixed reply in place of the step's
 pub answers_fixed : (config : Config) (held holds : Option (List ℕ)) (s left : State) (item : Item) (moment : ℕ) (answer : Answered)
-    → left ≡ ticked config s item moment → SendsOver held holds want_of_memory answer → Answers config held holds s item moment left answer
+    → left ≡ ticked config s item moment → SendsOver held holds want_of_memory answer → AnswersOver config held holds s item moment left answer
 answers_fixed config held holds s left item moment Sent e a = absurd a.2
 answers_fixed config held holds s left item moment GaveUp e a = (a.0, a.1, given_up (inl refl) (sends_up_to want_of_memory a.0 GaveUp a.2) (inr e))
 answers_fixed config held holds s left item moment CutShort e a = (a.0, a.1, given_up (inl refl) (sends_up_to want_of_memory a.0 CutShort a.2) (inr e))
 
 -- an item's own reply
 pub answers_reply : (config : Config) (held holds : Option (List ℕ)) (s left : State) (item : Item) (moment : ℕ) (answer : Answered) (whole : List ℕ)
-    → left ≡ (step config s item moment).state → whole ≡ sent_by (step config s item moment) → SendsReply held holds whole answer → Answers config held holds s item moment left answer
+    → left ≡ (step config s item moment).state → whole ≡ sent_by (step config s item moment) → SendsReply held holds whole answer → AnswersOver config held holds s item moment left answer
 answers_reply config held holds s left item moment Sent whole e f a = (a.0, a.1, (a.2 ∙ f, e))
 answers_reply config held holds s left item moment GaveUp whole e f a = absurd a.2
 answers_reply config held holds s left item moment CutShort whole e f a = (a.0, a.1, cut_short (subst (λ (bytes : List ℕ). IsProperPrefix a.0 bytes) f a.2) e)
@@ -87,7 +87,7 @@ answer_open Shut o = absurd o
 
 -- where the reading has come to its end
 sent_last : (config : Config) (reading : Reading) (piece : List ℕ) (s : State) (moment : ℕ) (held holds : Option (List ℕ)) (at : Place) (now : State)
-    → Served config reading.limit (more reading.place piece) s moment held holds at now → at ≡ Shut
+    → Progress config reading.limit (more reading.place piece) s moment held holds at now → at ≡ Shut
     → ServesOver config held holds reading piece s moment now Shut Closed
 sent_last config reading piece s moment held holds at now v e =
     let reads : Reads reading.limit (more reading.place piece) v.items Shut = subst (λ p. Reads reading.limit (more reading.place piece) v.items p) e v.reads in
@@ -95,7 +95,7 @@ sent_last config reading piece s moment held holds at now v e =
     (replies config s v.items moment, v.sent, λ _. subst (λ t. ServesFrom config reading piece s moment (replies config s v.items moment) t Shut Closed) (sym v.state) whole)
 
 module _ (config : Config) (reading : Reading) (piece : List ℕ) (s : State) (moment : ℕ) (held holds : Option (List ℕ)) (at : Place) (now : State)
-    (v : Served config reading.limit (more reading.place piece) s moment held holds at now) where
+    (v : Progress config reading.limit (more reading.place piece) s moment held holds at now) where
   -- no item is complete any more
   pub serves_waiting : (p : Place) → p ≡ at → Waits reading.limit at → ServesOver config held holds reading piece s moment now p (answer_at_place at)
   serves_waiting p e w = (
@@ -121,7 +121,7 @@ module _ (config : Config) (reading : Reading) (piece : List ℕ) (s : State) (m
   -- an item is answered, and it is the last
   pub serves_last : (item : Item) (next : Place) (then : Option (List ℕ)) (left : State) (answer : Answered)
       → FirstAt reading.limit at item next → (answer ≡ Sent → next ≡ Shut)
-      → Answers config holds then now item moment left answer
+      → AnswersOver config holds then now item moment left answer
       → (p : Place) → p ≡ Shut → (a : Arrived) → a ≡ answer_after answer
       → ServesOver config held then reading piece s moment left p a
   serves_last item next then left answer f e a p q b r =
@@ -130,7 +130,7 @@ module _ (config : Config) (reading : Reading) (piece : List ℕ) (s : State) (m
     where
       last : (item : Item) (next : Place) (then : Option (List ℕ)) (left : State) (answer : Answered)
           → FirstAt reading.limit at item next → (answer ≡ Sent → next ≡ Shut)
-          → Answers config holds then now item moment left answer
+          → AnswersOver config holds then now item moment left answer
           → ServesOver config held then reading piece s moment left Shut (answer_after answer)
       last item next then left Sent f e a = sent_last config reading piece s moment held then next left (served_more item v f a) (e refl)
       last item next then left GaveUp f e a = serves_failed item next then left Closed a.0 f a.1 a.2

@@ -47,26 +47,32 @@ ticked config s (Request m) moment = tick config s moment
 -- one step at a moment: the tick, and then what the item asks for
 unfoldable pub step : Config → State → Item → ℕ → Stepped
 step config s (Fault r bare) moment = refused_step (tick config s moment) r None bare true
-step config s Continue moment = record { state = s; front = continue_line; stored = []; closes = false }
-step config s (Request m) moment = routed_step config (tick config s moment) m (target m.head.method m.head.path)
+step config s Continue moment =
+    record { state = s; front = continue_line; stored = []; closes = false }
+step config s (Request m) moment =
+    routed_step config (tick config s moment) m (target m.head.method m.head.path)
 
 -- the state after these items, one step each
 abbrev pub state_after : Config → State → List Item → ℕ → State
 state_after config s [] moment = s
-state_after config s (item ∷ items) moment = state_after config (step config s item moment).state items moment
+state_after config s (item ∷ items) moment =
+    state_after config (step config s item moment).state items moment
 
 -- what is sent for them
 abbrev pub replies : Config → State → List Item → ℕ → List ℕ
 replies config s [] moment = []
 replies config s (item ∷ items) moment =
-    sent_by (step config s item moment) ++ replies config (step config s item moment).state items moment
+    sent_by (step config s item moment)
+    ++ replies config (step config s item moment).state items moment
 
 -- the replies in place of a step's own (RFC 9110, sections 15.6.4 and 15.6.1)
 abbrev pub want_of_memory : List ℕ
-want_of_memory = codes "HTTP/1.1 503 Service Unavailable\r\nContent-Length: 0\r\nConnection: close\r\n\r\n"
+want_of_memory =
+    codes "HTTP/1.1 503 Service Unavailable\r\nContent-Length: 0\r\nConnection: close\r\n\r\n"
 
 abbrev pub store_fault : List ℕ
-store_fault = codes "HTTP/1.1 500 Internal Server Error\r\nContent-Length: 0\r\nConnection: close\r\n\r\n"
+store_fault =
+    codes "HTTP/1.1 500 Internal Server Error\r\nContent-Length: 0\r\nConnection: close\r\n\r\n"
 
 -- all of the bytes were sent, or the rest was cut off
 pub data SendsUpTo (whole : List ℕ) : List ℕ → Arrived → Type 0 where
@@ -74,7 +80,8 @@ pub data SendsUpTo (whole : List ℕ) : List ℕ → Arrived → Type 0 where
   cut : {part : List ℕ} → IsProperPrefix part whole → SendsUpTo whole part Cut
 
 -- a step that fails
-pub data Fails (config : Config) (s : State) (item : Item) (moment : ℕ) : List ℕ → State → Arrived → Type 0 where
+pub data Fails (config : Config) (s : State) (item : Item) (moment : ℕ)
+    : List ℕ → State → Arrived → Type 0 where
   -- a fixed reply in place of its own: the state is that of before, or that with which the step begins
   given_up : {fixed sent : List ℕ} {left : State} {answer : Arrived}
       → (fixed ≡ want_of_memory) ⊎ (fixed ≡ store_fault)
@@ -82,7 +89,8 @@ pub data Fails (config : Config) (s : State) (item : Item) (moment : ℕ) : List
       → (left ≡ s) ⊎ (left ≡ ticked config s item moment)
       → Fails config s item moment sent left answer
   -- its own reply is cut short: the state is the step's
-  cut_short : {sent : List ℕ} {left : State} → IsProperPrefix sent (sent_by (step config s item moment))
+  cut_short : {sent : List ℕ} {left : State}
+      → IsProperPrefix sent (sent_by (step config s item moment))
       → (left ≡ (step config s item moment).state)
       → Fails config s item moment sent left Cut
 
@@ -91,14 +99,17 @@ abbrev pub answer_at_place : Place → Arrived
 answer_at_place (Open continued rest) = StaysOpen
 answer_at_place Shut = Closed
 
--- One arrival: the items that are complete now are stepped in order, until none is left or a step fails.
--- `reads items place` says that these items are the first of those, and that the reading then stands at the place.
+-- One arrival: the items that are complete now are stepped in order, until none is left or a step
+-- fails. `reads items place` says that these items are the first of those, and that the reading
+-- then stands at the place.
 pub data Serves (config : Config) (reads : List Item → Place → Type 0) (s : State) (moment : ℕ)
     : (sent : List ℕ) → (left : State) → (at : Place) → (answer : Arrived) → Type 0 where
   serves_all : (items : List Item) {at : Place} → reads items at → Waits config.max_upload at
-      → Serves config reads s moment (replies config s items moment) (state_after config s items moment) at (answer_at_place at)
+      → Serves config reads s moment (replies config s items moment) (state_after config s items moment)
+      at (answer_at_place at)
   -- a step fails, and the connection makes no more
-  step_fails : (items : List Item) (item : Item) (at : Place) {sent : List ℕ} {left : State} {answer : Arrived}
+  step_fails : (items : List Item) (item : Item) (at : Place) {sent : List ℕ} {left : State}
+      {answer : Arrived}
       → reads (items ++ item ∷ []) at
       → Fails config (state_after config s items moment) item moment sent left answer
       → Serves config reads s moment (replies config s items moment ++ sent) left Shut answer
@@ -106,4 +117,5 @@ pub data Serves (config : Config) (reads : List Item → Place → Type 0) (s : 
   gives_up : (items : List Item) (at : Place) {sent : List ℕ} {answer : Arrived}
       → reads items at → HasBytes at
       → SendsUpTo want_of_memory sent answer
-      → Serves config reads s moment (replies config s items moment ++ sent) (state_after config s items moment) Shut answer
+      → Serves config reads s moment (replies config s items moment ++ sent)
+      (state_after config s items moment) Shut answer

@@ -12,7 +12,8 @@ abbrev pub Ascends : ℕ → List Connection → ℕ → Type 0
 Ascends low [] high = low ≤ high
 Ascends low (c ∷ connections) high = (low ≤ c.number) × Ascends (c.number + 1) connections high
 
-pub Ascends-prop : (low : ℕ) (connections : List Connection) (high : ℕ) → IsProp (Ascends low connections high)
+pub Ascends-prop : (low : ℕ) (connections : List Connection) (high : ℕ)
+    → IsProp (Ascends low connections high)
 Ascends-prop low [] high = le_prop
 Ascends-prop low (c ∷ connections) high = ×_prop le_prop (Ascends-prop (c.number + 1) connections high)
 

@@ -41,8 +41,8 @@ abbrev pub line_after : List ℕ → Place → Line
 line_after stream (Open continued rest) = Live stream
 line_after stream Shut = Ended
 
--- the items that are complete with the piece and not before: those that the stream spells with it, less those that
--- it spelled without
+-- the items that are complete with the piece and not before: those that the stream spells with it,
+-- less those that it spelled without
 abbrev pub ReadsBeyond : ℕ → List ℕ → List ℕ → List Item → Place → Type 0
 ReadsBeyond limit stream piece items at =
     (earlier : List Item) × (left : Place) × Spells limit stream earlier left
@@ -62,8 +62,10 @@ pub data Happens (config : Config) (w : World) : Event → List ℕ → World �
   closes : {n : ℕ} → Happens config w (Close n) [] (record w { line = put n Absent w.line })
   arrives : {n moment : ℕ} {piece sent : List ℕ} {left : State} {line : Line} {answer : Arrived}
       → Arrives config piece moment (w.line n) w.state sent left line answer
-      → Happens config w (Arrive n piece moment) sent (record { state = left; line = put n line w.line })
-  unknown : {n moment : ℕ} {piece : List ℕ} → w.line n ≡ Absent → Happens config w (Arrive n piece moment) [] w
+      → Happens config w (Arrive n piece moment) sent
+      (record { state = left; line = put n line w.line })
+  unknown : {n moment : ℕ} {piece : List ℕ} → w.line n ≡ Absent
+      → Happens config w (Arrive n piece moment) [] w
 
 -- the machine may be there after these records, from a state and no connection
 pub data Run (config : Config) (first : State) : List Record → World → Type 0 where

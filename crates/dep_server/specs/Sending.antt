@@ -15,7 +15,8 @@ IsSentUpTo whole sent GaveUp = sent ≡ whole
 IsSentUpTo whole sent CutShort = IsProperPrefix sent whole
 
 abbrev pub SendsOver : Option (List ℕ) → Option (List ℕ) → List ℕ → Answered → Type 0
-SendsOver held holds whole answer = (sent : List ℕ) × Appends held holds sent × IsSentUpTo whole sent answer
+SendsOver held holds whole answer =
+    (sent : List ℕ) × Appends held holds sent × IsSentUpTo whole sent answer
 
 -- all that a reply that is ready sends
 abbrev pub ready_bytes : State → Performed → List ℕ
@@ -28,4 +29,5 @@ IsReplySent whole sent GaveUp = ⊥
 IsReplySent whole sent CutShort = IsProperPrefix sent whole
 
 abbrev pub SendsReply : Option (List ℕ) → Option (List ℕ) → List ℕ → Answered → Type 0
-SendsReply held holds whole answer = (sent : List ℕ) × Appends held holds sent × IsReplySent whole sent answer
+SendsReply held holds whole answer =
+    (sent : List ℕ) × Appends held holds sent × IsReplySent whole sent answer

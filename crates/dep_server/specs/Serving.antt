@@ -19,29 +19,36 @@ answer_after GaveUp = Closed
 answer_after Sent = Closed
 
 -- a step, or one that fails
-abbrev pub IsAnswer : Config → State → Item → ℕ → List ℕ → State → Answered → Type 0
-IsAnswer config s item moment sent left Sent = (sent ≡ sent_by (step config s item moment)) × (left ≡ (step config s item moment).state)
-IsAnswer config s item moment sent left GaveUp = Fails config s item moment sent left Closed
-IsAnswer config s item moment sent left CutShort = Fails config s item moment sent left Cut
+abbrev pub IsAnsweredBy : Config → State → Item → ℕ → List ℕ → State → Answered → Type 0
+IsAnsweredBy config s item moment sent left Sent =
+    (sent ≡ sent_by (step config s item moment)) × (left ≡ (step config s item moment).state)
+IsAnsweredBy config s item moment sent left GaveUp = Fails config s item moment sent left Closed
+IsAnsweredBy config s item moment sent left CutShort = Fails config s item moment sent left Cut
 
 -- an item is answered over an outlet
-abbrev pub Answers : Config → Option (List ℕ) → Option (List ℕ) → State → Item → ℕ → State → Answered → Type 0
-Answers config held holds s item moment left answer =
-    (sent : List ℕ) × Appends held holds sent × IsAnswer config s item moment sent left answer
+abbrev pub AnswersOver : Config → (held holds : Option (List ℕ)) → State → Item → (moment : ℕ)
+    → (left : State) → Answered → Type 0
+AnswersOver config held holds s item moment left answer =
+    (sent : List ℕ) × Appends held holds sent × IsAnsweredBy config s item moment sent left answer
 
 -- the items so far: they were read, and what was sent is their replies
-pub record Served (config : Config) (limit : ℕ) (start : Place) (s : State) (moment : ℕ) (held holds : Option (List ℕ)) (at : Place) (now : State) : Type 0 where
+pub record Progress (config : Config) (limit : ℕ) (start : Place) (s : State) (moment : ℕ)
+    (held holds : Option (List ℕ)) (at : Place) (now : State) : Type 0 where
   pub items : List Item
   pub sent : Appends held holds (replies config s items moment)
   pub reads : Reads limit start items at
   pub state : now ≡ state_after config s items moment
 
 -- an arrival at an intake, from what it keeps
-abbrev pub ServesFrom : Config → Reading → List ℕ → State → ℕ → List ℕ → State → Place → Arrived → Type 0
+abbrev pub ServesFrom : Config → Reading → (piece : List ℕ) → State → (moment : ℕ)
+    → (sent : List ℕ) → (left : State) → Place → Arrived → Type 0
 ServesFrom config reading piece s moment sent left at answer =
-    Serves config (λ items at. Reads reading.limit (more reading.place piece) items at) s moment sent left at answer
+    Serves config (λ items at. Reads reading.limit (more reading.place piece) items at)
+    s moment sent left at answer
 
 -- the same over an outlet, for an intake with the limit of the configuration
-abbrev pub ServesOver : Config → Option (List ℕ) → Option (List ℕ) → Reading → List ℕ → State → ℕ → State → Place → Arrived → Type 0
+abbrev pub ServesOver : Config → (held holds : Option (List ℕ)) → Reading → (piece : List ℕ)
+    → State → (moment : ℕ) → (left : State) → Place → Arrived → Type 0
 ServesOver config held holds reading piece s moment left at answer =
-    (sent : List ℕ) × Appends held holds sent × (reading.limit ≡ config.max_upload → ServesFrom config reading piece s moment sent left at answer)
+    (sent : List ℕ) × Appends held holds sent
+    × (reading.limit ≡ config.max_upload → ServesFrom config reading piece s moment sent left at answer)

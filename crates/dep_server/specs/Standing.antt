@@ -16,7 +16,8 @@ use Rattle.dep_server.specs.declared.hub.Hub.{Hub}
 -- the intake of a connection, if it is there
 abbrev pub intake_of : List Connection → ℕ → Option Reading
 intake_of [] number = None
-intake_of (c ∷ connections) number = if c.number == number then Some c.intake else intake_of connections number
+intake_of (c ∷ connections) number =
+    if c.number == number then Some c.intake else intake_of connections number
 
 -- a live connection keeps what its stream has left
 pub record KeepsRest (limit : ℕ) (stream : List ℕ) (reading : Reading) : Type 0 where
@@ -43,7 +44,8 @@ IsKeptAs limit Ended (Some reading) = IsShut limit reading
 pub record StandsAt (hub : Hub) (w : World) : Type 0 where
   pub state : hub.store ≡ w.state
   pub sound : IsSound w.state
-  pub kept : (number : ℕ) → IsKeptAs hub.config.max_upload (w.line number) (intake_of hub.connections.items number)
+  pub kept : (number : ℕ)
+      → IsKeptAs hub.config.max_upload (w.line number) (intake_of hub.connections.items number)
 
 -- the machine may be there after these records
 pub record StandsFor (hub : Hub) (first : State) (records : List Record) : Type 0 where
@@ -61,9 +63,10 @@ abbrev pub Moves : Hub → Hub → Event → List ℕ → Type 0
 Moves old new event sent = (w : World) → StandsAt old w
     → (w' : World) × Happens old.config w event sent w' × StandsAt new w'
 
--- what an arrival comes to, from a world at which the hub stood: the hub stands at the next one, and a cut has a cause,
--- on the bytes that were sent
-pub record ArrivesTo (config : Config) (new : Hub) (number : ℕ) (piece : List ℕ) (moment : ℕ) (sent : List ℕ) (failures failures_after : ℕ) (answer : Arrived) (w : World) : Type 0 where
+-- what an arrival comes to, from a world at which the hub stood: the hub stands at the next one, and
+-- a cut has a cause, on the bytes that were sent
+pub record ArrivesTo (config : Config) (new : Hub) (number : ℕ) (piece : List ℕ) (moment : ℕ)
+    (sent : List ℕ) (failures failures_after : ℕ) (answer : Arrived) (w : World) : Type 0 where
   pub left : State
   pub line : Line
   pub arrives : Arrives config piece moment (w.line number) w.state sent left line answer
@@ -71,13 +74,15 @@ pub record ArrivesTo (config : Config) (new : Hub) (number : ℕ) (piece : List 
   pub cause : answer ≡ Cut → HasCause failures failures_after arrives
 
 -- an arrival at a connection that is there: what is sent for it is a run's, and so is the answer
-pub record IsArrival (old new : Hub) (number : ℕ) (piece : List ℕ) (moment : ℕ) (sent : List ℕ) (failures failures_after : ℕ) (answer : Arrived) : Type 0 where
+pub record IsArrival (old new : Hub) (number : ℕ) (piece : List ℕ) (moment : ℕ) (sent : List ℕ)
+    (failures failures_after : ℕ) (answer : Arrived) : Type 0 where
   pub adds : Adds old new (Arrive number piece moment) sent
   pub answers : (w : World) → StandsAt old w
       → ArrivesTo old.config new number piece moment sent failures failures_after answer w
 
 -- what was sent over an outlet for an arrival, by what the outlet tells before and after
-pub record ArrivesOver (held holds : Option (List ℕ)) (failures failures_after : ℕ) (old new : Hub) (number : ℕ) (piece : List ℕ) (moment : ℕ) (answer : Arrived) : Type 0 where
+pub record ArrivesOver (held holds : Option (List ℕ)) (failures failures_after : ℕ) (old new : Hub)
+    (number : ℕ) (piece : List ℕ) (moment : ℕ) (answer : Arrived) : Type 0 where
   pub sent : List ℕ
   pub appends : Appends held holds sent
   pub arrival : IsArrival old new number piece moment sent failures failures_after answer
@@ -89,8 +94,10 @@ pub record IsNoSuch (held holds : Option (List ℕ)) (old new : Hub) (number : �
   pub sends_nothing : Keeps held holds
 
 -- what an arrival comes to, over an outlet
-abbrev pub ComesTo : (held holds : Option (List ℕ)) → (failures failures_after : ℕ) → (old new : Hub) → ℕ → List ℕ → ℕ → Arrived → Type 0
-ComesTo held holds failures failures_after old new number piece moment NoSuch = IsNoSuch held holds old new number
+abbrev pub ComesTo : (held holds : Option (List ℕ)) → (failures failures_after : ℕ) → (old new : Hub)
+    → (number : ℕ) → (piece : List ℕ) → (moment : ℕ) → Arrived → Type 0
+ComesTo held holds failures failures_after old new number piece moment NoSuch =
+    IsNoSuch held holds old new number
 ComesTo held holds failures failures_after old new number piece moment StaysOpen =
     ArrivesOver held holds failures failures_after old new number piece moment StaysOpen
 ComesTo held holds failures failures_after old new number piece moment Closed =

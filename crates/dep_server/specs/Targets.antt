@@ -1,5 +1,5 @@
--- Which of the resources and methods are served yet (RFC 9110, sections 9.1 and 15.5.6): a path that names no other is
--- not found.
+-- Which of the resources and methods are served yet (RFC 9110, sections 9.1 and 15.5.6): a path that
+-- names no such resource is not found.
 use Rattle.std.specs.Prelude.{ℕ, List, [], ◌∷◌, Option, Some, None, option_and_then, codes, bytes_eq, find}
 use Rattle.std.specs.List.{join_by}
 use Rattle.dep_types.specs.declared.target.Resource.{Resource}
@@ -40,4 +40,5 @@ to_resource method None = NotFound
 
 -- what a method and a path name
 unfoldable pub target : List ℕ → List ℕ → Routed
-target method path = to_resource method (option_and_then served_resource (resource_of (segments path)))
+target method path =
+    to_resource method (option_and_then served_resource (resource_of (segments path)))

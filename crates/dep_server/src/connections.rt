@@ -37,13 +37,13 @@ impl ConnId {
 
 /// A connection, and what its stream has left.
 #[derive(Drop)]
-pub struct Connection {
+pub(crate) struct Connection {
     pub number: u64,
     pub intake: Intake,
 }
 
 /// Where a connection stands in the list.
-pub fn index_among(connections: &[Connection], number: u64) -> Option<usize>
+pub(crate) fn index_among(connections: &[Connection], number: u64) -> Option<usize>
     ensures value { result ≡ index_of number connections.now }
     ensures within { IfSome result (λ i. i < length connections.now) }
 {

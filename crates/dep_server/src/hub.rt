@@ -15,6 +15,8 @@ use dep_moment::Moment;
 use dep_store::Store;
 use dep_types::{Config, ConfigFault, Outlet};
 use std::alloc::Global;
+use std::error::Error;
+use std::fmt;
 
 /// All connections, and the one store that they share.
 #[derive(Drop)]
@@ -50,14 +52,39 @@ pub enum ConnectFault {
     Memory,
 }
 
+impl fmt::Display for HubFault {
+    fn fmt<W: fmt::Write>(&self, f: &mut fmt::Formatter<W>) -> fmt::Result {
+        match self {
+            HubFault::Config => write!(f, "the configuration breaks a rule"),
+            HubFault::Memory => write!(f, "out of memory"),
+        }
+    }
+}
+
+impl Error for HubFault {}
+
+impl fmt::Display for ConnectFault {
+    fn fmt<W: fmt::Write>(&self, f: &mut fmt::Formatter<W>) -> fmt::Result {
+        match self {
+            ConnectFault::Full => write!(f, "no more connections can be opened"),
+            ConnectFault::Memory => write!(f, "out of memory"),
+        }
+    }
+}
+
+impl Error for ConnectFault {}
+
 impl Hub {
     ghost use Rattle.dep_server.specs.Standing.{StandsFor, StandsAt, Adds, Moves, ComesTo, intake_of};
 
     /// A hub over the store, without connections. A refusal hands the store back.
     pub fn new(alloc: Global, config: Config, store: Store) -> Result<Hub, (HubFault, Store)>
-        ensures stands { IfOk result (λ hub. (first : State) → store ≡ first → IsSound first → StandsFor hub first []) }
+        ensures stands { IfOk result (λ hub.
+            (first : State) → store ≡ first → IsSound first → StandsFor hub first []) }
         // Also after a stop.
-        ensures again { IfOk result (λ hub. (first : State) (records : List Record) (w : World) → Run config first records w → ((n : ℕ) → w.line n ≡ Absent) → store ≡ w.state → IsSound w.state → StandsFor hub first records) }
+        ensures again { IfOk result (λ hub. (first : State) (records : List Record) (w : World)
+            → Run config first records w → ((n : ℕ) → w.line n ≡ Absent)
+            → store ≡ w.state → IsSound w.state → StandsFor hub first records) }
         ensures config { IfOk result (λ hub. hub.config ≡ config) }
         ensures checked { IfOk result (λ _. IsChecked config) }
         ensures refused { IfErr result (λ fault. fault.0 ≡ HubFault.Config → ¬ IsChecked config) }
@@ -83,11 +110,14 @@ impl Hub {
         ensures moves { IfOk result (λ number. Moves self.old self.new (Connect number) []) }
         ensures same { OnErr result ((w : World) → StandsAt self.old w → StandsAt self.new w) }
         ensures config { self.new.config ≡ self.old.config }
-        ensures next { IfOk result (λ number. (number ≡ self.old.next) × (self.new.next ≡ self.old.next + 1)) }
+        ensures next { IfOk result (λ number.
+            (number ≡ self.old.next) × (self.new.next ≡ self.old.next + 1)) }
         // It refuses for a reason.
-        ensures full { IsErrOf result ConnectFault.Full → (most_connections ≤ length self.old.connections.items) ⊎ (last_number ≤ self.old.next) }
+        ensures full { IsErrOf result ConnectFault.Full
+            → (most_connections ≤ length self.old.connections.items) ⊎ (last_number ≤ self.old.next) }
         // It takes no connection more than there may be, and a refusal takes no number.
-        ensures room { IfOk result (λ _. (length self.old.connections.items < most_connections) × (self.old.next < last_number)) }
+        ensures room { IfOk result (λ _.
+            (length self.old.connections.items < most_connections) × (self.old.next < last_number)) }
         ensures kept { OnErr result (self.new.next ≡ self.old.next) }
         ensures fresh { IfOk result (λ number. intake_of self.old.connections.items number ≡ None) }
         ensures there { IfOk result (λ number. IsSome (intake_of self.new.connections.items number)) }
@@ -117,13 +147,15 @@ impl Hub {
     ) -> Arrived
         ensures config { self.new.config ≡ self.old.config }
         ensures next { self.new.next ≡ self.old.next }
-        ensures absent { intake_of self.old.connections.items connection ≡ None → result ≡ Arrived.NoSuch }
+        ensures absent { intake_of self.old.connections.items connection ≡ None
+            → result ≡ Arrived.NoSuch }
         // A reply is cut only where a write failed.
         ensures cause { result ≡ Arrived.Cut → HasRisen (O.failures out.old) (O.failures out.new) }
         // A connection that was there is there.
-        ensures there { IsSome (intake_of self.old.connections.items connection) → (result ≢ Arrived.NoSuch) × IsSome (intake_of self.new.connections.items connection) }
-        ensures arrival { ComesTo (O.taken out.old) (O.taken out.new) (O.failures out.old) (O.failures out.new)
-            self.old self.new connection piece.now moment result }
+        ensures there { IsSome (intake_of self.old.connections.items connection)
+            → (result ≢ Arrived.NoSuch) × IsSome (intake_of self.new.connections.items connection) }
+        ensures arrival { ComesTo (O.taken out.old) (O.taken out.new)
+            (O.failures out.old) (O.failures out.new) self.old self.new connection piece.now moment result }
     {
         let Some(i) = index_among(self.connections.as_slice(), connection.number()) else {
             return Arrived::NoSuch;

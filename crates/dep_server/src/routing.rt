@@ -9,7 +9,7 @@ use std::alloc::{AllocError, Global};
 
 /// What a method and a path name.
 #[derive(Drop)]
-pub enum Routed {
+pub(crate) enum Routed {
     /// A resource, and a method that it has.
     To(Target),
     /// There is no such resource.
@@ -20,7 +20,7 @@ pub enum Routed {
 
 /// What a method and a path name. It takes memory for a path in a bag alone.
 #[tactic(auto, unfolding(crate::specs::Targets::target))]
-pub fn route(alloc: Global, method: &[u8], path: &[u8]) -> Result<Routed, AllocError>
+pub(crate) fn route(alloc: Global, method: &[u8], path: &[u8]) -> Result<Routed, AllocError>
     ensures { IfOk result (λ routed. routed ≡ target method.now path.now) }
 {
     let Some(resource) = resource_at(alloc, path)? else {
@@ -34,7 +34,8 @@ pub fn route(alloc: Global, method: &[u8], path: &[u8]) -> Result<Routed, AllocE
 
 // The resource that the path names, where it is served yet.
 fn resource_at(alloc: Global, path: &[u8]) -> Result<Option<Resource>, AllocError>
-    ensures { IfOk result (λ resource. resource ≡ option_and_then served_resource (resource_of (segments path.now))) }
+    ensures { IfOk result (λ resource.
+        resource ≡ option_and_then served_resource (resource_of (segments path.now))) }
 {
     match Routes::new(alloc).resource(path)? {
         Some(Resource::Service) => Ok(Some(Resource::Service)),
@@ -57,7 +58,7 @@ fn method_at(resource: &Resource, method: &[u8]) -> Option<Method>
 }
 
 /// The methods of a resource, as the field Allow tells them (RFC 9110, section 10.2.1).
-pub fn allow(resource: &Resource) -> &'static str
+pub(crate) fn allow(resource: &Resource) -> &'static str
     ensures { result.now ≡ allow_text resource.now }
 {
     match resource {

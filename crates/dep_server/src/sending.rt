@@ -8,7 +8,7 @@ use dep_types::{Outlet, WriteFailed};
 
 /// How an item was answered.
 #[derive(Clone, Copy, Debug, PartialEq, Eq)]
-pub enum Answered {
+pub(crate) enum Answered {
     /// Its reply was sent.
     Sent,
     /// A fixed reply was sent in its place.
@@ -21,7 +21,7 @@ const WANT_OF_MEMORY: &[u8] =
     b"HTTP/1.1 503 Service Unavailable\r\nContent-Length: 0\r\nConnection: close\r\n\r\n";
 
 /// Sends the fixed reply for want of memory (RFC 9110, section 15.6.4).
-pub fn send_want_of_memory<O: Outlet>(out: &mut O) -> Answered
+pub(crate) fn send_want_of_memory<O: Outlet>(out: &mut O) -> Answered
     ensures sends { SendsOver (O.taken out.old) (O.taken out.new) want_of_memory result }
     ensures cause { result ≡ Answered.CutShort → HasRisen (O.failures out.old) (O.failures out.new) }
 {
@@ -32,7 +32,7 @@ pub fn send_want_of_memory<O: Outlet>(out: &mut O) -> Answered
 }
 
 /// Sends an item's own reply.
-pub fn send<O: Outlet>(out: &mut O, reply: &[u8]) -> Answered
+pub(crate) fn send<O: Outlet>(out: &mut O, reply: &[u8]) -> Answered
     ensures sends { SendsReply (O.taken out.old) (O.taken out.new) reply.now result }
     ensures kept { result ≡ Answered.Sent → O.failures out.new ≡ O.failures out.old }
     ensures cause { result ≡ Answered.CutShort → HasRisen (O.failures out.old) (O.failures out.new) }
@@ -44,7 +44,7 @@ pub fn send<O: Outlet>(out: &mut O, reply: &[u8]) -> Answered
 }
 
 /// Sends a reply in two parts, the second as it stands in the archive.
-pub fn send_parts<O: Outlet>(out: &mut O, front: &[u8], content: &[u8]) -> Answered
+pub(crate) fn send_parts<O: Outlet>(out: &mut O, front: &[u8], content: &[u8]) -> Answered
     ensures sends { SendsReply (O.taken out.old) (O.taken out.new) (front.now ++ content.now) result }
     ensures kept { result ≡ Answered.Sent → O.failures out.new ≡ O.failures out.old }
     ensures cause { result ≡ Answered.CutShort → HasRisen (O.failures out.old) (O.failures out.new) }

@@ -16,7 +16,7 @@ use dep_types::{Config, Outlet};
 use std::alloc::{AllocError, Global};
 
 /// Takes the piece, and answers each item that is complete with it.
-pub fn serve<O: Outlet>(
+pub(crate) fn serve<O: Outlet>(
     alloc: Global,
     config: &Config,
     store: &mut Store,
@@ -25,7 +25,8 @@ pub fn serve<O: Outlet>(
     moment: Moment,
     out: &mut O,
 ) -> Arrived
-    ensures served { ServesOver config.now (O.taken out.old) (O.taken out.new) intake.old piece.now store.old moment store.new intake.new.place result }
+    ensures served { ServesOver config.now (O.taken out.old) (O.taken out.new) intake.old piece.now
+        store.old moment store.new intake.new.place result }
     ensures limit { intake.new.limit ≡ intake.old.limit }
     ensures there { result ≢ Arrived.NoSuch }
     ensures cause { result ≡ Arrived.Cut → HasRisen (O.failures out.old) (O.failures out.new) }
@@ -57,7 +58,8 @@ pub fn serve<O: Outlet>(
 }
 
 fn give_up<O: Outlet>(intake: &mut Intake, out: &mut O) -> Arrived
-    ensures sent { (sent : List ℕ) × Appends (O.taken out.old) (O.taken out.new) sent × SendsUpTo want_of_memory sent result }
+    ensures sent { (sent : List ℕ) × Appends (O.taken out.old) (O.taken out.new) sent
+        × SendsUpTo want_of_memory sent result }
     ensures shut { intake.new ≡ record intake.old { place = Shut } }
     ensures cause { result ≡ Arrived.Cut → HasRisen (O.failures out.old) (O.failures out.new) }
 {

@@ -7,7 +7,7 @@ ghost use Rattle.dep_store.specs.Performing.{Performs};
 ghost use Rattle.dep_message.specs.Stream.{Fault, Continue, Request};
 ghost use Rattle.dep_server.specs.Machine.{operation_of, routed_step};
 ghost use Rattle.dep_server.specs.Sending.{SendsReply, ready_bytes};
-ghost use Rattle.dep_server.specs.Serving.{Answers};
+ghost use Rattle.dep_server.specs.Serving.{AnswersOver};
 ghost use Rattle.dep_server.specs.Targets.{target};
 
 use crate::routing::{Routed, allow, route};
@@ -20,7 +20,7 @@ use dep_types::{Config, Outlet, Refusal, Target};
 use std::alloc::{AllocError, Global};
 
 /// Steps a whole message: the clock goes on, and then the message is answered.
-pub fn answer_message<O: Outlet>(
+pub(crate) fn answer_message<O: Outlet>(
     alloc: Global,
     config: &Config,
     store: &mut Store,
@@ -30,7 +30,8 @@ pub fn answer_message<O: Outlet>(
 ) -> Answered
     ensures kept { result ≡ Answered.Sent → O.failures out.new ≡ O.failures out.old }
     ensures cause { result ≡ Answered.CutShort → HasRisen (O.failures out.old) (O.failures out.new) }
-    ensures answers { Answers config.now (O.taken out.old) (O.taken out.new) store.old (Request message) moment store.new result }
+    ensures answers { AnswersOver config.now (O.taken out.old) (O.taken out.new)
+        store.old (Request message) moment store.new result }
 {
     let _ = store.tick(config, moment);
     match perform(alloc, config, store, message) {
@@ -40,16 +41,17 @@ pub fn answer_message<O: Outlet>(
 }
 
 /// Tells the client that it may send the body (RFC 9110, section 15.2.1). The clock stays.
-pub fn answer_continue<O: Outlet>(out: &mut O) -> Answered
+pub(crate) fn answer_continue<O: Outlet>(out: &mut O) -> Answered
     ensures kept { result ≡ Answered.Sent → O.failures out.new ≡ O.failures out.old }
     ensures cause { result ≡ Answered.CutShort → HasRisen (O.failures out.old) (O.failures out.new) }
-    ensures answers { (config : Settings) (s : State) (moment : ℕ) → Answers config (O.taken out.old) (O.taken out.new) s Continue moment s result }
+    ensures answers { (config : Settings) (s : State) (moment : ℕ)
+        → AnswersOver config (O.taken out.old) (O.taken out.new) s Continue moment s result }
 {
     send(out, b"HTTP/1.1 100 Continue\r\n\r\n")
 }
 
 /// Steps a fault of a stream: the clock goes on, and the connection is closed after the reply.
-pub fn answer_fault<O: Outlet>(
+pub(crate) fn answer_fault<O: Outlet>(
     alloc: Global,
     config: &Config,
     store: &mut Store,
@@ -60,7 +62,8 @@ pub fn answer_fault<O: Outlet>(
 ) -> Answered
     ensures kept { result ≡ Answered.Sent → O.failures out.new ≡ O.failures out.old }
     ensures cause { result ≡ Answered.CutShort → HasRisen (O.failures out.old) (O.failures out.new) }
-    ensures answers { Answers config.now (O.taken out.old) (O.taken out.new) store.old (Fault refusal is_bare) moment store.new result }
+    ensures answers { AnswersOver config.now (O.taken out.old) (O.taken out.new)
+        store.old (Fault refusal is_bare) moment store.new result }
 {
     let delivery = Delivery {
         clock: store.tick(config, moment),
@@ -80,7 +83,9 @@ fn perform(
     store: &mut Store,
     message: Message,
 ) -> Result<Performed, AllocError>
-    ensures ok { IfOk result (λ p. Performs (routed_step config.now store.old message (target message.head.method message.head.path)) store.new p) }
+    ensures ok { IfOk result (λ p. Performs
+        (routed_step config.now store.old message (target message.head.method message.head.path))
+        store.new p) }
     ensures err { OnErr result (store.new ≡ store.old) }
 {
     let delivery = Delivery {
@@ -115,7 +120,8 @@ fn operation_of(alloc: Global, message: Message, target: Target) -> Result<Opera
 
 // Sends what is ready, the content of a file as it stands in the archive.
 fn send_performed<O: Outlet>(store: &Store, performed: &Performed, out: &mut O) -> Answered
-    ensures sends { SendsReply (O.taken out.old) (O.taken out.new) (ready_bytes store.now performed.now) result }
+    ensures sends { SendsReply (O.taken out.old) (O.taken out.new)
+        (ready_bytes store.now performed.now) result }
     ensures kept { result ≡ Answered.Sent → O.failures out.new ≡ O.failures out.old }
     ensures cause { result ≡ Answered.CutShort → HasRisen (O.failures out.old) (O.failures out.new) }
 {

@@ -43,7 +43,8 @@ pub record Performs (stepped : Stepped) (left : State) (p : Performed) : Type 0 
   pub ready : IsReady stepped p
 
 -- the change, and the reply at the state that it leaves
-pub record Deposits (after left : State) (a : State → Answer) (delivery : Delivery) (p : Performed) : Type 0 where
+pub record Deposits (after left : State) (a : State → Answer) (delivery : Delivery) (p : Performed)
+    : Type 0 where
   pub state : left ≡ after
   pub reply : IsReply left (a after) delivery p
 

@@ -24,7 +24,8 @@ unless_bare is_bare bytes = if is_bare then [] else bytes
 
 -- the reply at a clock, as far as the content of a file: its head and a document; a bare one has no body
 unfoldable pub front_text : Answer → (clock : ℕ) (is_bare closes : Bool) → List ℕ
-front_text a clock is_bare closes = head_text (head_of a clock closes) ++ unless_bare is_bare (document_of a.content)
+front_text a clock is_bare closes =
+    head_text (head_of a clock closes) ++ unless_bare is_bare (document_of a.content)
 
 -- the content of a file behind it
 unfoldable pub stored_text : Answer → (is_bare : Bool) → List ℕ
@@ -55,7 +56,8 @@ shown_answer config s resource = answer 200 (content_at config s resource) (tag_
 -- the same for a file
 abbrev pub file_answer : State → (n f : ℕ) → Answer
 file_answer s n f =
-    answer 200 (option_map shown_file (file_at s n f)) (option_map (λ file. file.tag) (file_at s n f)) None
+    answer 200 (option_map shown_file (file_at s n f)) (option_map (λ file. file.tag) (file_at s n f))
+    None
 
 -- the number of the object that was made last
 abbrev pub last_object : State → ℕ
@@ -70,11 +72,13 @@ created_answer config view =
 -- the answer for an object that was made: its status document, its tag and its URL
 abbrev pub made_answer : Config → State → ℕ → Answer
 made_answer config s n =
-    answer 201 (option_map (λ o. Document (status_document config (object_view n o))) (map.get s.objects n))
+    answer 201
+    (option_map (λ o. Document (status_document config (object_view n o))) (map.get s.objects n))
     (option_map (λ o. o.tag) (map.get s.objects n)) (Some (object_url config n))
 
--- the answer to what was asked for, at the state that it left: the object that was made last, or what the resource
--- shows; a HEAD is answered as a GET (RFC 9110, section 9.3.2), and its reply is a bare one
+-- the answer to what was asked for, at the state that it left: the object that was made last, or
+-- what the resource shows; a HEAD is answered as a GET (RFC 9110, section 9.3.2), and its reply is
+-- a bare one
 abbrev pub answer_to : Config → State → Resource → Method → Decision → Answer
 answer_to config s resource method (Create new) = made_answer config s (last_object s)
 answer_to config s resource Get Show = shown_answer config s resource
@@ -82,7 +86,8 @@ answer_to config s resource Head Show = shown_answer config s resource
 answer_to config s resource method Show = answer 204 None None None
 
 unfoldable pub accepted_answer : Config → State → Operation → Answer
-accepted_answer config s op = answer_to config s op.target.resource op.target.method (decision config op)
+accepted_answer config s op =
+    answer_to config s op.target.resource op.target.method (decision config op)
 
 -- the answer to a refused one; Allow stands where a method is not allowed
 abbrev pub refused_answer : (clock : ℕ) → Refusal → (allow : Option (List ℕ)) → Answer

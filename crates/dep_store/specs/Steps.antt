@@ -34,7 +34,8 @@ answered_step s a clock is_bare closes = record {
 
 -- what is refused leaves the state
 abbrev pub refused_step : State → Refusal → (allow : Option (List ℕ)) → (is_bare closes : Bool) → Stepped
-refused_step s r allow is_bare closes = answered_step s (refused_answer s.clock r allow) s.clock is_bare closes
+refused_step s r allow is_bare closes =
+    answered_step s (refused_answer s.clock r allow) s.clock is_bare closes
 
 -- the reply to a HEAD is bare (RFC 9110, section 9.3.2)
 abbrev pub is_head : Method → Bool

@@ -19,7 +19,7 @@ use std::marker::Model;
 
 /// What a reply says, apart from the clock, from who asked and from whether the connection is closed.
 #[derive(Drop)]
-pub struct Answer {
+pub(crate) struct Answer {
     status: Status,
     document: Option<Vec<u8>>,
     tag: Option<u64>,
@@ -56,8 +56,9 @@ pub struct Delivery {
 }
 
 impl Answer {
-    /// The answer to a request that is refused, with the methods of the resource where one is not allowed.
-    pub fn refused(
+    /// The answer to a request that is refused, with the methods of the resource where one is not
+    /// allowed.
+    pub(crate) fn refused(
         alloc: Global,
         refusal: Refusal,
         allow: Option<&'static str>,
@@ -75,8 +76,9 @@ impl Answer {
     }
 
     /// The service document.
-    pub fn service(alloc: Global, config: &Config) -> Result<Answer, AllocError>
-        ensures { IfOk result (λ a. a ≡ answer 200 (Some (Document (service_document config.now))) None None) }
+    pub(crate) fn service(alloc: Global, config: &Config) -> Result<Answer, AllocError>
+        ensures { IfOk result (λ a.
+            a ≡ answer 200 (Some (Document (service_document config.now))) None None) }
     {
         Ok(Answer {
             status: Status::Ok,
@@ -88,7 +90,11 @@ impl Answer {
     }
 
     /// The answer to a deposit that makes an object: its status document and its URL.
-    pub fn created(alloc: Global, config: &Config, view: &ObjectView) -> Result<Answer, AllocError>
+    pub(crate) fn created(
+        alloc: Global,
+        config: &Config,
+        view: &ObjectView,
+    ) -> Result<Answer, AllocError>
         ensures { IfOk result (λ a. a ≡ created_answer config.now view.now) }
     {
         Ok(Answer {
@@ -101,7 +107,7 @@ impl Answer {
     }
 
     /// The answer with nothing to show. It takes no memory.
-    pub fn without_content(status: Status) -> Answer
+    pub(crate) fn without_content(status: Status) -> Answer
         ensures { result ≡ answer (status_number status) None None None }
     {
         Answer {
@@ -114,7 +120,7 @@ impl Answer {
     }
 
     /// The reply that says this.
-    pub fn spell(self, alloc: Global, delivery: Delivery) -> Result<Performed, AllocError>
+    pub(crate) fn spell(self, alloc: Global, delivery: Delivery) -> Result<Performed, AllocError>
         ensures { IfOk result (λ p. (s : State) → IsReply s self delivery p) }
     {
         let head = spell_head(alloc, &self.head(delivery.clock, delivery.closes))?;
@@ -150,7 +156,8 @@ impl Answer {
 
 // The document behind a head, unless the reply has no body.
 fn body_of(document: Option<Vec<u8>>, is_bare: bool) -> Body
-    ensures document { document_in result ≡ unless_bare is_bare (option_map_or (λ d. d.items) document []) }
+    ensures document { document_in result ≡
+        unless_bare is_bare (option_map_or (λ d. d.items) document []) }
     ensures no_content { ¬ HasStored result }
 {
     match document {

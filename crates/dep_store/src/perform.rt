@@ -25,14 +25,15 @@ use dep_types::{
 use std::alloc::{AllocError, Global};
 
 impl Store {
-    /// Does what a request asks for, once the clock has gone on. All that takes memory is made before the archive
-    /// changes, so an `Err` changes nothing.
+    /// Does what a request asks for, once the clock has gone on. All that takes memory is made before
+    /// the archive changes, so an `Err` changes nothing.
     pub fn perform(
         &mut self,
         config: &Config,
         operation: &Operation,
     ) -> Result<Performed, AllocError>
-        ensures ok { IfOk result (λ p. Performs (operation_step config.now self.old operation.now) self.new p) }
+        ensures ok { IfOk result (λ p.
+            Performs (operation_step config.now self.old operation.now) self.new p) }
         ensures err { OnErr result (self.new ≡ self.old) }
     {
         let alloc = self.alloc();
@@ -58,15 +59,16 @@ fn is_head(method: Method) -> bool
     method == Method::Head
 }
 
-/// The reply to a request that is refused, with the methods of the resource where one is not allowed. It leaves the
-/// archive.
+/// The reply to a request that is refused, with the methods of the resource where one is not allowed.
+/// It leaves the archive.
 pub fn refused(
     alloc: Global,
     refusal: Refusal,
     allow: Option<&'static str>,
     delivery: Delivery,
 ) -> Result<Performed, AllocError>
-    ensures { IfOk result (λ p. (s : State) → IsReply s (refused_answer delivery.clock refusal (option_copied allow.entry)) delivery p) }
+    ensures { IfOk result (λ p. (s : State) →
+        IsReply s (refused_answer delivery.clock refusal (option_copied allow.entry)) delivery p) }
 {
     Answer::refused(alloc, refusal, allow, delivery.clock)?.spell(alloc, delivery)
 }
@@ -79,7 +81,8 @@ fn show(
     target: &Target,
     delivery: Delivery,
 ) -> Result<Performed, AllocError>
-    ensures { IfOk result (λ p. IsReply store.now (answer_to config.now store.now target.now.resource target.now.method Show) delivery p) }
+    ensures { IfOk result (λ p. IsReply store.now
+        (answer_to config.now store.now target.now.resource target.now.method Show) delivery p) }
 {
     match target.method {
         Method::Get | Method::Head => {
@@ -98,7 +101,8 @@ fn show_resource(
     resource: &Resource,
     delivery: Delivery,
 ) -> Result<Performed, AllocError>
-    ensures { IfOk result (λ p. IsReply store.now (shown_answer config.now store.now resource.now) delivery p) }
+    ensures { IfOk result (λ p.
+        IsReply store.now (shown_answer config.now store.now resource.now) delivery p) }
 {
     match *resource {
         Resource::Service => Answer::service(alloc, config)?.spell(alloc, delivery),
@@ -159,7 +163,9 @@ fn deposit(
     delivery: Delivery,
 ) -> Result<Performed, AllocError>
     requires { IsTrue (room_for store.old.next (numbers 1 1 0 1)) }
-    ensures ok { IfOk result (λ p. Deposits (effect_of store.old content.now (Create new)) store.new (λ s. made_answer config.now s (last_object s)) delivery p) }
+    ensures ok { IfOk result (λ p.
+        Deposits (effect_of store.old content.now (Create new)) store.new
+        (λ s. made_answer config.now s (last_object s)) delivery p) }
     ensures err { OnErr result (store.new ≡ store.old) }
 {
     let view = created_view(alloc, store, &new, content.as_slice())?;
@@ -176,7 +182,8 @@ fn created_view(
     new: &NewFile,
     content: &[u8],
 ) -> Result<ObjectView, AllocError>
-    ensures { IfOk result (λ v. v ≡ object_view store.now.next.object (object_from store.now content.now new.now)) }
+    ensures { IfOk result (λ v.
+        v ≡ object_view store.now.next.object (object_from store.now content.now new.now)) }
 {
     let next = store.next_numbers();
     let clock = store.clock().secs();

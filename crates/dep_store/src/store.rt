@@ -36,7 +36,8 @@ impl Model for Store {
 }
 
 impl Store {
-    /// An archive that holds nothing: its clock stands at 0, and the next numbers are 1. It takes no memory.
+    /// An archive that holds nothing: its clock stands at 0, and the next numbers are 1. It takes no
+    /// memory.
     pub fn empty(alloc: Global) -> Store
         ensures { result ≡ empty_state }
     {
