@@ -1,4 +1,5 @@
 -- Why a request is refused: the rules in their order, of which the first that is broken is the answer.
+-- Their numbers are those of the order of refusals in docs/PROFILE.md.
 use Rattle.std.specs.Prelude.{is_some, Bool, List, [], ◌∷◌, Option, Some, None, if◌then◌else◌}
 use Rattle.dep_types.specs.Maps.{first_of}
 use Rattle.dep_types.specs.State.{State, file_at}
@@ -16,20 +17,20 @@ use Rattle.dep_operations.specs.Decisions.{decision, numbers_for}
 abbrev pub unless : Bool → Refusal → Option Refusal
 unless b refusal = if b then None else Some refusal
 
--- there is no such file of that object
+-- 6: there is no such file of that object
 abbrev pub presence_refusal : State → Resource → Option Refusal
 presence_refusal s (File n f) = unless (is_some (file_at s n f)) NotFound
 presence_refusal s resource = None
 
--- the deposit names no file
+-- 9: the deposit names no file
 abbrev pub name_refusal : Operation → Option Refusal
 name_refusal op = unless (is_some op.fields.name) BadRequest
 
--- the media type is no text of 1 to 255 bytes
+-- 11: the media type is no text of 1 to 255 bytes
 abbrev pub media_refusal : Operation → Option Refusal
 media_refusal op = unless (is_some op.fields.media) BadRequest
 
--- no more numbers can be given
+-- 15: no more numbers can be given
 abbrev pub room_refusal : Config → State → Operation → Option Refusal
 room_refusal config s op = unless (room_for s.next (numbers_for (decision config op))) StoreFull
 

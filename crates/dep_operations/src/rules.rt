@@ -37,7 +37,8 @@ pub fn decide(
     }
 }
 
-// The first rule that is broken. It takes no memory.
+// The first rule that is broken: of the order of refusals in docs/PROFILE.md those numbered 6, 9, 11 and
+// 15. It takes no memory.
 #[tactic(auto, unfolding(crate::specs::Views::refusal_seen, crate::specs::Decisions::decision, dep_types::specs::Numbers::room_for))]
 fn refusal(view: &View, operation: &Operation) -> Option<Refusal>
     ensures { (config : Settings) → result ≡ refusal_seen config view.now operation.now }

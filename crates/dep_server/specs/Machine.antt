@@ -27,7 +27,8 @@ operation_of m t = record {
   closes = closes m.head;
 }
 
--- no such resource comes before no such method, and both before the rules
+-- no such resource comes before no such method, and both before the rules (3 and 4 of the order of
+-- refusals in docs/PROFILE.md)
 abbrev pub routed_step : Config → State → Message → Routed → Stepped
 routed_step config s m NotFound = refused_step s why.NotFound None (is_bare m.head) (closes m.head)
 routed_step config s m (NotAllowed resource) =
