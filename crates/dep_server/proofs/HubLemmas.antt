@@ -10,7 +10,7 @@ use Rattle.dep_message.specs.Places.{Place, Open, Shut, Reading, IsOpen, HasByte
 use Rattle.dep_message.specs.Stream.{Item, Reads, Waits}
 use Rattle.dep_server.specs.Machine.{Serves, serves_all, step_fails, gives_up, answer_at_place}
 use Rattle.dep_server.specs.Records.{Event, Connect, Arrive, Close, Record, Line, Absent, Live, Ended, World, put, line_after, ReadsBeyond, Arrives, at_live, at_ended, connects, closes, arrives, Run, goes_on}
-use Rattle.dep_server.specs.Serving.{ServesFrom, ServesOver}
+use Rattle.dep_server.specs.Serving.{arrival_of, ServesFrom, ServesOver}
 use Rattle.dep_server.specs.Standing.{intake_of, KeepsRest, IsKeptAs, StandsAt, StandsFor, Adds, Moves, ArrivesOver, ComesTo}
 use Rattle.dep_server.specs.Numbers.{index_of, Ascends, Ascends-prop}
 use Rattle.dep_server.specs.declared.arrived.Arrived.{Arrived}
@@ -107,7 +107,7 @@ at_end nothing = (at_ended, refl)
 -- an arrival at a line, by what is kept of it
 pub arrival : (config : Config) (piece : List ℕ) (moment : ℕ) (line : Line) (s : State) (sent : List ℕ) (left : State) (old new : Reading) (answer : Arrived)
     → new.limit ≡ old.limit
-    → IsKeptAs config.max_upload line (Some old) → (old.limit ≡ config.max_upload → ServesFrom config old piece s moment sent left new.place answer)
+    → IsKeptAs config.max_upload line (Some old) → (old.limit ≡ config.max_upload → ServesFrom config (arrival_of old piece moment) s sent left new.place answer)
     → NextLine config piece moment line s sent left new answer
 arrival config piece moment Absent s sent left old new answer m k v = absurd k
 arrival config piece moment (Live stream) s sent left old new answer m k v =
@@ -152,7 +152,7 @@ module _ (old new : Hub) (n i : ℕ) (piece : List ℕ) (moment : ℕ) (c : Conn
     (changed : new.connections.items ≡ set old.connections.items i (record { number = c.number; intake = now }))
     (limit : now.limit ≡ c.intake.limit) where
   -- the world after the arrival
-  pub arrives_at : (held holds : Option (List ℕ)) (answer : Arrived) (v : ServesOver old.config held holds c.intake piece old.store moment new.store now.place answer)
+  pub arrives_at : (held holds : Option (List ℕ)) (answer : Arrived) (v : ServesOver old.config held holds (arrival_of c.intake piece moment) old.store new.store now.place answer)
       → (w : World) → StandsAt old w → (line : Line) × Arrives old.config piece moment (w.line n) w.state v.0 new.store line answer
       × StandsAt new (record { state = new.store; line = put n line w.line })
   arrives_at held holds answer v w at =
@@ -171,7 +171,7 @@ module _ (old new : Hub) (n i : ℕ) (piece : List ℕ) (moment : ℕ) (c : Conn
         },
       )
 
-  pub arrives_adds : (held holds : Option (List ℕ)) (answer : Arrived) (v : ServesOver old.config held holds c.intake piece old.store moment new.store now.place answer)
+  pub arrives_adds : (held holds : Option (List ℕ)) (answer : Arrived) (v : ServesOver old.config held holds (arrival_of c.intake piece moment) old.store new.store now.place answer)
       → Adds old new (Arrive n piece moment) v.0
   arrives_adds held holds answer v first records h =
       let a = arrives_at held holds answer v h.world h.at in
@@ -183,7 +183,7 @@ module _ (old new : Hub) (n i : ℕ) (piece : List ℕ) (moment : ℕ) (c : Conn
       }
 
   over : (held holds : Option (List ℕ)) (failures failures_after : ℕ) (answer : Arrived) → (answer ≡ Cut → HasRisen failures failures_after)
-      → ServesOver old.config held holds c.intake piece old.store moment new.store now.place answer
+      → ServesOver old.config held holds (arrival_of c.intake piece moment) old.store new.store now.place answer
       → ArrivesOver held holds failures failures_after old new n piece moment answer
   over held holds failures failures_after answer cause v = record {
     sent = v.0;
@@ -196,7 +196,7 @@ module _ (old new : Hub) (n i : ℕ) (piece : List ℕ) (moment : ℕ) (c : Conn
   }
 
   pub comes_to : (held holds : Option (List ℕ)) (failures failures_after : ℕ) (answer : Arrived) → answer ≢ NoSuch → (answer ≡ Cut → HasRisen failures failures_after)
-      → ServesOver old.config held holds c.intake piece old.store moment new.store now.place answer
+      → ServesOver old.config held holds (arrival_of c.intake piece moment) old.store new.store now.place answer
       → ComesTo held holds failures failures_after old new n piece moment answer
   comes_to held holds failures failures_after StaysOpen there cause v = over held holds failures failures_after StaysOpen cause v
   comes_to held holds failures failures_after Closed there cause v = over held holds failures failures_after Closed cause v

@@ -5,14 +5,14 @@ use Rattle.std.specs.Io.KnownBytes.{Appends}
 use Rattle.dep_types.specs.State.{State}
 use Rattle.dep_types.specs.declared.config.Config.{Config}
 use Rattle.dep_types.specs.Writing.{IsProperPrefix, HasRisen}
-use Rattle.dep_message.specs.Places.{Place, Open, Shut, IsOpen, HasBytes, Reading, more}
-use Rattle.dep_message.specs.Stream.{Item, Fault, FirstAt, Reads, Waits}
+use Rattle.dep_message.specs.Places.{Place, Open, Shut, IsOpen, HasBytes, more}
+use Rattle.dep_message.specs.Stream.{Item, Fault, FirstAt, Waits}
 use Rattle.dep_store.specs.Steps.{sent_by}
 use Rattle.dep_server.specs.Machine.{ticked, step, replies, state_after, Fails, given_up, cut_short, serves_all, step_fails, gives_up, SendsUpTo, all, cut, want_of_memory, answer_at_place}
 use Rattle.dep_server.specs.Sending.{IsSentUpTo, SendsOver, SendsReply}
 use Rattle.std.proofs.Common.{inl, inr, Bool}
 use Rattle.dep_types.specs.declared.refusal.Refusal.{Refusal}
-use Rattle.dep_server.specs.Serving.{AnswersOver, Progress, ServesFrom, ServesOver, answer_after}
+use Rattle.dep_server.specs.Serving.{Arrival, ReadsWith, AnswersOver, Progress, ServesFrom, ServesOver, answer_after}
 use Rattle.dep_server.specs.declared.arrived.Arrived.{Arrived}
 use Rattle.dep_server.specs.declared.arrived.Arrived.TheVariants.{Open as StaysOpen, Closed, Cut, NoSuch}
 use Rattle.dep_server.specs.declared.sending.Answered.{Answered}
@@ -44,21 +44,21 @@ appends_both (Some xs') (Some bs) None xs ys h k = absurd k
 appends_both (Some xs') (Some bs) (Some cs) xs ys h k = k ∙ (ap (λ l. l ++ ys) h ∙ append_assoc xs' xs ys)
 
 -- nothing is served yet
-pub served_none : (config : Config) (limit : ℕ) (start : Place) (s : State) (moment : ℕ) (held : Option (List ℕ)) → Progress config limit start s moment held held start s
-served_none config limit start s moment held = record { items = []; sent = appends_none held; reads = refl; state = refl }
+pub served_none : (config : Config) (came : Arrival) (s : State) (held : Option (List ℕ)) → Progress config came s held held (more came.reading.place came.piece) s
+served_none config came s held = record { items = []; sent = appends_none held; reads = refl; state = refl }
 
 -- an item more is answered
-pub served_more : {config : Config} {limit : ℕ} {start at next : Place} {s now left : State} {moment : ℕ} {held holds then : Option (List ℕ)} (item : Item)
-    → Progress config limit start s moment held holds at now → FirstAt limit at item next
-    → AnswersOver config holds then now item moment left Sent → Progress config limit start s moment held then next left
-served_more {config} {limit} {start} {at} {next} {s} {now} {left} {moment} {held} {holds} {then} item v f a =
+pub served_more : {config : Config} {came : Arrival} {at next : Place} {s now left : State} {held holds then : Option (List ℕ)} (item : Item)
+    → Progress config came s held holds at now → FirstAt came.reading.limit at item next
+    → AnswersOver config holds then now item came.moment left Sent → Progress config came s held then next left
+served_more {config} {came} {at} {next} {s} {now} {left} {held} {holds} {then} item v f answer =
     record {
       items = v.items ++ item ∷ [];
       sent = subst (λ bytes. Appends held then bytes)
-          (ap (λ bytes. replies config s v.items moment ++ bytes) (a.2.0 ∙ ap (λ t. sent_by (step config t item moment)) v.state) ∙ sym (replies_more config s v.items item moment))
-          (appends_both held holds then (replies config s v.items moment) a.0 v.sent a.1);
-      reads = reads_one limit v.items item start at next v.reads f;
-      state = a.2.1 ∙ (ap (λ t. (step config t item moment).state) v.state ∙ sym (state_after_more config s v.items item moment));
+          (ap (λ bytes. replies config s v.items came.moment ++ bytes) (answer.2.0 ∙ ap (λ t. sent_by (step config t item came.moment)) v.state) ∙ sym (replies_more config s v.items item came.moment))
+          (appends_both held holds then (replies config s v.items came.moment) answer.0 v.sent answer.1);
+      reads = reads_one came.reading.limit v.items item (more came.reading.place came.piece) at next v.reads f;
+      state = answer.2.1 ∙ (ap (λ t. (step config t item came.moment).state) v.state ∙ sym (state_after_more config s v.items item came.moment));
     }
 
 -- a fixed reply is sent up to its end or cut
@@ -86,53 +86,53 @@ answer_open (Open continued rest) o = refl
 answer_open Shut o = absurd o
 
 -- where the reading has come to its end
-sent_last : (config : Config) (reading : Reading) (piece : List ℕ) (s : State) (moment : ℕ) (held holds : Option (List ℕ)) (at : Place) (now : State)
-    → Progress config reading.limit (more reading.place piece) s moment held holds at now → at ≡ Shut
-    → ServesOver config held holds reading piece s moment now Shut Closed
-sent_last config reading piece s moment held holds at now v e =
-    let reads : Reads reading.limit (more reading.place piece) v.items Shut = subst (λ p. Reads reading.limit (more reading.place piece) v.items p) e v.reads in
-    let whole : ServesFrom config reading piece s moment (replies config s v.items moment) (state_after config s v.items moment) Shut Closed = serves_all v.items reads tt in
-    (replies config s v.items moment, v.sent, λ _. subst (λ t. ServesFrom config reading piece s moment (replies config s v.items moment) t Shut Closed) (sym v.state) whole)
+sent_last : (config : Config) (came : Arrival) (s : State) (held holds : Option (List ℕ)) (at : Place) (now : State)
+    → Progress config came s held holds at now → at ≡ Shut
+    → ServesOver config held holds came s now Shut Closed
+sent_last config came s held holds at now v e =
+    let reads : ReadsWith came v.items Shut = subst (λ p. ReadsWith came v.items p) e v.reads in
+    let whole : ServesFrom config came s (replies config s v.items came.moment) (state_after config s v.items came.moment) Shut Closed = serves_all v.items reads tt in
+    (replies config s v.items came.moment, v.sent, λ _. subst (λ t. ServesFrom config came s (replies config s v.items came.moment) t Shut Closed) (sym v.state) whole)
 
-module _ (config : Config) (reading : Reading) (piece : List ℕ) (s : State) (moment : ℕ) (held holds : Option (List ℕ)) (at : Place) (now : State)
-    (v : Progress config reading.limit (more reading.place piece) s moment held holds at now) where
+module _ (config : Config) (came : Arrival) (s : State) (held holds : Option (List ℕ)) (at : Place) (now : State)
+    (v : Progress config came s held holds at now) where
   -- no item is complete any more
-  pub serves_waiting : (p : Place) → p ≡ at → Waits reading.limit at → ServesOver config held holds reading piece s moment now p (answer_at_place at)
+  pub serves_waiting : (p : Place) → p ≡ at → Waits came.reading.limit at → ServesOver config held holds came s now p (answer_at_place at)
   serves_waiting p e w = (
-    replies config s v.items moment,
+    replies config s v.items came.moment,
     v.sent,
     λ same.
-        let whole : ServesFrom config reading piece s moment (replies config s v.items moment) (state_after config s v.items moment) at (answer_at_place at) = serves_all v.items v.reads (subst (λ n. Waits n at) same w) in
-        let there : ServesFrom config reading piece s moment (replies config s v.items moment) now at (answer_at_place at) = subst (λ t. ServesFrom config reading piece s moment (replies config s v.items moment) t at (answer_at_place at)) (sym v.state) whole in
-        subst (λ q. ServesFrom config reading piece s moment (replies config s v.items moment) now q (answer_at_place at)) (sym e) there,
+        let whole : ServesFrom config came s (replies config s v.items came.moment) (state_after config s v.items came.moment) at (answer_at_place at) = serves_all v.items v.reads (subst (λ n. Waits n at) same w) in
+        let there : ServesFrom config came s (replies config s v.items came.moment) now at (answer_at_place at) = subst (λ t. ServesFrom config came s (replies config s v.items came.moment) t at (answer_at_place at)) (sym v.state) whole in
+        subst (λ q. ServesFrom config came s (replies config s v.items came.moment) now q (answer_at_place at)) (sym e) there,
   )
 
   -- a step fails
   pub serves_failed : (item : Item) (next : Place) (then : Option (List ℕ)) (left : State) (answer : Arrived) (sent : List ℕ)
-      → FirstAt reading.limit at item next → Appends holds then sent → Fails config now item moment sent left answer
-      → ServesOver config held then reading piece s moment left Shut answer
+      → FirstAt came.reading.limit at item next → Appends holds then sent → Fails config now item came.moment sent left answer
+      → ServesOver config held then came s left Shut answer
   serves_failed item next then left answer sent f a fails = (
-    replies config s v.items moment ++ sent,
-    appends_both held holds then (replies config s v.items moment) sent v.sent a,
-    λ _. step_fails v.items item next (reads_one reading.limit v.items item (more reading.place piece) at next v.reads f)
-        (subst (λ t. Fails config t item moment sent left answer) v.state fails),
+    replies config s v.items came.moment ++ sent,
+    appends_both held holds then (replies config s v.items came.moment) sent v.sent a,
+    λ _. step_fails v.items item next (reads_one came.reading.limit v.items item (more came.reading.place came.piece) at next v.reads f)
+        (subst (λ t. Fails config t item came.moment sent left answer) v.state fails),
   )
 
   -- an item is answered, and it is the last
   pub serves_last : (item : Item) (next : Place) (then : Option (List ℕ)) (left : State) (answer : Answered)
-      → FirstAt reading.limit at item next → (answer ≡ Sent → next ≡ Shut)
-      → AnswersOver config holds then now item moment left answer
+      → FirstAt came.reading.limit at item next → (answer ≡ Sent → next ≡ Shut)
+      → AnswersOver config holds then now item came.moment left answer
       → (p : Place) → p ≡ Shut → (a : Arrived) → a ≡ answer_after answer
-      → ServesOver config held then reading piece s moment left p a
+      → ServesOver config held then came s left p a
   serves_last item next then left answer f e a p q b r =
-      subst (λ x. ServesOver config held then reading piece s moment left x b) (sym q)
-      (subst (λ x. ServesOver config held then reading piece s moment left Shut x) (sym r) (last item next then left answer f e a))
+      subst (λ x. ServesOver config held then came s left x b) (sym q)
+      (subst (λ x. ServesOver config held then came s left Shut x) (sym r) (last item next then left answer f e a))
     where
       last : (item : Item) (next : Place) (then : Option (List ℕ)) (left : State) (answer : Answered)
-          → FirstAt reading.limit at item next → (answer ≡ Sent → next ≡ Shut)
-          → AnswersOver config holds then now item moment left answer
-          → ServesOver config held then reading piece s moment left Shut (answer_after answer)
-      last item next then left Sent f e a = sent_last config reading piece s moment held then next left (served_more item v f a) (e refl)
+          → FirstAt came.reading.limit at item next → (answer ≡ Sent → next ≡ Shut)
+          → AnswersOver config holds then now item came.moment left answer
+          → ServesOver config held then came s left Shut (answer_after answer)
+      last item next then left Sent f e a = sent_last config came s held then next left (served_more item v f a) (e refl)
       last item next then left GaveUp f e a = serves_failed item next then left Closed a.0 f a.1 a.2
       last item next then left CutShort f e a = serves_failed item next then left Cut a.0 f a.1 a.2
 
@@ -140,24 +140,24 @@ module _ (config : Config) (reading : Reading) (piece : List ℕ) (s : State) (m
   pub serves_gives_up : (then : Option (List ℕ)) (answer : Arrived) → HasBytes at
       → (sent : List ℕ) × Appends holds then sent × SendsUpTo want_of_memory sent answer
       → (p : Place) → p ≡ Shut
-      → ServesOver config held then reading piece s moment now p answer
+      → ServesOver config held then came s now p answer
   serves_gives_up then answer b a p e = (
-    replies config s v.items moment ++ a.0,
-    appends_both held holds then (replies config s v.items moment) a.0 v.sent a.1,
-    λ _. subst (λ x. ServesFrom config reading piece s moment (replies config s v.items moment ++ a.0) now x answer) (sym e)
-        (subst (λ t. ServesFrom config reading piece s moment (replies config s v.items moment ++ a.0) t Shut answer) (sym v.state)
+    replies config s v.items came.moment ++ a.0,
+    appends_both held holds then (replies config s v.items came.moment) a.0 v.sent a.1,
+    λ _. subst (λ x. ServesFrom config came s (replies config s v.items came.moment ++ a.0) now x answer) (sym e)
+        (subst (λ t. ServesFrom config came s (replies config s v.items came.moment ++ a.0) t Shut answer) (sym v.state)
         (gives_up v.items at v.reads b a.2)),
   )
 
-  pub serves_open : (limit : ℕ) → limit ≡ reading.limit → (p : Place) → p ≡ at → Waits limit at → IsOpen at → ServesOver config held holds reading piece s moment now p StaysOpen
+  pub serves_open : (limit : ℕ) → limit ≡ came.reading.limit → (p : Place) → p ≡ at → Waits limit at → IsOpen at → ServesOver config held holds came s now p StaysOpen
   serves_open limit l p e w o =
-      subst (λ a. ServesOver config held holds reading piece s moment now p a) (answer_open at o)
+      subst (λ a. ServesOver config held holds came s now p a) (answer_open at o)
       (serves_waiting p e (subst (λ n. Waits n at) l w))
 
-  pub serves_shut : (p : Place) → p ≡ at → at ≡ Shut → ServesOver config held holds reading piece s moment now p Closed
+  pub serves_shut : (p : Place) → p ≡ at → at ≡ Shut → ServesOver config held holds came s now p Closed
   serves_shut p e i =
-      subst (λ q. ServesOver config held holds reading piece s moment now q Closed) (sym (e ∙ i))
-      (sent_last config reading piece s moment held holds at now v i)
+      subst (λ q. ServesOver config held holds came s now q Closed) (sym (e ∙ i))
+      (sent_last config came s held holds at now v i)
 
 -- an item is taken at a limit that stayed
 pub first_at : (old limit : ℕ) (at next : Place) (item : Item) → old ≡ limit → FirstAt old at item next → FirstAt limit at item next

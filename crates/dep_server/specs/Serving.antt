@@ -31,24 +31,34 @@ abbrev pub AnswersOver : Config → (held holds : Option (List ℕ)) → State �
 AnswersOver config held holds s item moment left answer =
     (sent : List ℕ) × Appends held holds sent × IsAnsweredBy config s item moment sent left answer
 
--- the items so far: they were read, and what was sent is their replies
-pub record Progress (config : Config) (limit : ℕ) (start : Place) (s : State) (moment : ℕ)
-    (held holds : Option (List ℕ)) (at : Place) (now : State) : Type 0 where
-  pub items : List Item
-  pub sent : Appends held holds (replies config s items moment)
-  pub reads : Reads limit start items at
-  pub state : now ≡ state_after config s items moment
+-- an arrival at an intake: what it keeps, the piece that comes, and when
+pub record Arrival : Type 0 where
+  pub reading : Reading
+  pub piece : List ℕ
+  pub moment : ℕ
 
--- an arrival at an intake, from what it keeps
-abbrev pub ServesFrom : Config → Reading → (piece : List ℕ) → State → (moment : ℕ)
-    → (sent : List ℕ) → (left : State) → Place → Arrived → Type 0
-ServesFrom config reading piece s moment sent left at answer =
-    Serves config (λ items at. Reads reading.limit (more reading.place piece) items at)
-    s moment sent left at answer
+abbrev pub arrival_of : Reading → (piece : List ℕ) → (moment : ℕ) → Arrival
+arrival_of reading piece moment = record { reading = reading; piece = piece; moment = moment }
+
+-- these items are the first that are read with the piece, and the reading then stands there
+abbrev pub ReadsWith : Arrival → List Item → Place → Type 0
+ReadsWith a items at = Reads a.reading.limit (more a.reading.place a.piece) items at
+
+-- how far it was served: these items were read, and what was sent is their replies
+pub record Progress (config : Config) (a : Arrival) (s : State) (held holds : Option (List ℕ)) (at : Place)
+    (now : State) : Type 0 where
+  pub items : List Item
+  pub sent : Appends held holds (replies config s items a.moment)
+  pub reads : ReadsWith a items at
+  pub state : now ≡ state_after config s items a.moment
+
+-- it was served from what the intake keeps
+abbrev pub ServesFrom : Config → Arrival → State → (sent : List ℕ) → (left : State) → Place → Arrived → Type 0
+ServesFrom config a s sent left at answer = Serves config (ReadsWith a) s a.moment sent left at answer
 
 -- the same over an outlet, for an intake with the limit of the configuration
-abbrev pub ServesOver : Config → (held holds : Option (List ℕ)) → Reading → (piece : List ℕ)
-    → State → (moment : ℕ) → (left : State) → Place → Arrived → Type 0
-ServesOver config held holds reading piece s moment left at answer =
+abbrev pub ServesOver : Config → (held holds : Option (List ℕ)) → Arrival → State → (left : State) → Place → Arrived
+    → Type 0
+ServesOver config held holds a s left at answer =
     (sent : List ℕ) × Appends held holds sent
-    × (reading.limit ≡ config.max_upload → ServesFrom config reading piece s moment sent left at answer)
+    × (a.reading.limit ≡ config.max_upload → ServesFrom config a s sent left at answer)

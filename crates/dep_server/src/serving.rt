@@ -4,7 +4,7 @@ ghost use Rattle.std.specs.Io.KnownBytes.{Appends};
 ghost use Rattle.dep_types.specs.Writing.{HasRisen};
 ghost use Rattle.dep_server.specs.Machine.{SendsUpTo, want_of_memory};
 ghost use Rattle.dep_message.specs.Places.{Reading, Shut};
-ghost use Rattle.dep_server.specs.Serving.{ServesOver, answer_after};
+ghost use Rattle.dep_server.specs.Serving.{ServesOver, arrival_of, answer_after};
 
 use crate::arrived::Arrived;
 use crate::sending::{Answered, send_want_of_memory};
@@ -25,8 +25,8 @@ pub(crate) fn serve<O: Outlet>(
     moment: Moment,
     out: &mut O,
 ) -> Arrived
-    ensures served { ServesOver config.now (O.taken out.old) (O.taken out.new) intake.old piece.now
-        store.old moment store.new intake.new.place result }
+    ensures served { ServesOver config.now (O.taken out.old) (O.taken out.new)
+        (arrival_of intake.old piece.now moment) store.old store.new intake.new.place result }
     ensures limit { intake.new.limit ≡ intake.old.limit }
     ensures there { result ≢ Arrived.NoSuch }
     ensures cause { result ≡ Arrived.Cut → HasRisen (O.failures out.old) (O.failures out.new) }
