@@ -1,5 +1,5 @@
 -- Whole documents.
-use Rattle.std.specs.Prelude.{ℕ, false, true, List, [], ◌∷◌, None, codes}
+use Rattle.std.specs.Prelude.{ℕ, false, true, List, [], ◌∷◌, Some, None, codes}
 use Rattle.std.specs.FinMap as finmap
 use Rattle.dep_types.specs.State.{Object, File, Texts}
 use Rattle.dep_types.specs.declared.rows.UploadRow.{UploadRow}
@@ -43,6 +43,53 @@ example_object = record {
   changed = 1523836800;
 }
 
+-- a file of text that was posted on behalf of ann, and one that came by reference
+abbrev pub example_posted : File
+example_posted = record {
+  name = codes "a.txt";
+  media = codes "text/plain; charset=\"utf-8\"";
+  content = codes "abc";
+  tag = 5;
+  deposited = 951868799;
+  behalf = Some (codes "ann");
+  by_reference = false;
+}
+
+abbrev pub example_referred : File
+example_referred = record {
+  name = codes "a.txt";
+  media = codes "application/octet-stream";
+  content = codes "abc";
+  tag = 8;
+  deposited = 1523836800;
+  behalf = None;
+  by_reference = true;
+}
+
+-- an object in progress that has these two
+abbrev pub example_unfinished : Object
+example_unfinished = record {
+  ingested = false;
+  metadata = finmap.empty;
+  files = finmap.from_sorted ((3, example_posted) ∷ (12, example_referred) ∷ []);
+  tag = 9;
+  metadata_tag = 4;
+  files_tag = 8;
+  changed = 1523836800;
+}
+
+-- one without files
+abbrev pub example_empty : Object
+example_empty = record {
+  ingested = true;
+  metadata = finmap.empty;
+  files = finmap.from_sorted [];
+  tag = 2;
+  metadata_tag = 1;
+  files_tag = 2;
+  changed = 1523836800;
+}
+
 -- three titles, and one
 abbrev pub example_titles : Texts
 example_titles = finmap.from_sorted ((codes "dc:title", codes "T" ∷ codes "U" ∷ codes "V" ∷ []) ∷ [])
@@ -71,3 +118,9 @@ bag_metadata_text = codes "{\"@context\":\"https://swordapp.github.io/swordv3/sw
 
 unfoldable pub upload_text : List ℕ
 upload_text = codes "{\"@context\":\"https://swordapp.github.io/swordv3/swordv3.jsonld\",\"@id\":\"http://127.0.0.1:8080/staging/1\",\"@type\":\"Temporary\",\"segments\":{\"expecting\":[2],\"received\":[1,3],\"segment_size\":2,\"size\":5}}"
+
+unfoldable pub unfinished_text : List ℕ
+unfinished_text = codes "{\"@context\":\"https://swordapp.github.io/swordv3/swordv3.jsonld\",\"@id\":\"http://127.0.0.1:8080/objects/7\",\"@type\":\"Status\",\"actions\":{\"appendFiles\":true,\"appendMetadata\":true,\"deleteFiles\":true,\"deleteMetadata\":true,\"deleteObject\":true,\"getFiles\":true,\"getMetadata\":true,\"replaceFiles\":true,\"replaceMetadata\":true},\"eTag\":\"9\",\"fileSet\":{\"@id\":\"http://127.0.0.1:8080/objects/7/files\",\"eTag\":\"8\"},\"links\":[{\"@id\":\"http://127.0.0.1:8080/objects/7/files/3\",\"contentType\":\"text/plain; charset=\\\"utf-8\\\"\",\"depositedBy\":\"depositor\",\"depositedOn\":\"2000-02-29T23:59:59Z\",\"depositedOnBehalfOf\":\"ann\",\"eTag\":\"5\",\"packaging\":\"http://purl.org/net/sword/3.0/package/Binary\",\"rel\":[\"http://purl.org/net/sword/3.0/terms/originalDeposit\",\"http://purl.org/net/sword/3.0/terms/fileSetFile\"],\"status\":\"http://purl.org/net/sword/3.0/filestate/ingested\"},{\"@id\":\"http://127.0.0.1:8080/objects/7/files/12\",\"contentType\":\"application/octet-stream\",\"depositedBy\":\"depositor\",\"depositedOn\":\"2018-04-16T00:00:00Z\",\"eTag\":\"8\",\"packaging\":\"http://purl.org/net/sword/3.0/package/Binary\",\"rel\":[\"http://purl.org/net/sword/3.0/terms/byReferenceDeposit\",\"http://purl.org/net/sword/3.0/terms/fileSetFile\"],\"status\":\"http://purl.org/net/sword/3.0/filestate/ingested\"}],\"metadata\":{\"@id\":\"http://127.0.0.1:8080/objects/7/metadata\",\"eTag\":\"4\"},\"service\":\"http://127.0.0.1:8080/service\",\"state\":[{\"@id\":\"http://purl.org/net/sword/3.0/state/inProgress\"}]}"
+
+unfoldable pub empty_text : List ℕ
+empty_text = codes "{\"@context\":\"https://swordapp.github.io/swordv3/swordv3.jsonld\",\"@id\":\"http://127.0.0.1:8080/objects/1\",\"@type\":\"Status\",\"actions\":{\"appendFiles\":true,\"appendMetadata\":true,\"deleteFiles\":true,\"deleteMetadata\":true,\"deleteObject\":true,\"getFiles\":true,\"getMetadata\":true,\"replaceFiles\":true,\"replaceMetadata\":true},\"eTag\":\"2\",\"fileSet\":{\"@id\":\"http://127.0.0.1:8080/objects/1/files\",\"eTag\":\"2\"},\"links\":[],\"metadata\":{\"@id\":\"http://127.0.0.1:8080/objects/1/metadata\",\"eTag\":\"1\"},\"service\":\"http://127.0.0.1:8080/service\",\"state\":[{\"@id\":\"http://purl.org/net/sword/3.0/state/ingested\"}]}"

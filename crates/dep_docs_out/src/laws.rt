@@ -1,7 +1,7 @@
 //! Whole documents, computed.
 ghost use Rattle.std.specs.Prelude.{◌≡◌, ◌∷◌, []};
 ghost use Rattle.dep_docs_out.specs.Documents as spec;
-ghost use Rattle.dep_docs_out.specs.ExampleDocuments.{example_config, example_object, example_title, example_titles, example_upload, bag_metadata_text, error_text, metadata_text, service_text, status_text, upload_text};
+ghost use Rattle.dep_docs_out.specs.ExampleDocuments.{example_config, example_empty, example_object, example_unfinished, example_title, example_titles, example_upload, bag_metadata_text, empty_text, error_text, metadata_text, service_text, status_text, unfinished_text, upload_text};
 ghost use Rattle.dep_types.specs.Rows.{object_view};
 ghost use Rattle.dep_types.specs.declared.refusal.Refusal.TheVariants.{DigestMismatch};
 
@@ -18,6 +18,17 @@ pub fn error_document_of_example()
 /// The status document of an object that has one file.
 pub fn status_document_of_example()
     ensures { spec.status_document example_config (object_view 1 example_object) ≡ status_text }
+{}
+
+/// The status document of an object in progress, with a file that was posted on behalf of another and one that came
+/// by reference.
+pub fn status_document_in_progress()
+    ensures { spec.status_document example_config (object_view 7 example_unfinished) ≡ unfinished_text }
+{}
+
+/// The status document of an object without files.
+pub fn status_document_without_files()
+    ensures { spec.status_document example_config (object_view 1 example_empty) ≡ empty_text }
 {}
 
 /// The metadata document of an object that has three titles.

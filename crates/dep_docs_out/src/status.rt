@@ -100,9 +100,7 @@ fn add_link(
     let place = file_url(alloc, config, object, file.file)?;
     document.begin_object()?;
     add_deposit(document, config, place.as_str(), file)?;
-    if let Some(behalf) = &file.behalf {
-        document.text("depositedOnBehalfOf", behalf.as_str())?;
-    }
+    add_behalf(document, file)?;
     add_kept(document, file)?;
     document.end_object()
 }
@@ -121,6 +119,16 @@ fn add_deposit(
     document.text("contentType", file.media.as_str())?;
     document.text("depositedBy", config.depositor.as_str())?;
     document.moment("depositedOn", Moment::new(file.deposited))
+}
+
+// On whose behalf a file was deposited, where one was told.
+fn add_behalf(document: &mut Document, file: &FileRow) -> Result<(), AllocError>
+    ensures { OnOk result (AddsMembers document.old document.new (spec.behalf_members file.now.behalf)) }
+{
+    match &file.behalf {
+        Some(behalf) => document.text("depositedOnBehalfOf", behalf.as_str()),
+        None => Ok(()),
+    }
 }
 
 // What a file is in the file set.

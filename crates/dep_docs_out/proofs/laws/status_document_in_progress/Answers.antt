@@ -1,0 +1,12 @@
+use Rattle.std.proofs.Common.{refl, [], ◌∷◌, nat_cmp}
+use Rattle.std.specs.FinMap as finmap
+use Rattle.std.specs.Fmt.{digits}
+use Rattle.serde_json.proofs.OnLiterals.{serde_json_on_literals}
+use Rattle.dep_moment.proofs.OnLiterals.{moment_on_literals}
+use Rattle.dep_docs_out.specs.Documents.{status_data, object_members, links_data, state_members, actions_data, part_data, link_data, deposit_members, relations_data, kept_members, states_data}
+use Rattle.dep_docs_out.specs.ExampleDocuments.{unfinished_text, example_posted, example_referred}
+use Rattle.dep_docs_out.proofs.laws.status_document_in_progress.Goals as goal
+
+pub returns : goal.returns
+unfolding serde_json_on_literals moment_on_literals digits status_data object_members links_data state_members actions_data part_data link_data deposit_members relations_data kept_members states_data unfinished_text
+returns c = rw (finmap.entries-from_sorted nat_cmp ((3, example_posted) ∷ (12, example_referred) ∷ []) tt) refl
