@@ -1,2 +1,3 @@
 pub mod OnLiterals
 pub mod LineLemmas
+pub mod BaseLemmas

@@ -25,11 +25,11 @@ is_plain b = not (b == 13) && not (b == 10)
 pub unbroken_both : (a b : List ℕ) → IsTrue (is_unbroken a) → IsTrue (is_unbroken b) → IsTrue (is_unbroken (a ++ b))
 unbroken_both a b p q = list_all-append is_plain a b ∙ (λ i. p i && q i)
 
-unbroken_if : (test : Bool) (a b : List ℕ) → IsTrue (is_unbroken a) → IsTrue (is_unbroken b) → IsTrue (is_unbroken (if test then a else b))
+pub unbroken_if : (test : Bool) (a b : List ℕ) → IsTrue (is_unbroken a) → IsTrue (is_unbroken b) → IsTrue (is_unbroken (if test then a else b))
 unbroken_if true a b p q = p
 unbroken_if false a b p q = q
 
-high_is_plain : (b : ℕ) → 14 ≤ b → IsTrue (is_plain b)
+pub high_is_plain : (b : ℕ) → 14 ≤ b → IsTrue (is_plain b)
 high_is_plain b h = grind (arith, nat_tests)
 
 glyph_if : (test : Bool) (d : ℕ) → 14 ≤ (if test then 48 + d else (if false then 55 + d else 87 + d))
@@ -39,7 +39,7 @@ glyph_if false d = omega arith
 glyph_is_plain : (d : ℕ) → IsTrue (is_plain (digit_glyph false d))
 glyph_is_plain d = high_is_plain (digit_glyph false d) (glyph_if (nat_lt d 10) d)
 
-unbroken_cons : (b : ℕ) (text : List ℕ) → IsTrue (is_plain b) → IsTrue (is_unbroken text) → IsTrue (is_unbroken (b ∷ text))
+pub unbroken_cons : (b : ℕ) (text : List ℕ) → IsTrue (is_plain b) → IsTrue (is_unbroken text) → IsTrue (is_unbroken (b ∷ text))
 unbroken_cons b text p q = (λ i. p i && q i)
 
 unbroken_digits : (k n : ℕ) (acc : List ℕ) → IsTrue (is_unbroken acc) → IsTrue (is_unbroken (digits_onto k 10 false n acc))

@@ -1,6 +1,7 @@
 //! A head as a whole.
 ghost use Rattle.std.specs.Prelude.{◌≡◌, ℕ, List, IsTrue, Some, None, true, false, codes};
 ghost use Rattle.dep_head.specs.Head.{EndsOnce};
+ghost use Rattle.dep_types.specs.Base.{IsBase};
 ghost use Rattle.dep_types.specs.Names.{is_media};
 ghost use Rattle.dep_reply.specs.Head.{ReplyHead, head_text};
 ghost use Rattle.dep_reply.specs.Lines.{IsUnbroken, is_unbroken, head_lines, lines_of};
@@ -57,4 +58,9 @@ pub fn unbroken_heads_end_once()
 /// A media type breaks no line.
 pub fn media_types_are_unbroken()
     ensures { (text : List ℕ) → IsTrue (is_media text) → IsTrue (is_unbroken text) }
+{}
+
+/// A base of the server's URLs breaks no line.
+pub fn bases_are_unbroken()
+    ensures { (text : List ℕ) → IsBase text → IsTrue (is_unbroken text) }
 {}

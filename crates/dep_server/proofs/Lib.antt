@@ -8,4 +8,5 @@ pub mod SendingLemmas
 pub mod SoundLemmas
 pub mod RunSound
 pub mod BareLemmas
+pub mod HeadLemmas
 pub mod StepLemmas

@@ -1,6 +1,7 @@
 pub mod Targets
 pub mod Machine
 pub mod Bare
+pub mod ReplyHeads
 pub mod Records
 pub mod Calm
 pub mod Streams

@@ -8,7 +8,10 @@ ghost use Rattle.dep_types.specs.declared.config.Config.{Config};
 ghost use Rattle.dep_server.specs.Calm.{CalmRun, Step, sent_to};
 ghost use Rattle.dep_server.specs.Streams.{AreSpelled, streams_of, items_of, occasions_of};
 ghost use Rattle.dep_types.specs.Sound.{IsSound};
-ghost use Rattle.dep_server.specs.Machine.{step};
+ghost use Rattle.dep_head.specs.Head.{EndsOnce};
+ghost use Rattle.dep_types.specs.Config.{IsChecked};
+ghost use Rattle.dep_server.specs.ReplyHeads.{IsUnsplit};
+ghost use Rattle.dep_server.specs.Machine.{step, want_of_memory, store_fault};
 ghost use Rattle.dep_server.specs.Bare.{asked_by, IsWithoutBody};
 ghost use Rattle.dep_server.specs.Turns.{Turn, records_of, with_opened, with_closed, Exchanges, EndsAs, IsEndedBy};
 ghost use Rattle.dep_server.specs.declared.connection.Served.{Served};
@@ -43,6 +46,14 @@ pub fn cuts_move_occasions()
 pub fn heads_have_no_body()
     ensures { (config : Config) (s : State) (m : Message) (moment : ℕ)
         → IsWithoutBody (step config s (Request (asked_by (codes "GET") m)) moment) (step config s (Request (asked_by (codes "HEAD") m)) moment) }
+{}
+
+/// No reply can be read as two, whatever was deposited: what is sent for an item of a sound machine begins with a head that
+/// ends at its first empty line, and has its own lines and no others; and so do the fixed replies.
+pub fn replies_are_unsplit()
+    ensures steps { (config : Config) (s : State) (item : Item) (moment : ℕ) → IsChecked config → IsSound s
+        → IsUnsplit item (step config s item moment).front }
+    ensures fixed { EndsOnce want_of_memory × EndsOnce store_fault }
 {}
 
 /// A step keeps a sound state sound, whatever came and at whatever moment.
