@@ -32,12 +32,13 @@ head_lines r =
     ++ field_lines (codes "Connection") (connection r.closes)
     ++ [] ∷ []
 
--- the lines of a text as they are read: each ends at the first CR LF; what stands behind the last is left out
+-- the lines of a text as they are read: each ends at the first CR LF; what is behind the last is left out
 abbrev pub lines_behind : (front text : List ℕ) → List (List ℕ)
 lines_behind front [] = []
 lines_behind front (b ∷ []) = []
 lines_behind front (b ∷ c ∷ text) =
-    if b == 13 && c == 10 then front ∷ lines_behind [] text else lines_behind (front ++ b ∷ []) (c ∷ text)
+    if b == 13 && c == 10 then front ∷ lines_behind [] text
+    else lines_behind (front ++ b ∷ []) (c ∷ text)
 
 unfoldable pub lines_of : List ℕ → List (List ℕ)
 lines_of text = lines_behind [] text

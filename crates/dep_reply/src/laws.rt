@@ -48,8 +48,8 @@ pub fn head_of_no_content()
     }) ≡ codes "HTTP/1.1 204 No Content\r\nDate: Mon, 16 Apr 2018 00:00:00 GMT\r\nETag: \"2\"\r\n\r\n" }
 {}
 
-/// A head whose texts break no line is read as it was written: it ends at its first empty line, and has its own lines and
-/// no others. So no text in it can begin another field, or another reply (RFC 9112, section 11.1).
+/// A head whose texts break no line is read as it was written: it ends at its first empty line, and has its own
+/// lines and no others. So no text in it can begin another field, or another reply (RFC 9112, section 11.1).
 pub fn unbroken_heads_end_once()
     ensures ends { (r : ReplyHead) → IsUnbroken r → EndsOnce (head_text r) }
     ensures lines { (r : ReplyHead) → IsUnbroken r → lines_of (head_text r) ≡ head_lines r }

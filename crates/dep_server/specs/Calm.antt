@@ -16,35 +16,44 @@ pub record Step : Type 0 where
   pub moment : ℕ
 
 abbrev pub steps_of : ℕ → ℕ → List Item → List Step
-steps_of number moment items = map (λ item. record { number = number; item = item; moment = moment }) items
+steps_of number moment items =
+    map (λ item. record { number = number; item = item; moment = moment }) items
 
 -- an arrival at a live connection of this number that makes just these steps
 pub data CalmServes {config : Config} {reads : List Item → Place → Type 0} {s : State} {moment : ℕ} (number : ℕ)
-    : (sent : List ℕ) → (left : State) → (at : Place) → (answer : Arrived) → Serves config reads s moment sent left at answer → List Step → Type 0 where
+    : (sent : List ℕ) → (left : State) → (at : Place) → (answer : Arrived)
+    → Serves config reads s moment sent left at answer → List Step → Type 0 where
   all_served : (items : List Item) {at : Place} (r : reads items at) (w : Waits config.max_upload at)
       → CalmServes number _ _ _ _ (serves_all items r w) (steps_of number moment items)
 
 -- an arrival at a connection
 pub data CalmArrives {config : Config} {piece : List ℕ} {moment : ℕ} (number : ℕ)
-    : (line after : Line) → (s left : State) → (sent : List ℕ) → (answer : Arrived) → Arrives config piece moment line s sent left after answer → List Step → Type 0 where
+    : (line after : Line) → (s left : State) → (sent : List ℕ) → (answer : Arrived)
+    → Arrives config piece moment line s sent left after answer → List Step → Type 0 where
   live : {stream sent : List ℕ} {s left : State} {at : Place} {answer : Arrived} {steps : List Step}
-      (v : Serves config (ReadsBeyond config.max_upload stream piece) s moment sent left at answer) → CalmServes number _ _ _ _ v steps
+      (v : Serves config (ReadsBeyond config.max_upload stream piece) s moment sent left at answer)
+      → CalmServes number _ _ _ _ v steps
       → CalmArrives number _ _ _ _ _ _ (at_live v) steps
   ended : {s : State} → CalmArrives number _ _ _ _ _ _ (at_ended {s = s}) []
 
 -- an event
-pub data Calm {config : Config} {w : World} : (event : Event) → (sent : List ℕ) → (w' : World) → Happens config w event sent w' → List Step → Type 0 where
+pub data Calm {config : Config} {w : World}
+    : (event : Event) → (sent : List ℕ) → (w' : World) → Happens config w event sent w' → List Step → Type 0 where
   connect : {n : ℕ} → Calm _ _ _ (connects {n = n}) []
   close : {n : ℕ} → Calm _ _ _ (closes {n = n}) []
   arrive : {n moment : ℕ} {piece sent : List ℕ} {left : State} {line : Line} {answer : Arrived} {steps : List Step}
-      (a : Arrives config piece moment (w.line n) w.state sent left line answer) → CalmArrives n _ _ _ _ _ _ a steps → Calm _ _ _ (arrives {n = n} a) steps
-  none : {n moment : ℕ} {piece : List ℕ} (e : w.line n ≡ Absent) → Calm _ _ _ (unknown {n = n} {moment = moment} {piece = piece} e) []
+      (a : Arrives config piece moment (w.line n) w.state sent left line answer)
+      → CalmArrives n _ _ _ _ _ _ a steps → Calm _ _ _ (arrives {n = n} a) steps
+  none : {n moment : ℕ} {piece : List ℕ} (e : w.line n ≡ Absent)
+      → Calm _ _ _ (unknown {n = n} {moment = moment} {piece = piece} e) []
 
 -- a run
-pub data CalmRun {config : Config} {first : State} : (records : List Record) → (w : World) → Run config first records w → List Step → Type 0 where
+pub data CalmRun {config : Config} {first : State}
+    : (records : List Record) → (w : World) → Run config first records w → List Step → Type 0 where
   nothing : CalmRun _ _ begins []
   more : {records : List Record} {event : Event} {sent : List ℕ} {w w' : World} {steps next : List Step}
-      (r : Run config first records w) (h : Happens config w event sent w') → CalmRun _ _ r steps → Calm _ _ _ h next → CalmRun _ _ (goes_on r h) (steps ++ next)
+      (r : Run config first records w) (h : Happens config w event sent w')
+      → CalmRun _ _ r steps → Calm _ _ _ h next → CalmRun _ _ (goes_on r h) (steps ++ next)
 
 abbrev pub number_of : Event → ℕ
 number_of (Connect n) = n

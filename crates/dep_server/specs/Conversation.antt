@@ -44,7 +44,8 @@ pub record Rests (before after : Wire) : Type 0 where
 
 -- for all records that it stood for, the hub stands for them with these after them
 abbrev pub AddsAll : Hub → Hub → List Record → Type 0
-AddsAll old new more = (first : State) (records : List Record) → StandsFor old first records → StandsFor new first (records ++ more)
+AddsAll old new more =
+    (first : State) (records : List Record) → StandsFor old first records → StandsFor new first (records ++ more)
 
 -- the turns leave the connection open, one after another, each with the outlet's failures that the one before left
 pub data Talks (number : ℕ) : Hub → (failures : ℕ) → List Turn → Hub → (failures_after : ℕ) → Type 0 where
@@ -57,10 +58,12 @@ pub data Talks (number : ℕ) : Hub → (failures : ℕ) → List Turn → Hub �
 
 -- each turn came at the clock's answer
 abbrev pub Clocks : {C : Type 0} → (C → ℕ → C → Type 0) → C → List Turn → C → Type 0
-Clocks ticks clock turns now = FoldsTo (λ before t after. ticks before t.moment after) clock turns now
+Clocks ticks clock turns now =
+    FoldsTo (λ before t after. ticks before t.moment after) clock turns now
 
 -- turns so far: what they add, read, write, and when
-pub record Talk {C : Type 0} (ticks : C → ℕ → C → Type 0) (number : ℕ) (before after : Session C) (count : ℕ) (answer : Arrived) : Type 0 where
+pub record Talk {C : Type 0} (ticks : C → ℕ → C → Type 0) (number : ℕ) (before after : Session C)
+    (count : ℕ) (answer : Arrived) : Type 0 where
   pub turns : List Turn
   pub counted : length turns ≡ count
   pub sizes : ArePieces turns
@@ -70,11 +73,13 @@ pub record Talk {C : Type 0} (ticks : C → ℕ → C → Type 0) (number : ℕ)
   pub answered : last_answer turns ≡ answer
 
 -- one turn
-pub record OneTurn {C : Type 0} (ticks : C → ℕ → C → Type 0) (number : ℕ) (before after : Session C) (answer : Arrived) : Type 0 where
+pub record OneTurn {C : Type 0} (ticks : C → ℕ → C → Type 0) (number : ℕ) (before after : Session C)
+    (answer : Arrived) : Type 0 where
   pub piece : List ℕ
   pub moment : ℕ
   pub sent : List ℕ
-  pub arrives : IsArrival before.hub after.hub number piece moment sent before.wire.failures after.wire.failures answer
+  pub arrives :
+      IsArrival before.hub after.hub number piece moment sent before.wire.failures after.wire.failures answer
   pub some : 0 < length piece
   pub small : length piece ≤ most_read
   pub transfers : Transfers before.wire after.wire piece sent
@@ -86,7 +91,8 @@ pub record NoTurn {C : Type 0} (before after : Session C) : Type 0 where
   pub rests : Rests before.wire after.wire
   pub same_clock : after.clock ≡ before.clock
 
-abbrev pub TurnsTo : {C : Type 0} → (C → ℕ → C → Type 0) → ℕ → (before after : Session C) → Option Served → Type 0
+abbrev pub TurnsTo : {C : Type 0} → (C → ℕ → C → Type 0) → ℕ → (before after : Session C) → Option Served
+    → Type 0
 TurnsTo ticks number before after None = OneTurn ticks number before after StaysOpen
 TurnsTo ticks number before after (Some Closed) = OneTurn ticks number before after HasClosed
 TurnsTo ticks number before after (Some WriteFault) = OneTurn ticks number before after Cut
@@ -96,7 +102,8 @@ TurnsTo ticks number before after (Some Unserved) = ⊥
 TurnsTo ticks number before after (Some Bound) = ⊥
 
 -- the turns up to the end
-pub record TalksUntil {C : Type 0} (ticks : C → ℕ → C → Type 0) (number : ℕ) (before after : Session C) (served : Served) : Type 0 where
+pub record TalksUntil {C : Type 0} (ticks : C → ℕ → C → Type 0) (number : ℕ) (before after : Session C)
+    (served : Served) : Type 0 where
   pub count : ℕ
   pub answer : Arrived
   pub talk : Talk ticks number before after count answer
@@ -110,7 +117,8 @@ pub record IsAnswered (old new : Hub) (number : ℕ) (turns : List Turn) (w : Wo
   pub at : StandsAt new (with_closed number talked)
 
 -- one connection: what was read are its pieces, what was written is what was sent, each at the clock's answer
-pub record Converses {C : Type 0} (ticks : C → ℕ → C → Type 0) (before : Session C) (new : Hub) (after : Wire) (served : Served) : Type 0 where
+pub record Converses {C : Type 0} (ticks : C → ℕ → C → Type 0) (before : Session C) (new : Hub) (after : Wire)
+    (served : Served) : Type 0 where
   pub number : ℕ
   pub turns : List Turn
   pub is_next : number ≡ before.hub.next
@@ -134,7 +142,8 @@ pub record IsUnserved (old new : Hub) (before after : Wire) : Type 0 where
   pub adds : AddsAll old new []
   pub rests : Rests before after
 
-abbrev pub ConversesOver : {C : Type 0} → (C → ℕ → C → Type 0) → Session C → Hub → Wire → Served → Type 0
+abbrev pub ConversesOver : {C : Type 0} → (C → ℕ → C → Type 0) → (before : Session C) → (new : Hub) → (after : Wire)
+    → Served → Type 0
 ConversesOver ticks before new after Unserved = IsUnserved before.hub new before.wire after
 ConversesOver ticks before new after Ended = Converses ticks before new after Ended
 ConversesOver ticks before new after Closed = Converses ticks before new after Closed

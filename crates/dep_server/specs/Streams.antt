@@ -18,11 +18,13 @@ all_streams s = s.closed ++ option_map_or (λ stream. stream ∷ []) s.current [
 -- a piece goes on with the stream that is open, if there is one
 abbrev pub with_event : ℕ → Streams → Event → Streams
 with_event n s (Connect m) = if n == m then record { closed = all_streams s; current = Some [] } else s
-with_event n s (Arrive m piece moment) = if n == m then record s { current = option_map (λ stream. stream ++ piece) s.current } else s
+with_event n s (Arrive m piece moment) =
+    if n == m then record s { current = option_map (λ stream. stream ++ piece) s.current } else s
 with_event n s (Close m) = if n == m then record { closed = all_streams s; current = None } else s
 
 abbrev pub streams_over : ℕ → List Record → Streams
-streams_over n records = fold (λ s r. with_event n s r.event) (record { closed = []; current = None }) records
+streams_over n records =
+    fold (λ s r. with_event n s r.event) (record { closed = []; current = None }) records
 
 -- the pieces of each connection of this number, joined
 abbrev pub streams_of : ℕ → List Record → List (List ℕ)
@@ -30,7 +32,8 @@ streams_of n records = all_streams (streams_over n records)
 
 -- the items of the steps of this number, in their order
 abbrev pub items_of : ℕ → List Step → List Item
-items_of n steps = flat_map (λ t. if n == t.number then t.item ∷ [] else []) steps
+items_of n steps =
+    flat_map (λ t. if n == t.number then t.item ∷ [] else []) steps
 
 -- the streams spell these items, one stream after another
 pub data AreSpelled (limit : ℕ) : List (List ℕ) → List Item → Type 0 where

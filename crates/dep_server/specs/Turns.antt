@@ -60,8 +60,8 @@ with_opened number w = record w { line = put number (Live []) w.line }
 abbrev pub with_closed : ℕ → World → World
 with_closed number w = record w { line = put number Absent w.line }
 
--- the machine answers the turns one after another, each from where the one before left it; a turn that did not leave
--- the connection open is the last
+-- the machine answers the turns one after another, each from where the one before left it; a turn that did not
+-- leave the connection open is the last
 pub data Exchanges (config : Config) (number : ℕ) (first : World) : List Turn → World → Type 0 where
   none_yet : Exchanges config number first [] first
   one_more : {turns : List Turn} {w : World} {left : State} {line : Line} (t : Turn)

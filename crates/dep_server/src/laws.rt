@@ -16,10 +16,12 @@ ghost use Rattle.dep_server.specs.Bare.{asked_by, IsWithoutBody};
 ghost use Rattle.dep_server.specs.Turns.{Turn, records_of, with_opened, with_closed, Exchanges, EndsAs, IsEndedBy};
 ghost use Rattle.dep_server.specs.declared.connection.Served.{Served};
 
-/// Runs without failed steps that make the same steps send the same bytes, each connection its own, and end in the same state.
+/// Runs without failed steps that make the same steps send the same bytes, each connection its own, and end in the
+/// same state.
 pub fn cuts_move_moments_of_runs()
     ensures { (config : Config) (first : State) (records others : List Record) (steps : List Step) (v w : World)
-        (r : Run config first records v) (q : Run config first others w) → CalmRun records v r steps → CalmRun others w q steps
+        (r : Run config first records v) (q : Run config first others w)
+        → CalmRun records v r steps → CalmRun others w q steps
         → ((n : ℕ) → sent_to n records ≡ sent_to n others) × (v.state ≡ w.state) }
 {}
 
@@ -30,26 +32,30 @@ pub fn streams_make_the_steps()
         → (n : ℕ) → AreSpelled config.max_upload (streams_of n records) (items_of n steps) }
 {}
 
-/// How the bytes are cut into pieces moves the occasions of requests, that is when each is complete and in which order
-/// among the connections, and nothing else: two runs without failed steps over which the same streams come make the same
-/// items of each connection; and where these come on the same occasions, both send the same bytes, to each connection its
-/// own, and end in the same state.
+/// How the bytes are cut into pieces moves the occasions of requests, that is when each is complete and in which
+/// order among the connections, and nothing else: two runs without failed steps over which the same streams come
+/// make the same items of each connection; and where these come on the same occasions, both send the same bytes,
+/// to each connection its own, and end in the same state.
 pub fn cuts_move_occasions()
     ensures { (config : Config) (first : State) (records others : List Record) (steps moves : List Step) (v w : World)
-        (r : Run config first records v) (q : Run config first others w) → CalmRun records v r steps → CalmRun others w q moves
+        (r : Run config first records v) (q : Run config first others w)
+        → CalmRun records v r steps → CalmRun others w q moves
         → ((n : ℕ) → streams_of n records ≡ streams_of n others)
         → ((n : ℕ) → items_of n steps ≡ items_of n moves)
-        × (occasions_of steps ≡ occasions_of moves → ((n : ℕ) → sent_to n records ≡ sent_to n others) × (v.state ≡ w.state)) }
+        × (occasions_of steps ≡ occasions_of moves
+        → ((n : ℕ) → sent_to n records ≡ sent_to n others) × (v.state ≡ w.state)) }
 {}
 
-/// A HEAD is stepped as the GET of the same path: its reply has the same head, which tells the length of the body, and no body.
+/// A HEAD is stepped as the GET of the same path: its reply has the same head, which tells the length of the body,
+/// and no body.
 pub fn heads_have_no_body()
     ensures { (config : Config) (s : State) (m : Message) (moment : ℕ)
-        → IsWithoutBody (step config s (Request (asked_by (codes "GET") m)) moment) (step config s (Request (asked_by (codes "HEAD") m)) moment) }
+        → IsWithoutBody (step config s (Request (asked_by (codes "GET") m)) moment)
+        (step config s (Request (asked_by (codes "HEAD") m)) moment) }
 {}
 
-/// No reply can be read as two, whatever was deposited: what is sent for an item of a sound machine begins with a head that
-/// ends at its first empty line, and has its own lines and no others; and so do the fixed replies.
+/// No reply can be read as two, whatever was deposited: what is sent for an item of a sound machine begins with a
+/// head that ends at its first empty line, and has its own lines and no others; and so do the fixed replies.
 pub fn replies_are_unsplit()
     ensures steps { (config : Config) (s : State) (item : Item) (moment : ℕ) → IsChecked config → IsSound s
         → IsUnsplit item (step config s item moment).front }
@@ -58,25 +64,29 @@ pub fn replies_are_unsplit()
 
 /// A step keeps a sound state sound, whatever came and at whatever moment.
 pub fn steps_keep_sound()
-    ensures { (config : Config) (s : State) (item : Item) (moment : ℕ) → IsSound s → IsSound (step config s item moment).state }
+    ensures { (config : Config) (s : State) (item : Item) (moment : ℕ)
+        → IsSound s → IsSound (step config s item moment).state }
 {}
 
 /// What happens to the machine keeps its state sound, also where a step fails.
 pub fn runs_keep_sound()
-    ensures { (config : Config) (first : State) (records : List Record) (w : World) → Run config first records w → IsSound first → IsSound w.state }
+    ensures { (config : Config) (first : State) (records : List Record) (w : World)
+        → Run config first records w → IsSound first → IsSound w.state }
 {}
 
 /// What the machine answers to the turns of a connection is a run, from its opening to its close.
 pub fn turns_make_a_run()
-    ensures { (config : Config) (first : State) (records : List Record) (number : ℕ) (turns : List Turn) (w talked : World)
+    ensures { (config : Config) (first : State) (records : List Record) (number : ℕ) (turns : List Turn)
+        (w talked : World)
         → Run config first records w → Exchanges config number (with_opened number w) turns talked
         → Run config first (records ++ records_of number turns) (with_closed number talked) }
 {}
 
-/// A turn that does not leave its connection open is the last one, and tells why the connection is served no longer:
-/// where a reply was cut, because the outlet failed, and where it was closed, because of that.
+/// A turn that does not leave its connection open is the last one, and tells why the connection is served no
+/// longer: where a reply was cut, because the outlet failed, and where it was closed, because of that.
 pub fn last_turn_tells_the_end()
-    ensures { (config : Config) (number : ℕ) (w talked : World) (before behind : List Turn) (t : Turn) (unread : Option (List ℕ)) (end : Served)
-        → Exchanges config number w (before ++ t ∷ behind) talked → EndsAs unread (before ++ t ∷ behind) end
-        → IsEndedBy t.answer behind end }
+    ensures { (config : Config) (number : ℕ) (w talked : World) (before behind : List Turn) (t : Turn)
+        (unread : Option (List ℕ)) (end : Served)
+        → Exchanges config number w (before ++ t ∷ behind) talked
+        → EndsAs unread (before ++ t ∷ behind) end → IsEndedBy t.answer behind end }
 {}

@@ -27,8 +27,10 @@ pub record IsReplayed (base : List ℕ) (moment : ℕ) (before after : Wire) (se
   pub number : ℕ
   pub turns : List Turn
   pub talked : World
-  pub exchanges : Exchanges (program_config base) number (with_opened number (begin_with empty_state)) turns talked
-  pub run : Run (program_config base) empty_state (records_of number turns) (with_closed number talked)
+  pub exchanges :
+      Exchanges (program_config base) number (with_opened number (begin_with empty_state)) turns talked
+  pub run :
+      Run (program_config base) empty_state (records_of number turns) (with_closed number talked)
   pub moments : All (λ t. t.moment ≡ moment) turns
   pub sizes : ArePieces turns
   pub transfers : Transfers before after (pieces_of turns) (replies_of turns)
@@ -39,6 +41,7 @@ pub data Replays (base : List ℕ) (moment : ℕ) (before after : Wire) : Outcom
   replayed : (served : Served) → IsReplayed base moment before after served
       → Replays base moment before after (outcome_of served)
   -- the base is refused: nothing was read or written
-  refused : (IsChecked (program_config base) → ⊥) → Rests before after → Replays base moment before after Usage
+  refused : (IsChecked (program_config base) → ⊥) → Rests before after
+      → Replays base moment before after Usage
   -- memory ran out before the first read
   not_begun : Rests before after → Replays base moment before after StoreFault

@@ -1,6 +1,6 @@
 //! The words of the command line.
 ghost use Rattle.std.specs.Prelude.{◌≡◌, map, string_bytes, option_map};
-ghost use Rattle.swordd.specs.Commands.{asked, asked_by, moment_of};
+ghost use Rattle.swordd.specs.Commands.{replay_in, replay_of, moment_of};
 
 use dep_octets::{Number, decimal};
 
@@ -15,7 +15,7 @@ impl<'a> Command<'a> {
     /// Reads the words after the program's name. There is no command where a word is wrong, missing or
     /// one too many, or a number is outside its range.
     pub fn read(words: &'a [String]) -> Option<Command<'a>>
-        ensures { option_map asked result ≡ asked_by (map string_bytes words.now) }
+        ensures { option_map replay_in result ≡ replay_of (map string_bytes words.now) }
     {
         let [name, moment, base] = words else {
             return None;

@@ -2,6 +2,7 @@
 #![tactic(auto)]
 
 mod command;
+pub mod laws;
 mod outcome;
 mod replay;
 mod setup;
