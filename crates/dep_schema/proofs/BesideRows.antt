@@ -1,10 +1,12 @@
 -- The first rows, where our tables stand beside those of others.
-use Rattle.std.proofs.Common.{◌≡◌, ℕ, ◌+◌, pos, List, [], ◌∷◌, ◌++◌, if◌then◌else◌, length, slice_get, Option, None, Some, unwrap_or, option_map, option_and_then, Ok, Err, OnOk, Result, codes, refl, sym, ap, subst, ◌∙◌, arith, append_assoc}
+use Rattle.std.proofs.Common.{◌≡◌, IsTrue, ℕ, ◌+◌, pos, List, [], ◌∷◌, ◌++◌, if◌then◌else◌, length, slice_get, Option, None, Some, unwrap_or, option_map, option_and_then, Ok, Err, OnOk, Result, codes, refl, sym, ap, subst, ◌∙◌, arith, append_assoc}
 use Rattle.std.specs.List.{AllByRecursion, position_from}
 use Rattle.sqlite_tied.specs.Compute.{everything}
 use Rattle.sqlite.specs.Schema.{Schema}
 use Rattle.sqlite.specs.Table.{Table}
 use Rattle.sqlite.specs.Tree.{Trees}
+use Rattle.sqlite.specs.Order.{Row}
+use Rattle.sqlite_trees.specs.View.{is_int}
 use Rattle.sqlite.specs.Listing.{understood, listing_schema, misses_table, if_select}
 use Rattle.sqlite.specs.Command.{Command}
 use Rattle.sqlite.specs.Command.TheVariants.{Insert}
@@ -12,7 +14,7 @@ use Rattle.sqlite.specs.Source.TheVariants.{Values}
 use Rattle.sqlite.specs.Rowids.TheVariants.{Chosen}
 use Rattle.sqlite.specs.declared.types.Value.TheVariants.{Null, Int}
 use Rattle.sqlite.specs.Term.{Term, lit}
-use Rattle.sqlite.specs.Effect.{Database, value_rows}
+use Rattle.sqlite.specs.Effect.{Database}
 use Rattle.sqlite.specs.State.{State, ExecutesInside}
 use Rattle.sqlite.proofs.Callers.{IsPlain, command_of}
 use Rattle.sqlite_schema.specs.Names.{table_named, same_name}
@@ -24,23 +26,24 @@ use Rattle.sqlite_resolve.specs.declared.compiled.Compiled.{Compiled}
 use Rattle.sqlite_resolve.specs.Lowering.{Checked, and_then, or_else}
 use Rattle.sqlite_resolve.specs.Compile.{compiled, first, with_command, new_rows, small}
 use Rattle.sqlite_rules.specs.Lists.{Has}
-use Rattle.sqlite_rules.specs.Edit.{with_rowid}
+use Rattle.sqlite_rules.specs.Edit.{with_rowid, put_all}
 use Rattle.sqlite_rules.proofs.ListLemmas.{all_from, all_has}
-use Rattle.sqlite_trees.specs.Tree.{put_row}
+use Rattle.sqlite_trees.specs.Tree.{put_row, rowid}
 use Rattle.sqlite_catalog.specs.Listing.{IsSound}
 use Rattle.sqlite_catalog.specs.Change.{created, next_tree}
 use Rattle.sqlite_catalog.proofs.StepLemmas.{no_table, table_below}
 use Rattle.dep_statements.specs.Adding.{HasCounters, AddsAll, Puts}
+use Rattle.dep_statements.specs.Rows.{IsOrdered}
 use Rattle.dep_statements.proofs.Adding.{AllMade, made_all, free_all, adds_append, placed_after, got_after, next_created}
 use Rattle.dep_statements.proofs.Values.{cast_int, cast_null}
 use Rattle.dep_statements.proofs.Statements.{inserted}
-use Rattle.dep_statements.proofs.Results.{puts}
-use Rattle.dep_schema.proofs.Results.{ok_then}
-use Rattle.dep_schema.specs.Schema.{our_schema, no_schema, format_table, state_table, objects_table, metadata_table, files_table}
+use Rattle.dep_tables.proofs.Results.{ok_then}
+use Rattle.dep_tables.specs.Schema.{our_schema, our_tables, format_table, state_table, objects_table, metadata_table, files_table, uploads_table, segments_table, timed_out_table, blocks_table}
 use Rattle.dep_schema.specs.Texts.{add_format_text, add_state_text}
-use Rattle.dep_schema.specs.Rows.{format_row, state_row}
-use Rattle.dep_schema.specs.Beside.{our_tables, AreFree, with_ours}
-use Rattle.dep_schema.specs.Tables.{AreOrdered, Sees, tables_of, first_state, first_tables, tables_from, IsBeside, GainsOurs}
+use Rattle.dep_tables.specs.Rows.{stored_format, stored_state}
+use Rattle.dep_schema.specs.Beside.{AreFree, with_ours}
+use Rattle.dep_tables.specs.Tables.{Tables, tables_of, tables_from}
+use Rattle.dep_schema.specs.Standing.{Sees, no_schema, first_state, first_tables, our_version, IsBeside, GainsOurs}
 
 -- ---- how an INSERT is understood, by the table that its name finds
 
@@ -64,7 +67,7 @@ abbrev Inserts : ℕ → List Term → ℕ → Checked Compiled → Type 0
 Inserts n terms width r = (command_of r ≡ Insert n (Values terms width)) × IsPlain r
 
 abbrev format_terms : List Term
-format_terms = lit (Int (pos 1)) ∷ lit Null ∷ lit (Int (pos 0)) ∷ []
+format_terms = lit (Int (pos 1)) ∷ lit Null ∷ lit (Int (pos 1)) ∷ []
 
 abbrev state_terms : List Term
 state_terms = lit (Int (pos 1)) ∷ lit Null ∷ lit (Int (pos 0)) ∷ lit (Int (pos 1)) ∷ lit (Int (pos 1)) ∷ lit (Int (pos 1)) ∷ lit (Int (pos 1)) ∷ []
@@ -103,9 +106,6 @@ module _ (schema : Schema) (n k : ℕ) where
 -- ---- where our tables stand
 
 module _ (schema : Schema) where
-  abbrev format_tree : ℕ
-  format_tree = next_tree schema
-
   abbrev with_format : Schema
   with_format = created schema format_table
 
@@ -118,25 +118,56 @@ module _ (schema : Schema) where
   abbrev with_metadata : Schema
   with_metadata = created with_objects metadata_table
 
+  abbrev with_files : Schema
+  with_files = created with_metadata files_table
+
+  abbrev with_uploads : Schema
+  with_uploads = created with_files uploads_table
+
+  abbrev with_segments : Schema
+  with_segments = created with_uploads segments_table
+
+  abbrev with_timed_out : Schema
+  with_timed_out = created with_segments timed_out_table
+
   abbrev ours : List Table
   ours =
-      record format_table { tree = next_tree schema } ∷ record state_table { tree = next_tree with_format } ∷ record objects_table { tree = next_tree with_state } ∷ record metadata_table { tree = next_tree with_objects }
-      ∷ record files_table { tree = next_tree with_metadata } ∷ []
+      record format_table { tree = next_tree schema }
+      ∷ record state_table { tree = next_tree with_format }
+      ∷ record objects_table { tree = next_tree with_state }
+      ∷ record metadata_table { tree = next_tree with_objects }
+      ∷ record files_table { tree = next_tree with_metadata }
+      ∷ record uploads_table { tree = next_tree with_files }
+      ∷ record segments_table { tree = next_tree with_uploads }
+      ∷ record timed_out_table { tree = next_tree with_segments }
+      ∷ record blocks_table { tree = next_tree with_timed_out } ∷ []
 
   tables_are : (with_ours schema).tables ≡ schema.tables ++ ours
   tables_are = simp append_assoc
 
-  first_tree : next_tree with_format ≡ next_tree schema + 1
-  first_tree = next_created schema format_table
+  state_tree : next_tree with_format ≡ next_tree schema + 1
+  state_tree = next_created schema format_table
 
-  second_tree : next_tree with_state ≡ next_tree schema + 2
-  second_tree = omega (arith, next_created with_format state_table, first_tree)
+  objects_tree : next_tree with_state ≡ next_tree schema + 2
+  objects_tree = omega (arith, next_created with_format state_table, state_tree)
 
-  third_tree : next_tree with_objects ≡ next_tree schema + 3
-  third_tree = omega (arith, next_created with_state objects_table, second_tree)
+  metadata_tree : next_tree with_objects ≡ next_tree schema + 3
+  metadata_tree = omega (arith, next_created with_state objects_table, objects_tree)
 
-  fifth_tree : next_tree with_metadata ≡ next_tree schema + 5
-  fifth_tree = omega (arith, next_created with_objects metadata_table, third_tree)
+  files_tree : next_tree with_metadata ≡ next_tree schema + 5
+  files_tree = omega (arith, next_created with_objects metadata_table, metadata_tree)
+
+  uploads_tree : next_tree with_files ≡ next_tree schema + 6
+  uploads_tree = omega (arith, next_created with_metadata files_table, files_tree)
+
+  segments_tree : next_tree with_uploads ≡ next_tree schema + 7
+  segments_tree = omega (arith, next_created with_files uploads_table, uploads_tree)
+
+  timed_out_tree : next_tree with_segments ≡ next_tree schema + 9
+  timed_out_tree = omega (arith, next_created with_uploads segments_table, segments_tree)
+
+  blocks_tree : next_tree with_timed_out ≡ next_tree schema + 10
+  blocks_tree = omega (arith, next_created with_segments timed_out_table, timed_out_tree)
 
   module _ (free : AreFree schema) where
     format_named : table_named (with_ours schema) (codes "format") ≡ Some (length schema.tables + 0)
@@ -158,21 +189,19 @@ module _ (schema : Schema) where
     state_listed = ap (λ xs. slice_get xs (length schema.tables + 1)) tables_are ∙ got_after schema.tables ours 1
 
     module _ (old new : State) (count : ℕ) (here : old.now.schema ≡ with_ours schema) where
-      pub puts_format : ExecutesInside 0 add_format_text [] old new (Ok count) → Puts (next_tree schema) (format_row 0) old.now new.now
+      pub puts_format : ExecutesInside 0 add_format_text [] old new (Ok count) → Puts (next_tree schema) (stored_format our_version) old.now new.now
       puts_format h =
           let is = format_is (with_ours schema) (length schema.tables + 0) (next_tree schema) format_named format_listed in
           let wrote = inserted (with_ours schema) add_format_text [] old new here is.1 count h (length schema.tables + 0) _ _ _ _ _ _ _ format_listed format_terms 3 is.0 in
-          let made = puts (with_ours schema) old new (record format_table { tree = next_tree schema }) (value_rows [] 3 1 format_terms) (format_row 0)
-          (λ i. with_rowid Chosen (old.now.trees (next_tree schema)) (cast_int (pos 1) i ∷ cast_null i ∷ cast_int (pos 0) i ∷ []) ∷ []) wrote in
-          record { schema = wrote.schema_is ∙ sym here; rows = made.0.rows_are; others = subst (λ (s : Schema). AllByRecursion (λ t. (t.tree ≡ next_tree schema → ⊥) → new.now.trees t.tree ≡ old.now.trees t.tree) s.tables) (sym here) wrote.applies.tables; sound = wrote.sound }
+          let put = ap (put_all (old.now.trees (next_tree schema))) (λ i. with_rowid Chosen (old.now.trees (next_tree schema)) (cast_int (pos 1) i ∷ cast_null i ∷ cast_int (pos 1) i ∷ []) ∷ []) in
+          record { schema = wrote.schema_is ∙ sym here; rows = wrote.applies.rows ∙ put; others = subst (λ (s : Schema). AllByRecursion (λ t. (t.tree ≡ next_tree schema → ⊥) → new.now.trees t.tree ≡ old.now.trees t.tree) s.tables) (sym here) wrote.applies.tables; sound = wrote.sound }
 
-      pub puts_state : ExecutesInside 0 add_state_text [] old new (Ok count) → Puts (next_tree with_format) (state_row first_state) old.now new.now
+      pub puts_state : ExecutesInside 0 add_state_text [] old new (Ok count) → Puts (next_tree with_format) (stored_state first_state) old.now new.now
       puts_state h =
           let is = state_is (with_ours schema) (length schema.tables + 1) (next_tree with_format) state_named state_listed in
           let wrote = inserted (with_ours schema) add_state_text [] old new here is.1 count h (length schema.tables + 1) _ _ _ _ _ _ _ state_listed state_terms 7 is.0 in
-          let made = puts (with_ours schema) old new (record state_table { tree = next_tree with_format }) (value_rows [] 7 1 state_terms) (state_row first_state)
-          (λ i. with_rowid Chosen (old.now.trees (next_tree with_format)) (cast_int (pos 1) i ∷ cast_null i ∷ cast_int (pos 0) i ∷ cast_int (pos 1) i ∷ cast_int (pos 1) i ∷ cast_int (pos 1) i ∷ cast_int (pos 1) i ∷ []) ∷ []) wrote in
-          record { schema = wrote.schema_is ∙ sym here; rows = made.0.rows_are; others = subst (λ (s : Schema). AllByRecursion (λ t. (t.tree ≡ next_tree with_format → ⊥) → new.now.trees t.tree ≡ old.now.trees t.tree) s.tables) (sym here) wrote.applies.tables; sound = wrote.sound }
+          let put = ap (put_all (old.now.trees (next_tree with_format))) (λ i. with_rowid Chosen (old.now.trees (next_tree with_format)) (cast_int (pos 1) i ∷ cast_null i ∷ cast_int (pos 0) i ∷ cast_int (pos 1) i ∷ cast_int (pos 1) i ∷ cast_int (pos 1) i ∷ cast_int (pos 1) i ∷ []) ∷ []) in
+          record { schema = wrote.schema_is ∙ sym here; rows = wrote.applies.rows ∙ put; others = subst (λ (s : Schema). AllByRecursion (λ t. (t.tree ≡ next_tree with_format → ⊥) → new.now.trees t.tree ≡ old.now.trees t.tree) s.tables) (sym here) wrote.applies.tables; sound = wrote.sound }
 
 -- ---- all of it
 
@@ -180,13 +209,13 @@ all_apart : {X : Type 0} (P : X → Type 0) (xs ys : List X) → AllByRecursion 
 all_apart P [] ys all = (tt, all)
 all_apart P (x ∷ xs) ys all = let rest = all_apart P xs ys all.1 in ((all.0, rest.0), rest.1)
 
-module _ (old mid next new : Database) (added : AddsAll our_tables old mid) (has : HasCounters old.schema) (format_put : Puts (next_tree old.schema) (format_row 0) mid next)
-    (state_put : Puts (next_tree (created old.schema format_table)) (state_row first_state) next new) where
+module _ (old mid next new : Database) (added : AddsAll our_tables old mid) (has : HasCounters old.schema) (format_put : Puts (next_tree old.schema) (stored_format our_version) mid next)
+    (state_put : Puts (next_tree (created old.schema format_table)) (stored_state first_state) next new) where
   abbrev schema : Schema
   schema = old.schema
 
   made : AllMade our_tables old mid
-  made = made_all our_tables old mid (refl, (refl, (refl, (refl, (refl, tt))))) has added
+  made = made_all our_tables old mid (refl, (refl, (refl, (refl, (refl, (refl, (refl, (refl, (refl, tt))))))))) has added
 
   abbrev KeepsBut : ℕ → Trees → Trees → List Table → Type 0
   KeepsBut n a b tables = AllByRecursion (λ t. (t.tree ≡ n → ⊥) → b t.tree ≡ a t.tree) tables
@@ -206,34 +235,50 @@ module _ (old mid next new : Database) (added : AddsAll our_tables old mid) (has
   schema_is : new.schema ≡ with_ours schema
   schema_is = state_put.schema ∙ format_put.schema ∙ made.schema
 
-  format_rows : new.trees (next_tree schema) ≡ format_row 0 ∷ []
-  format_rows = second_kept.1.0 (λ e. omega (arith, e, first_tree schema)) ∙ format_put.rows ∙ ap (put_row (format_row 0)) made.empty.0
+  format_rows : new.trees (next_tree schema) ≡ stored_format our_version ∷ []
+  format_rows = second_kept.1.0 (λ e. omega (arith, e, state_tree schema)) ∙ format_put.rows ∙ ap (put_row (stored_format our_version)) made.empty.0
 
-  state_rows : new.trees (next_tree (with_format schema)) ≡ state_row first_state ∷ []
-  state_rows = state_put.rows ∙ ap (put_row (state_row first_state)) (first_kept.1.1.0 (λ e. omega (arith, e, first_tree schema)) ∙ made.empty.1.0)
+  state_rows : new.trees (next_tree (with_format schema)) ≡ stored_state first_state ∷ []
+  state_rows = state_put.rows ∙ ap (put_row (stored_state first_state)) (first_kept.1.1.0 (λ e. omega (arith, e, state_tree schema)) ∙ made.empty.1.0)
 
   objects_rows : new.trees (next_tree (with_state schema)) ≡ []
-  objects_rows = second_kept.1.1.1.0 (λ e. omega (arith, e, first_tree schema, second_tree schema)) ∙ first_kept.1.1.1.0 (λ e. omega (arith, e, second_tree schema)) ∙ made.empty.1.1.0
+  objects_rows = second_kept.1.1.1.0 (λ e. omega (arith, e, state_tree schema, objects_tree schema)) ∙ first_kept.1.1.1.0 (λ e. omega (arith, e, objects_tree schema)) ∙ made.empty.1.1.0
 
   metadata_rows : new.trees (next_tree (with_objects schema)) ≡ []
-  metadata_rows = second_kept.1.1.1.1.0 (λ e. omega (arith, e, first_tree schema, third_tree schema)) ∙ first_kept.1.1.1.1.0 (λ e. omega (arith, e, third_tree schema)) ∙ made.empty.1.1.1.0
+  metadata_rows = second_kept.1.1.1.1.0 (λ e. omega (arith, e, state_tree schema, metadata_tree schema)) ∙ first_kept.1.1.1.1.0 (λ e. omega (arith, e, metadata_tree schema)) ∙ made.empty.1.1.1.0
 
   files_rows : new.trees (next_tree (with_metadata schema)) ≡ []
-  files_rows = second_kept.1.1.1.1.1.0 (λ e. omega (arith, e, first_tree schema, fifth_tree schema)) ∙ first_kept.1.1.1.1.1.0 (λ e. omega (arith, e, fifth_tree schema)) ∙ made.empty.1.1.1.1.0
+  files_rows = second_kept.1.1.1.1.1.0 (λ e. omega (arith, e, state_tree schema, files_tree schema)) ∙ first_kept.1.1.1.1.1.0 (λ e. omega (arith, e, files_tree schema)) ∙ made.empty.1.1.1.1.0
+
+  uploads_rows : new.trees (next_tree (with_files schema)) ≡ []
+  uploads_rows = second_kept.1.1.1.1.1.1.0 (λ e. omega (arith, e, state_tree schema, uploads_tree schema)) ∙ first_kept.1.1.1.1.1.1.0 (λ e. omega (arith, e, uploads_tree schema)) ∙ made.empty.1.1.1.1.1.0
+
+  segments_rows : new.trees (next_tree (with_uploads schema)) ≡ []
+  segments_rows = second_kept.1.1.1.1.1.1.1.0 (λ e. omega (arith, e, state_tree schema, segments_tree schema)) ∙ first_kept.1.1.1.1.1.1.1.0 (λ e. omega (arith, e, segments_tree schema)) ∙ made.empty.1.1.1.1.1.1.0
+
+  timed_out_rows : new.trees (next_tree (with_segments schema)) ≡ []
+  timed_out_rows = second_kept.1.1.1.1.1.1.1.1.0 (λ e. omega (arith, e, state_tree schema, timed_out_tree schema)) ∙ first_kept.1.1.1.1.1.1.1.1.0 (λ e. omega (arith, e, timed_out_tree schema)) ∙ made.empty.1.1.1.1.1.1.1.0
+
+  blocks_rows : new.trees (next_tree (with_timed_out schema)) ≡ []
+  blocks_rows = second_kept.1.1.1.1.1.1.1.1.1.0 (λ e. omega (arith, e, state_tree schema, blocks_tree schema)) ∙ first_kept.1.1.1.1.1.1.1.1.1.0 (λ e. omega (arith, e, blocks_tree schema)) ∙ made.empty.1.1.1.1.1.1.1.1.0
 
   rows_are : tables_from (next_tree schema) new.trees ≡ first_tables
   rows_are = λ i. record {
     format = format_rows i;
-    state = (ap new.trees (sym (first_tree schema)) ∙ state_rows) i;
-    objects = (ap new.trees (sym (second_tree schema)) ∙ objects_rows) i;
-    metadata = (ap new.trees (sym (third_tree schema)) ∙ metadata_rows) i;
-    files = (ap new.trees (sym (fifth_tree schema)) ∙ files_rows) i;
+    state = (ap new.trees (sym (state_tree schema)) ∙ state_rows) i;
+    objects = (ap new.trees (sym (objects_tree schema)) ∙ objects_rows) i;
+    metadata = (ap new.trees (sym (metadata_tree schema)) ∙ metadata_rows) i;
+    files = (ap new.trees (sym (files_tree schema)) ∙ files_rows) i;
+    uploads = (ap new.trees (sym (uploads_tree schema)) ∙ uploads_rows) i;
+    segments = (ap new.trees (sym (segments_tree schema)) ∙ segments_rows) i;
+    timed_out = (ap new.trees (sym (timed_out_tree schema)) ∙ timed_out_rows) i;
+    blocks = (ap new.trees (sym (blocks_tree schema)) ∙ blocks_rows) i;
   }
 
   each_kept : (t : Table) → Has schema.tables t → new.trees t.tree ≡ old.trees t.tree
   each_kept t here =
       let low = table_below schema t here in
-      all_has _ schema.tables t second_kept.0 here (λ e. omega (arith, e, low, first_tree schema)) ∙ all_has _ schema.tables t first_kept.0 here (λ e. omega (arith, e, low)) ∙ all_has _ schema.tables t made.others here
+      all_has _ schema.tables t second_kept.0 here (λ e. omega (arith, e, low, state_tree schema)) ∙ all_has _ schema.tables t first_kept.0 here (λ e. omega (arith, e, low)) ∙ all_has _ schema.tables t made.others here
 
   pub stands_beside : (new.schema ≡ with_ours old.schema) × IsBeside old new.trees
   stands_beside = (schema_is, record { sound = subst (λ s. IsSound s new.trees) schema_is state_put.sound; rows = rows_are; others = all_from _ schema.tables each_kept })
@@ -242,14 +287,17 @@ gains_if : {A E : Type 0} (r : Result A E) (old new : Database) → AreFree old.
 gains_if (Ok x) old new free after = record { free = free; made = after }
 gains_if (Err e) old new free after = tt
 
-pub gains : {A E : Type 0} (r : Result A E) (old first mid new : Database) → AddsAll (format_table ∷ state_table ∷ objects_table ∷ []) old first → AddsAll (metadata_table ∷ files_table ∷ []) first mid
-    → ((others : Schema) → AreFree others → mid.schema ≡ with_ours others → OnOk r ((next : Database) × Puts (next_tree others) (format_row 0) mid next × Puts (next_tree (created others format_table)) (state_row first_state) next new))
+pub gains : {A E : Type 0} (r : Result A E) (old first second mid new : Database) → AddsAll (format_table ∷ state_table ∷ objects_table ∷ []) old first → AddsAll (metadata_table ∷ files_table ∷ uploads_table ∷ []) first second
+    → AddsAll (segments_table ∷ timed_out_table ∷ blocks_table ∷ []) second mid
+    → ((others : Schema) → AreFree others → mid.schema ≡ with_ours others
+    → OnOk r ((next : Database) × Puts (next_tree others) (stored_format our_version) mid next × Puts (next_tree (created others format_table)) (stored_state first_state) next new))
     → OnOk r (GainsOurs old new)
-gains r old first mid new begun ended rows =
-    let added : AddsAll our_tables old mid = adds_append (format_table ∷ state_table ∷ objects_table ∷ []) (metadata_table ∷ files_table ∷ []) old first mid begun ended in
+gains r old first second mid new begun goes ended rows =
+    let more = adds_append (metadata_table ∷ files_table ∷ uploads_table ∷ []) (segments_table ∷ timed_out_table ∷ blocks_table ∷ []) first second mid goes ended in
+    let added : AddsAll our_tables old mid = adds_append (format_table ∷ state_table ∷ objects_table ∷ []) (metadata_table ∷ files_table ∷ uploads_table ∷ segments_table ∷ timed_out_table ∷ blocks_table ∷ []) old first mid begun more in
     let free = (free_all our_tables old mid added).0 in
     gains_if r old new free (λ has.
-    ok_then r (rows old.schema free (made_all our_tables old mid (refl, (refl, (refl, (refl, (refl, tt))))) has added).schema) (λ put. stands_beside old mid put.0 new added has put.1 put.2))
+    ok_then r (rows old.schema free (made_all our_tables old mid (refl, (refl, (refl, (refl, (refl, (refl, (refl, (refl, (refl, tt))))))))) has added).schema) (λ put. stands_beside old mid put.0 new added has put.1 put.2))
 
 -- ---- in an empty database
 
@@ -257,18 +305,20 @@ empty_ours : with_ours no_schema ≡ our_schema
 unfolding everything
 empty_ours = refl
 
-first_ordered : AreOrdered first_tables
-first_ordered = record { format = ((tt, tt), (refl, tt)); state = ((tt, tt), (refl, tt)); objects = (tt, tt); metadata = (tt, tt); files = (tt, tt) }
-
 sees_first : (old new : State) → old.now.schema ≡ no_schema → GainsOurs old.now new.now → Sees new first_tables
 sees_first old new empty gained =
     let after = gained.made (subst HasCounters (sym empty) refl) in
     let schema : with_ours old.now.schema ≡ our_schema = ap with_ours empty ∙ empty_ours in
     let rows : tables_of new ≡ first_tables = subst (λ s. tables_from (next_tree s) new.now.trees ≡ first_tables) empty after.1.rows in
+    let one : (tree : List Row) (row : Row) → tree ≡ row ∷ [] → IsTrue (is_int (rowid row)) → IsOrdered tree = λ tree row is keyed. subst IsOrdered (sym is) ((tt, tt), (keyed, tt)) in
+    let none : (tree : List Row) → tree ≡ [] → IsOrdered tree = λ tree is. subst IsOrdered (sym is) (tt, tt) in
     record {
       ours = record {
         schema = after.0 ∙ schema;
-        trees = record { sound = subst (λ s. IsSound s new.now.trees) schema after.1.sound; ordered = subst AreOrdered (sym rows) first_ordered };
+        trees = record {
+          sound = subst (λ s. IsSound s new.now.trees) schema after.1.sound;
+          ordered = (one _ _ (ap (λ (t : Tables). t.format) rows) refl, (one _ _ (ap (λ (t : Tables). t.state) rows) refl, (none _ (ap (λ (t : Tables). t.objects) rows), (none _ (ap (λ (t : Tables). t.metadata) rows), (none _ (ap (λ (t : Tables). t.files) rows), (none _ (ap (λ (t : Tables). t.uploads) rows), (none _ (ap (λ (t : Tables). t.segments) rows), (none _ (ap (λ (t : Tables). t.timed_out) rows), (none _ (ap (λ (t : Tables). t.blocks) rows), tt)))))))));
+        };
       };
       rows = rows;
     }

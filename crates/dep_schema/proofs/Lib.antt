@@ -1,12 +1,6 @@
-pub mod Results
-pub mod Leading
-pub mod StateTable
-pub mod Version
-pub mod ObjectsTable
-pub mod FilesTable
-pub mod MetadataTable
-pub mod Again
 pub mod Missing
-pub mod Beside
+pub mod MadeTables
 pub mod BesideRows
-pub mod MetadataKey
+pub mod Version
+pub mod Again
+pub mod Transactions

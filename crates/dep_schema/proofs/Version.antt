@@ -1,5 +1,5 @@
 -- How the version is found.
-use Rattle.std.proofs.Common.{◌≡◌, ◌↔◌, ◌⊎◌, inl, inr, ℕ, pos, List, [], ◌∷◌, map, filter, false, Err, codes, refl, sym, ap, subst, ◌∙◌, arith}
+use Rattle.std.proofs.Common.{◌≡◌, IsTrue, ◌↔◌, ◌⊎◌, inl, inr, ℕ, pos, List, [], ◌∷◌, map, filter, false, Err, codes, refl, sym, ap, subst, ◌∙◌, arith}
 use Rattle.std.specs.List.Sorted.{IsPermutation}
 use Rattle.std.proofs.lemmas.List.Sorted.{IsPermutation-sym}
 use Rattle.sqlite_tied.specs.Compute.{everything}
@@ -21,7 +21,7 @@ use Rattle.dep_statements.specs.Query.{one_table, plainly, no_limit, passes}
 use Rattle.dep_statements.proofs.Answered.{shown_of, in_any_order}
 use Rattle.dep_statements.proofs.Asked.{store_only, shown_unchanged, unread, unread_as, understood_asks}
 use Rattle.dep_statements.proofs.Statements.{selected}
-use Rattle.dep_schema.specs.Schema.{our_schema, no_schema}
+use Rattle.dep_tables.specs.Schema.{our_schema}
 use Rattle.dep_schema.specs.Texts.{find_format_text}
 use Rattle.sqlite.specs.Tree.{Trees}
 use Rattle.sqlite.specs.Effect.{Database}
@@ -29,10 +29,11 @@ use Rattle.sqlite.specs.Schema.{Schema}
 use Rattle.dep_statements.specs.Adding.{HasCounters}
 use Rattle.dep_schema.specs.Beside.{LacksFormat}
 use Rattle.dep_schema.proofs.Missing.{find_missing}
-use Rattle.dep_schema.specs.Tables.{tables_of, IsOurs, HasVersion, Sees, Holds, IsBeside, GainsOurs, StandsBeside, CommitsOpen, first_tables}
+use Rattle.dep_tables.specs.Tables.{tables_of, IsOurs}
+use Rattle.dep_schema.specs.Standing.{no_schema, our_version, HasVersion, Sees, Holds, IsBeside, GainsOurs, StandsBeside, CommitsBySchema, first_tables}
 use Rattle.dep_schema.specs.OpenFaults.{open_fault_for}
-use Rattle.dep_schema.specs.declared.fault.StoreFault.{StoreFault}
-use Rattle.dep_schema.specs.declared.fault.StoreFault.TheVariants.{Store, Memory}
+use Rattle.dep_types.specs.declared.store_fault.StoreFault.{StoreFault}
+use Rattle.dep_types.specs.declared.store_fault.StoreFault.TheVariants.{Store, Memory}
 use Rattle.dep_schema.specs.declared.opening.OpenFault.{OpenFault}
 use Rattle.dep_schema.specs.declared.opening.OpenFault.TheVariants.{UnknownVersion}
 
@@ -73,26 +74,26 @@ finds_rows old new rows ours h =
     subst (λ xs. IsPermutation (map (shown_of [] shows) xs) rows) (all_pass [] (old.now.trees 0)) (in_any_order 0 [] shows [] [] (filter (passes [] []) (old.now.trees 0)) rows picked)
 
 abbrev pub IsKnown : List Row → Type 0
-IsKnown rows = (found : Row) × (rows ≡ found ∷ []) × (column found 0 ≡ Int (pos 1)) × (column found 1 ≡ Int (pos 0))
+IsKnown rows = (found : Row) × (rows ≡ found ∷ []) × (column found 0 ≡ Int (pos 1)) × (column found 1 ≡ Int (pos 1))
 
-known_told : (format rows : List Row) → IsPermutation (told format) rows → IsKnown rows → told format ≡ (Int (pos 1) ∷ Int (pos 0) ∷ []) ∷ []
+known_told : (format rows : List Row) → IsPermutation (told format) rows → IsKnown rows → told format ≡ (Int (pos 1) ∷ Int (pos 1) ∷ []) ∷ []
 known_told format rows same known =
     let one = one_permutation known.0 (told format) (IsPermutation-sym (told format) (known.0 ∷ []) (subst (IsPermutation (told format)) known.1 same)) in
     go format one
   where
-    go : (all : List Row) → told all ≡ known.0 ∷ [] → told all ≡ (Int (pos 1) ∷ Int (pos 0) ∷ []) ∷ []
+    go : (all : List Row) → told all ≡ known.0 ∷ [] → told all ≡ (Int (pos 1) ∷ Int (pos 1) ∷ []) ∷ []
     go [] e = absurd (cc)
     go (r ∷ []) e =
         let is : column r 0 ∷ column r 2 ∷ [] ≡ known.0 = cc in
         let first : column r 0 ≡ Int (pos 1) = ap (λ x. column x 0) is ∙ known.2 in
-        let second : column r 2 ≡ Int (pos 0) = ap (λ x. column x 1) is ∙ known.3 in
+        let second : column r 2 ≡ Int (pos 1) = ap (λ x. column x 1) is ∙ known.3 in
         λ i. (first i ∷ second i ∷ []) ∷ []
     go (r ∷ x ∷ more) e = absurd (cc)
 
-told_known : (format rows : List Row) → IsPermutation (told format) rows → told format ≡ (Int (pos 1) ∷ Int (pos 0) ∷ []) ∷ [] → IsKnown rows
-told_known format rows same is = (Int (pos 1) ∷ Int (pos 0) ∷ [], one_permutation (Int (pos 1) ∷ Int (pos 0) ∷ []) rows (subst (λ xs. IsPermutation xs rows) is same), refl, refl)
+told_known : (format rows : List Row) → IsPermutation (told format) rows → told format ≡ (Int (pos 1) ∷ Int (pos 1) ∷ []) ∷ [] → IsKnown rows
+told_known format rows same is = (Int (pos 1) ∷ Int (pos 1) ∷ [], one_permutation (Int (pos 1) ∷ Int (pos 1) ∷ []) rows (subst (λ xs. IsPermutation xs rows) is same), refl, refl)
 
-pub found_version : (old new : State) (rows : List Row) → IsOurs old → Shown find_format_text [] old new rows → IsKnown rows ↔ HasVersion 0 (tables_of old)
+pub found_version : (old new : State) (rows : List Row) → IsOurs old → Shown find_format_text [] old new rows → IsKnown rows ↔ HasVersion our_version (tables_of old)
 found_version old new rows ours h = (known_told (tables_of old).format rows (finds_rows old new rows ours h), told_known (tables_of old).format rows (finds_rows old new rows ours h))
 
 pub find_stays : (old new : State) (rows : List Row) → IsOurs old → Shown find_format_text [] old new rows → IsUnchanged old new
@@ -119,7 +120,7 @@ named_fault Store made is said = let met = sym is ∙ said in cc
 named_fault Memory made is said = let met = sym is ∙ said in cc
 
 -- what is committed at the end
-commits_open : (old last : State) → (old.now.schema ≡ no_schema → Sees last first_tables) → (IsOurs old → last.now ≡ old.now) → (LacksFormat old.now.schema → GainsOurs old.now last.now) → (db : Trees) → db ≡ last.now.trees → CommitsOpen old db
+commits_open : (old last : State) → (old.now.schema ≡ no_schema → Sees last first_tables) → (IsOurs old → last.now ≡ old.now) → (LacksFormat old.now.schema → GainsOurs old.now last.now) → (db : Trees) → db ≡ last.now.trees → CommitsBySchema old db
 commits_open old last made there gains db is = record {
   found = λ ours. is ∙ ap (λ (d : Database). d.trees) (there ours);
   new = λ empty. let sees = made empty in subst (λ trees. Holds trees first_tables) (sym is) (record { ours = sees.ours.trees; rows = sees.rows });
@@ -129,14 +130,14 @@ commits_open old last made there gains db is = record {
 
 -- a crash leaves what was there, or what is committed
 pub survives_open : (old last new : State) → Survives old last (λ _. ⊥) → Survives last new (λ db. db ≡ last.now.trees)
-    → (HasCleanDisk last → old.now.schema ≡ no_schema → Sees last first_tables) → (HasCleanDisk last → IsOurs old → last.now ≡ old.now) → (HasCleanDisk last → LacksFormat old.now.schema → GainsOurs old.now last.now) → Survives old new (CommitsOpen old)
+    → (HasCleanDisk last → old.now.schema ≡ no_schema → Sees last first_tables) → (HasCleanDisk last → IsOurs old → last.now ≡ old.now) → (HasCleanDisk last → LacksFormat old.now.schema → GainsOurs old.now last.now) → Survives old new (CommitsBySchema old)
 survives_open old last new begun ended made there gains =
-    survives_then old last new (λ _. ⊥) (λ db. db ≡ last.now.trees) (CommitsOpen old) (λ _ db none. absurd none) (λ clean db is.
+    survives_then old last new (λ _. ⊥) (λ db. db ≡ last.now.trees) (CommitsBySchema old) (λ _ db none. absurd none) (λ clean db is.
     let sure : HasCleanDisk last = omega (arith, clean, ended.clean) in
     commits_open old last (made sure) (there sure) (gains sure) db is) begun ended
 
 -- our first tables stand once they are committed
-pub stands_committed : (old last new : State) → GainsOurs old.now last.now → HasCounters old.now.schema → new.in_transaction ≡ false → new.now ≡ new.committed → new.now ≡ last.now → StandsBeside old new
-stands_committed old last new gains has settled committed same =
+pub stands_committed : (old last new : State) → GainsOurs old.now last.now → HasCounters old.now.schema → IsTrue new.is_open → new.in_transaction ≡ false → new.now ≡ new.committed → new.now ≡ last.now → StandsBeside old new
+stands_committed old last new gains has is_open settled committed same =
     let made = gains.made has in
-    record { settled = settled; committed = committed; schema = ap (λ (d : Database). d.schema) same ∙ made.0; trees = subst (λ (d : Database). IsBeside old.now d.trees) (sym same) made.1 }
+    record { is_open = is_open; settled = settled; committed = committed; schema = ap (λ (d : Database). d.schema) same ∙ made.0; trees = subst (λ (d : Database). IsBeside old.now d.trees) (sym same) made.1 }

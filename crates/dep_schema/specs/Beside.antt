@@ -1,18 +1,14 @@
 -- Our tables made in a database that has tables of others.
-use Rattle.std.specs.Prelude.{◌≡◌, None, List, [], ◌∷◌, codes}
+use Rattle.std.specs.Prelude.{◌≡◌, None, codes}
 use Rattle.sqlite.specs.Schema.{Schema}
-use Rattle.sqlite.specs.Table.{Table}
 use Rattle.sqlite_schema.specs.Names.{table_named, view_named}
 use Rattle.dep_statements.specs.Adding.{AreFreeFor, created_all}
-use Rattle.dep_schema.specs.Schema.{format_table, state_table, objects_table, metadata_table, files_table}
+use Rattle.dep_tables.specs.Schema.{our_tables}
 
 -- no table and no view is named `format`
 pub record LacksFormat (schema : Schema) : Type 0 where
   pub table : table_named schema (codes "format") ≡ None
   pub view : view_named schema (codes "format") ≡ None
-
-abbrev pub our_tables : List Table
-our_tables = format_table ∷ state_table ∷ objects_table ∷ metadata_table ∷ files_table ∷ []
 
 -- no table, index or view has one of our names
 abbrev pub AreFree : Schema → Type 0

@@ -1,28 +1,29 @@
 //! The tables of a new store, and their first rows, beside what is there.
 
 ghost use Rattle.std.specs.Prelude.{◌≡◌, ◌∷◌, [], IsTrue, OnOk};
-ghost use Rattle.sqlite.specs.State.{HasCleanDisk, KeepsCommit, Survives};
+ghost use Rattle.sqlite.specs.State.{HasCleanDisk};
 ghost use Rattle.sqlite.specs.Held.{state};
 ghost use Rattle.sqlite.specs.Schema.{Schema};
 ghost use Rattle.sqlite.specs.Effect.{Database};
 ghost use Rattle.sqlite_catalog.specs.Change.{created, next_tree};
 ghost use Rattle.dep_statements.specs.Adding.{Adds, AddsAll, Puts};
+ghost use Rattle.dep_tables.specs.Schema.{format_table, state_table, objects_table, metadata_table, files_table, uploads_table, segments_table, timed_out_table, blocks_table};
+ghost use Rattle.dep_tables.specs.Rows.{stored_format, stored_state};
+ghost use Rattle.dep_tables.specs.Clauses.{GoesOn, StaysInside, CommitsNothing};
 ghost use Rattle.dep_schema.specs.Beside.{AreFree, with_ours};
-ghost use Rattle.dep_schema.specs.Schema.{no_schema, format_table, state_table, objects_table, metadata_table, files_table};
-ghost use Rattle.dep_schema.specs.Rows.{format_row, state_row};
-ghost use Rattle.dep_schema.specs.Tables.{Sees, GainsOurs, first_tables, first_state};
+ghost use Rattle.dep_schema.specs.Standing.{Sees, GainsOurs, no_schema, first_tables, first_state, our_version};
 
-use crate::calls::run;
-use crate::fault::StoreFault;
+use dep_tables::run;
+use dep_types::StoreFault;
 use sqlite::{Alter, Transaction};
 
 /// The version of the tables.
 fn create_format<S: Alter>(tx: &mut Transaction<'_, S>) -> Result<(), StoreFault>
     ensures adds { HasCleanDisk (state S.Store tx.new.conn.now) → IsTrue (state S.Store tx.old.conn.now).in_transaction → OnOk result (Adds format_table (state S.Store tx.old.conn.now).now (state S.Store tx.new.conn.now).now) }
-    ensures inside { HasCleanDisk (state S.Store tx.new.conn.now) → IsTrue (state S.Store tx.old.conn.now).in_transaction → OnOk result (IsTrue (state S.Store tx.new.conn.now).in_transaction) }
-    ensures kept { HasCleanDisk (state S.Store tx.new.conn.now) → IsTrue (state S.Store tx.old.conn.now).in_transaction → KeepsCommit (state S.Store tx.old.conn.now) (state S.Store tx.new.conn.now) }
+    ensures inside { GoesOn (state S.Store tx.old.conn.now) (state S.Store tx.new.conn.now) result }
+    ensures kept { StaysInside (state S.Store tx.old.conn.now) (state S.Store tx.new.conn.now) }
     ensures same_reference { tx.new.conn.ghost_name ≡ tx.old.conn.ghost_name }
-    ensures survives { Survives (state S.Store tx.old.conn.now) (state S.Store tx.new.conn.now) (λ _. ⊥) }
+    ensures survives { CommitsNothing (state S.Store tx.old.conn.now) (state S.Store tx.new.conn.now) }
 {
     run(
         tx,
@@ -34,10 +35,10 @@ fn create_format<S: Alter>(tx: &mut Transaction<'_, S>) -> Result<(), StoreFault
 /// The clock and the counters.
 fn create_state<S: Alter>(tx: &mut Transaction<'_, S>) -> Result<(), StoreFault>
     ensures adds { HasCleanDisk (state S.Store tx.new.conn.now) → IsTrue (state S.Store tx.old.conn.now).in_transaction → OnOk result (Adds state_table (state S.Store tx.old.conn.now).now (state S.Store tx.new.conn.now).now) }
-    ensures inside { HasCleanDisk (state S.Store tx.new.conn.now) → IsTrue (state S.Store tx.old.conn.now).in_transaction → OnOk result (IsTrue (state S.Store tx.new.conn.now).in_transaction) }
-    ensures kept { HasCleanDisk (state S.Store tx.new.conn.now) → IsTrue (state S.Store tx.old.conn.now).in_transaction → KeepsCommit (state S.Store tx.old.conn.now) (state S.Store tx.new.conn.now) }
+    ensures inside { GoesOn (state S.Store tx.old.conn.now) (state S.Store tx.new.conn.now) result }
+    ensures kept { StaysInside (state S.Store tx.old.conn.now) (state S.Store tx.new.conn.now) }
     ensures same_reference { tx.new.conn.ghost_name ≡ tx.old.conn.ghost_name }
-    ensures survives { Survives (state S.Store tx.old.conn.now) (state S.Store tx.new.conn.now) (λ _. ⊥) }
+    ensures survives { CommitsNothing (state S.Store tx.old.conn.now) (state S.Store tx.new.conn.now) }
 {
     run(
         tx,
@@ -49,10 +50,10 @@ fn create_state<S: Alter>(tx: &mut Transaction<'_, S>) -> Result<(), StoreFault>
 /// One row for each object.
 fn create_objects<S: Alter>(tx: &mut Transaction<'_, S>) -> Result<(), StoreFault>
     ensures adds { HasCleanDisk (state S.Store tx.new.conn.now) → IsTrue (state S.Store tx.old.conn.now).in_transaction → OnOk result (Adds objects_table (state S.Store tx.old.conn.now).now (state S.Store tx.new.conn.now).now) }
-    ensures inside { HasCleanDisk (state S.Store tx.new.conn.now) → IsTrue (state S.Store tx.old.conn.now).in_transaction → OnOk result (IsTrue (state S.Store tx.new.conn.now).in_transaction) }
-    ensures kept { HasCleanDisk (state S.Store tx.new.conn.now) → IsTrue (state S.Store tx.old.conn.now).in_transaction → KeepsCommit (state S.Store tx.old.conn.now) (state S.Store tx.new.conn.now) }
+    ensures inside { GoesOn (state S.Store tx.old.conn.now) (state S.Store tx.new.conn.now) result }
+    ensures kept { StaysInside (state S.Store tx.old.conn.now) (state S.Store tx.new.conn.now) }
     ensures same_reference { tx.new.conn.ghost_name ≡ tx.old.conn.ghost_name }
-    ensures survives { Survives (state S.Store tx.old.conn.now) (state S.Store tx.new.conn.now) (λ _. ⊥) }
+    ensures survives { CommitsNothing (state S.Store tx.old.conn.now) (state S.Store tx.new.conn.now) }
 {
     run(
         tx,
@@ -61,13 +62,13 @@ fn create_objects<S: Alter>(tx: &mut Transaction<'_, S>) -> Result<(), StoreFaul
     )
 }
 
-/// One row for each value of an object's metadata.
+/// One row for each text of an object's metadata.
 fn create_metadata<S: Alter>(tx: &mut Transaction<'_, S>) -> Result<(), StoreFault>
     ensures adds { HasCleanDisk (state S.Store tx.new.conn.now) → IsTrue (state S.Store tx.old.conn.now).in_transaction → OnOk result (Adds metadata_table (state S.Store tx.old.conn.now).now (state S.Store tx.new.conn.now).now) }
-    ensures inside { HasCleanDisk (state S.Store tx.new.conn.now) → IsTrue (state S.Store tx.old.conn.now).in_transaction → OnOk result (IsTrue (state S.Store tx.new.conn.now).in_transaction) }
-    ensures kept { HasCleanDisk (state S.Store tx.new.conn.now) → IsTrue (state S.Store tx.old.conn.now).in_transaction → KeepsCommit (state S.Store tx.old.conn.now) (state S.Store tx.new.conn.now) }
+    ensures inside { GoesOn (state S.Store tx.old.conn.now) (state S.Store tx.new.conn.now) result }
+    ensures kept { StaysInside (state S.Store tx.old.conn.now) (state S.Store tx.new.conn.now) }
     ensures same_reference { tx.new.conn.ghost_name ≡ tx.old.conn.ghost_name }
-    ensures survives { Survives (state S.Store tx.old.conn.now) (state S.Store tx.new.conn.now) (λ _. ⊥) }
+    ensures survives { CommitsNothing (state S.Store tx.old.conn.now) (state S.Store tx.new.conn.now) }
 {
     run(
         tx,
@@ -79,36 +80,98 @@ fn create_metadata<S: Alter>(tx: &mut Transaction<'_, S>) -> Result<(), StoreFau
 /// One row for each file.
 fn create_files<S: Alter>(tx: &mut Transaction<'_, S>) -> Result<(), StoreFault>
     ensures adds { HasCleanDisk (state S.Store tx.new.conn.now) → IsTrue (state S.Store tx.old.conn.now).in_transaction → OnOk result (Adds files_table (state S.Store tx.old.conn.now).now (state S.Store tx.new.conn.now).now) }
-    ensures inside { HasCleanDisk (state S.Store tx.new.conn.now) → IsTrue (state S.Store tx.old.conn.now).in_transaction → OnOk result (IsTrue (state S.Store tx.new.conn.now).in_transaction) }
-    ensures kept { HasCleanDisk (state S.Store tx.new.conn.now) → IsTrue (state S.Store tx.old.conn.now).in_transaction → KeepsCommit (state S.Store tx.old.conn.now) (state S.Store tx.new.conn.now) }
+    ensures inside { GoesOn (state S.Store tx.old.conn.now) (state S.Store tx.new.conn.now) result }
+    ensures kept { StaysInside (state S.Store tx.old.conn.now) (state S.Store tx.new.conn.now) }
     ensures same_reference { tx.new.conn.ghost_name ≡ tx.old.conn.ghost_name }
-    ensures survives { Survives (state S.Store tx.old.conn.now) (state S.Store tx.new.conn.now) (λ _. ⊥) }
+    ensures survives { CommitsNothing (state S.Store tx.old.conn.now) (state S.Store tx.new.conn.now) }
 {
     run(
         tx,
-        "CREATE TABLE files (file INTEGER PRIMARY KEY, object INTEGER NOT NULL, name TEXT NOT NULL, media TEXT NOT NULL, size INTEGER NOT NULL, tag INTEGER NOT NULL, deposited INTEGER NOT NULL, behalf TEXT, by_reference INTEGER NOT NULL, content BLOB NOT NULL) STRICT",
+        "CREATE TABLE files (file INTEGER PRIMARY KEY, object INTEGER NOT NULL, name TEXT NOT NULL, media TEXT NOT NULL, size INTEGER NOT NULL, tag INTEGER NOT NULL, deposited INTEGER NOT NULL, behalf TEXT, by_reference INTEGER NOT NULL, sha256 BLOB NOT NULL) STRICT",
         &[],
     )
 }
 
-/// Version 0.
-fn add_format<S: Alter>(tx: &mut Transaction<'_, S>) -> Result<(), StoreFault>
-    ensures beside { HasCleanDisk (state S.Store tx.new.conn.now) → IsTrue (state S.Store tx.old.conn.now).in_transaction → (others : Schema) → AreFree others → (state S.Store tx.old.conn.now).now.schema ≡ with_ours others → OnOk result (Puts (next_tree others) (format_row 0) (state S.Store tx.old.conn.now).now (state S.Store tx.new.conn.now).now) }
-    ensures inside { HasCleanDisk (state S.Store tx.new.conn.now) → IsTrue (state S.Store tx.old.conn.now).in_transaction → OnOk result (IsTrue (state S.Store tx.new.conn.now).in_transaction) }
-    ensures kept { HasCleanDisk (state S.Store tx.new.conn.now) → IsTrue (state S.Store tx.old.conn.now).in_transaction → KeepsCommit (state S.Store tx.old.conn.now) (state S.Store tx.new.conn.now) }
+/// One row for each staged upload.
+fn create_uploads<S: Alter>(tx: &mut Transaction<'_, S>) -> Result<(), StoreFault>
+    ensures adds { HasCleanDisk (state S.Store tx.new.conn.now) → IsTrue (state S.Store tx.old.conn.now).in_transaction → OnOk result (Adds uploads_table (state S.Store tx.old.conn.now).now (state S.Store tx.new.conn.now).now) }
+    ensures inside { GoesOn (state S.Store tx.old.conn.now) (state S.Store tx.new.conn.now) result }
+    ensures kept { StaysInside (state S.Store tx.old.conn.now) (state S.Store tx.new.conn.now) }
     ensures same_reference { tx.new.conn.ghost_name ≡ tx.old.conn.ghost_name }
-    ensures survives { Survives (state S.Store tx.old.conn.now) (state S.Store tx.new.conn.now) (λ _. ⊥) }
+    ensures survives { CommitsNothing (state S.Store tx.old.conn.now) (state S.Store tx.new.conn.now) }
 {
-    run(tx, "INSERT INTO format (id, version) VALUES (1, 0)", &[])
+    run(
+        tx,
+        "CREATE TABLE uploads (upload INTEGER PRIMARY KEY, size INTEGER NOT NULL, count INTEGER NOT NULL, segment_size INTEGER NOT NULL, sha256 BLOB, last INTEGER NOT NULL) STRICT",
+        &[],
+    )
+}
+
+/// One row for each segment that was received.
+fn create_segments<S: Alter>(tx: &mut Transaction<'_, S>) -> Result<(), StoreFault>
+    ensures adds { HasCleanDisk (state S.Store tx.new.conn.now) → IsTrue (state S.Store tx.old.conn.now).in_transaction → OnOk result (Adds segments_table (state S.Store tx.old.conn.now).now (state S.Store tx.new.conn.now).now) }
+    ensures inside { GoesOn (state S.Store tx.old.conn.now) (state S.Store tx.new.conn.now) result }
+    ensures kept { StaysInside (state S.Store tx.old.conn.now) (state S.Store tx.new.conn.now) }
+    ensures same_reference { tx.new.conn.ghost_name ≡ tx.old.conn.ghost_name }
+    ensures survives { CommitsNothing (state S.Store tx.old.conn.now) (state S.Store tx.new.conn.now) }
+{
+    run(
+        tx,
+        "CREATE TABLE segments (upload INTEGER NOT NULL, number INTEGER NOT NULL, size INTEGER NOT NULL, PRIMARY KEY (upload, number)) STRICT",
+        &[],
+    )
+}
+
+/// One row for each upload that timed out.
+fn create_timed_out<S: Alter>(tx: &mut Transaction<'_, S>) -> Result<(), StoreFault>
+    ensures adds { HasCleanDisk (state S.Store tx.new.conn.now) → IsTrue (state S.Store tx.old.conn.now).in_transaction → OnOk result (Adds timed_out_table (state S.Store tx.old.conn.now).now (state S.Store tx.new.conn.now).now) }
+    ensures inside { GoesOn (state S.Store tx.old.conn.now) (state S.Store tx.new.conn.now) result }
+    ensures kept { StaysInside (state S.Store tx.old.conn.now) (state S.Store tx.new.conn.now) }
+    ensures same_reference { tx.new.conn.ghost_name ≡ tx.old.conn.ghost_name }
+    ensures survives { CommitsNothing (state S.Store tx.old.conn.now) (state S.Store tx.new.conn.now) }
+{
+    run(
+        tx,
+        "CREATE TABLE timed_out (upload INTEGER PRIMARY KEY) STRICT",
+        &[],
+    )
+}
+
+/// The bytes of contents, in blocks.
+fn create_blocks<S: Alter>(tx: &mut Transaction<'_, S>) -> Result<(), StoreFault>
+    ensures adds { HasCleanDisk (state S.Store tx.new.conn.now) → IsTrue (state S.Store tx.old.conn.now).in_transaction → OnOk result (Adds blocks_table (state S.Store tx.old.conn.now).now (state S.Store tx.new.conn.now).now) }
+    ensures inside { GoesOn (state S.Store tx.old.conn.now) (state S.Store tx.new.conn.now) result }
+    ensures kept { StaysInside (state S.Store tx.old.conn.now) (state S.Store tx.new.conn.now) }
+    ensures same_reference { tx.new.conn.ghost_name ≡ tx.old.conn.ghost_name }
+    ensures survives { CommitsNothing (state S.Store tx.old.conn.now) (state S.Store tx.new.conn.now) }
+{
+    run(
+        tx,
+        "CREATE TABLE blocks (kind INTEGER NOT NULL, owner INTEGER NOT NULL, part INTEGER NOT NULL, place INTEGER NOT NULL, bytes BLOB NOT NULL, PRIMARY KEY (kind, owner, part, place)) STRICT",
+        &[],
+    )
+}
+
+/// Version 1.
+fn add_format<S: Alter>(tx: &mut Transaction<'_, S>) -> Result<(), StoreFault>
+    ensures beside { HasCleanDisk (state S.Store tx.new.conn.now) → IsTrue (state S.Store tx.old.conn.now).in_transaction → (others : Schema) → AreFree others → (state S.Store tx.old.conn.now).now.schema ≡ with_ours others
+        → OnOk result (Puts (next_tree others) (stored_format our_version) (state S.Store tx.old.conn.now).now (state S.Store tx.new.conn.now).now) }
+    ensures inside { GoesOn (state S.Store tx.old.conn.now) (state S.Store tx.new.conn.now) result }
+    ensures kept { StaysInside (state S.Store tx.old.conn.now) (state S.Store tx.new.conn.now) }
+    ensures same_reference { tx.new.conn.ghost_name ≡ tx.old.conn.ghost_name }
+    ensures survives { CommitsNothing (state S.Store tx.old.conn.now) (state S.Store tx.new.conn.now) }
+{
+    run(tx, "INSERT INTO format (id, version) VALUES (1, 1)", &[])
 }
 
 /// The clock at 0, and each counter at 1.
 fn add_state<S: Alter>(tx: &mut Transaction<'_, S>) -> Result<(), StoreFault>
-    ensures beside { HasCleanDisk (state S.Store tx.new.conn.now) → IsTrue (state S.Store tx.old.conn.now).in_transaction → (others : Schema) → AreFree others → (state S.Store tx.old.conn.now).now.schema ≡ with_ours others → OnOk result (Puts (next_tree (created others format_table)) (state_row first_state) (state S.Store tx.old.conn.now).now (state S.Store tx.new.conn.now).now) }
-    ensures inside { HasCleanDisk (state S.Store tx.new.conn.now) → IsTrue (state S.Store tx.old.conn.now).in_transaction → OnOk result (IsTrue (state S.Store tx.new.conn.now).in_transaction) }
-    ensures kept { HasCleanDisk (state S.Store tx.new.conn.now) → IsTrue (state S.Store tx.old.conn.now).in_transaction → KeepsCommit (state S.Store tx.old.conn.now) (state S.Store tx.new.conn.now) }
+    ensures beside { HasCleanDisk (state S.Store tx.new.conn.now) → IsTrue (state S.Store tx.old.conn.now).in_transaction → (others : Schema) → AreFree others → (state S.Store tx.old.conn.now).now.schema ≡ with_ours others
+        → OnOk result (Puts (next_tree (created others format_table)) (stored_state first_state) (state S.Store tx.old.conn.now).now (state S.Store tx.new.conn.now).now) }
+    ensures inside { GoesOn (state S.Store tx.old.conn.now) (state S.Store tx.new.conn.now) result }
+    ensures kept { StaysInside (state S.Store tx.old.conn.now) (state S.Store tx.new.conn.now) }
     ensures same_reference { tx.new.conn.ghost_name ≡ tx.old.conn.ghost_name }
-    ensures survives { Survives (state S.Store tx.old.conn.now) (state S.Store tx.new.conn.now) (λ _. ⊥) }
+    ensures survives { CommitsNothing (state S.Store tx.old.conn.now) (state S.Store tx.new.conn.now) }
 {
     run(
         tx,
@@ -120,36 +183,50 @@ fn add_state<S: Alter>(tx: &mut Transaction<'_, S>) -> Result<(), StoreFault>
 /// The first three tables.
 fn create_first<S: Alter>(tx: &mut Transaction<'_, S>) -> Result<(), StoreFault>
     ensures adds { HasCleanDisk (state S.Store tx.new.conn.now) → IsTrue (state S.Store tx.old.conn.now).in_transaction → OnOk result (AddsAll (format_table ∷ state_table ∷ objects_table ∷ []) (state S.Store tx.old.conn.now).now (state S.Store tx.new.conn.now).now) }
-    ensures inside { HasCleanDisk (state S.Store tx.new.conn.now) → IsTrue (state S.Store tx.old.conn.now).in_transaction → OnOk result (IsTrue (state S.Store tx.new.conn.now).in_transaction) }
-    ensures kept { HasCleanDisk (state S.Store tx.new.conn.now) → IsTrue (state S.Store tx.old.conn.now).in_transaction → KeepsCommit (state S.Store tx.old.conn.now) (state S.Store tx.new.conn.now) }
+    ensures inside { GoesOn (state S.Store tx.old.conn.now) (state S.Store tx.new.conn.now) result }
+    ensures kept { StaysInside (state S.Store tx.old.conn.now) (state S.Store tx.new.conn.now) }
     ensures same_reference { tx.new.conn.ghost_name ≡ tx.old.conn.ghost_name }
-    ensures survives { Survives (state S.Store tx.old.conn.now) (state S.Store tx.new.conn.now) (λ _. ⊥) }
+    ensures survives { CommitsNothing (state S.Store tx.old.conn.now) (state S.Store tx.new.conn.now) }
 {
     create_format(tx)?;
     create_state(tx)?;
     create_objects(tx)
 }
 
-/// The tables after them.
-fn create_last<S: Alter>(tx: &mut Transaction<'_, S>) -> Result<(), StoreFault>
-    ensures adds { HasCleanDisk (state S.Store tx.new.conn.now) → IsTrue (state S.Store tx.old.conn.now).in_transaction → OnOk result (AddsAll (metadata_table ∷ files_table ∷ []) (state S.Store tx.old.conn.now).now (state S.Store tx.new.conn.now).now) }
-    ensures inside { HasCleanDisk (state S.Store tx.new.conn.now) → IsTrue (state S.Store tx.old.conn.now).in_transaction → OnOk result (IsTrue (state S.Store tx.new.conn.now).in_transaction) }
-    ensures kept { HasCleanDisk (state S.Store tx.new.conn.now) → IsTrue (state S.Store tx.old.conn.now).in_transaction → KeepsCommit (state S.Store tx.old.conn.now) (state S.Store tx.new.conn.now) }
+/// The tables of metadata, files and uploads.
+fn create_second<S: Alter>(tx: &mut Transaction<'_, S>) -> Result<(), StoreFault>
+    ensures adds { HasCleanDisk (state S.Store tx.new.conn.now) → IsTrue (state S.Store tx.old.conn.now).in_transaction → OnOk result (AddsAll (metadata_table ∷ files_table ∷ uploads_table ∷ []) (state S.Store tx.old.conn.now).now (state S.Store tx.new.conn.now).now) }
+    ensures inside { GoesOn (state S.Store tx.old.conn.now) (state S.Store tx.new.conn.now) result }
+    ensures kept { StaysInside (state S.Store tx.old.conn.now) (state S.Store tx.new.conn.now) }
     ensures same_reference { tx.new.conn.ghost_name ≡ tx.old.conn.ghost_name }
-    ensures survives { Survives (state S.Store tx.old.conn.now) (state S.Store tx.new.conn.now) (λ _. ⊥) }
+    ensures survives { CommitsNothing (state S.Store tx.old.conn.now) (state S.Store tx.new.conn.now) }
 {
     create_metadata(tx)?;
-    create_files(tx)
+    create_files(tx)?;
+    create_uploads(tx)
+}
+
+/// The tables after them.
+fn create_last<S: Alter>(tx: &mut Transaction<'_, S>) -> Result<(), StoreFault>
+    ensures adds { HasCleanDisk (state S.Store tx.new.conn.now) → IsTrue (state S.Store tx.old.conn.now).in_transaction → OnOk result (AddsAll (segments_table ∷ timed_out_table ∷ blocks_table ∷ []) (state S.Store tx.old.conn.now).now (state S.Store tx.new.conn.now).now) }
+    ensures inside { GoesOn (state S.Store tx.old.conn.now) (state S.Store tx.new.conn.now) result }
+    ensures kept { StaysInside (state S.Store tx.old.conn.now) (state S.Store tx.new.conn.now) }
+    ensures same_reference { tx.new.conn.ghost_name ≡ tx.old.conn.ghost_name }
+    ensures survives { CommitsNothing (state S.Store tx.old.conn.now) (state S.Store tx.new.conn.now) }
+{
+    create_segments(tx)?;
+    create_timed_out(tx)?;
+    create_blocks(tx)
 }
 
 /// The rows of a new store.
 fn add_rows<S: Alter>(tx: &mut Transaction<'_, S>) -> Result<(), StoreFault>
     ensures beside { HasCleanDisk (state S.Store tx.new.conn.now) → IsTrue (state S.Store tx.old.conn.now).in_transaction → (others : Schema) → AreFree others → (state S.Store tx.old.conn.now).now.schema ≡ with_ours others
-        → OnOk result ((next : Database) × Puts (next_tree others) (format_row 0) (state S.Store tx.old.conn.now).now next × Puts (next_tree (created others format_table)) (state_row first_state) next (state S.Store tx.new.conn.now).now) }
-    ensures inside { HasCleanDisk (state S.Store tx.new.conn.now) → IsTrue (state S.Store tx.old.conn.now).in_transaction → OnOk result (IsTrue (state S.Store tx.new.conn.now).in_transaction) }
-    ensures kept { HasCleanDisk (state S.Store tx.new.conn.now) → IsTrue (state S.Store tx.old.conn.now).in_transaction → KeepsCommit (state S.Store tx.old.conn.now) (state S.Store tx.new.conn.now) }
+        → OnOk result ((next : Database) × Puts (next_tree others) (stored_format our_version) (state S.Store tx.old.conn.now).now next × Puts (next_tree (created others format_table)) (stored_state first_state) next (state S.Store tx.new.conn.now).now) }
+    ensures inside { GoesOn (state S.Store tx.old.conn.now) (state S.Store tx.new.conn.now) result }
+    ensures kept { StaysInside (state S.Store tx.old.conn.now) (state S.Store tx.new.conn.now) }
     ensures same_reference { tx.new.conn.ghost_name ≡ tx.old.conn.ghost_name }
-    ensures survives { Survives (state S.Store tx.old.conn.now) (state S.Store tx.new.conn.now) (λ _. ⊥) }
+    ensures survives { CommitsNothing (state S.Store tx.old.conn.now) (state S.Store tx.new.conn.now) }
 {
     add_format(tx)?;
     add_state(tx)
@@ -157,15 +234,15 @@ fn add_rows<S: Alter>(tx: &mut Transaction<'_, S>) -> Result<(), StoreFault>
 
 /// The tables of a new store, where their names are free.
 pub(crate) fn make_tables<S: Alter>(tx: &mut Transaction<'_, S>) -> Result<(), StoreFault>
-    ensures ok { HasCleanDisk (state S.Store tx.new.conn.now) → IsTrue (state S.Store tx.old.conn.now).in_transaction → (state S.Store tx.old.conn.now).now.schema ≡ no_schema
-        → OnOk result (Sees (state S.Store tx.new.conn.now) first_tables) }
+    ensures ok { HasCleanDisk (state S.Store tx.new.conn.now) → IsTrue (state S.Store tx.old.conn.now).in_transaction → (state S.Store tx.old.conn.now).now.schema ≡ no_schema → OnOk result (Sees (state S.Store tx.new.conn.now) first_tables) }
     ensures gains { HasCleanDisk (state S.Store tx.new.conn.now) → IsTrue (state S.Store tx.old.conn.now).in_transaction → OnOk result (GainsOurs (state S.Store tx.old.conn.now).now (state S.Store tx.new.conn.now).now) }
-    ensures inside { HasCleanDisk (state S.Store tx.new.conn.now) → IsTrue (state S.Store tx.old.conn.now).in_transaction → OnOk result (IsTrue (state S.Store tx.new.conn.now).in_transaction) }
-    ensures kept { HasCleanDisk (state S.Store tx.new.conn.now) → IsTrue (state S.Store tx.old.conn.now).in_transaction → KeepsCommit (state S.Store tx.old.conn.now) (state S.Store tx.new.conn.now) }
+    ensures inside { GoesOn (state S.Store tx.old.conn.now) (state S.Store tx.new.conn.now) result }
+    ensures kept { StaysInside (state S.Store tx.old.conn.now) (state S.Store tx.new.conn.now) }
     ensures same_reference { tx.new.conn.ghost_name ≡ tx.old.conn.ghost_name }
-    ensures survives { Survives (state S.Store tx.old.conn.now) (state S.Store tx.new.conn.now) (λ _. ⊥) }
+    ensures survives { CommitsNothing (state S.Store tx.old.conn.now) (state S.Store tx.new.conn.now) }
 {
     create_first(tx)?;
+    create_second(tx)?;
     create_last(tx)?;
     add_rows(tx)
 }

@@ -27,7 +27,7 @@ use Rattle.dep_statements.proofs.Sorted.{short_permutation, sorted_is}
 abbrev pub shown_of : Row → List Term → Row → Row
 shown_of params shows row = eval_all shows (params ∷ row ∷ [])
 
-drop-none : {X : Type 0} (xs : List X) → drop 0 xs ≡ xs
+pub drop-none : {X : Type 0} (xs : List X) → drop 0 xs ≡ xs
 drop-none [] = refl
 drop-none (x ∷ xs) = refl
 

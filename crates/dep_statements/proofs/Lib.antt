@@ -10,6 +10,11 @@ pub mod Sorted
 pub mod Answered
 pub mod Statements
 pub mod Results
+pub mod Frames
 pub mod Tests
 pub mod Looking
 pub mod Adding
+pub mod Unique
+pub mod Written
+pub mod Selected
+pub mod Typed

@@ -1,5 +1,6 @@
 -- The rows that a write leaves.
-use Rattle.std.proofs.Common.{◌≡◌, ℕ, ℤ, List, [], ◌∷◌, map, drop, filter, Bool, true, false, not, ◌&&◌, if◌then◌else◌, refl, sym, ap, subst, ◌∙◌}
+use Rattle.std.proofs.Common.{◌≡◌, ℕ, ℤ, IsTrue, List, [], ◌∷◌, map, drop, filter, Bool, true, false, not, ◌&&◌, if◌then◌else◌, refl, sym, ap, subst, ◌∙◌}
+use Rattle.std.specs.List.{AllByRecursion}
 use Rattle.std.proofs.lemmas.List.Sorted.{IsPermutation-map}
 use Rattle.std.specs.List.Sorted.{IsPermutation}
 use Rattle.sqlite.specs.declared.types.Value.TheVariants.{Int}
@@ -11,28 +12,36 @@ use Rattle.sqlite.specs.Rowids.TheVariants.{Chosen, Given}
 use Rattle.sqlite.specs.Effect.{IsDatabase}
 use Rattle.sqlite.specs.State.{State, Shows}
 use Rattle.sqlite_trees.specs.Tree.{rowid, has_rowid, put_row}
+use Rattle.sqlite_trees.specs.View.{is_int}
+use Rattle.sqlite_trees.specs.declared.store.Shape.TheVariants as shape
+use Rattle.sqlite_trees.proofs.TreeLemmas.{IsShaped-put_row, IsShaped-filter}
 use Rattle.sqlite_trees.proofs.ListLemmas.{map-map}
 use Rattle.sqlite_value.specs.declared.keys.Key.{Key}
 use Rattle.sqlite_rules.specs.Lists.{Has}
 use Rattle.sqlite_rules.specs.Cast.{cast_row}
-use Rattle.sqlite_rules.specs.Edit.{edit_of, id_in, numbered, without_all, put_all, are_fresh, is_taken, IsNoIndex}
+use Rattle.sqlite_rules.specs.Edit.{edit_of, id_in, numbered, without_all, put_all, are_fresh, is_taken}
 use Rattle.sqlite_rules.specs.Calls.{ids_of}
 use Rattle.sqlite_rules.proofs.PlaceLemmas.{given}
 use Rattle.dep_statements.specs.Query.{one_table, no_limit, passes}
 use Rattle.dep_statements.specs.Rows.{IsOrdered, replaced}
 use Rattle.dep_statements.proofs.Asking.{Picks}
 use Rattle.dep_statements.proofs.Answered.{shown_of, in_any_order}
-use Rattle.dep_statements.proofs.Edits.{key_of, left_rows, changed_rows}
+use Rattle.dep_statements.proofs.Edits.{key_of, left_rows, changed_rows, changed_ordered}
 use Rattle.dep_statements.proofs.Keys.{row_key, replaces}
 use Rattle.dep_statements.proofs.Statements.{Wrote}
 
--- the transaction goes on with these rows in this table, and each tree but its indexes is as it was
+-- the transaction goes on with these rows in this table, and the other tables keep theirs
 pub record Made (schema : Schema) (old new : State) (tree : ℕ) (rows : List Row) : Type 0 where
   pub shows : Shows old new new.now old.committed true
   pub schema_is : new.now.schema ≡ schema
   pub sound : IsDatabase new.now
   pub rows_are : new.now.trees tree ≡ rows
-  pub others : (t : ℕ) → (t ≡ tree → ⊥) → IsNoIndex schema t → new.now.trees t ≡ old.now.trees t
+  pub ordered : IsOrdered rows
+  pub others : AllByRecursion (λ t. (t.tree ≡ tree → ⊥) → new.now.trees t.tree ≡ old.now.trees t.tree) schema.tables
+
+-- the same rows, said otherwise
+pub same_made : {schema : Schema} {old new : State} {tree : ℕ} {rows others : List Row} → Made schema old new tree rows → rows ≡ others → Made schema old new tree others
+same_made {schema} {old} {new} {tree} made is = subst (Made schema old new tree) is made
 
 free_if : (b : Bool) → (not b && true) ≡ true → b ≡ false
 free_if true h = absurd cc
@@ -47,10 +56,17 @@ module _ (schema : Schema) (old new : State) (table : Table) where
   rows_before = old.now.trees table.tree
 
   -- one row is put in, where its rowid is not taken
-  pub puts : (sources : List Row) (row : Row) → numbered Chosen rows_before (map (λ s. cast_row table (drop 0 s)) sources) ≡ row ∷ [] → Wrote schema old new (edit_of old.now.trees table [] Chosen 0 sources)
+  pub puts : (sources : List Row) (row : Row) → IsOrdered rows_before → IsTrue (is_int (rowid row)) → numbered Chosen rows_before (map (λ s. cast_row table (drop 0 s)) sources) ≡ row ∷ [] → Wrote schema old new (edit_of old.now.trees table [] Chosen 0 sources)
       → Made schema old new table.tree (put_row row rows_before) × (is_taken rows_before row ≡ false)
-  puts sources row is w = (
-    record { shows = w.shows; schema_is = w.schema_is; sound = w.sound; rows_are = w.applies.rows ∙ ap (put_all rows_before) is; others = w.applies.others },
+  puts sources row up numbered_by is w = (
+    record {
+      shows = w.shows;
+      schema_is = w.schema_is;
+      sound = w.sound;
+      rows_are = w.applies.rows ∙ ap (put_all rows_before) is;
+      ordered = IsShaped-put_row row rows_before numbered_by up;
+      others = w.applies.tables;
+    },
     free_if (is_taken rows_before row) (subst (λ xs. are_fresh rows_before xs ≡ true) is w.applies.fresh),
   )
 
@@ -69,7 +85,14 @@ module _ (schema : Schema) (old new : State) (table : Table) where
 
     -- the rows that pass are deleted
     pub takes : Wrote schema old new (edit_of old.now.trees table (ids_of rows) Given 0 []) → Made schema old new table.tree (filter (λ r. not (p r)) rows_before)
-    takes w = record { shows = w.shows; schema_is = w.schema_is; sound = w.sound; rows_are = w.applies.rows ∙ left; others = w.applies.others }
+    takes w = record {
+      shows = w.shows;
+      schema_is = w.schema_is;
+      sound = w.sound;
+      rows_are = w.applies.rows ∙ left;
+      ordered = IsShaped-filter shape.Table _ rows_before up;
+      others = w.applies.tables;
+    }
 
     abbrev change : Row → Row
     change = changed_by table shows params
@@ -89,7 +112,8 @@ module _ (schema : Schema) (old new : State) (table : Table) where
           schema_is = w.schema_is;
           sound = w.sound;
           rows_are = w.applies.rows ∙ ap (put_all (without_all rows_before (ids_of rows))) numbers ∙ ap (λ xs. put_all xs news) left ∙ changed_rows p change rows_before up keeps news same fresh;
-          others = w.applies.others;
+          ordered = changed_ordered p change rows_before up keeps;
+          others = w.applies.tables;
         }
 
     -- the row with this key is changed to this one
@@ -98,5 +122,4 @@ module _ (schema : Schema) (old new : State) (table : Table) where
     replaces_row id row by_key keyed is w =
         let each = λ (r : Row) (h : Has rows_before r) (passing : p r ≡ true).
         let has : rowid r ≡ Int id = row_key rows_before r id up h (sym (by_key r) ∙ passing) in ap rowid (is r has) ∙ keyed ∙ sym has in
-        let made = changes each w in
-        record { shows = made.shows; schema_is = made.schema_is; sound = made.sound; rows_are = made.rows_are ∙ replaces id p change row rows_before up keyed by_key is; others = made.others }
+        same_made (changes each w) (replaces id p change row rows_before up keyed by_key is)

@@ -1,57 +1,22 @@
--- Three statements in one transaction.
-use Rattle.std.proofs.Common.{◌≡◌, ℕ, List, [], ◌∷◌, Result, Ok, Err, OnOk, false, sym, ap, subst, ◌∙◌}
-use Rattle.sqlite.specs.Effect.{Database}
+-- Statements in one transaction.
+use Rattle.std.proofs.Common.{◌≡◌, ℕ, List, ap, ◌∙◌}
 use Rattle.sqlite.specs.State.{State}
 use Rattle.sqlite_trees.specs.Tree.{put_row}
-use Rattle.dep_schema.specs.declared.rows.StateRow.{StateRow}
-use Rattle.dep_schema.specs.declared.rows.ObjectRow.{ObjectRow}
-use Rattle.dep_schema.specs.declared.rows.FileRow.{FileRow}
-use Rattle.dep_schema.specs.Rows.{object_row, file_row, state_row}
-use Rattle.dep_schema.specs.Tables.{Tables, tables_in, tables_of, HasOurTables, Leads, Stands}
-use Rattle.store_sample.specs.Deposits.{deposited}
+use Rattle.dep_statements.specs.Rows.{replaced, put_next}
+use Rattle.dep_types.specs.declared.rows.ObjectRow.{ObjectRow}
+use Rattle.dep_types.specs.declared.rows.FileRow.{FileRow}
+use Rattle.dep_tables.specs.declared.state.StateRow.{StateRow}
+use Rattle.dep_tables.specs.Rows.{stored_object, stored_file, stored_state, block_values}
+use Rattle.dep_tables.specs.Tables.{Tables, tables_of, Leads}
+use Rattle.dep_tables.proofs.Leading.{leads_after}
+use Rattle.store_sample.specs.Deposits.{first_block, with_content, deposited}
 
-pub ok_then : {A E P Q : Type 0} (r : Result A E) → OnOk r P → (P → Q) → OnOk r Q
-ok_then (Ok x) p f = f p
-ok_then (Err e) p f = tt
-
--- what follows goes on from what the first left
-pub leads_then : (old mid new : State) (one two : Tables) → Leads old mid one → Leads mid new two → Leads old new two
-leads_then old mid new one two first second = record {
-  shows = record {
-    was_open = first.shows.was_open;
-    is_open = second.shows.is_open;
-    now_is = second.shows.now_is;
-    committed_is = second.shows.committed_is ∙ first.shows.committed_is;
-    mode = second.shows.mode;
-  };
-  ours = second.ours;
-  rows = second.rows;
-}
-
-leads_as : (old new : State) (one two : Tables) → one ≡ two → Leads old new one → Leads old new two
-leads_as old new one two same h = record { shows = h.shows; ours = h.ours; rows = h.rows ∙ same }
+pub writes_file : (old mid new : State) (file : FileRow) (content : List ℕ) → Leads old mid (record (tables_of old) { blocks = put_next (block_values (first_block file) content) (tables_of old).blocks })
+    → Leads mid new (record (tables_of mid) { files = put_row (stored_file file) (tables_of mid).files }) → Leads old new (with_content file content (tables_of old))
+writes_file old mid new file content a b = leads_after old mid new _ (λ t. record t { files = put_row (stored_file file) t.files }) a b
 
 pub deposits : (old first second new : State) (object : ObjectRow) (file : FileRow) (content : List ℕ) (counters : StateRow)
-    → Leads old first (record (tables_of old) { objects = put_row (object_row object) (tables_of old).objects })
-    → Leads first second (record (tables_of first) { files = put_row (file_row file content) (tables_of first).files })
-    → Leads second new (record (tables_of second) { state = state_row counters ∷ [] }) → Leads old new (deposited object file content counters (tables_of old))
+    → Leads old first (record (tables_of old) { objects = put_row (stored_object object) (tables_of old).objects }) → Leads first second (with_content file content (tables_of first))
+    → Leads second new (record (tables_of second) { state = replaced (stored_state counters) (tables_of second).state }) → Leads old new (deposited object file content counters (tables_of old))
 deposits old first second new object file content counters a b c =
-    let filed = b.rows ∙ ap (λ (t : Tables). record t { files = put_row (file_row file content) t.files }) a.rows in
-    leads_as old new _ (deposited object file content counters (tables_of old)) (ap (λ (t : Tables). record t { state = state_row counters ∷ [] }) filed) (leads_then old second new _ _ (leads_then old first second _ _ a b) c)
-
--- the row of the counters is as it was
-pub state_stays : (old first second : State) (object : ObjectRow) (file : FileRow) (content : List ℕ) (before : StateRow) → (tables_of old).state ≡ state_row before ∷ []
-    → Leads old first (record (tables_of old) { objects = put_row (object_row object) (tables_of old).objects })
-    → Leads first second (record (tables_of first) { files = put_row (file_row file content) (tables_of first).files }) → (tables_of second).state ≡ state_row before ∷ []
-state_stays old first second object file content before one a b = ap (λ (t : Tables). t.state) b.rows ∙ ap (λ (t : Tables). t.state) a.rows ∙ one
-
--- the connection is back at the last commit
-pub stands_left : (old new : State) (was : Tables) → Stands old was → new.in_transaction ≡ false → new.now ≡ old.committed → new.committed ≡ old.committed → Stands new was
-stands_left old new was stands mode now committed =
-    let same : new.now ≡ old.now = now ∙ sym stands.committed in
-    record {
-      settled = mode;
-      committed = now ∙ sym committed;
-      ours = subst HasOurTables (sym same) stands.ours;
-      rows = ap (λ (d : Database). tables_in d.trees) same ∙ stands.rows;
-    }
+    leads_after old second new _ (λ t. record t { state = replaced (stored_state counters) t.state }) (leads_after old first second _ (with_content file content) a b) c

@@ -3,7 +3,9 @@
 
 mod writing;
 
-use dep_schema::{FileRow, MetadataRow, ObjectRow, OpenFault, Schema, StateRow, StoreFault};
+use dep_schema::{OpenFault, Schema};
+use dep_tables::{BlockOwner, MetadataRow, StateRow};
+use dep_types::{Counters, FileRow, ObjectRow, StoreFault, Text};
 use sqlite::{Alter, Connection, Transaction};
 use std::alloc::Global;
 use std::env;
@@ -16,11 +18,16 @@ fn made<S: Alter>(connection: Connection<S>) -> Result<Schema<S>, (OpenFault, Co
     dep_schema::open(connection)
 }
 
+fn clear_files<S: Alter>(tx: &mut Transaction<'_, S>) -> Result<(), StoreFault> {
+    dep_tables::delete_blocks(tx, BlockOwner::File(11))?;
+    dep_tables::delete_files(tx, 7)
+}
+
 /// Object 7, if it is there already, goes first.
 fn clear<S: Alter>(tx: &mut Transaction<'_, S>) -> Result<(), StoreFault> {
-    dep_schema::delete_files(tx, 7)?;
-    dep_schema::delete_metadata(tx, 7)?;
-    dep_schema::delete_object(tx, 7)
+    clear_files(tx)?;
+    dep_tables::delete_metadata(tx, 7)?;
+    dep_tables::delete_object(tx, 7)
 }
 
 fn sample_object() -> ObjectRow {
@@ -37,35 +44,42 @@ fn sample_object() -> ObjectRow {
 fn sample_counters() -> StateRow {
     StateRow {
         clock: 1700000000,
-        next_object: 8,
-        next_file: 12,
-        next_upload: 1,
-        next_change: 2,
+        next: Counters {
+            object: 8,
+            file: 12,
+            upload: 1,
+            change: 2,
+        },
     }
 }
 
 fn add_title<S: Alter>(alloc: Global, tx: &mut Transaction<'_, S>) -> anyhow::Result<bool> {
     let row = MetadataRow {
         object: 7,
-        name: String::from_str(alloc, "dc:title")?,
+        name: Text::copied(alloc, "dc:title")?,
         place: 0,
-        value: String::from_str(alloc, "T")?,
+        value: Text::copied(alloc, "T")?,
     };
-    Ok(dep_schema::insert_metadata(tx, &row).is_ok())
+    Ok(dep_tables::insert_metadata(tx, &row).is_ok())
 }
 
 fn sample_file(alloc: Global) -> anyhow::Result<FileRow> {
     Ok(FileRow {
         file: 11,
         object: 7,
-        name: String::from_str(alloc, "a.txt")?,
-        media: String::from_str(alloc, "text/plain")?,
-        size: 3,
+        name: Text::copied(alloc, "a.txt")?,
+        media: Text::copied(alloc, "text/plain")?,
+        size: 65536,
         tag: 1,
         deposited: 1700000000,
         behalf: None,
         by_reference: false,
+        sha256: [7; 32],
     })
+}
+
+fn sample_content(alloc: Global) -> anyhow::Result<Vec<u8>> {
+    Ok(vec![in alloc; b'a'; 65536]?)
 }
 
 /// The title alone is left of object 7.
@@ -85,11 +99,12 @@ fn fill<S: Alter>(alloc: Global, connection: &mut Connection<S>) -> anyhow::Resu
         return Ok(false);
     }
     let file = sample_file(alloc)?;
+    let content = sample_content(alloc)?;
     let made = deposit(
         connection,
         &sample_object(),
         &file,
-        b"abc",
+        &content,
         &sample_counters(),
     );
     Ok(made.is_ok())

@@ -1,5 +1,5 @@
 use Rattle.sqlite.specs.Held.{state}
-use Rattle.dep_schema.proofs.Results.{ok_then}
+use Rattle.dep_tables.proofs.Results.{ok_then}
 use Rattle.dep_schema.proofs.BesideRows.{puts_state}
 use Rattle.dep_schema.proofs.making.add_state.Goals as goal
 

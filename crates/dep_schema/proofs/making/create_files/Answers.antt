@@ -1,6 +1,6 @@
 use Rattle.sqlite.specs.Held.{state}
-use Rattle.dep_schema.proofs.Results.{ok_then}
-use Rattle.dep_schema.proofs.Beside.{adds_files}
+use Rattle.dep_tables.proofs.Results.{ok_then}
+use Rattle.dep_schema.proofs.MadeTables.{adds_files}
 use Rattle.dep_schema.proofs.making.create_files.Goals as goal
 
 pub returns-clause-adds : goal.returns-clause-adds

@@ -1,4 +1,6 @@
 use Rattle.std.proofs.Common.{inl, inr, rules}
+use Rattle.sqlite.specs.Held.{state}
+use Rattle.dep_schema.proofs.Again.{sees_none, finds_tables, survives_live}
 use Rattle.dep_schema.proofs.opening.open.Goals as goal
 
 pub returns-in-Err-clause-version : goal.returns-in-Err-clause-version
@@ -7,3 +9,19 @@ returns-in-Err-clause-version g c clean said openable = elim openable [
   | inr (inl lacks) ↦ c.prepare.ensures.lacking clean (search rules) lacks
   | inr (inr there) ↦ (c.prepare.ensures.version clean (search rules)).1 there.0 there.1
 ]
+
+pub returns-in-Ok-clause-fresh : goal.returns-in-Ok-clause-fresh
+returns-in-Ok-clause-fresh g c clean none =
+    let live = c.schema-schema.ensures.live (c.in-Ok.ensures.opened clean) in
+    c.in-Ok.ensures.fresh clean (sees_none (state g.S.Store c.args.connection) live.0 none)
+
+pub returns-in-Ok-clause-found : goal.returns-in-Ok-clause-found
+returns-in-Ok-clause-found g c clean tables held =
+    let live = c.schema-schema.ensures.live (c.in-Ok.ensures.opened clean) in
+    finds_tables (state g.S.Store c.args.connection) (state g.S.Store c.prepare.new.connection) live.0 tables held (c.in-Ok.ensures.found clean)
+
+pub returns-in-Ok-clause-crash : goal.returns-in-Ok-clause-crash
+returns-in-Ok-clause-crash g c = survives_live (state g.S.Store c.args.connection) (state g.S.Store c.prepare.new.connection) c.schema-schema.ensures.live c.prepare.ensures.crash
+
+pub returns-in-Err-clause-crash : goal.returns-in-Err-clause-crash
+returns-in-Err-clause-crash g c = survives_live (state g.S.Store c.args.connection) (state g.S.Store c.prepare.new.connection) c.schema-schema.ensures.live c.prepare.ensures.crash

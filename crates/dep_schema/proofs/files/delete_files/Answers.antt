@@ -1,7 +1,0 @@
-use Rattle.sqlite.specs.Held.{state}
-use Rattle.dep_schema.proofs.Results.{ok_then}
-use Rattle.dep_schema.proofs.FilesTable.{deletes_files}
-use Rattle.dep_schema.proofs.files.delete_files.Goals as goal
-
-pub returns-clause-ok : goal.returns-clause-ok
-returns-clause-ok g c clean inside ours = ok_then c.run.result (c.run.ensures.runs clean inside) (λ ran. deletes_files (state g.S.Store c.args.tx.now.conn.now) (state g.S.Store c.run.new.tx.conn.now) c.args.object ran.0 ours (rw c.key_param.ensures at ran.1))

@@ -1,0 +1,102 @@
+-- What an open, a transaction and a crash leave of the tables.
+use Rattle.std.specs.Prelude.{◌≡◌, ◌⊎◌, ℕ, pos, false, IsTrue, [], ◌∷◌, map}
+use Rattle.sqlite.specs.declared.types.Value.TheVariants.{Int}
+use Rattle.sqlite.specs.Order.{column}
+use Rattle.sqlite.specs.Schema.{Schema}
+use Rattle.sqlite.specs.Tree.{Trees}
+use Rattle.sqlite.specs.Effect.{Database}
+use Rattle.sqlite.specs.State.{State}
+use Rattle.sqlite_catalog.specs.Listing.{IsSound}
+use Rattle.sqlite_catalog.specs.Change.{next_tree, KeepsRows}
+use Rattle.dep_statements.specs.Adding.{HasCounters}
+use Rattle.dep_tables.specs.declared.state.StateRow.{StateRow}
+use Rattle.dep_tables.specs.Rows.{stored_format, stored_state}
+use Rattle.dep_tables.specs.Tables.{Tables, tables_from, tables_in, tables_of, AreOurs, IsOurs}
+use Rattle.dep_schema.specs.Beside.{LacksFormat, AreFree, with_ours}
+
+-- what a crash may leave, and the next `open` find
+pub record Holds (trees : Trees) (tables : Tables) : Type 0 where
+  pub ours : AreOurs trees
+  pub rows : tables_in trees ≡ tables
+
+-- the schema of a database with no table at all
+abbrev pub no_schema : Schema
+no_schema = record { tables = []; indexes = []; views = [] }
+
+-- no table at all
+abbrev pub HoldsNone : Trees → Type 0
+HoldsNone = IsSound no_schema
+
+-- the connection sees our schema and these tables
+pub record Sees (s : State) (tables : Tables) : Type 0 where
+  pub ours : IsOurs s
+  pub rows : tables_of s ≡ tables
+
+-- between transactions, with the store open and these tables
+pub record Stands (s : State) (tables : Tables) : Type 0 where
+  pub is_open : IsTrue s.is_open
+  pub settled : s.in_transaction ≡ false
+  pub committed : s.now ≡ s.committed
+  pub ours : IsOurs s
+  pub rows : tables_of s ≡ tables
+
+abbrev pub first_state : StateRow
+first_state = record { clock = 0; next = record { object = 1; file = 1; upload = 1; change = 1 } }
+
+abbrev pub our_version : ℕ
+our_version = 1
+
+-- the tables of a new store
+abbrev pub first_tables : Tables
+first_tables = record {
+  format = stored_format our_version ∷ [];
+  state = stored_state first_state ∷ [];
+  objects = [];
+  metadata = [];
+  files = [];
+  uploads = [];
+  segments = [];
+  timed_out = [];
+  blocks = [];
+}
+
+-- `format` has one row, of id 1, and this version
+abbrev pub HasVersion : ℕ → Tables → Type 0
+HasVersion version tables = map (λ r. column r 0 ∷ column r 2 ∷ []) tables.format ≡ (Int (pos 1) ∷ Int (pos version) ∷ []) ∷ []
+
+-- what a database becomes in which our first tables are made
+pub record IsBeside (old : Database) (trees : Trees) : Type 0 where
+  pub sound : IsSound (with_ours old.schema) trees
+  pub rows : tables_from (next_tree old.schema) trees ≡ first_tables
+  pub others : KeepsRows old.schema.tables old.trees trees
+
+-- Our first tables are made, and our names were free.
+pub record GainsOurs (old new : Database) : Type 0 where
+  pub free : AreFree old.schema
+  pub made : HasCounters old.schema → (new.schema ≡ with_ours old.schema) × IsBeside old new.trees
+
+-- between transactions, with our first tables beside those of others
+pub record StandsBeside (old new : State) : Type 0 where
+  pub is_open : IsTrue new.is_open
+  pub settled : new.in_transaction ≡ false
+  pub committed : new.now ≡ new.committed
+  pub schema : new.now.schema ≡ with_ours old.now.schema
+  pub trees : IsBeside old.now new.now.trees
+
+-- a database with no table at all, one with no table `format`, or one with our tables and our version
+abbrev pub IsOpenable : State → Type 0
+IsOpenable s = (s.now.schema ≡ no_schema) ⊎ (LacksFormat s.now.schema ⊎ (IsOurs s × HasVersion our_version (tables_of s)))
+
+-- what is committed by the schema that is there: what is there where it is ours, the tables of a new store where there is none, and the same beside the tables of others where our names are free
+pub record CommitsBySchema (s : State) (trees : Trees) : Type 0 where
+  pub found : IsOurs s → trees ≡ s.now.trees
+  pub new : s.now.schema ≡ no_schema → Holds trees first_tables
+  pub free : LacksFormat s.now.schema → AreFree s.now.schema
+  pub beside : LacksFormat s.now.schema → HasCounters s.now.schema → IsBeside s.now trees
+
+-- what `open` may commit, by what it finds in an open store
+pub record CommitsOpen (s : State) (trees : Trees) : Type 0 where
+  pub found : IsTrue s.is_open → (tables : Tables) → Holds s.now.trees tables → Holds trees tables
+  pub new : IsTrue s.is_open → HoldsNone s.now.trees → Holds trees first_tables
+  pub free : LacksFormat s.now.schema → AreFree s.now.schema
+  pub beside : LacksFormat s.now.schema → HasCounters s.now.schema → IsBeside s.now trees

@@ -1,0 +1,187 @@
+-- The bytes of contents, in blocks.
+use Rattle.std.proofs.Common.{◌≡◌, ℕ, ℤ, pos, List, [], ◌∷◌, map, filter, not, true, false, ◌&&◌, ◌||◌, if◌then◌else◌, Option, Ok, codes, refl, sym, ap, ap₂, ◌∙◌}
+use Rattle.std.specs.Option.{option_to_list, option_map}
+use Rattle.std.specs.List.{list_any}
+use Rattle.std.proofs.lemmas.Bool.{and_parts, and_from}
+use Rattle.std.proofs.lemmas.Cmp.{on_total, then_total}
+use Rattle.std.specs.Ordering.{ordering_then}
+use Rattle.std.specs.Cmp.{IsTotalOrder}
+use Rattle.sqlite_tied.specs.Compute.{everything}
+use Rattle.sqlite.specs.Listing.{understood}
+use Rattle.sqlite.specs.Rowids.TheVariants.{Chosen}
+use Rattle.sqlite.specs.Cast.{cast}
+use Rattle.sqlite.specs.Kind.TheVariants.{Integer}
+use Rattle.sqlite.specs.Order.{Row, column}
+use Rattle.sqlite.specs.Term.{Term, lit, col, op2}
+use Rattle.sqlite.specs.State.{State, ExecutesInside, Shown}
+use Rattle.sqlite.specs.declared.types.Value.TheVariants.{Null, Int, Blob}
+use Rattle.sqlite_value.specs.declared.keys.Key.{Key}
+use Rattle.sqlite_value.specs.Keys.{plain, first_key}
+use Rattle.sqlite_value.specs.Order.{value_cmp}
+use Rattle.sqlite_value.proofs.OrderLemmas.{value_cmp_total, then-Equal}
+use Rattle.sqlite_sql.specs.declared.ops.BinaryOp.TheVariants.{And, Or}
+use Rattle.sqlite_schema.specs.Rules.{agree}
+use Rattle.sqlite_rules.specs.Edit.{with_rowid}
+use Rattle.sqlite_rules.specs.Lists.{Has}
+use Rattle.dep_statements.specs.Query.{equals, exceeds, no_limit, rising, passes}
+use Rattle.dep_statements.specs.Rows.{put_next, columns_from, IsFirst}
+use Rattle.dep_statements.proofs.Values.{cast_int, cast_null}
+use Rattle.dep_statements.proofs.Tests.{equals_int, holds_number, holds_above, holds_both, holds_either, passes_two, passes_three, passes_four}
+use Rattle.dep_statements.proofs.Edits.{key_of, has_its_key}
+use Rattle.dep_statements.proofs.Typed.{kept_integer, stored_column}
+use Rattle.dep_statements.proofs.Unique.{IsKey}
+use Rattle.dep_statements.proofs.Results.{changed_by}
+use Rattle.dep_statements.proofs.Written.{Inserts, Deletes, Updates, inserts_next, deletes_where, updates_where}
+use Rattle.dep_statements.proofs.Selected.{Asks, first_only, selects_all, selects_first}
+use Rattle.dep_tables.specs.Schema.{our_schema, blocks_table}
+use Rattle.dep_tables.specs.Texts.{insert_block_text, delete_blocks_text, move_part_text, read_block_text, next_block_text}
+use Rattle.dep_tables.specs.declared.owner.BlockOwner.{BlockOwner}
+use Rattle.dep_tables.specs.declared.owner.BlockOwner.TheVariants.{File, Upload}
+use Rattle.dep_tables.specs.declared.owner.BlockKey.{BlockKey}
+use Rattle.dep_tables.specs.declared.owner.BlockPlace.{BlockPlace}
+use Rattle.dep_tables.specs.Rows.{kind_of, number_of, owner_values, key_values, block_values, place_values, bytes_in, shown_place, is_block, is_block_of, is_part_of, is_later_block, moved_to, by_part_and_place}
+use Rattle.dep_tables.specs.Tables.{tables_of, IsOurs, Leads}
+use Rattle.dep_tables.proofs.Leading.{leads, blocks_at}
+use Rattle.dep_tables.proofs.Answered.{read_few, read_first}
+
+abbrev terms : List Term
+terms = lit Null ∷ col 0 0 ∷ col 0 1 ∷ col 0 2 ∷ col 0 3 ∷ col 0 4 ∷ []
+
+insert_is : Inserts our_schema insert_block_text 8 terms
+unfolding understood everything
+insert_is = (refl, (refl, refl))
+
+abbrev places : List ℕ
+places = 1 ∷ 2 ∷ 3 ∷ 4 ∷ []
+
+key : IsKey our_schema blocks_table places
+key = record { name = codes "sqlite_autoindex_blocks_1"; tree = 11; at = 2; listed = refl; guards_it = refl }
+
+agrees : (k : BlockKey) (bytes : List ℕ) (id : ℤ) (other : Row) → is_block k other ≡ true → agree plain places other places (Int id ∷ block_values k bytes) ≡ true
+unfolding first_key
+agrees k bytes id other same =
+    let parts = and_parts _ _ same in
+    let three = and_parts _ _ parts.0 in
+    let two = and_parts _ _ three.0 in
+    and_from _ _ (equals_int (column other 1) (pos (kind_of k.owner)) ∙ two.0)
+    (and_from _ _ (equals_int (column other 2) (pos (number_of k.owner)) ∙ two.1)
+    (and_from _ _ (equals_int (column other 3) (pos k.at.part) ∙ three.1) (and_from _ _ (equals_int (column other 4) (pos k.at.place) ∙ parts.1) refl)))
+
+pub inserts_block : (old new : State) (k : BlockKey) (bytes : List ℕ) (count : ℕ) → IsOurs old → ExecutesInside 0 insert_block_text (block_values k bytes) old new (Ok count)
+    → Leads old new (record (tables_of old) { blocks = put_next (block_values k bytes) (tables_of old).blocks }) × (list_any (is_block k) (tables_of old).blocks ≡ false)
+inserts_block old new k bytes count ours h =
+    let made = inserts_next our_schema 8 10 blocks_at insert_block_text (block_values k bytes) old new ours.schema ours.trees.ordered.1.1.1.1.1.1.1.1.0 count h terms insert_is (block_values k bytes)
+    (λ i. with_rowid Chosen (old.now.trees 10) (cast_null i ∷ cast_int (pos (kind_of k.owner)) i ∷ cast_int (pos (number_of k.owner)) i ∷ cast_int (pos k.at.part) i ∷ cast_int (pos k.at.place) i ∷ Blob bytes ∷ []) ∷ [])
+    places key (is_block k) (agrees k bytes) in
+    (leads old new 10 _ ours made.0 _ refl, made.1)
+
+-- ---- the tests
+
+abbrev pub of_owner : List Term
+of_owner = equals (col 1 1) (col 0 0) ∷ equals (col 1 2) (col 0 1) ∷ []
+
+pub tests_owner : (o : BlockOwner) (row : Row) → passes (owner_values o) of_owner row ≡ is_block_of o row
+tests_owner o row =
+    passes_two (owner_values o) row (equals (col 1 1) (col 0 0)) (equals (col 1 2) (col 0 1)) _ _ (holds_number (owner_values o) 0 (kind_of o) 1 row refl) (holds_number (owner_values o) 1 (number_of o) 2 row refl)
+
+delete_is : Deletes our_schema delete_blocks_text 8 10 of_owner
+unfolding understood everything
+delete_is = (refl, (refl, refl))
+
+pub deletes_blocks : (old new : State) (o : BlockOwner) (count : ℕ) → IsOurs old → ExecutesInside 0 delete_blocks_text (owner_values o) old new (Ok count)
+    → Leads old new (record (tables_of old) { blocks = filter (λ r. not (is_block_of o r)) (tables_of old).blocks })
+deletes_blocks old new o count ours h =
+    leads old new 10 _ ours
+    (deletes_where our_schema 8 10 blocks_at delete_blocks_text (owner_values o) old new ours.schema ours.trees.ordered.1.1.1.1.1.1.1.1.0 count h of_owner delete_is (is_block_of o) (tests_owner o)) _ refl
+
+-- ---- the move of a part
+
+abbrev of_part : List Term
+of_part = equals (col 1 1) (lit (Int (pos 1))) ∷ equals (col 1 2) (col 0 0) ∷ equals (col 1 3) (col 0 1) ∷ []
+
+abbrev move_values : ℕ → ℕ → ℕ → Row
+move_values upload part file = Int (pos upload) ∷ Int (pos part) ∷ Int (pos file) ∷ []
+
+tests_part : (upload part file : ℕ) (row : Row) → passes (move_values upload part file) of_part row ≡ is_part_of (Upload upload) part row
+tests_part upload part file row =
+    let params = move_values upload part file in
+    passes_three params row (equals (col 1 1) (lit (Int (pos 1)))) (equals (col 1 2) (col 0 0)) (equals (col 1 3) (col 0 1)) _ _ _ (equals_int (column row 1) (pos 1)) (holds_number params 0 upload 2 row refl) (holds_number params 1 part 3 row refl)
+
+move_is : Updates our_schema move_part_text 8 10 of_part (col 1 0 ∷ lit (Int (pos 0)) ∷ col 0 2 ∷ col 1 3 ∷ col 1 4 ∷ col 1 5 ∷ [])
+unfolding understood everything
+move_is = (refl, (refl, refl))
+
+-- what the UPDATE stores of a block that is there
+moves_row : (s : State) → IsOurs s → (params : Row) (file : ℕ) → column params 2 ≡ Int (pos file) → (r : Row) → Has (s.now.trees 10) r
+    → changed_by blocks_table (col 1 0 ∷ col 1 0 ∷ lit (Int (pos 0)) ∷ col 0 2 ∷ col 1 3 ∷ col 1 4 ∷ col 1 5 ∷ []) params r ≡ moved_to (File file) r
+moves_row s ours params file given r there =
+    let keyed = has_its_key (s.now.trees 10) r ours.trees.ordered.1.1.1.1.1.1.1.1.0 there in
+    let id : cast Integer (column r 0) ≡ column r 0 = ap (cast Integer) keyed ∙ cast_int (key_of r) ∙ sym keyed in
+    let owner : cast Integer (column params 2) ≡ Int (pos file) = ap (cast Integer) given ∙ cast_int (pos file) in
+    let part = kept_integer (column r 3) (stored_column our_schema blocks_table 8 refl refl s.now.trees ours.trees.sound.obeys r there 2 _ _ _ refl) in
+    let place = kept_integer (column r 4) (stored_column our_schema blocks_table 8 refl refl s.now.trees ours.trees.sound.obeys r there 3 _ _ _ refl) in
+    λ i. id i ∷ cast_int (pos 0) i ∷ owner i ∷ part i ∷ place i ∷ column r 5 ∷ []
+
+pub moves_part : (old new : State) (upload part file count : ℕ) → IsOurs old → ExecutesInside 0 move_part_text (move_values upload part file) old new (Ok count)
+    → Leads old new (record (tables_of old) { blocks = map (λ r. if is_part_of (Upload upload) part r then moved_to (File file) r else r) (tables_of old).blocks })
+moves_part old new upload part file count ours h =
+    leads old new 10 _ ours
+    (updates_where our_schema 8 10 blocks_at move_part_text (move_values upload part file) old new ours.schema ours.trees.ordered.1.1.1.1.1.1.1.1.0 count h of_part _ move_is (is_part_of (Upload upload) part) (moved_to (File file))
+    (tests_part upload part file) (λ r there passing. (moves_row old ours (move_values upload part file) file refl r there, refl))) _ refl
+
+-- ---- reading a block
+
+abbrev of_key : List Term
+of_key = equals (col 1 1) (col 0 0) ∷ equals (col 1 2) (col 0 1) ∷ equals (col 1 3) (col 0 2) ∷ equals (col 1 4) (col 0 3) ∷ []
+
+tests_key : (k : BlockKey) (row : Row) → passes (key_values k) of_key row ≡ is_block k row
+tests_key k row =
+    let params = key_values k in
+    passes_four params row (equals (col 1 1) (col 0 0)) (equals (col 1 2) (col 0 1)) (equals (col 1 3) (col 0 2)) (equals (col 1 4) (col 0 3)) _ _ _ _ (holds_number params 0 (kind_of k.owner) 1 row refl) (holds_number params 1 (number_of k.owner) 2 row refl)
+    (holds_number params 2 k.at.part 3 row refl) (holds_number params 3 k.at.place 4 row refl)
+
+pub read_is : Asks our_schema read_block_text 10 of_key (col 1 5 ∷ []) [] no_limit
+unfolding understood everything
+read_is = record { names = _; is = refl; unlisted = refl; plain = (refl, refl) }
+
+-- over any kind of value that reads as bytes
+pub reads_block : {B : Type 0} (bytes : B → List ℕ) (old new : State) (k : BlockKey) (found : Option B) → IsOurs old
+    → (rows : List Row) × Shown read_block_text (key_values k) old new rows × (map (λ b. Blob (bytes b) ∷ []) (option_to_list found) ≡ map (columns_from 0 1) rows)
+    → map bytes_in (filter (is_block k) (tables_of old).blocks) ≡ option_to_list (option_map (λ b. Blob (bytes b)) found)
+reads_block bytes old new k found ours read =
+    read_few (λ b. Blob (bytes b)) bytes_in found (filter (is_block k) (tables_of old).blocks) read.0
+    (selects_all our_schema read_block_text (key_values k) old ours.schema 10 blocks_at.own of_key _ (is_block k) (tests_key k) new [] read_is read.0 read.1) read.2
+
+-- ---- the next block
+
+abbrev comes_after : Term
+comes_after = op2 Or (exceeds (col 1 3) (col 0 2)) (op2 And (equals (col 1 3) (col 0 2)) (exceeds (col 1 4) (col 0 3)))
+
+abbrev later : List Term
+later = equals (col 1 1) (col 0 0) ∷ equals (col 1 2) (col 0 1) ∷ comes_after ∷ []
+
+tests_later : (k : BlockKey) (row : Row) → passes (key_values k) later row ≡ is_later_block k row
+tests_later k row =
+    let params = key_values k in
+    let past = holds_either (params ∷ row ∷ []) (exceeds (col 1 3) (col 0 2)) (op2 And (equals (col 1 3) (col 0 2)) (exceeds (col 1 4) (col 0 3)))
+    ∙ ap₂ ◌||◌ (holds_above params 2 k.at.part 3 row refl)
+    (holds_both (params ∷ row ∷ []) (equals (col 1 3) (col 0 2)) (exceeds (col 1 4) (col 0 3)) ∙ ap₂ ◌&&◌ (holds_number params 2 k.at.part 3 row refl) (holds_above params 3 k.at.place 4 row refl)) in
+    passes_three params row (equals (col 1 1) (col 0 0)) (equals (col 1 2) (col 0 1)) comes_after _ _ _ (holds_number params 0 (kind_of k.owner) 1 row refl) (holds_number params 1 (number_of k.owner) 2 row refl) past
+
+abbrev pub order : List (Term × Key)
+order = (col 1 3, rising) ∷ (col 1 4, rising) ∷ []
+
+pub by_place_total : IsTotalOrder by_part_and_place
+by_place_total = then_total (on_total (λ r. column r 0) value_cmp_total) (on_total (λ r. column r 1) value_cmp_total)
+
+pub next_is : Asks our_schema next_block_text 10 later (col 1 3 ∷ col 1 4 ∷ []) order first_only
+unfolding understood everything
+next_is = record { names = _; is = refl; unlisted = refl; plain = (refl, refl) }
+
+pub nexts_block : (old new : State) (k : BlockKey) (found : Option BlockPlace) → IsOurs old
+    → (rows : List Row) × Shown next_block_text (key_values k) old new rows × (map place_values (option_to_list found) ≡ map (columns_from 0 2) rows)
+    → IsFirst by_part_and_place (map shown_place (filter (is_later_block k) (tables_of old).blocks)) (map place_values (option_to_list found))
+nexts_block old new k found ours read =
+    read_first place_values 2 shown_place (λ row. refl) by_part_and_place (filter (is_later_block k) (tables_of old).blocks) read.0 (option_to_list found)
+    (selects_first our_schema next_block_text (key_values k) old ours.schema 10 blocks_at.own later _ (is_later_block k) (tests_later k) order by_part_and_place by_place_total
+    (λ a b. ap (ordering_then (value_cmp (column a 3) (column b 3))) (then-Equal (value_cmp (column a 4) (column b 4)))) new next_is read.0 read.1) read.2

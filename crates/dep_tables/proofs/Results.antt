@@ -1,0 +1,18 @@
+-- Facts on a result that is passed on.
+use Rattle.std.proofs.Common.{Result, Ok, Err, OnOk, OnErr, IfOk}
+
+pub ok_then : {A E P Q : Type 0} (r : Result A E) → OnOk r P → (P → Q) → OnOk r Q
+ok_then (Ok x) p f = f p
+ok_then (Err e) p f = tt
+
+pub if_ok : {A E P : Type 0} (r : Result A E) → P → OnOk r P
+if_ok (Ok x) p = p
+if_ok (Err e) p = tt
+
+pub if_then : {A E : Type 0} {P Q : A → Type 0} (r : Result A E) → IfOk r P → ((x : A) → P x → Q x) → IfOk r Q
+if_then (Ok x) p f = f x p
+if_then (Err e) p f = tt
+
+pub if_failed : {A E P : Type 0} (r : Result A E) → P → OnErr r P
+if_failed (Ok x) p = tt
+if_failed (Err e) p = p

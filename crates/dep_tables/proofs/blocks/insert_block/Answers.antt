@@ -1,0 +1,10 @@
+use Rattle.sqlite.specs.Held.{state}
+use Rattle.dep_tables.proofs.Results.{ok_then}
+use Rattle.dep_tables.proofs.BlocksTable.{inserts_block}
+use Rattle.dep_tables.proofs.blocks.insert_block.Goals as goal
+
+pub returns-clause-ok : goal.returns-clause-ok
+returns-clause-ok g c clean inside ours = ok_then c.run.result (c.run.ensures.runs clean inside) (λ ran. (inserts_block (state g.S.Store c.args.tx.now.conn.now) (state g.S.Store c.run.new.tx.conn.now) c.args.key.now c.args.bytes.now ran.0 ours (rw c.block_params.ensures at ran.1)).0)
+
+pub returns-clause-free : goal.returns-clause-free
+returns-clause-free g c clean inside ours = ok_then c.run.result (c.run.ensures.runs clean inside) (λ ran. (inserts_block (state g.S.Store c.args.tx.now.conn.now) (state g.S.Store c.run.new.tx.conn.now) c.args.key.now c.args.bytes.now ran.0 ours (rw c.block_params.ensures at ran.1)).1)

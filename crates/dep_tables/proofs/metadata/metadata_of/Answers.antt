@@ -1,0 +1,15 @@
+use Rattle.sqlite.specs.Held.{state}
+use Rattle.dep_tables.specs.Texts.{metadata_of_text}
+use Rattle.dep_tables.proofs.Results.{if_then}
+use Rattle.dep_tables.proofs.Leading.{plain_here}
+use Rattle.dep_tables.proofs.MetadataTable.{lists_metadata, list_is}
+use Rattle.dep_tables.proofs.metadata.metadata_of.Goals as goal
+
+pub returns-clause-ok : goal.returns-clause-ok
+returns-clause-ok g c clean ours = if_then c.ask_all.result (c.ask_all.ensures.shown clean) (λ found read. lists_metadata (state g.S.Store c.args.tx.now.conn.now) (state g.S.Store c.ask_all.new.tx.conn.now) c.args.object found.items ours (rw c.key_param.ensures at read))
+
+pub returns-clause-same : goal.returns-clause-same
+returns-clause-same g c clean ours = c.ask_all.ensures.same clean (plain_here (state g.S.Store c.args.tx.now.conn.now) metadata_of_text ours list_is.plain)
+
+pub returns-clause-err : goal.returns-clause-err
+returns-clause-err g c clean inside ours is_open = c.ask_all.ensures.err clean inside (plain_here (state g.S.Store c.args.tx.now.conn.now) metadata_of_text ours list_is.plain) is_open

@@ -1,0 +1,8 @@
+use Rattle.sqlite.specs.Held.{state}
+use Rattle.dep_tables.proofs.Results.{ok_then}
+use Rattle.dep_tables.proofs.StateTable.{writes_state}
+use Rattle.dep_tables.proofs.state.write_state.Goals as goal
+
+pub returns-clause-ok : goal.returns-clause-ok
+returns-clause-ok g c clean inside ours =
+    ok_then c.run.result (c.run.ensures.runs clean inside) (λ ran. writes_state (state g.S.Store c.args.tx.now.conn.now) (state g.S.Store c.run.new.tx.conn.now) c.args.row.now ran.0 ours (rw c.state_params.ensures at ran.1))

@@ -1,0 +1,10 @@
+-- The fault of the store that stands for an error.
+use Rattle.sqlite.specs.declared.error.Error.{Error}
+use Rattle.sqlite.specs.declared.error.Error.TheVariants.{SqliteFailure}
+use Rattle.sqlite.specs.declared.error.ErrorCode.TheVariants.{OutOfMemory}
+use Rattle.dep_types.specs.declared.store_fault.StoreFault.{StoreFault}
+use Rattle.dep_types.specs.declared.store_fault.StoreFault.TheVariants.{Store, Memory}
+
+abbrev pub fault_for : Error → StoreFault
+fault_for (SqliteFailure OutOfMemory) = Memory
+fault_for _ = Store

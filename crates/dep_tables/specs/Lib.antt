@@ -1,0 +1,6 @@
+pub mod Schema
+pub mod Texts
+pub mod Rows
+pub mod Tables
+pub mod Clauses
+pub mod Faults

@@ -1,0 +1,226 @@
+-- Rows of the tables as they are stored, where the column of a key is NULL, and as they are given and shown.
+use Rattle.std.specs.Prelude.{ℕ, ◌<◌, ◌^◌, pos, Bool, if◌then◌else◌, ◌&&◌, ◌||◌, List, [], ◌∷◌}
+use Rattle.std.specs.declared.cmp.Ordering.{Ordering}
+use Rattle.std.specs.Ordering.{ordering_then, is_eq}
+use Rattle.sqlite.specs.declared.types.Value.{Value}
+use Rattle.sqlite.specs.declared.types.Value.TheVariants.{Null, Int, Text, Blob}
+use Rattle.sqlite.specs.Order.{Row, column}
+use Rattle.sqlite.specs.Values.{or_null}
+use Rattle.sqlite_value.specs.Order.{value_cmp}
+use Rattle.dep_statements.specs.Rows.{has_number, exceeds_number, columns_from}
+use Rattle.dep_types.specs.declared.rows.ObjectRow.{ObjectRow}
+use Rattle.dep_types.specs.declared.rows.FileRow.{FileRow}
+use Rattle.dep_types.specs.declared.rows.UploadRow.{UploadRow}
+use Rattle.dep_tables.specs.declared.state.StateRow.{StateRow}
+use Rattle.dep_tables.specs.declared.metadata.MetadataRow.{MetadataRow}
+use Rattle.dep_tables.specs.declared.segments.SegmentRow.{SegmentRow}
+use Rattle.dep_tables.specs.declared.owner.BlockOwner.{BlockOwner}
+use Rattle.dep_tables.specs.declared.owner.BlockOwner.TheVariants.{File, Upload}
+use Rattle.dep_tables.specs.declared.owner.BlockKey.{BlockKey}
+use Rattle.dep_tables.specs.declared.owner.BlockPlace.{BlockPlace}
+
+abbrev pub flag : Bool → Value
+flag b = Int (pos (if b then 1 else 0))
+
+-- ---- format
+
+-- the one row of `format`
+abbrev pub stored_format : ℕ → Row
+stored_format version = Int (pos 1) ∷ Null ∷ Int (pos version) ∷ []
+
+-- ---- state
+
+abbrev pub state_values : StateRow → Row
+state_values r = Int (pos r.clock) ∷ Int (pos r.next.object) ∷ Int (pos r.next.file) ∷ Int (pos r.next.upload) ∷ Int (pos r.next.change) ∷ []
+
+abbrev pub stored_state : StateRow → Row
+stored_state r = Int (pos 1) ∷ Null ∷ state_values r
+
+-- what a query shows of a stored row
+abbrev pub shown_state : Row → Row
+shown_state = columns_from 2 5
+
+-- each number is one of SQL's
+pub record IsStorableState (r : StateRow) : Type 0 where
+  pub clock : r.clock < 2 ^ 63
+  pub object : r.next.object < 2 ^ 63
+  pub file : r.next.file < 2 ^ 63
+  pub upload : r.next.upload < 2 ^ 63
+  pub change : r.next.change < 2 ^ 63
+
+-- ---- objects
+
+abbrev pub object_columns : ObjectRow → Row
+object_columns r = flag r.ingested ∷ Int (pos r.object_tag) ∷ Int (pos r.metadata_tag) ∷ Int (pos r.files_tag) ∷ Int (pos r.changed) ∷ []
+
+abbrev pub object_values : ObjectRow → Row
+object_values r = Int (pos r.object) ∷ object_columns r
+
+abbrev pub stored_object : ObjectRow → Row
+stored_object r = Int (pos r.object) ∷ Null ∷ object_columns r
+
+abbrev pub shown_object : Row → Row
+shown_object stored = column stored 0 ∷ columns_from 2 5 stored
+
+pub record IsStorableObject (r : ObjectRow) : Type 0 where
+  pub object : r.object < 2 ^ 63
+  pub object_tag : r.object_tag < 2 ^ 63
+  pub metadata_tag : r.metadata_tag < 2 ^ 63
+  pub files_tag : r.files_tag < 2 ^ 63
+  pub changed : r.changed < 2 ^ 63
+
+-- ---- metadata
+
+-- the table has no column for its rowid
+abbrev pub metadata_values : MetadataRow → Row
+metadata_values r = Int (pos r.object) ∷ Text r.name ∷ Int (pos r.place) ∷ Text r.value ∷ []
+
+abbrev pub shown_metadata : Row → Row
+shown_metadata = columns_from 1 4
+
+-- by name and place, of rows as they are shown
+abbrev pub by_name_and_place : Row → Row → Ordering
+by_name_and_place a b = ordering_then (value_cmp (column a 1) (column b 1)) (value_cmp (column a 2) (column b 2))
+
+-- the stored row has this one's object, name and place
+abbrev pub has_metadata_key : MetadataRow → Row → Bool
+has_metadata_key r stored = has_number 1 r.object stored && is_eq (value_cmp (column stored 2) (Text r.name)) && has_number 3 r.place stored
+
+pub record IsStorableMetadata (r : MetadataRow) : Type 0 where
+  pub object : r.object < 2 ^ 63
+  pub place : r.place < 2 ^ 63
+
+-- ---- files
+
+abbrev pub file_columns : FileRow → Row
+file_columns r =
+    Int (pos r.object) ∷ Text r.name ∷ Text r.media ∷ Int (pos r.size) ∷ Int (pos r.tag) ∷ Int (pos r.deposited) ∷ or_null Text r.behalf ∷ flag r.by_reference ∷ Blob r.sha256 ∷ []
+
+abbrev pub file_values : FileRow → Row
+file_values r = Int (pos r.file) ∷ file_columns r
+
+abbrev pub stored_file : FileRow → Row
+stored_file r = Int (pos r.file) ∷ Null ∷ file_columns r
+
+abbrev pub shown_file : Row → Row
+shown_file stored = column stored 0 ∷ columns_from 2 9 stored
+
+pub record IsStorableFile (r : FileRow) : Type 0 where
+  pub file : r.file < 2 ^ 63
+  pub object : r.object < 2 ^ 63
+  pub size : r.size < 2 ^ 63
+  pub tag : r.tag < 2 ^ 63
+  pub deposited : r.deposited < 2 ^ 63
+
+-- ---- uploads
+
+abbrev pub upload_columns : UploadRow → Row
+upload_columns r = Int (pos r.size) ∷ Int (pos r.count) ∷ Int (pos r.segment_size) ∷ or_null Blob r.sha256 ∷ Int (pos r.last) ∷ []
+
+abbrev pub upload_values : UploadRow → Row
+upload_values r = Int (pos r.upload) ∷ upload_columns r
+
+abbrev pub stored_upload : UploadRow → Row
+stored_upload r = Int (pos r.upload) ∷ Null ∷ upload_columns r
+
+abbrev pub shown_upload : Row → Row
+shown_upload stored = column stored 0 ∷ columns_from 2 5 stored
+
+pub record IsStorableUpload (r : UploadRow) : Type 0 where
+  pub upload : r.upload < 2 ^ 63
+  pub size : r.size < 2 ^ 63
+  pub count : r.count < 2 ^ 63
+  pub segment_size : r.segment_size < 2 ^ 63
+  pub last : r.last < 2 ^ 63
+
+-- ---- segments
+
+abbrev pub segment_values : SegmentRow → Row
+segment_values r = Int (pos r.upload) ∷ Int (pos r.number) ∷ Int (pos r.size) ∷ []
+
+abbrev pub shown_segment : Row → Row
+shown_segment = columns_from 1 3
+
+-- by number, of rows as they are shown
+abbrev pub by_number : Row → Row → Ordering
+by_number a b = value_cmp (column a 1) (column b 1)
+
+abbrev pub has_segment_key : SegmentRow → Row → Bool
+has_segment_key r stored = has_number 1 r.upload stored && has_number 2 r.number stored
+
+pub record IsStorableSegment (r : SegmentRow) : Type 0 where
+  pub upload : r.upload < 2 ^ 63
+  pub number : r.number < 2 ^ 63
+  pub size : r.size < 2 ^ 63
+
+-- ---- timed_out
+
+-- a number with nothing beside it
+abbrev pub stored_number : ℕ → Row
+stored_number n = Int (pos n) ∷ Null ∷ []
+
+-- ---- blocks
+
+-- 0 of a file, 1 of an upload
+abbrev pub kind_of : BlockOwner → ℕ
+kind_of (File n) = 0
+kind_of (Upload n) = 1
+
+abbrev pub number_of : BlockOwner → ℕ
+number_of (File n) = n
+number_of (Upload n) = n
+
+abbrev pub owner_values : BlockOwner → Row
+owner_values o = Int (pos (kind_of o)) ∷ Int (pos (number_of o)) ∷ []
+
+abbrev pub part_values : BlockOwner → ℕ → Row
+part_values o part = Int (pos (kind_of o)) ∷ Int (pos (number_of o)) ∷ Int (pos part) ∷ []
+
+abbrev pub key_values : BlockKey → Row
+key_values k = Int (pos (kind_of k.owner)) ∷ Int (pos (number_of k.owner)) ∷ Int (pos k.at.part) ∷ Int (pos k.at.place) ∷ []
+
+abbrev pub block_values : BlockKey → List ℕ → Row
+block_values k bytes = Int (pos (kind_of k.owner)) ∷ Int (pos (number_of k.owner)) ∷ Int (pos k.at.part) ∷ Int (pos k.at.place) ∷ Blob bytes ∷ []
+
+abbrev pub place_values : BlockPlace → Row
+place_values p = Int (pos p.part) ∷ Int (pos p.place) ∷ []
+
+-- the part and the place of a block, and its bytes
+abbrev pub shown_block : Row → Row
+shown_block = columns_from 3 3
+
+abbrev pub shown_place : Row → Row
+shown_place = columns_from 3 2
+
+abbrev pub bytes_in : Row → Value
+bytes_in stored = column stored 5
+
+-- by part and place, of rows as they are shown
+abbrev pub by_part_and_place : Row → Row → Ordering
+by_part_and_place a b = ordering_then (value_cmp (column a 0) (column b 0)) (value_cmp (column a 1) (column b 1))
+
+-- a block of this owner; of this part of it; this block
+abbrev pub is_block_of : BlockOwner → Row → Bool
+is_block_of o stored = has_number 1 (kind_of o) stored && has_number 2 (number_of o) stored
+
+abbrev pub is_part_of : BlockOwner → ℕ → Row → Bool
+is_part_of o part stored = is_block_of o stored && has_number 3 part stored
+
+abbrev pub is_block : BlockKey → Row → Bool
+is_block k stored = is_part_of k.owner k.at.part stored && has_number 4 k.at.place stored
+
+-- a block of the same owner that comes later
+abbrev pub is_later_block : BlockKey → Row → Bool
+is_later_block k stored = is_block_of k.owner stored && (exceeds_number 3 k.at.part stored || has_number 3 k.at.part stored && exceeds_number 4 k.at.place stored)
+
+-- the block with another owner
+abbrev pub moved_to : BlockOwner → Row → Row
+moved_to o stored = column stored 0 ∷ Int (pos (kind_of o)) ∷ Int (pos (number_of o)) ∷ columns_from 3 3 stored
+
+abbrev pub IsStorableOwner : BlockOwner → Type 0
+IsStorableOwner o = number_of o < 2 ^ 63
+
+pub record IsStorableKey (k : BlockKey) : Type 0 where
+  pub owner : IsStorableOwner k.owner
+  pub part : k.at.part < 2 ^ 63
+  pub place : k.at.place < 2 ^ 63

@@ -1,0 +1,98 @@
+-- The text of each statement.
+use Rattle.std.specs.Prelude.{ℕ, List, codes}
+
+abbrev pub read_state_text : List ℕ
+read_state_text = codes "SELECT clock, next_object, next_file, next_upload, next_change FROM state WHERE id = 1"
+
+abbrev pub write_state_text : List ℕ
+write_state_text = codes "UPDATE state SET clock = ?1, next_object = ?2, next_file = ?3, next_upload = ?4, next_change = ?5 WHERE id = 1"
+
+abbrev pub insert_object_text : List ℕ
+insert_object_text = codes "INSERT INTO objects (object, ingested, object_tag, metadata_tag, files_tag, changed) VALUES (?1, ?2, ?3, ?4, ?5, ?6)"
+
+abbrev pub write_object_text : List ℕ
+write_object_text = codes "UPDATE objects SET ingested = ?2, object_tag = ?3, metadata_tag = ?4, files_tag = ?5, changed = ?6 WHERE object = ?1"
+
+abbrev pub delete_object_text : List ℕ
+delete_object_text = codes "DELETE FROM objects WHERE object = ?1"
+
+abbrev pub find_object_text : List ℕ
+find_object_text = codes "SELECT object, ingested, object_tag, metadata_tag, files_tag, changed FROM objects WHERE object = ?1"
+
+abbrev pub next_object_text : List ℕ
+next_object_text = codes "SELECT object FROM objects WHERE object > ?1 ORDER BY object LIMIT 1"
+
+abbrev pub insert_metadata_text : List ℕ
+insert_metadata_text = codes "INSERT INTO metadata (object, name, place, value) VALUES (?1, ?2, ?3, ?4)"
+
+abbrev pub delete_metadata_text : List ℕ
+delete_metadata_text = codes "DELETE FROM metadata WHERE object = ?1"
+
+abbrev pub metadata_of_text : List ℕ
+metadata_of_text = codes "SELECT object, name, place, value FROM metadata WHERE object = ?1 ORDER BY name, place"
+
+abbrev pub insert_file_text : List ℕ
+insert_file_text = codes "INSERT INTO files (file, object, name, media, size, tag, deposited, behalf, by_reference, sha256) VALUES (?1, ?2, ?3, ?4, ?5, ?6, ?7, ?8, ?9, ?10)"
+
+abbrev pub delete_file_text : List ℕ
+delete_file_text = codes "DELETE FROM files WHERE file = ?1"
+
+abbrev pub delete_files_text : List ℕ
+delete_files_text = codes "DELETE FROM files WHERE object = ?1"
+
+abbrev pub find_file_text : List ℕ
+find_file_text = codes "SELECT file, object, name, media, size, tag, deposited, behalf, by_reference, sha256 FROM files WHERE file = ?1"
+
+abbrev pub files_of_text : List ℕ
+files_of_text = codes "SELECT file, object, name, media, size, tag, deposited, behalf, by_reference, sha256 FROM files WHERE object = ?1 ORDER BY file"
+
+abbrev pub insert_upload_text : List ℕ
+insert_upload_text = codes "INSERT INTO uploads (upload, size, count, segment_size, sha256, last) VALUES (?1, ?2, ?3, ?4, ?5, ?6)"
+
+abbrev pub write_upload_text : List ℕ
+write_upload_text = codes "UPDATE uploads SET size = ?2, count = ?3, segment_size = ?4, sha256 = ?5, last = ?6 WHERE upload = ?1"
+
+abbrev pub delete_upload_text : List ℕ
+delete_upload_text = codes "DELETE FROM uploads WHERE upload = ?1"
+
+abbrev pub find_upload_text : List ℕ
+find_upload_text = codes "SELECT upload, size, count, segment_size, sha256, last FROM uploads WHERE upload = ?1"
+
+abbrev pub next_upload_text : List ℕ
+next_upload_text = codes "SELECT upload FROM uploads WHERE upload > ?1 ORDER BY upload LIMIT 1"
+
+abbrev pub insert_segment_text : List ℕ
+insert_segment_text = codes "INSERT INTO segments (upload, number, size) VALUES (?1, ?2, ?3)"
+
+abbrev pub delete_segments_text : List ℕ
+delete_segments_text = codes "DELETE FROM segments WHERE upload = ?1"
+
+abbrev pub segments_of_text : List ℕ
+segments_of_text = codes "SELECT upload, number, size FROM segments WHERE upload = ?1 ORDER BY number"
+
+abbrev pub insert_timed_out_text : List ℕ
+insert_timed_out_text = codes "INSERT INTO timed_out (upload) VALUES (?1)"
+
+abbrev pub find_timed_out_text : List ℕ
+find_timed_out_text = codes "SELECT upload FROM timed_out WHERE upload = ?1"
+
+abbrev pub insert_block_text : List ℕ
+insert_block_text = codes "INSERT INTO blocks (kind, owner, part, place, bytes) VALUES (?1, ?2, ?3, ?4, ?5)"
+
+abbrev pub read_block_text : List ℕ
+read_block_text = codes "SELECT bytes FROM blocks WHERE kind = ?1 AND owner = ?2 AND part = ?3 AND place = ?4"
+
+abbrev pub next_block_text : List ℕ
+next_block_text = codes "SELECT part, place FROM blocks WHERE kind = ?1 AND owner = ?2 AND (part > ?3 OR (part = ?3 AND place > ?4)) ORDER BY part, place LIMIT 1"
+
+abbrev pub blocks_of_text : List ℕ
+blocks_of_text = codes "SELECT part, place, bytes FROM blocks WHERE kind = ?1 AND owner = ?2 ORDER BY part, place"
+
+abbrev pub part_of_text : List ℕ
+part_of_text = codes "SELECT part, place, bytes FROM blocks WHERE kind = ?1 AND owner = ?2 AND part = ?3 ORDER BY part, place"
+
+abbrev pub delete_blocks_text : List ℕ
+delete_blocks_text = codes "DELETE FROM blocks WHERE kind = ?1 AND owner = ?2"
+
+abbrev pub move_part_text : List ℕ
+move_part_text = codes "UPDATE blocks SET kind = 0, owner = ?3 WHERE kind = 1 AND owner = ?1 AND part = ?2"

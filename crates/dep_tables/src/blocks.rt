@@ -1,0 +1,186 @@
+//! The bytes of contents, in blocks.
+
+ghost use Rattle.std.specs.Prelude.{◌≡◌, ◌∷◌, ◌++◌, [], pos, false, ◌<◌, ◌^◌, if◌then◌else◌, filter, map, not, option_map};
+ghost use Rattle.std.specs.List.{list_any};
+ghost use Rattle.std.specs.Option.{option_to_list};
+ghost use Rattle.sqlite.specs.declared.types.Value.TheVariants.{Int, Blob};
+ghost use Rattle.sqlite.specs.Held.{state};
+ghost use Rattle.sqlite.specs.Values.{bound};
+ghost use Rattle.dep_statements.specs.Rows.{put_next, IsFirst};
+ghost use Rattle.dep_tables.specs.Rows.{IsStorableKey, key_values, block_values, bytes_in, shown_place, place_values, is_block, is_block_of, is_part_of, is_later_block, moved_to, by_part_and_place};
+ghost use Rattle.dep_tables.specs.Clauses.{Changes, Shows, Reads, ReadsOnly, FailsWhole, FailsReading, GoesOn, StaysInside, CommitsNothing};
+
+use crate::calls::run;
+use crate::numbers::{LIMIT, number};
+use crate::owner::{
+    BlockKey, BlockOwner, BlockPlace, is_storable_key, is_storable_owner, key_params, owner_params,
+};
+use crate::reading::{FromRow, ask_one};
+use dep_types::StoreFault;
+use sqlite::types::ValueRef;
+use sqlite::{Alter, Error, Row, Transaction};
+
+fn block_params<'a>(key: &BlockKey, bytes: &'a [u8]) -> [ValueRef<'a>; 5]
+    requires { IsStorableKey key.now }
+    ensures { bound result ≡ block_values key.now bytes.now }
+{
+    let [kind, owner, part, place] = key_params(key);
+    [kind, owner, part, place, ValueRef::Blob(bytes)]
+}
+
+/// Adds a block. It is a fault of the store where there is a block of this key, and where a number is 2^63 or more.
+pub fn insert_block<S: Alter>(
+    tx: &mut Transaction<'_, S>,
+    key: &BlockKey,
+    bytes: &[u8],
+) -> Result<(), StoreFault>
+    ensures ok { Changes (state S.Store tx.old.conn.now) (state S.Store tx.new.conn.now) result (λ t. record t { blocks = put_next (block_values key.now bytes.now) t.blocks }) }
+    ensures free { Shows (state S.Store tx.old.conn.now) (state S.Store tx.new.conn.now) result (λ t. list_any (is_block key.now) t.blocks ≡ false) }
+    ensures err { FailsWhole (state S.Store tx.old.conn.now) (state S.Store tx.new.conn.now) result }
+    ensures inside { GoesOn (state S.Store tx.old.conn.now) (state S.Store tx.new.conn.now) result }
+    ensures kept { StaysInside (state S.Store tx.old.conn.now) (state S.Store tx.new.conn.now) }
+    ensures same_reference { tx.new.conn.ghost_name ≡ tx.old.conn.ghost_name }
+    ensures survives { CommitsNothing (state S.Store tx.old.conn.now) (state S.Store tx.new.conn.now) }
+{
+    if !is_storable_key(key) {
+        return Err(StoreFault::Store);
+    }
+    run(
+        tx,
+        "INSERT INTO blocks (kind, owner, part, place, bytes) VALUES (?1, ?2, ?3, ?4, ?5)",
+        &block_params(key, bytes),
+    )
+}
+
+/// Deletes the blocks of an owner. A number of 2^63 or more is a fault of the store.
+pub fn delete_blocks<S: Alter>(
+    tx: &mut Transaction<'_, S>,
+    owner: BlockOwner,
+) -> Result<(), StoreFault>
+    ensures ok { Changes (state S.Store tx.old.conn.now) (state S.Store tx.new.conn.now) result (λ t. record t { blocks = filter (λ r. not (is_block_of owner r)) t.blocks }) }
+    ensures err { FailsWhole (state S.Store tx.old.conn.now) (state S.Store tx.new.conn.now) result }
+    ensures inside { GoesOn (state S.Store tx.old.conn.now) (state S.Store tx.new.conn.now) result }
+    ensures kept { StaysInside (state S.Store tx.old.conn.now) (state S.Store tx.new.conn.now) }
+    ensures same_reference { tx.new.conn.ghost_name ≡ tx.old.conn.ghost_name }
+    ensures survives { CommitsNothing (state S.Store tx.old.conn.now) (state S.Store tx.new.conn.now) }
+{
+    if !is_storable_owner(owner) {
+        return Err(StoreFault::Store);
+    }
+    run(
+        tx,
+        "DELETE FROM blocks WHERE kind = ?1 AND owner = ?2",
+        &owner_params(owner),
+    )
+}
+
+fn move_params(upload: u64, part: u64, file: u64) -> [ValueRef<'static>; 3]
+    requires upload { upload < 2 ^ 63 }
+    requires part { part < 2 ^ 63 }
+    requires file { file < 2 ^ 63 }
+    ensures { bound result ≡ Int (pos upload) ∷ Int (pos part) ∷ Int (pos file) ∷ [] }
+{
+    [
+        ValueRef::Int(number(upload)),
+        ValueRef::Int(number(part)),
+        ValueRef::Int(number(file)),
+    ]
+}
+
+/// Gives the blocks of one part of an upload to a file. It is a fault of the store where the file has a block of that key, and where a number is 2^63 or more.
+pub fn move_part<S: Alter>(
+    tx: &mut Transaction<'_, S>,
+    upload: u64,
+    part: u64,
+    file: u64,
+) -> Result<(), StoreFault>
+    ensures ok { Changes (state S.Store tx.old.conn.now) (state S.Store tx.new.conn.now) result (λ t. record t { blocks = map (λ r. if is_part_of (BlockOwner.Upload upload) part r then moved_to (BlockOwner.File file) r else r) t.blocks }) }
+    ensures err { FailsWhole (state S.Store tx.old.conn.now) (state S.Store tx.new.conn.now) result }
+    ensures inside { GoesOn (state S.Store tx.old.conn.now) (state S.Store tx.new.conn.now) result }
+    ensures kept { StaysInside (state S.Store tx.old.conn.now) (state S.Store tx.new.conn.now) }
+    ensures same_reference { tx.new.conn.ghost_name ≡ tx.old.conn.ghost_name }
+    ensures survives { CommitsNothing (state S.Store tx.old.conn.now) (state S.Store tx.new.conn.now) }
+{
+    if upload >= LIMIT || part >= LIMIT || file >= LIMIT {
+        return Err(StoreFault::Store);
+    }
+    run(
+        tx,
+        "UPDATE blocks SET kind = 0, owner = ?3 WHERE kind = 1 AND owner = ?1 AND part = ?2",
+        &move_params(upload, part, file),
+    )
+}
+
+impl FromRow for BlockPlace {
+    ghost use Rattle.dep_tables.specs.Rows.{place_values};
+
+    ghost width = { 2 };
+
+    ghost values = { place_values };
+
+    fn from_row(row: &Row) -> Result<BlockPlace, Error> {
+        Ok(BlockPlace {
+            part: row.get(0)?,
+            place: row.get(1)?,
+        })
+    }
+}
+
+impl FromRow for Vec<u8> {
+    ghost use Rattle.std.specs.Prelude.{◌∷◌, []};
+    ghost use Rattle.sqlite.specs.declared.types.Value.TheVariants.{Blob};
+
+    ghost width = { 1 };
+
+    ghost values = { λ bytes. Blob bytes.items ∷ [] };
+
+    fn from_row(row: &Row) -> Result<Vec<u8>, Error> {
+        row.get(0)
+    }
+}
+
+/// The bytes of the block of this key, if there is one. A number of 2^63 or more is a fault of the store.
+pub fn read_block<S: Alter>(
+    tx: &mut Transaction<'_, S>,
+    key: &BlockKey,
+) -> Result<Option<Vec<u8>>, StoreFault>
+    ensures ok { Reads (state S.Store tx.old.conn.now) (state S.Store tx.new.conn.now) result (λ t found. map bytes_in (filter (is_block key.now) t.blocks) ≡ option_to_list (option_map (λ bytes. Blob bytes.items) found)) }
+    ensures same { ReadsOnly (state S.Store tx.old.conn.now) (state S.Store tx.new.conn.now) result }
+    ensures err { FailsReading (state S.Store tx.old.conn.now) (state S.Store tx.new.conn.now) result }
+    ensures inside { GoesOn (state S.Store tx.old.conn.now) (state S.Store tx.new.conn.now) result }
+    ensures kept { StaysInside (state S.Store tx.old.conn.now) (state S.Store tx.new.conn.now) }
+    ensures same_reference { tx.new.conn.ghost_name ≡ tx.old.conn.ghost_name }
+    ensures survives { CommitsNothing (state S.Store tx.old.conn.now) (state S.Store tx.new.conn.now) }
+{
+    if !is_storable_key(key) {
+        return Err(StoreFault::Store);
+    }
+    ask_one(
+        tx,
+        "SELECT bytes FROM blocks WHERE kind = ?1 AND owner = ?2 AND part = ?3 AND place = ?4",
+        &key_params(key),
+    )
+}
+
+/// The next block of the same owner, by part and place, whether or not the key itself is there. A number of 2^63 or more is a fault of the store.
+pub fn next_block<S: Alter>(
+    tx: &mut Transaction<'_, S>,
+    key: &BlockKey,
+) -> Result<Option<BlockPlace>, StoreFault>
+    ensures ok { Reads (state S.Store tx.old.conn.now) (state S.Store tx.new.conn.now) result (λ t found. IsFirst by_part_and_place (map shown_place (filter (is_later_block key.now) t.blocks)) (map place_values (option_to_list found))) }
+    ensures same { ReadsOnly (state S.Store tx.old.conn.now) (state S.Store tx.new.conn.now) result }
+    ensures err { FailsReading (state S.Store tx.old.conn.now) (state S.Store tx.new.conn.now) result }
+    ensures inside { GoesOn (state S.Store tx.old.conn.now) (state S.Store tx.new.conn.now) result }
+    ensures kept { StaysInside (state S.Store tx.old.conn.now) (state S.Store tx.new.conn.now) }
+    ensures same_reference { tx.new.conn.ghost_name ≡ tx.old.conn.ghost_name }
+    ensures survives { CommitsNothing (state S.Store tx.old.conn.now) (state S.Store tx.new.conn.now) }
+{
+    if !is_storable_key(key) {
+        return Err(StoreFault::Store);
+    }
+    ask_one(
+        tx,
+        "SELECT part, place FROM blocks WHERE kind = ?1 AND owner = ?2 AND (part > ?3 OR (part = ?3 AND place > ?4)) ORDER BY part, place LIMIT 1",
+        &key_params(key),
+    )
+}

@@ -1,0 +1,171 @@
+//! The rows of the files.
+
+ghost use Rattle.std.specs.Prelude.{◌≡◌, ◌↔◌, pos, None, IsTrue, filter, map, not, option_map};
+ghost use Rattle.sqlite.specs.Held.{state};
+ghost use Rattle.sqlite.specs.Values.{bound};
+ghost use Rattle.sqlite_trees.specs.Tree.{put_row, without_rowid};
+ghost use Rattle.dep_statements.specs.Rows.{row_at, has_number};
+ghost use Rattle.dep_tables.specs.Rows.{IsStorableFile, stored_file, file_values, shown_file};
+ghost use Rattle.dep_tables.specs.Clauses.{Changes, Shows, Reads, ReadsOnly, FailsWhole, FailsReading, GoesOn, StaysInside, CommitsNothing};
+
+use crate::calls::run;
+use crate::numbers::{LIMIT, flag_at, flag_number, key_param, number};
+use crate::reading::{FromRow, ask_all, ask_one};
+use crate::texts::{digest_at, text_at, text_or_null, text_or_null_at, text_value};
+use dep_types::{FileRow, StoreFault};
+use sqlite::types::ValueRef;
+use sqlite::{Alter, Error, Row, Transaction};
+use std::alloc::Global;
+
+fn is_storable_file(row: &FileRow) -> bool
+    ensures { IsTrue result ↔ IsStorableFile row.now }
+{
+    row.file < LIMIT
+        && row.object < LIMIT
+        && row.size < LIMIT
+        && row.tag < LIMIT
+        && row.deposited < LIMIT
+}
+
+fn file_params(row: &FileRow) -> [ValueRef<'_>; 10]
+    requires { IsStorableFile row.now }
+    ensures { bound result ≡ file_values row.now }
+{
+    [
+        ValueRef::Int(number(row.file)),
+        ValueRef::Int(number(row.object)),
+        text_value(&row.name),
+        text_value(&row.media),
+        ValueRef::Int(number(row.size)),
+        ValueRef::Int(number(row.tag)),
+        ValueRef::Int(number(row.deposited)),
+        text_or_null(&row.behalf),
+        ValueRef::Int(flag_number(row.by_reference)),
+        ValueRef::Blob(&row.sha256),
+    ]
+}
+
+/// Adds a row. It is a fault of the store where there is a row of this key, and where a number is 2^63 or more.
+pub fn insert_file<S: Alter>(tx: &mut Transaction<'_, S>, row: &FileRow) -> Result<(), StoreFault>
+    ensures ok { Changes (state S.Store tx.old.conn.now) (state S.Store tx.new.conn.now) result (λ t. record t { files = put_row (stored_file row.now) t.files }) }
+    ensures free { Shows (state S.Store tx.old.conn.now) (state S.Store tx.new.conn.now) result (λ t. row_at t.files row.now.file ≡ None) }
+    ensures err { FailsWhole (state S.Store tx.old.conn.now) (state S.Store tx.new.conn.now) result }
+    ensures inside { GoesOn (state S.Store tx.old.conn.now) (state S.Store tx.new.conn.now) result }
+    ensures kept { StaysInside (state S.Store tx.old.conn.now) (state S.Store tx.new.conn.now) }
+    ensures same_reference { tx.new.conn.ghost_name ≡ tx.old.conn.ghost_name }
+    ensures survives { CommitsNothing (state S.Store tx.old.conn.now) (state S.Store tx.new.conn.now) }
+{
+    if !is_storable_file(row) {
+        return Err(StoreFault::Store);
+    }
+    run(
+        tx,
+        "INSERT INTO files (file, object, name, media, size, tag, deposited, behalf, by_reference, sha256) VALUES (?1, ?2, ?3, ?4, ?5, ?6, ?7, ?8, ?9, ?10)",
+        &file_params(row),
+    )
+}
+
+/// Deletes the row of this key, if there is one. A number of 2^63 or more is a fault of the store.
+pub fn delete_file<S: Alter>(tx: &mut Transaction<'_, S>, file: u64) -> Result<(), StoreFault>
+    ensures ok { Changes (state S.Store tx.old.conn.now) (state S.Store tx.new.conn.now) result (λ t. record t { files = without_rowid (pos file) t.files }) }
+    ensures err { FailsWhole (state S.Store tx.old.conn.now) (state S.Store tx.new.conn.now) result }
+    ensures inside { GoesOn (state S.Store tx.old.conn.now) (state S.Store tx.new.conn.now) result }
+    ensures kept { StaysInside (state S.Store tx.old.conn.now) (state S.Store tx.new.conn.now) }
+    ensures same_reference { tx.new.conn.ghost_name ≡ tx.old.conn.ghost_name }
+    ensures survives { CommitsNothing (state S.Store tx.old.conn.now) (state S.Store tx.new.conn.now) }
+{
+    if file >= LIMIT {
+        return Err(StoreFault::Store);
+    }
+    run(tx, "DELETE FROM files WHERE file = ?1", &key_param(file))
+}
+
+/// Deletes the rows of an object. A number of 2^63 or more is a fault of the store.
+pub fn delete_files<S: Alter>(tx: &mut Transaction<'_, S>, object: u64) -> Result<(), StoreFault>
+    ensures ok { Changes (state S.Store tx.old.conn.now) (state S.Store tx.new.conn.now) result (λ t. record t { files = filter (λ r. not (has_number 2 object r)) t.files }) }
+    ensures err { FailsWhole (state S.Store tx.old.conn.now) (state S.Store tx.new.conn.now) result }
+    ensures inside { GoesOn (state S.Store tx.old.conn.now) (state S.Store tx.new.conn.now) result }
+    ensures kept { StaysInside (state S.Store tx.old.conn.now) (state S.Store tx.new.conn.now) }
+    ensures same_reference { tx.new.conn.ghost_name ≡ tx.old.conn.ghost_name }
+    ensures survives { CommitsNothing (state S.Store tx.old.conn.now) (state S.Store tx.new.conn.now) }
+{
+    if object >= LIMIT {
+        return Err(StoreFault::Store);
+    }
+    run(
+        tx,
+        "DELETE FROM files WHERE object = ?1",
+        &key_param(object),
+    )
+}
+
+impl FromRow for FileRow {
+    ghost use Rattle.dep_tables.specs.Rows.{file_values};
+
+    ghost width = { 10 };
+
+    ghost values = { file_values };
+
+    fn from_row(row: &Row) -> Result<FileRow, Error> {
+        Ok(FileRow {
+            file: row.get(0)?,
+            object: row.get(1)?,
+            name: text_at(row, 2)?,
+            media: text_at(row, 3)?,
+            size: row.get(4)?,
+            tag: row.get(5)?,
+            deposited: row.get(6)?,
+            behalf: text_or_null_at(row, 7)?,
+            by_reference: flag_at(row, 8)?,
+            sha256: digest_at(row, 9)?,
+        })
+    }
+}
+
+/// The row of this key. It is a fault of the store where the row is not one that `insert_file` writes, and for a number of 2^63 or more.
+pub fn find_file<S: Alter>(
+    tx: &mut Transaction<'_, S>,
+    file: u64,
+) -> Result<Option<FileRow>, StoreFault>
+    ensures ok { Reads (state S.Store tx.old.conn.now) (state S.Store tx.new.conn.now) result (λ t found. option_map file_values found ≡ option_map shown_file (row_at t.files file)) }
+    ensures same { ReadsOnly (state S.Store tx.old.conn.now) (state S.Store tx.new.conn.now) result }
+    ensures err { FailsReading (state S.Store tx.old.conn.now) (state S.Store tx.new.conn.now) result }
+    ensures inside { GoesOn (state S.Store tx.old.conn.now) (state S.Store tx.new.conn.now) result }
+    ensures kept { StaysInside (state S.Store tx.old.conn.now) (state S.Store tx.new.conn.now) }
+    ensures same_reference { tx.new.conn.ghost_name ≡ tx.old.conn.ghost_name }
+    ensures survives { CommitsNothing (state S.Store tx.old.conn.now) (state S.Store tx.new.conn.now) }
+{
+    if file >= LIMIT {
+        return Err(StoreFault::Store);
+    }
+    ask_one(
+        tx,
+        "SELECT file, object, name, media, size, tag, deposited, behalf, by_reference, sha256 FROM files WHERE file = ?1",
+        &key_param(file),
+    )
+}
+
+/// The rows of an object, by ascending key. It is a fault of the store where one is not one that `insert_file` writes, and for a number of 2^63 or more.
+pub fn files_of<S: Alter>(
+    tx: &mut Transaction<'_, S>,
+    alloc: Global,
+    object: u64,
+) -> Result<Vec<FileRow>, StoreFault>
+    ensures ok { Reads (state S.Store tx.old.conn.now) (state S.Store tx.new.conn.now) result (λ t found. map file_values found.items ≡ map shown_file (filter (has_number 2 object) t.files)) }
+    ensures same { ReadsOnly (state S.Store tx.old.conn.now) (state S.Store tx.new.conn.now) result }
+    ensures err { FailsReading (state S.Store tx.old.conn.now) (state S.Store tx.new.conn.now) result }
+    ensures inside { GoesOn (state S.Store tx.old.conn.now) (state S.Store tx.new.conn.now) result }
+    ensures kept { StaysInside (state S.Store tx.old.conn.now) (state S.Store tx.new.conn.now) }
+    ensures same_reference { tx.new.conn.ghost_name ≡ tx.old.conn.ghost_name }
+    ensures survives { CommitsNothing (state S.Store tx.old.conn.now) (state S.Store tx.new.conn.now) }
+{
+    if object >= LIMIT {
+        return Err(StoreFault::Store);
+    }
+    ask_all(
+        tx,
+        alloc,
+        "SELECT file, object, name, media, size, tag, deposited, behalf, by_reference, sha256 FROM files WHERE object = ?1 ORDER BY file",
+        &key_param(object),
+    )
+}

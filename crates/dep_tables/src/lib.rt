@@ -1,0 +1,30 @@
+//! The tables of the deposit store in SQLite, and one function for each statement on them.
+#![tactic(auto)]
+
+mod blocks;
+mod calls;
+mod fault;
+mod files;
+mod metadata;
+mod numbers;
+mod objects;
+mod owner;
+mod reading;
+mod segments;
+mod state;
+mod texts;
+mod timed_out;
+mod uploads;
+
+pub use blocks::{delete_blocks, insert_block, move_part, next_block, read_block};
+pub use calls::run;
+pub use fault::fault_of;
+pub use files::{delete_file, delete_files, files_of, find_file, insert_file};
+pub use metadata::{MetadataRow, delete_metadata, insert_metadata, metadata_of};
+pub use numbers::LIMIT;
+pub use objects::{delete_object, find_object, insert_object, next_object, write_object};
+pub use owner::{BlockKey, BlockOwner, BlockPlace, is_storable_owner, owner_params, part_params};
+pub use segments::{SegmentRow, delete_segments, insert_segment, segments_of};
+pub use state::{StateRow, read_state, write_state};
+pub use timed_out::{find_timed_out, insert_timed_out};
+pub use uploads::{delete_upload, find_upload, insert_upload, next_upload, write_upload};

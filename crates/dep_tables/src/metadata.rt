@@ -1,0 +1,130 @@
+//! The rows of the objects' metadata.
+
+ghost use Rattle.std.specs.Prelude.{◌≡◌, ◌↔◌, false, IsTrue, filter, map, not};
+ghost use Rattle.std.specs.List.{list_any};
+ghost use Rattle.sqlite.specs.Held.{state};
+ghost use Rattle.sqlite.specs.Values.{bound};
+ghost use Rattle.dep_statements.specs.Rows.{has_number, put_next, InOrder};
+ghost use Rattle.dep_tables.specs.Rows.{IsStorableMetadata, metadata_values, shown_metadata, has_metadata_key, by_name_and_place};
+ghost use Rattle.dep_tables.specs.Clauses.{Changes, Shows, Reads, ReadsOnly, FailsWhole, FailsReading, GoesOn, StaysInside, CommitsNothing};
+
+use crate::calls::run;
+use crate::numbers::{LIMIT, key_param, number};
+use crate::reading::{FromRow, ask_all};
+use crate::texts::{text_at, text_value};
+use dep_types::{StoreFault, Text};
+use sqlite::types::ValueRef;
+use sqlite::{Alter, Error, Row, Transaction};
+use std::alloc::Global;
+
+/// One text of an object's metadata.
+#[derive(Drop)]
+pub struct MetadataRow {
+    pub object: u64,
+    pub name: Text,
+    /// The place of the text among those of this name, from 0.
+    pub place: u64,
+    pub value: Text,
+}
+
+fn is_storable_metadata(row: &MetadataRow) -> bool
+    ensures { IsTrue result ↔ IsStorableMetadata row.now }
+{
+    row.object < LIMIT && row.place < LIMIT
+}
+
+fn metadata_params(row: &MetadataRow) -> [ValueRef<'_>; 4]
+    requires { IsStorableMetadata row.now }
+    ensures { bound result ≡ metadata_values row.now }
+{
+    [
+        ValueRef::Int(number(row.object)),
+        text_value(&row.name),
+        ValueRef::Int(number(row.place)),
+        text_value(&row.value),
+    ]
+}
+
+/// Adds a row. It is a fault of the store where there is a row of this object, name and place, and where a number is 2^63 or more.
+pub fn insert_metadata<S: Alter>(
+    tx: &mut Transaction<'_, S>,
+    row: &MetadataRow,
+) -> Result<(), StoreFault>
+    ensures ok { Changes (state S.Store tx.old.conn.now) (state S.Store tx.new.conn.now) result (λ t. record t { metadata = put_next (metadata_values row.now) t.metadata }) }
+    ensures free { Shows (state S.Store tx.old.conn.now) (state S.Store tx.new.conn.now) result (λ t. list_any (has_metadata_key row.now) t.metadata ≡ false) }
+    ensures err { FailsWhole (state S.Store tx.old.conn.now) (state S.Store tx.new.conn.now) result }
+    ensures inside { GoesOn (state S.Store tx.old.conn.now) (state S.Store tx.new.conn.now) result }
+    ensures kept { StaysInside (state S.Store tx.old.conn.now) (state S.Store tx.new.conn.now) }
+    ensures same_reference { tx.new.conn.ghost_name ≡ tx.old.conn.ghost_name }
+    ensures survives { CommitsNothing (state S.Store tx.old.conn.now) (state S.Store tx.new.conn.now) }
+{
+    if !is_storable_metadata(row) {
+        return Err(StoreFault::Store);
+    }
+    run(
+        tx,
+        "INSERT INTO metadata (object, name, place, value) VALUES (?1, ?2, ?3, ?4)",
+        &metadata_params(row),
+    )
+}
+
+/// Deletes the rows of an object. A number of 2^63 or more is a fault of the store.
+pub fn delete_metadata<S: Alter>(tx: &mut Transaction<'_, S>, object: u64) -> Result<(), StoreFault>
+    ensures ok { Changes (state S.Store tx.old.conn.now) (state S.Store tx.new.conn.now) result (λ t. record t { metadata = filter (λ r. not (has_number 1 object r)) t.metadata }) }
+    ensures err { FailsWhole (state S.Store tx.old.conn.now) (state S.Store tx.new.conn.now) result }
+    ensures inside { GoesOn (state S.Store tx.old.conn.now) (state S.Store tx.new.conn.now) result }
+    ensures kept { StaysInside (state S.Store tx.old.conn.now) (state S.Store tx.new.conn.now) }
+    ensures same_reference { tx.new.conn.ghost_name ≡ tx.old.conn.ghost_name }
+    ensures survives { CommitsNothing (state S.Store tx.old.conn.now) (state S.Store tx.new.conn.now) }
+{
+    if object >= LIMIT {
+        return Err(StoreFault::Store);
+    }
+    run(
+        tx,
+        "DELETE FROM metadata WHERE object = ?1",
+        &key_param(object),
+    )
+}
+
+impl FromRow for MetadataRow {
+    ghost use Rattle.dep_tables.specs.Rows.{metadata_values};
+
+    ghost width = { 4 };
+
+    ghost values = { metadata_values };
+
+    fn from_row(row: &Row) -> Result<MetadataRow, Error> {
+        Ok(MetadataRow {
+            object: row.get(0)?,
+            name: text_at(row, 1)?,
+            place: row.get(2)?,
+            value: text_at(row, 3)?,
+        })
+    }
+}
+
+/// The rows of an object, by name and place. It is a fault of the store where one is not one that `insert_metadata` writes, and for a number of 2^63 or more.
+pub fn metadata_of<S: Alter>(
+    tx: &mut Transaction<'_, S>,
+    alloc: Global,
+    object: u64,
+) -> Result<Vec<MetadataRow>, StoreFault>
+    ensures ok { Reads (state S.Store tx.old.conn.now) (state S.Store tx.new.conn.now) result (λ t found. InOrder by_name_and_place (map shown_metadata (filter (has_number 1 object) t.metadata)) (map metadata_values found.items)) }
+    ensures same { ReadsOnly (state S.Store tx.old.conn.now) (state S.Store tx.new.conn.now) result }
+    ensures err { FailsReading (state S.Store tx.old.conn.now) (state S.Store tx.new.conn.now) result }
+    ensures inside { GoesOn (state S.Store tx.old.conn.now) (state S.Store tx.new.conn.now) result }
+    ensures kept { StaysInside (state S.Store tx.old.conn.now) (state S.Store tx.new.conn.now) }
+    ensures same_reference { tx.new.conn.ghost_name ≡ tx.old.conn.ghost_name }
+    ensures survives { CommitsNothing (state S.Store tx.old.conn.now) (state S.Store tx.new.conn.now) }
+{
+    if object >= LIMIT {
+        return Err(StoreFault::Store);
+    }
+    ask_all(
+        tx,
+        alloc,
+        "SELECT object, name, place, value FROM metadata WHERE object = ?1 ORDER BY name, place",
+        &key_param(object),
+    )
+}

@@ -1,0 +1,48 @@
+//! Numbers and flags as SQL keeps them.
+
+ghost use Rattle.std.specs.Prelude.{◌≡◌, ◌<◌, ◌^◌, pos, ◌∷◌, [], IfOk, if◌then◌else◌};
+ghost use Rattle.sqlite.specs.declared.types.Value.TheVariants.{Int};
+ghost use Rattle.sqlite.specs.Order.{column};
+ghost use Rattle.sqlite.specs.Values.{bound};
+ghost use Rattle.dep_tables.specs.Rows.{flag};
+
+use sqlite::types::ValueRef;
+use sqlite::{Error, Row};
+
+/// One above the greatest number that SQL keeps.
+pub const LIMIT: u64 = 1 << 63;
+
+/// The number as SQL keeps it.
+pub(crate) fn number(n: u64) -> i64
+    requires { n < 2 ^ 63 }
+    ensures { result ≡ pos n }
+{
+    n as i64
+}
+
+/// A number as the one parameter of a statement.
+pub(crate) fn key_param(key: u64) -> [ValueRef<'static>; 1]
+    requires { key < 2 ^ 63 }
+    ensures { bound result ≡ Int (pos key) ∷ [] }
+{
+    [ValueRef::Int(number(key))]
+}
+
+/// A flag as SQL keeps it.
+pub(crate) fn flag_number(b: bool) -> i64
+    ensures { result ≡ pos (if b then 1 else 0) }
+{
+    if b { 1 } else { 0 }
+}
+
+/// A flag that `flag_number` wrote.
+pub(crate) fn flag_at(row: &Row, at: usize) -> Result<bool, Error>
+    ensures { IfOk result (λ b. column row.now at ≡ flag b) }
+{
+    let number: u64 = row.get(at)?;
+    match number {
+        0 => Ok(false),
+        1 => Ok(true),
+        _ => Err(Error::IntegralValueOutOfRange(at)),
+    }
+}

@@ -1,0 +1,101 @@
+//! Whose a block is, and its key.
+
+ghost use Rattle.std.specs.Prelude.{◌≡◌, ◌↔◌, ◌∷◌, [], ◌<◌, ◌^◌, IsTrue};
+ghost use Rattle.sqlite.specs.Values.{bound};
+ghost use Rattle.dep_tables.specs.Rows.{kind_of, number_of, owner_values, part_values, key_values, IsStorableOwner, IsStorableKey};
+
+use crate::numbers::{LIMIT, number};
+use sqlite::types::ValueRef;
+
+/// Whose a block is: a file's, or a staged upload's.
+#[derive(Clone, Copy, Debug, PartialEq, Eq)]
+pub enum BlockOwner {
+    /// The file of this number.
+    File(u64),
+    /// The staged upload of this number.
+    Upload(u64),
+}
+
+/// The place of a block among those of its owner.
+#[derive(Clone, Copy, Debug, PartialEq, Eq)]
+pub struct BlockPlace {
+    /// The number of the segment, or 1 where the content came whole.
+    pub part: u64,
+    /// The place of the block in its part, from 0.
+    pub place: u64,
+}
+
+/// The key of a block.
+#[derive(Clone, Copy, Debug, PartialEq, Eq)]
+pub struct BlockKey {
+    pub owner: BlockOwner,
+    pub at: BlockPlace,
+}
+
+fn kind_number(owner: BlockOwner) -> u64
+    ensures is { result ≡ kind_of owner }
+    ensures small { result < 2 }
+{
+    match owner {
+        BlockOwner::File(_) => 0,
+        BlockOwner::Upload(_) => 1,
+    }
+}
+
+fn owner_number(owner: BlockOwner) -> u64
+    ensures { result ≡ number_of owner }
+{
+    match owner {
+        BlockOwner::File(file) => file,
+        BlockOwner::Upload(upload) => upload,
+    }
+}
+
+/// Whether SQL keeps its number.
+pub fn is_storable_owner(owner: BlockOwner) -> bool
+    ensures { IsTrue result ↔ IsStorableOwner owner }
+{
+    owner_number(owner) < LIMIT
+}
+
+pub(crate) fn is_storable_key(key: &BlockKey) -> bool
+    ensures { IsTrue result ↔ IsStorableKey key.now }
+{
+    is_storable_owner(key.owner) && key.at.part < LIMIT && key.at.place < LIMIT
+}
+
+/// The kind and the number of an owner, as parameters of a statement.
+pub fn owner_params(owner: BlockOwner) -> [ValueRef<'static>; 2]
+    requires { IsStorableOwner owner }
+    ensures { bound result ≡ owner_values owner }
+{
+    [
+        ValueRef::Int(number(kind_number(owner))),
+        ValueRef::Int(number(owner_number(owner))),
+    ]
+}
+
+/// The kind and the number of an owner, and a part of it, as parameters of a statement.
+pub fn part_params(owner: BlockOwner, part: u64) -> [ValueRef<'static>; 3]
+    requires owner { IsStorableOwner owner }
+    requires part { part < 2 ^ 63 }
+    ensures { bound result ≡ part_values owner part }
+{
+    [
+        ValueRef::Int(number(kind_number(owner))),
+        ValueRef::Int(number(owner_number(owner))),
+        ValueRef::Int(number(part)),
+    ]
+}
+
+pub(crate) fn key_params(key: &BlockKey) -> [ValueRef<'static>; 4]
+    requires { IsStorableKey key.now }
+    ensures { bound result ≡ key_values key.now }
+{
+    [
+        ValueRef::Int(number(kind_number(key.owner))),
+        ValueRef::Int(number(owner_number(key.owner))),
+        ValueRef::Int(number(key.at.part)),
+        ValueRef::Int(number(key.at.place)),
+    ]
+}

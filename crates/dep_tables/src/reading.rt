@@ -1,0 +1,117 @@
+//! What is read from the rows that a query shows.
+
+ghost use Rattle.std.specs.Prelude.{◌≡◌, ◌⊎◌, ℕ, List, ◌∷◌, [], pos, IsTrue, IfOk, OnOk, OnErr, map};
+ghost use Rattle.std.specs.Option.{option_to_list};
+ghost use Rattle.sqlite.specs.Order.{Row as Values};
+ghost use Rattle.sqlite.specs.declared.types.Value.TheVariants.{Int};
+ghost use Rattle.sqlite.specs.State.{HasCleanDisk, IsUnchanged, IsRolledBack, Shown};
+ghost use Rattle.sqlite.specs.Given.{IsPlain};
+ghost use Rattle.sqlite.specs.Listing.{understood};
+ghost use Rattle.sqlite.specs.Held.{state};
+ghost use Rattle.sqlite.specs.Values.{bound};
+ghost use Rattle.dep_statements.specs.Rows.{columns_from};
+ghost use Rattle.dep_tables.specs.Clauses.{GoesOn, StaysInside, CommitsNothing};
+
+use crate::calls::ask;
+use crate::fault::fault_of;
+use dep_types::StoreFault;
+use sqlite::types::ValueRef;
+use sqlite::{Alter, Error, Row, Transaction};
+use std::alloc::Global;
+
+/// What one row stands for.
+pub(crate) trait FromRow: Sized {
+    /// How many columns it has.
+    ghost width: { ℕ };
+
+    /// The values of its columns.
+    ghost values: { Self → Values };
+
+    /// What the row stands for, if each column is of its type.
+    fn from_row(row: &Row) -> Result<Self, Error>
+        ensures { IfOk result (λ r. values r ≡ columns_from 0 width row.now) };
+}
+
+impl FromRow for u64 {
+    ghost width = { 1 };
+
+    ghost values = { λ n. Int (pos n) ∷ [] };
+
+    fn from_row(row: &Row) -> Result<u64, Error> {
+        row.get(0)
+    }
+}
+
+/// What at most one row stands for. It is a fault of the store where there are more.
+fn at_most_one<R: FromRow>(rows: &[Row]) -> Result<Option<R>, StoreFault>
+    ensures { IfOk result (λ found. map R.values (option_to_list found) ≡ map (columns_from 0 R.width) rows.now) }
+{
+    match rows {
+        [] => Ok(None),
+        [row] => match R::from_row(row) {
+            Ok(read) => Ok(Some(read)),
+            Err(error) => Err(fault_of(error)),
+        },
+        _ => Err(StoreFault::Store),
+    }
+}
+
+/// What each row stands for.
+fn all<R: FromRow + Drop>(alloc: Global, rows: &[Row]) -> Result<Vec<R>, StoreFault>
+    ensures { IfOk result (λ found. map R.values found.items ≡ map (columns_from 0 R.width) rows.now) }
+{
+    let mut found = Vec::new(alloc);
+    'rows: for row in rows {
+        let read = match R::from_row(row) {
+            Ok(read) => read,
+            Err(error) => return Err(fault_of(error)),
+        };
+        if found.push(read).is_err() {
+            return Err(StoreFault::Memory);
+        }
+    }
+    Ok(found)
+}
+
+/// Runs a query, and answers what its one row stands for, if it shows one.
+pub(crate) fn ask_one<S: Alter, R: FromRow>(
+    tx: &mut Transaction<'_, S>,
+    sql: &str,
+    params: &[ValueRef<'_>],
+) -> Result<Option<R>, StoreFault>
+    ensures shown { HasCleanDisk (state S.Store tx.new.conn.now)
+        → IfOk result (λ found. (rows : List Values) × Shown sql.now (bound params.now) (state S.Store tx.old.conn.now) (state S.Store tx.new.conn.now) rows × (map R.values (option_to_list found) ≡ map (columns_from 0 R.width) rows)) }
+    ensures same { HasCleanDisk (state S.Store tx.new.conn.now) → IsPlain (understood (state S.Store tx.old.conn.now).now.schema sql.now)
+        → OnOk result (IsUnchanged (state S.Store tx.old.conn.now) (state S.Store tx.new.conn.now)) }
+    ensures err { HasCleanDisk (state S.Store tx.new.conn.now) → IsTrue (state S.Store tx.old.conn.now).in_transaction → IsPlain (understood (state S.Store tx.old.conn.now).now.schema sql.now) → IsTrue (state S.Store tx.new.conn.now).is_open
+        → OnErr result (IsUnchanged (state S.Store tx.old.conn.now) (state S.Store tx.new.conn.now) ⊎ IsRolledBack (state S.Store tx.old.conn.now) (state S.Store tx.new.conn.now)) }
+    ensures inside { GoesOn (state S.Store tx.old.conn.now) (state S.Store tx.new.conn.now) result }
+    ensures kept { StaysInside (state S.Store tx.old.conn.now) (state S.Store tx.new.conn.now) }
+    ensures same_reference { tx.new.conn.ghost_name ≡ tx.old.conn.ghost_name }
+    ensures survives { CommitsNothing (state S.Store tx.old.conn.now) (state S.Store tx.new.conn.now) }
+{
+    let rows = ask(tx, sql, params)?;
+    at_most_one(rows.as_slice())
+}
+
+/// Runs a query, and answers what each of its rows stands for.
+pub(crate) fn ask_all<S: Alter, R: FromRow + Drop>(
+    tx: &mut Transaction<'_, S>,
+    alloc: Global,
+    sql: &str,
+    params: &[ValueRef<'_>],
+) -> Result<Vec<R>, StoreFault>
+    ensures shown { HasCleanDisk (state S.Store tx.new.conn.now)
+        → IfOk result (λ found. (rows : List Values) × Shown sql.now (bound params.now) (state S.Store tx.old.conn.now) (state S.Store tx.new.conn.now) rows × (map R.values found.items ≡ map (columns_from 0 R.width) rows)) }
+    ensures same { HasCleanDisk (state S.Store tx.new.conn.now) → IsPlain (understood (state S.Store tx.old.conn.now).now.schema sql.now)
+        → OnOk result (IsUnchanged (state S.Store tx.old.conn.now) (state S.Store tx.new.conn.now)) }
+    ensures err { HasCleanDisk (state S.Store tx.new.conn.now) → IsTrue (state S.Store tx.old.conn.now).in_transaction → IsPlain (understood (state S.Store tx.old.conn.now).now.schema sql.now) → IsTrue (state S.Store tx.new.conn.now).is_open
+        → OnErr result (IsUnchanged (state S.Store tx.old.conn.now) (state S.Store tx.new.conn.now) ⊎ IsRolledBack (state S.Store tx.old.conn.now) (state S.Store tx.new.conn.now)) }
+    ensures inside { GoesOn (state S.Store tx.old.conn.now) (state S.Store tx.new.conn.now) result }
+    ensures kept { StaysInside (state S.Store tx.old.conn.now) (state S.Store tx.new.conn.now) }
+    ensures same_reference { tx.new.conn.ghost_name ≡ tx.old.conn.ghost_name }
+    ensures survives { CommitsNothing (state S.Store tx.old.conn.now) (state S.Store tx.new.conn.now) }
+{
+    let rows = ask(tx, sql, params)?;
+    all(alloc, rows.as_slice())
+}

@@ -1,0 +1,127 @@
+//! The rows of the segments of staged uploads.
+
+ghost use Rattle.std.specs.Prelude.{◌≡◌, ◌↔◌, false, IsTrue, filter, map, not};
+ghost use Rattle.std.specs.List.{list_any};
+ghost use Rattle.sqlite.specs.Held.{state};
+ghost use Rattle.sqlite.specs.Values.{bound};
+ghost use Rattle.dep_statements.specs.Rows.{has_number, put_next, InOrder};
+ghost use Rattle.dep_tables.specs.Rows.{IsStorableSegment, segment_values, shown_segment, has_segment_key, by_number};
+ghost use Rattle.dep_tables.specs.Clauses.{Changes, Shows, Reads, ReadsOnly, FailsWhole, FailsReading, GoesOn, StaysInside, CommitsNothing};
+
+use crate::calls::run;
+use crate::numbers::{LIMIT, key_param, number};
+use crate::reading::{FromRow, ask_all};
+use dep_types::StoreFault;
+use sqlite::types::ValueRef;
+use sqlite::{Alter, Error, Row, Transaction};
+use std::alloc::Global;
+
+/// A segment that was received, less its bytes.
+#[derive(Clone, Copy, Debug, PartialEq, Eq)]
+pub struct SegmentRow {
+    pub upload: u64,
+    /// From 1 to the count of the upload.
+    pub number: u64,
+    /// How many bytes it has.
+    pub size: u64,
+}
+
+fn is_storable_segment(row: &SegmentRow) -> bool
+    ensures { IsTrue result ↔ IsStorableSegment row.now }
+{
+    row.upload < LIMIT && row.number < LIMIT && row.size < LIMIT
+}
+
+fn segment_params(row: &SegmentRow) -> [ValueRef<'static>; 3]
+    requires { IsStorableSegment row.now }
+    ensures { bound result ≡ segment_values row.now }
+{
+    [
+        ValueRef::Int(number(row.upload)),
+        ValueRef::Int(number(row.number)),
+        ValueRef::Int(number(row.size)),
+    ]
+}
+
+/// Adds a row. It is a fault of the store where there is a row of this upload and number, and where a number is 2^63 or more.
+pub fn insert_segment<S: Alter>(
+    tx: &mut Transaction<'_, S>,
+    row: &SegmentRow,
+) -> Result<(), StoreFault>
+    ensures ok { Changes (state S.Store tx.old.conn.now) (state S.Store tx.new.conn.now) result (λ t. record t { segments = put_next (segment_values row.now) t.segments }) }
+    ensures free { Shows (state S.Store tx.old.conn.now) (state S.Store tx.new.conn.now) result (λ t. list_any (has_segment_key row.now) t.segments ≡ false) }
+    ensures err { FailsWhole (state S.Store tx.old.conn.now) (state S.Store tx.new.conn.now) result }
+    ensures inside { GoesOn (state S.Store tx.old.conn.now) (state S.Store tx.new.conn.now) result }
+    ensures kept { StaysInside (state S.Store tx.old.conn.now) (state S.Store tx.new.conn.now) }
+    ensures same_reference { tx.new.conn.ghost_name ≡ tx.old.conn.ghost_name }
+    ensures survives { CommitsNothing (state S.Store tx.old.conn.now) (state S.Store tx.new.conn.now) }
+{
+    if !is_storable_segment(row) {
+        return Err(StoreFault::Store);
+    }
+    run(
+        tx,
+        "INSERT INTO segments (upload, number, size) VALUES (?1, ?2, ?3)",
+        &segment_params(row),
+    )
+}
+
+/// Deletes the rows of an upload. A number of 2^63 or more is a fault of the store.
+pub fn delete_segments<S: Alter>(tx: &mut Transaction<'_, S>, upload: u64) -> Result<(), StoreFault>
+    ensures ok { Changes (state S.Store tx.old.conn.now) (state S.Store tx.new.conn.now) result (λ t. record t { segments = filter (λ r. not (has_number 1 upload r)) t.segments }) }
+    ensures err { FailsWhole (state S.Store tx.old.conn.now) (state S.Store tx.new.conn.now) result }
+    ensures inside { GoesOn (state S.Store tx.old.conn.now) (state S.Store tx.new.conn.now) result }
+    ensures kept { StaysInside (state S.Store tx.old.conn.now) (state S.Store tx.new.conn.now) }
+    ensures same_reference { tx.new.conn.ghost_name ≡ tx.old.conn.ghost_name }
+    ensures survives { CommitsNothing (state S.Store tx.old.conn.now) (state S.Store tx.new.conn.now) }
+{
+    if upload >= LIMIT {
+        return Err(StoreFault::Store);
+    }
+    run(
+        tx,
+        "DELETE FROM segments WHERE upload = ?1",
+        &key_param(upload),
+    )
+}
+
+impl FromRow for SegmentRow {
+    ghost use Rattle.dep_tables.specs.Rows.{segment_values};
+
+    ghost width = { 3 };
+
+    ghost values = { segment_values };
+
+    fn from_row(row: &Row) -> Result<SegmentRow, Error> {
+        Ok(SegmentRow {
+            upload: row.get(0)?,
+            number: row.get(1)?,
+            size: row.get(2)?,
+        })
+    }
+}
+
+/// The rows of an upload, by number. It is a fault of the store where one is not one that `insert_segment` writes, and for a number of 2^63 or more.
+pub fn segments_of<S: Alter>(
+    tx: &mut Transaction<'_, S>,
+    alloc: Global,
+    upload: u64,
+) -> Result<Vec<SegmentRow>, StoreFault>
+    ensures ok { Reads (state S.Store tx.old.conn.now) (state S.Store tx.new.conn.now) result (λ t found. InOrder by_number (map shown_segment (filter (has_number 1 upload) t.segments)) (map segment_values found.items)) }
+    ensures same { ReadsOnly (state S.Store tx.old.conn.now) (state S.Store tx.new.conn.now) result }
+    ensures err { FailsReading (state S.Store tx.old.conn.now) (state S.Store tx.new.conn.now) result }
+    ensures inside { GoesOn (state S.Store tx.old.conn.now) (state S.Store tx.new.conn.now) result }
+    ensures kept { StaysInside (state S.Store tx.old.conn.now) (state S.Store tx.new.conn.now) }
+    ensures same_reference { tx.new.conn.ghost_name ≡ tx.old.conn.ghost_name }
+    ensures survives { CommitsNothing (state S.Store tx.old.conn.now) (state S.Store tx.new.conn.now) }
+{
+    if upload >= LIMIT {
+        return Err(StoreFault::Store);
+    }
+    ask_all(
+        tx,
+        alloc,
+        "SELECT upload, number, size FROM segments WHERE upload = ?1 ORDER BY number",
+        &key_param(upload),
+    )
+}

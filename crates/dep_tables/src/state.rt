@@ -1,0 +1,105 @@
+//! The row of the clock and the counters.
+
+ghost use Rattle.std.specs.Prelude.{◌≡◌, ◌↔◌, IsTrue, Some, option_map};
+ghost use Rattle.sqlite.specs.Held.{state};
+ghost use Rattle.sqlite.specs.Values.{bound};
+ghost use Rattle.dep_statements.specs.Rows.{row_at, replaced};
+ghost use Rattle.dep_tables.specs.Rows.{IsStorableState, stored_state, state_values, shown_state};
+ghost use Rattle.dep_tables.specs.Clauses.{Changes, Reads, ReadsOnly, FailsWhole, FailsReading, GoesOn, StaysInside, CommitsNothing};
+
+use crate::calls::run;
+use crate::numbers::{LIMIT, number};
+use crate::reading::{FromRow, ask_one};
+use dep_types::{Counters, StoreFault};
+use sqlite::types::ValueRef;
+use sqlite::{Alter, Error, Row, Transaction};
+
+/// The clock, a moment in seconds of Unix time, and the numbers to be given next.
+#[derive(Clone, Copy, Debug, PartialEq, Eq)]
+pub struct StateRow {
+    pub clock: u64,
+    pub next: Counters,
+}
+
+fn is_storable_state(row: &StateRow) -> bool
+    ensures { IsTrue result ↔ IsStorableState row.now }
+{
+    row.clock < LIMIT
+        && row.next.object < LIMIT
+        && row.next.file < LIMIT
+        && row.next.upload < LIMIT
+        && row.next.change < LIMIT
+}
+
+fn state_params(row: &StateRow) -> [ValueRef<'static>; 5]
+    requires { IsStorableState row.now }
+    ensures { bound result ≡ state_values row.now }
+{
+    [
+        ValueRef::Int(number(row.clock)),
+        ValueRef::Int(number(row.next.object)),
+        ValueRef::Int(number(row.next.file)),
+        ValueRef::Int(number(row.next.upload)),
+        ValueRef::Int(number(row.next.change)),
+    ]
+}
+
+/// Sets the row, if there is one. A number of 2^63 or more is a fault of the store.
+pub fn write_state<S: Alter>(tx: &mut Transaction<'_, S>, row: &StateRow) -> Result<(), StoreFault>
+    ensures ok { Changes (state S.Store tx.old.conn.now) (state S.Store tx.new.conn.now) result (λ t. record t { state = replaced (stored_state row.now) t.state }) }
+    ensures err { FailsWhole (state S.Store tx.old.conn.now) (state S.Store tx.new.conn.now) result }
+    ensures inside { GoesOn (state S.Store tx.old.conn.now) (state S.Store tx.new.conn.now) result }
+    ensures kept { StaysInside (state S.Store tx.old.conn.now) (state S.Store tx.new.conn.now) }
+    ensures same_reference { tx.new.conn.ghost_name ≡ tx.old.conn.ghost_name }
+    ensures survives { CommitsNothing (state S.Store tx.old.conn.now) (state S.Store tx.new.conn.now) }
+{
+    if !is_storable_state(row) {
+        return Err(StoreFault::Store);
+    }
+    run(
+        tx,
+        "UPDATE state SET clock = ?1, next_object = ?2, next_file = ?3, next_upload = ?4, next_change = ?5 WHERE id = 1",
+        &state_params(row),
+    )
+}
+
+impl FromRow for StateRow {
+    ghost use Rattle.dep_tables.specs.Rows.{state_values};
+
+    ghost width = { 5 };
+
+    ghost values = { state_values };
+
+    fn from_row(row: &Row) -> Result<StateRow, Error> {
+        Ok(StateRow {
+            clock: row.get(0)?,
+            next: Counters {
+                object: row.get(1)?,
+                file: row.get(2)?,
+                upload: row.get(3)?,
+                change: row.get(4)?,
+            },
+        })
+    }
+}
+
+/// Reads the row. It is a fault of the store where there is none, or where it is not one that `write_state` writes.
+pub fn read_state<S: Alter>(tx: &mut Transaction<'_, S>) -> Result<StateRow, StoreFault>
+    ensures ok { Reads (state S.Store tx.old.conn.now) (state S.Store tx.new.conn.now) result (λ t row. option_map shown_state (row_at t.state 1) ≡ Some (state_values row)) }
+    ensures same { ReadsOnly (state S.Store tx.old.conn.now) (state S.Store tx.new.conn.now) result }
+    ensures err { FailsReading (state S.Store tx.old.conn.now) (state S.Store tx.new.conn.now) result }
+    ensures inside { GoesOn (state S.Store tx.old.conn.now) (state S.Store tx.new.conn.now) result }
+    ensures kept { StaysInside (state S.Store tx.old.conn.now) (state S.Store tx.new.conn.now) }
+    ensures same_reference { tx.new.conn.ghost_name ≡ tx.old.conn.ghost_name }
+    ensures survives { CommitsNothing (state S.Store tx.old.conn.now) (state S.Store tx.new.conn.now) }
+{
+    let found = ask_one(
+        tx,
+        "SELECT clock, next_object, next_file, next_upload, next_change FROM state WHERE id = 1",
+        &[],
+    )?;
+    match found {
+        Some(row) => Ok(row),
+        None => Err(StoreFault::Store),
+    }
+}

@@ -1,0 +1,83 @@
+//! Texts and digests as SQL keeps them.
+
+ghost use Rattle.std.specs.Prelude.{◌≡◌, IfOk};
+ghost use Rattle.sqlite.specs.declared.types.Value.TheVariants.{Text as TextValue, Blob};
+ghost use Rattle.sqlite.specs.Order.{column};
+ghost use Rattle.sqlite.specs.Values.{or_null};
+ghost use Rattle.sqlite_value.specs.Value.{owned};
+
+use dep_types::Text;
+use sqlite::types::ValueRef;
+use sqlite::{Error, Row};
+
+/// The text as SQL keeps it.
+pub(crate) fn text_value(text: &Text) -> ValueRef<'_>
+    ensures { owned result ≡ TextValue text.now }
+{
+    ValueRef::Text(text.as_str().as_bytes())
+}
+
+/// A text that `text_value` wrote.
+pub(crate) fn text_at(row: &Row, at: usize) -> Result<Text, Error>
+    ensures { IfOk result (λ read. column row.now at ≡ TextValue read) }
+{
+    Ok(Text::new(row.get(at)?))
+}
+
+/// A text as SQL keeps it, or NULL.
+pub(crate) fn text_or_null(text: &Option<Text>) -> ValueRef<'_>
+    ensures { owned result ≡ or_null TextValue text.now }
+{
+    match text {
+        Some(text) => text_value(text),
+        None => ValueRef::Null,
+    }
+}
+
+/// A text that `text_or_null` wrote.
+pub(crate) fn text_or_null_at(row: &Row, at: usize) -> Result<Option<Text>, Error>
+    ensures { IfOk result (λ read. column row.now at ≡ or_null TextValue read) }
+{
+    let text: Option<String> = row.get(at)?;
+    match text {
+        Some(text) => Ok(Some(Text::new(text))),
+        None => Ok(None),
+    }
+}
+
+/// A digest as SQL keeps it, or NULL.
+pub(crate) fn digest_or_null(digest: &Option<[u8; 32]>) -> ValueRef<'_>
+    ensures { owned result ≡ or_null Blob digest.now }
+{
+    match digest {
+        Some(digest) => ValueRef::Blob(digest),
+        None => ValueRef::Null,
+    }
+}
+
+fn digest_of(bytes: Vec<u8>, at: usize) -> Result<[u8; 32], Error>
+    ensures { IfOk result (λ digest. digest ≡ bytes.items) }
+{
+    match <[u8; 32]>::try_from(bytes) {
+        Ok(digest) => Ok(digest),
+        Err(_) => Err(Error::InvalidColumnIndex(at)),
+    }
+}
+
+/// A digest of 32 bytes.
+pub(crate) fn digest_at(row: &Row, at: usize) -> Result<[u8; 32], Error>
+    ensures { IfOk result (λ read. column row.now at ≡ Blob read) }
+{
+    digest_of(row.get(at)?, at)
+}
+
+/// A digest that `digest_or_null` wrote.
+pub(crate) fn digest_or_null_at(row: &Row, at: usize) -> Result<Option<[u8; 32]>, Error>
+    ensures { IfOk result (λ read. column row.now at ≡ or_null Blob read) }
+{
+    let bytes: Option<Vec<u8>> = row.get(at)?;
+    match bytes {
+        Some(bytes) => Ok(Some(digest_of(bytes, at)?)),
+        None => Ok(None),
+    }
+}

@@ -1,0 +1,171 @@
+//! The rows of the staged uploads.
+
+ghost use Rattle.std.specs.Prelude.{◌≡◌, ◌↔◌, pos, None, IsTrue, find, option_map};
+ghost use Rattle.sqlite.specs.declared.types.Value.TheVariants.{Int};
+ghost use Rattle.sqlite.specs.Held.{state};
+ghost use Rattle.sqlite.specs.Values.{bound};
+ghost use Rattle.sqlite_trees.specs.Tree.{put_row, without_rowid, rowid};
+ghost use Rattle.dep_statements.specs.Rows.{row_at, replaced, is_after};
+ghost use Rattle.dep_tables.specs.Rows.{IsStorableUpload, stored_upload, upload_values, shown_upload};
+ghost use Rattle.dep_tables.specs.Clauses.{Changes, Shows, Reads, ReadsOnly, FailsWhole, FailsReading, GoesOn, StaysInside, CommitsNothing};
+
+use crate::calls::run;
+use crate::numbers::{LIMIT, key_param, number};
+use crate::reading::{FromRow, ask_one};
+use crate::texts::{digest_or_null, digest_or_null_at};
+use dep_types::{StoreFault, UploadRow};
+use sqlite::types::ValueRef;
+use sqlite::{Alter, Error, Row, Transaction};
+
+fn is_storable_upload(row: &UploadRow) -> bool
+    ensures { IsTrue result ↔ IsStorableUpload row.now }
+{
+    row.upload < LIMIT
+        && row.size < LIMIT
+        && row.count < LIMIT
+        && row.segment_size < LIMIT
+        && row.last < LIMIT
+}
+
+fn upload_params(row: &UploadRow) -> [ValueRef<'_>; 6]
+    requires { IsStorableUpload row.now }
+    ensures { bound result ≡ upload_values row.now }
+{
+    [
+        ValueRef::Int(number(row.upload)),
+        ValueRef::Int(number(row.size)),
+        ValueRef::Int(number(row.count)),
+        ValueRef::Int(number(row.segment_size)),
+        digest_or_null(&row.sha256),
+        ValueRef::Int(number(row.last)),
+    ]
+}
+
+/// Adds a row. It is a fault of the store where there is a row of this key, and where a number is 2^63 or more.
+pub fn insert_upload<S: Alter>(
+    tx: &mut Transaction<'_, S>,
+    row: &UploadRow,
+) -> Result<(), StoreFault>
+    ensures ok { Changes (state S.Store tx.old.conn.now) (state S.Store tx.new.conn.now) result (λ t. record t { uploads = put_row (stored_upload row.now) t.uploads }) }
+    ensures free { Shows (state S.Store tx.old.conn.now) (state S.Store tx.new.conn.now) result (λ t. row_at t.uploads row.now.upload ≡ None) }
+    ensures err { FailsWhole (state S.Store tx.old.conn.now) (state S.Store tx.new.conn.now) result }
+    ensures inside { GoesOn (state S.Store tx.old.conn.now) (state S.Store tx.new.conn.now) result }
+    ensures kept { StaysInside (state S.Store tx.old.conn.now) (state S.Store tx.new.conn.now) }
+    ensures same_reference { tx.new.conn.ghost_name ≡ tx.old.conn.ghost_name }
+    ensures survives { CommitsNothing (state S.Store tx.old.conn.now) (state S.Store tx.new.conn.now) }
+{
+    if !is_storable_upload(row) {
+        return Err(StoreFault::Store);
+    }
+    run(
+        tx,
+        "INSERT INTO uploads (upload, size, count, segment_size, sha256, last) VALUES (?1, ?2, ?3, ?4, ?5, ?6)",
+        &upload_params(row),
+    )
+}
+
+/// Sets the row of this key, if there is one. A number of 2^63 or more is a fault of the store.
+pub fn write_upload<S: Alter>(
+    tx: &mut Transaction<'_, S>,
+    row: &UploadRow,
+) -> Result<(), StoreFault>
+    ensures ok { Changes (state S.Store tx.old.conn.now) (state S.Store tx.new.conn.now) result (λ t. record t { uploads = replaced (stored_upload row.now) t.uploads }) }
+    ensures err { FailsWhole (state S.Store tx.old.conn.now) (state S.Store tx.new.conn.now) result }
+    ensures inside { GoesOn (state S.Store tx.old.conn.now) (state S.Store tx.new.conn.now) result }
+    ensures kept { StaysInside (state S.Store tx.old.conn.now) (state S.Store tx.new.conn.now) }
+    ensures same_reference { tx.new.conn.ghost_name ≡ tx.old.conn.ghost_name }
+    ensures survives { CommitsNothing (state S.Store tx.old.conn.now) (state S.Store tx.new.conn.now) }
+{
+    if !is_storable_upload(row) {
+        return Err(StoreFault::Store);
+    }
+    run(
+        tx,
+        "UPDATE uploads SET size = ?2, count = ?3, segment_size = ?4, sha256 = ?5, last = ?6 WHERE upload = ?1",
+        &upload_params(row),
+    )
+}
+
+/// Deletes the row of this key, if there is one. A number of 2^63 or more is a fault of the store.
+pub fn delete_upload<S: Alter>(tx: &mut Transaction<'_, S>, upload: u64) -> Result<(), StoreFault>
+    ensures ok { Changes (state S.Store tx.old.conn.now) (state S.Store tx.new.conn.now) result (λ t. record t { uploads = without_rowid (pos upload) t.uploads }) }
+    ensures err { FailsWhole (state S.Store tx.old.conn.now) (state S.Store tx.new.conn.now) result }
+    ensures inside { GoesOn (state S.Store tx.old.conn.now) (state S.Store tx.new.conn.now) result }
+    ensures kept { StaysInside (state S.Store tx.old.conn.now) (state S.Store tx.new.conn.now) }
+    ensures same_reference { tx.new.conn.ghost_name ≡ tx.old.conn.ghost_name }
+    ensures survives { CommitsNothing (state S.Store tx.old.conn.now) (state S.Store tx.new.conn.now) }
+{
+    if upload >= LIMIT {
+        return Err(StoreFault::Store);
+    }
+    run(
+        tx,
+        "DELETE FROM uploads WHERE upload = ?1",
+        &key_param(upload),
+    )
+}
+
+impl FromRow for UploadRow {
+    ghost use Rattle.dep_tables.specs.Rows.{upload_values};
+
+    ghost width = { 6 };
+
+    ghost values = { upload_values };
+
+    fn from_row(row: &Row) -> Result<UploadRow, Error> {
+        Ok(UploadRow {
+            upload: row.get(0)?,
+            size: row.get(1)?,
+            count: row.get(2)?,
+            segment_size: row.get(3)?,
+            sha256: digest_or_null_at(row, 4)?,
+            last: row.get(5)?,
+        })
+    }
+}
+
+/// The row of this key. It is a fault of the store where the row is not one that `insert_upload` writes, and for a number of 2^63 or more.
+pub fn find_upload<S: Alter>(
+    tx: &mut Transaction<'_, S>,
+    upload: u64,
+) -> Result<Option<UploadRow>, StoreFault>
+    ensures ok { Reads (state S.Store tx.old.conn.now) (state S.Store tx.new.conn.now) result (λ t found. option_map upload_values found ≡ option_map shown_upload (row_at t.uploads upload)) }
+    ensures same { ReadsOnly (state S.Store tx.old.conn.now) (state S.Store tx.new.conn.now) result }
+    ensures err { FailsReading (state S.Store tx.old.conn.now) (state S.Store tx.new.conn.now) result }
+    ensures inside { GoesOn (state S.Store tx.old.conn.now) (state S.Store tx.new.conn.now) result }
+    ensures kept { StaysInside (state S.Store tx.old.conn.now) (state S.Store tx.new.conn.now) }
+    ensures same_reference { tx.new.conn.ghost_name ≡ tx.old.conn.ghost_name }
+    ensures survives { CommitsNothing (state S.Store tx.old.conn.now) (state S.Store tx.new.conn.now) }
+{
+    if upload >= LIMIT {
+        return Err(StoreFault::Store);
+    }
+    ask_one(
+        tx,
+        "SELECT upload, size, count, segment_size, sha256, last FROM uploads WHERE upload = ?1",
+        &key_param(upload),
+    )
+}
+
+/// The least upload above this one. A number of 2^63 or more is a fault of the store.
+pub fn next_upload<S: Alter>(
+    tx: &mut Transaction<'_, S>,
+    after: u64,
+) -> Result<Option<u64>, StoreFault>
+    ensures ok { Reads (state S.Store tx.old.conn.now) (state S.Store tx.new.conn.now) result (λ t found. option_map (λ n. Int (pos n)) found ≡ option_map rowid (find (is_after after) t.uploads)) }
+    ensures same { ReadsOnly (state S.Store tx.old.conn.now) (state S.Store tx.new.conn.now) result }
+    ensures err { FailsReading (state S.Store tx.old.conn.now) (state S.Store tx.new.conn.now) result }
+    ensures inside { GoesOn (state S.Store tx.old.conn.now) (state S.Store tx.new.conn.now) result }
+    ensures kept { StaysInside (state S.Store tx.old.conn.now) (state S.Store tx.new.conn.now) }
+    ensures same_reference { tx.new.conn.ghost_name ≡ tx.old.conn.ghost_name }
+    ensures survives { CommitsNothing (state S.Store tx.old.conn.now) (state S.Store tx.new.conn.now) }
+{
+    if after >= LIMIT {
+        return Err(StoreFault::Store);
+    }
+    ask_one(
+        tx,
+        "SELECT upload FROM uploads WHERE upload > ?1 ORDER BY upload LIMIT 1",
+        &key_param(after),
+    )
+}
