@@ -101,21 +101,25 @@ impl Server {
         &mut self,
         alloc: Global,
         exchange: &Exchange,
+        answer: &str,
         page: &mut Page,
     ) -> Result<&'static str, Trouble> {
         let mut source = Source::of(exchange);
         let mut out = Through::new(page);
         let moment = Moment::new(exchange.moment);
         let served = serve_connection(alloc, &mut source, &mut out, &mut self.hub, || moment);
-        exchange.has_read(source.reads())?;
-        Ok(match served {
+        let came = match served {
             Served::Ended => "ended",
             Served::Closed => "served",
             Served::ReadFault => "read-fault",
             Served::WriteFault => "write-fault",
             Served::Unserved => "unserved",
             Served::Bound => "bound",
-        })
+        };
+        if came == answer {
+            exchange.has_read(source.reads())?;
+        }
+        Ok(came)
     }
 }
 

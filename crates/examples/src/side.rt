@@ -39,7 +39,7 @@ impl Side {
             }
             Side::Server(server) => match answer.as_bytes() {
                 b"open" | b"closed" | b"cut" | b"gone" => Ok(server.arrives(exchange, page)),
-                _ => server.serves(alloc, exchange, page),
+                _ => server.serves(alloc, exchange, answer, page),
             },
         }
     }
