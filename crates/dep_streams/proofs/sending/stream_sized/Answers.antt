@@ -1,0 +1,148 @@
+use Rattle.std.proofs.Common.{◌≡◌, ◌-◌, ◌<◌, length, length-append, Ok, Err, ◌≤◌, [], ◌∷◌, ◌++◌, inr, inl, refl, sym, ap, ◌∙◌, rules, arith}
+use Rattle.std.proofs.KnownBytes.{Appends-nil, Appends-trans}
+use Rattle.sqlite.specs.State.{HasCleanDisk, Survives, CommitsShowing, IsUnchanged, FailsToQuery}
+use Rattle.sqlite.specs.Held.{state}
+use Rattle.sqlite.specs.Values.{bound}
+use Rattle.sqlite.proofs.Callers.{begun_plain, unchanged_then, given_begin}
+use Rattle.dep_streams.specs.Sent.{blob_of, GivesRow, GivesSized}
+use Rattle.dep_streams.proofs.SendingLemmas.{commits_nothing, begins_from, joined_push, refused_left, stops_sized, cut_sized}
+use Rattle.dep_streams.proofs.sending.stream_sized.Goals as goal
+
+pub returns-in-Err-clause-streams : goal.returns-in-Err-clause-streams
+returns-in-Err-clause-streams g c =
+    let some : 0 < c.args.size = search rules in
+    ([], Appends-nil _, λ clean plain. stops_sized _ _ _ _ [] _ c.stream_fault_of.ensures some (record { given = []; begins = inl refl; sends = refl }))
+
+pub returns-in-Err-clause-err : goal.returns-in-Err-clause-err
+returns-in-Err-clause-err g c clean plain =
+    let old = state g.S.Store c.args.connection.now in
+    let new = state g.S.Store c.query.follows.lender-at-none in
+    let held = c.query.follows.holds-at-none in
+    let failed : FailsToQuery c.args.sql.now (bound c.args.params.now) old new c.in-Err.error = search rules in
+    refused_left _ _ old new _ plain failed
+
+pub returns-in-Err-clause-survives : goal.returns-in-Err-clause-survives
+returns-in-Err-clause-survives g c plain =
+    let old = state g.S.Store c.args.connection.now in
+    let new = state g.S.Store c.query.follows.lender-at-none in
+    let held = c.query.follows.holds-at-none in
+    let kept : Survives old new (CommitsShowing c.args.sql.now (bound c.args.params.now) old) = search rules in
+    commits_nothing _ _ old new plain kept
+
+pub rows-init : goal.rows-init
+rows-init g c =
+    let made = c.in-Ok.ensures in (
+      search rules,
+      refl,
+      λ plain. commits_nothing _ _ _ _ plain made.survives,
+      refl,
+      [],
+      omega arith,
+      Appends-nil _,
+      λ clean plain.
+          let begun = begun_plain g.S.Store c.args.sql.now _ c.args.connection.now _ plain (made.begun clean) in
+          ([], begun.0, begun.1, refl),
+    )
+
+pub returns-in-Err-next-clause-streams : goal.returns-in-Err-next-clause-streams
+returns-in-Err-next-clause-streams g c =
+    let moved = c.next.follows.holds-at-none in
+    let now = c.next.follows.lender-at-none.conn.now in
+    let low : length c.rows.invariant.4 < c.args.size = omega (arith, c.rows.invariant.0, c.rows.invariant.5) in (
+      c.rows.invariant.4,
+      c.rows.invariant.6,
+      λ clean plain.
+          let late : HasCleanDisk (state g.S.Store now) = search rules in
+          let was = c.rows.invariant.7 (omega (arith, moved.survives.clean)) plain in
+          let begun = begins_from c.args.sql.now (bound c.args.params.now) (state g.S.Store c.args.connection.now) (state g.S.Store c.rows.rows.conn.now) was.0 was.2 (given_begin g.S.Store _ _ c.rows.rows.conn.now was.0 was.1) in
+          stops_sized _ _ _ _ _ _ c.stream_fault_of-in-Err-next.ensures low (record { given = was.0; begins = inr begun; sends = was.3 }),
+    )
+
+pub returns-in_default-clause-streams : goal.returns-in_default-clause-streams
+returns-in_default-clause-streams g c =
+    let moved = c.next.follows.holds-at-none in
+    let now = c.next.follows.lender-at-none.conn.now in
+    let low : length c.rows.invariant.4 < c.args.size = omega (arith, c.rows.invariant.0, c.rows.invariant.5) in (
+      c.rows.invariant.4,
+      c.rows.invariant.6,
+      λ clean plain.
+          let late : HasCleanDisk (state g.S.Store now) = search rules in
+          let was = c.rows.invariant.7 (omega (arith, moved.survives.clean)) plain in
+          let begun = begins_from c.args.sql.now (bound c.args.params.now) (state g.S.Store c.args.connection.now) (state g.S.Store c.rows.rows.conn.now) was.0 was.2 (given_begin g.S.Store _ _ c.rows.rows.conn.now was.0 was.1) in
+          (record { given = was.0; begins = inr begun; sends = was.3 }, low),
+    )
+
+pub returns-in-Err-give_sized-clause-streams : goal.returns-in-Err-give_sized-clause-streams
+returns-in-Err-give_sized-clause-streams g c =
+    let moved = c.next.follows.holds-at-none in
+    let now = c.next.follows.lender-at-none.conn.now in
+    let row = c.in-Some.row.now in
+    let first = state g.S.Store c.args.connection.now in
+    let low : length c.rows.invariant.4 < c.args.size = omega (arith, c.rows.invariant.0, c.rows.invariant.5) in
+    let gave : GivesRow (g.O.Outlet.taken c.rows.out) (g.O.Outlet.taken c.give_sized.new.out) (blob_of row) (Err c.in-Err-give_sized.fault) = search rules in
+    cut_sized _ _ first _ _ _ _ c.rows.invariant.4 row _ _ c.in-Err-give_sized.fault c.rows.invariant.6 gave low (λ clean plain.
+    let late : HasCleanDisk (state g.S.Store now) = search rules in
+    let was = c.rows.invariant.7 (omega (arith, moved.survives.clean)) plain in
+    let on = (rw (c.in-Ok-next.is, c.in-Some.is) at (moved.ok late)) c.args.sql.now (bound c.args.params.now) was.0 was.1 in
+    let same : IsUnchanged (state g.S.Store c.rows.rows.conn.now) (state g.S.Store now) = search rules in
+    let begun = begins_from c.args.sql.now (bound c.args.params.now) first (state g.S.Store c.rows.rows.conn.now) was.0 was.2 (given_begin g.S.Store _ _ c.rows.rows.conn.now was.0 was.1) in
+    let more = begins_from c.args.sql.now (bound c.args.params.now) first (state g.S.Store now) (was.0 ++ row ∷ []) (unchanged_then first (state g.S.Store c.rows.rows.conn.now) (state g.S.Store now) was.2 same) (given_begin g.S.Store _ _ now (was.0 ++ row ∷ []) on) in
+    (was.0, begun, more, was.3))
+
+pub returns-clause-streams : goal.returns-clause-streams
+returns-clause-streams g c =
+    let low : length c.rows.invariant.4 < c.args.size = omega (arith, c.rows.invariant.0, c.rows.invariant.5) in (
+      c.rows.invariant.4,
+      c.rows.invariant.6,
+      λ clean plain.
+          let late : HasCleanDisk (state g.S.Store c.rows.rows.conn.now) = search rules in
+          let was = c.rows.invariant.7 late plain in
+          let begun = begins_from c.args.sql.now (bound c.args.params.now) (state g.S.Store c.args.connection.now) (state g.S.Store c.rows.rows.conn.now) was.0 was.2 (given_begin g.S.Store _ _ c.rows.rows.conn.now was.0 was.1) in
+          (record { given = was.0; begins = inr begun; sends = was.3 }, low),
+    )
+
+pub returns-then-left-eq0-clause-streams : goal.returns-then-left-eq0-clause-streams
+returns-then-left-eq0-clause-streams g c =
+    let moved = c.next.follows.holds-at-none in
+    let now = c.next.follows.lender-at-none.conn.now in
+    let row = c.in-Some.row.now in
+    let first = state g.S.Store c.args.connection.now in
+    let gave : GivesSized (g.O.Outlet.taken c.rows.out) (g.O.Outlet.taken c.give_sized.new.out) (blob_of row) (Ok c.in-Ok-give_sized.n) = search rules in
+    let none : c.rows.left - c.in-Ok-give_sized.n ≡ 0 = search rules in
+    let fits : c.in-Ok-give_sized.n ≤ c.rows.left = search rules in
+    let whole : length (c.rows.invariant.4 ++ blob_of row) ≡ c.args.size = omega (arith, none, fits, gave.1, c.rows.invariant.5, length-append c.rows.invariant.4 (blob_of row)) in (
+      c.rows.invariant.4 ++ blob_of row,
+      Appends-trans _ _ _ _ _ c.rows.invariant.6 gave.0,
+      λ clean plain.
+          let late : HasCleanDisk (state g.S.Store now) = search rules in
+          let was = c.rows.invariant.7 (omega (arith, moved.survives.clean)) plain in
+          let on = (rw (c.in-Ok-next.is, c.in-Some.is) at (moved.ok late)) c.args.sql.now (bound c.args.params.now) was.0 was.1 in
+          let same : IsUnchanged (state g.S.Store c.rows.rows.conn.now) (state g.S.Store now) = search rules in
+          let more = begins_from c.args.sql.now (bound c.args.params.now) first (state g.S.Store now) (was.0 ++ row ∷ []) (unchanged_then first (state g.S.Store c.rows.rows.conn.now) (state g.S.Store now) was.2 same) (given_begin g.S.Store _ _ now (was.0 ++ row ∷ []) on) in
+          (record { given = was.0 ++ row ∷ []; begins = inr more; sends = ap (λ l. l ++ blob_of row) was.3 ∙ sym (joined_push was.0 row) }, whole),
+    )
+
+pub rows-preserved : goal.rows-preserved
+rows-preserved g c =
+    let moved = c.next.follows.holds-at-none in
+    let now = c.next.follows.lender-at-none.conn.now in
+    let row = c.in-Some.row.now in
+    let gave : GivesSized (g.O.Outlet.taken c.rows.out) (g.O.Outlet.taken c.give_sized.new.out) (blob_of row) (Ok c.in-Ok-give_sized.n) = search rules in
+    let fits : c.in-Ok-give_sized.n ≤ c.rows.left = search rules in (
+      search rules,
+      search rules,
+      (λ plain. let before = c.rows.invariant.2 plain in search rules),
+      search rules,
+      c.rows.invariant.4 ++ blob_of row,
+      omega (arith, fits, gave.1, c.rows.invariant.5, length-append c.rows.invariant.4 (blob_of row)),
+      Appends-trans _ _ _ _ _ c.rows.invariant.6 gave.0,
+      λ late plain.
+          let was = c.rows.invariant.7 (omega (arith, moved.survives.clean)) plain in
+          let on = (rw (c.in-Ok-next.is, c.in-Some.is) at (moved.ok late)) c.args.sql.now (bound c.args.params.now) was.0 was.1 in
+          let same : IsUnchanged (state g.S.Store c.rows.rows.conn.now) (state g.S.Store now) = search rules in (
+            was.0 ++ row ∷ [],
+            on,
+            unchanged_then (state g.S.Store c.args.connection.now) (state g.S.Store c.rows.rows.conn.now) (state g.S.Store now) was.2 same,
+            ap (λ l. l ++ blob_of row) was.3 ∙ sym (joined_push was.0 row),
+          ),
+    )
