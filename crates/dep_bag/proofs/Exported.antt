@@ -1,5 +1,5 @@
 -- What an export gave, against the bag of the state.
-use Rattle.std.proofs.Common.{◌≡◌, ℕ, List, [], ◌∷◌, ◌++◌, Option, Some, None, Ok, Err, inr, refl, sym, ap, subst, ◌∙◌, append_assoc, codes}
+use Rattle.std.proofs.Common.{◌≡◌, ℕ, List, [], ◌∷◌, ◌++◌, Some, None, Ok, Err, inr, refl, sym, ap, subst, ◌∙◌, append_assoc, codes}
 use Rattle.std.specs.Prelude.{Result, flat_map, map as each, option_and_then, option_map}
 use Rattle.std.specs.Result.{IsErrAnd}
 use Rattle.std.specs.List.{All}
@@ -22,7 +22,7 @@ use Rattle.dep_bag.specs.declared.export_fault.ExportFault.TheVariants.{NoSuchOb
 use Rattle.dep_bag.proofs.Files.{payload_entry}
 use Rattle.dep_bag.proofs.Keys.{entries-held}
 use Rattle.dep_bag.proofs.ToldBag.{same_listed}
-use Rattle.dep_bag.proofs.GivenParts.{IsOurs, given_front, faulty}
+use Rattle.dep_bag.proofs.GivenParts.{IsOurs, given_front}
 
 same_view : (x y : ObjectView) → Some x ≡ Some y → x ≡ y
 same_view x y e = cc

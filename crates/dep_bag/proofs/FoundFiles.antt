@@ -1,5 +1,5 @@
 -- The first file that stands at a path.
-use Rattle.std.proofs.Common.{◌≡◌, ℕ, suc, ◌<◌, Bool, true, cond, List, ◌∷◌, length, drop, get_or, Some, refl, sym, ap, ◌∙◌, drop-cons, map as each}
+use Rattle.std.proofs.Common.{◌≡◌, ℕ, suc, ◌<◌, true, cond, List, ◌∷◌, length, drop, get_or, Some, sym, ap, ◌∙◌, drop-cons, map as each}
 use Rattle.std.specs.Prelude.{Option, option_map, find, bytes_eq}
 use Rattle.dep_types.specs.declared.rows.FileRow.{FileRow}
 use Rattle.dep_bag.specs.declared.part.BagPart.{BagPart}

@@ -1,9 +1,7 @@
 -- What stands behind a front.
 use Rattle.std.proofs.Common.{◌≡◌, ◌≢◌, ℕ, Bool, true, false, List, [], ◌∷◌, ◌++◌, Option, Some, None, Bor, MatchOption, refl, sym, ap, ◌∙◌, append_assoc, codes, bytes_eq, T}
-use Rattle.std.specs.Bool.{Decides}
 use Rattle.std.proofs.Math.Dec.{eqb_refl}
 use Rattle.std.proofs.lemmas.List.{append_cancel_left}
-use Rattle.std.proofs.lemmas.Slice.Eq.{bytes_eq-Decides}
 use Rattle.dep_bag.specs.Parts.{in_folder}
 
 regroup : (number rest : List ℕ) → (codes "data/" ++ number) ++ (codes "/" ++ rest) ≡ in_folder number rest

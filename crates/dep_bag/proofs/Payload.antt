@@ -1,6 +1,6 @@
 -- The files of a payload, one after another.
-use Rattle.std.proofs.Common.{◌≡◌, ℕ, suc, ◌+◌, ◌<◌, arith, List, [], ◌∷◌, ◌++◌, length, drop, get_or, drop-cons, Option, Ok, Err, refl, sym, ap, subst, ◌∙◌, append_assoc, append-nil}
-use Rattle.std.specs.Prelude.{Result, flat_map, map as each}
+use Rattle.std.proofs.Common.{◌≡◌, ℕ, suc, ◌+◌, ◌<◌, arith, List, [], ◌∷◌, ◌++◌, length, drop, get_or, drop-cons, Option, refl, sym, ap, subst, ◌∙◌, append_assoc, append-nil}
+use Rattle.std.specs.Prelude.{Result, flat_map}
 use Rattle.std.specs.Io.KnownBytes.{Appends}
 use Rattle.std.proofs.KnownBytes.{Appends-nil, Appends-trans}
 use Rattle.std.proofs.lemmas.Grind.{flat_map-append}

@@ -1,6 +1,5 @@
 -- A file as a source streams it.
-use Rattle.std.proofs.Common.{◌≡◌, ℕ, List, [], ◌∷◌, ◌++◌, Option, Some, Ok, Err, refl, sym, ap, subst, ◌∙◌}
-use Rattle.std.specs.Prelude.{Result}
+use Rattle.std.proofs.Common.{◌≡◌, ℕ, List, ◌++◌, Some, sym, ap, subst, ◌∙◌}
 use Rattle.dep_types.specs.State.{State, File, file_at}
 use Rattle.dep_types.specs.Sound.{IsSound}
 use Rattle.dep_types.specs.Sinks.{IsFront, file_begun, file_given}

@@ -1,5 +1,5 @@
 -- The bag of an object is valid.
-use Rattle.std.proofs.Common.{◌≡◌, ℕ, ◌^◌, ◌<◌, ◌≤◌, ◌+◌, ◌==◌, false, List, [], ◌∷◌, ◌++◌, length, map as each, Some, None, inl, refl, sym, ap, ◌∙◌, subst, arith, codes, append_assoc}
+use Rattle.std.proofs.Common.{◌≡◌, ℕ, ◌^◌, ◌<◌, ◌+◌, ◌==◌, false, List, [], ◌∷◌, ◌++◌, length, map as each, Some, None, inl, refl, sym, ap, ◌∙◌, subst, arith, codes, append_assoc}
 use Rattle.std.specs.Prelude.{min, option_map, decimal, sum_by, nat_eq, IsTrue, not, ◌/◌, ◌%◌}
 use Rattle.std.specs.List.{All, filter, list_any, starts_with}
 use Rattle.std.specs.List.Sorted.{IsPermutation}
@@ -17,8 +17,8 @@ use Rattle.dep_moment.specs.Civil.{day_text, civil_of}
 use Rattle.dep_docs_out.specs.Documents.{bag_metadata_document}
 use Rattle.dep_types.specs.Sinks.{Entry}
 use Rattle.dep_bag.specs.Manifest.{Digest, IsDigest, sha256_digest, encoded_path, manifest_of}
-use Rattle.dep_bag.specs.Bag.{Bag, payload, listed_files, bag_files, bag_of, bag_at, bagit_text, oxum, oxum_text, info_text}
-use Rattle.dep_bag.specs.Valid.{IsValidBag, IsChecked, HasManifest, IsPayloadManifest, IsTagManifest, TellsOxum, is_payload, payload_in, lines_of, manifest_read}
+use Rattle.dep_bag.specs.Bag.{Bag, payload, listed_files, bag_files, bag_of, bag_at, bagit_text, oxum, info_text}
+use Rattle.dep_bag.specs.Valid.{IsValidBag, IsChecked, IsPayloadManifest, IsTagManifest, is_payload, payload_in, lines_of, manifest_read}
 use Rattle.dep_bag.proofs.Lines.{line_of, sha256-digest, manifest_read_back, digest_read_back, split_first, none-append}
 use Rattle.dep_bag.proofs.Keys.{entries-permuted, entries-held, found_each}
 use Rattle.dep_bag.proofs.PayloadPaths.{decimal-none, other_byte}

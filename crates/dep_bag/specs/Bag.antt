@@ -3,11 +3,11 @@ use Rattle.std.specs.Prelude.{ℕ, List, [], ◌∷◌, ◌++◌, length, map, m
 use Rattle.std.specs.FinMap as finmap
 use Rattle.dep_types.specs.Maps.{Named}
 use Rattle.dep_types.specs.State.{State, Object, greatest_clock}
-use Rattle.dep_types.specs.BagPaths.{payload_path, bag_paths}
+use Rattle.dep_types.specs.BagPaths.{payload_path}
 use Rattle.dep_moment.specs.Civil.{day_text}
 use Rattle.dep_docs_out.specs.Documents.{bag_metadata_document}
 use Rattle.dep_types.specs.Sinks.{Entry}
-use Rattle.dep_bag.specs.Manifest.{Digest, sha256_digest, manifest_of}
+use Rattle.dep_bag.specs.Manifest.{sha256_digest, manifest_of}
 
 -- a list of folders, and bytes by path
 pub record Bag : Type 0 where

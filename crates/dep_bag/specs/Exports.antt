@@ -1,6 +1,5 @@
 -- What an export gives a sink.
-use Rattle.std.specs.Prelude.{◌≡◌, ◌⊎◌, ℕ, List, [], Option, Some, None, Result, Ok, Err, codes, ◌∷◌}
-use Rattle.std.specs.Io.KnownBytes.{Appends, Keeps}
+use Rattle.std.specs.Prelude.{◌≡◌, ◌⊎◌, ℕ, List, [], Some, None, Result, Ok, Err, codes, ◌∷◌}
 use Rattle.std.specs.FinMap as map
 use Rattle.dep_types.specs.State.{State, Object}
 use Rattle.dep_types.specs.Sinks.{transcript, IsFront}

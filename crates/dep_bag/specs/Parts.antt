@@ -1,5 +1,5 @@
 -- What a view of an object tells of its bag: its paths, and what stands at each.
-use Rattle.std.specs.Prelude.{ℕ, List, [], ◌∷◌, ◌++◌, length, map, sum_by, find, codes, bytes_eq, Option, Some, None, option_map}
+use Rattle.std.specs.Prelude.{ℕ, List, [], ◌∷◌, ◌++◌, length, map, sum_by, find, codes, bytes_eq, Option, Some, option_map}
 use Rattle.std.specs.FinMap as finmap
 use Rattle.dep_types.specs.State.{Object}
 use Rattle.dep_types.specs.BagPaths.{tag_paths, payload_path}

@@ -1,4 +1,4 @@
-use Rattle.std.proofs.Common.{◌≡◌, None, map, take, drop}
+use Rattle.std.proofs.Common.{◌≡◌, map, drop}
 use Rattle.std.specs.Prelude.{find, bytes_eq}
 use Rattle.dep_bag.specs.Parts.{stored_part}
 use Rattle.dep_bag.proofs.part.stored_file.Given as goal

@@ -1,4 +1,4 @@
-use Rattle.std.proofs.Common.{sym, ap, ◌∙◌, bytes_eq}
+use Rattle.std.proofs.Common.{ap, ◌∙◌, bytes_eq}
 use Rattle.dep_bag.specs.Parts.{in_folder}
 use Rattle.dep_bag.proofs.Fronts.{same_names}
 use Rattle.dep_bag.proofs.paths.is_payload_path.Goals as goal

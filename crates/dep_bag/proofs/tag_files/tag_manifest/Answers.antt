@@ -1,4 +1,4 @@
-use Rattle.std.proofs.Common.{refl, codes}
+use Rattle.std.proofs.Common.{codes}
 use Rattle.dep_bag.specs.Bag.{bagit_text}
 use Rattle.dep_docs_out.specs.Documents.{bag_metadata_document}
 use Rattle.dep_bag.specs.Parts.{told_info, told_manifest}
