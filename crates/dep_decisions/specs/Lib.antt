@@ -1,0 +1,4 @@
+pub mod Kinds
+pub mod Decisions
+pub mod Rules
+pub mod Effects
