@@ -17,7 +17,7 @@ use Rattle.dep_types.specs.declared.rows.FileRow.{FileRow}
 use Rattle.dep_types.specs.declared.rows.UploadRow.{UploadRow}
 use Rattle.dep_statements.specs.Rows.{IsOrdered, row_at, replaced, is_after, put_next, InOrder}
 use Rattle.dep_tables.specs.Tables.{Tables}
-use Rattle.dep_tables.specs.Rows.{stored_state, shown_state, state_values, shown_object, object_values, shown_file, file_values, shown_upload, upload_values, shown_metadata, metadata_values, by_name_and_place, shown_segment, segment_values, by_number, stored_number, block_values, is_block_of, is_part_of, moved_to, shown_block, by_part_and_place}
+use Rattle.dep_tables.specs.Rows.{shown_state, state_values, shown_object, object_values, shown_file, file_values, shown_upload, upload_values, shown_metadata, metadata_values, by_name_and_place, shown_segment, segment_values, by_number, stored_number, block_values, is_block_of, is_part_of, moved_to, shown_block, by_part_and_place}
 use Rattle.dep_tables.specs.declared.state.StateRow.{StateRow}
 use Rattle.dep_tables.specs.declared.metadata.MetadataRow.{MetadataRow}
 use Rattle.dep_tables.specs.declared.segments.SegmentRow.{SegmentRow}
@@ -25,7 +25,7 @@ use Rattle.dep_tables.specs.declared.owner.BlockOwner.{BlockOwner}
 use Rattle.dep_tables.specs.declared.owner.BlockOwner.TheVariants as owner
 use Rattle.dep_row_maps.specs.Keyed.{rows_of, next_entry}
 use Rattle.dep_row_maps.specs.Owned.{put_each}
-use Rattle.dep_row_maps.specs.Stored.{state_row, state_stored, object_stored, file_stored, upload_stored, is_of, is_file_of, text_values, metadata_rows, texts_in, added, listed, grouped, put_texts, segment_row, segment_rows, block_size, blocks_of, block_key, bytes_seen, put_blocks, move_parts}
+use Rattle.dep_row_maps.specs.Stored.{state_row, state_stored, object_stored, file_stored, upload_stored, is_of, is_file_of, text_values, metadata_rows, texts_in, added, listed, grouped, put_texts, segment_row, block_size, blocks_of, block_key, bytes_seen, put_blocks, move_parts}
 use Rattle.dep_row_maps.specs.TablesAre.{TablesAre, Parts, BlocksAre, metadata_at, files_at, segments_at, joined, with_object, with_upload}
 
 -- of a statement for any tables and the state that they are
