@@ -1,0 +1,21 @@
+-- What a ruling says of a request in a state.
+use Rattle.std.specs.Prelude.{◌≡◌, Some, None}
+use Rattle.dep_types.specs.State.{State}
+use Rattle.dep_types.specs.declared.config.Config.{Config}
+use Rattle.dep_decisions.specs.Decisions.{decision}
+use Rattle.dep_decisions.specs.Rules.{refusal}
+use Rattle.dep_decisions.specs.declared.operation.Operation.{Operation}
+use Rattle.dep_rulings.specs.Views.{view_of}
+use Rattle.dep_rulings.specs.declared.ruling.Ruling.{Ruling}
+use Rattle.dep_rulings.specs.declared.ruling.Ruling.TheVariants.{Do, Refuse}
+use Rattle.dep_rulings.specs.declared.view.View.{View}
+
+-- refused for the first rule that applies, or done as the request asks where none does
+abbrev pub IsRuling : Config → State → Operation → Ruling → Type 0
+IsRuling config s op (Refuse r) = refusal config s op ≡ Some r
+IsRuling config s op (Do d) = (refusal config s op ≡ None) × (d ≡ decision config op)
+
+-- it is the ruling in each state of which the view tells truly
+abbrev pub RulesBy : Config → View → Operation → Ruling → Type 0
+RulesBy config view op ruling =
+    (s : State) → view ≡ view_of config s op → IsRuling config s op ruling
