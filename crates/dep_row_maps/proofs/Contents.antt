@@ -102,7 +102,7 @@ inserted_again m k x there = finmap.same_map nat_cmp_total finmap.nat_cmp-IsAnti
     go q Greater is = rw is refl
 
 -- the rows of one part
-one_part : (m : Numbered (List ℕ)) (part : ℕ) (content : List ℕ) → finmap.get m part ≡ Some content → IsPermutation (filter (has_number 0 part) (block_rows m)) (part_rows part content)
+pub one_part : (m : Numbered (List ℕ)) (part : ℕ) (content : List ℕ) → finmap.get m part ≡ Some content → IsPermutation (filter (has_number 0 part) (block_rows m)) (part_rows part content)
 one_part m part content there =
     let left = finmap.remove m part in
     let all : IsPermutation (block_rows left ++ part_rows part content) (block_rows m) =

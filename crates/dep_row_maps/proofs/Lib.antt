@@ -16,3 +16,4 @@ pub mod Posted
 pub mod Moves
 pub mod Ticks
 pub mod Readings
+pub mod Picked

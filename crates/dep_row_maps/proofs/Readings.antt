@@ -201,7 +201,7 @@ file_is s n f = go (finmap.get s.objects n)
     go None = finmap.get-empty nat_cmp f
     go (Some o) = refl
 
-numbers_tied : (a b : ℕ) → is_eq (value_cmp (Int (pos a)) (Int (pos b))) ≡ nat_eq a b
+pub numbers_tied : (a b : ℕ) → is_eq (value_cmp (Int (pos a)) (Int (pos b))) ≡ nat_eq a b
 numbers_tied a b = ap is_eq (value_cmp-Int (pos a) (pos b)) ∙ decided a b
   where
     decided : (a b : ℕ) → is_eq (int_cmp (pos a) (pos b)) ≡ nat_eq a b

@@ -1,5 +1,5 @@
 -- What the clauses of a call say that changes one map of the state.
-use Rattle.std.specs.Prelude.{◌≡◌, IsTrue, Result, OnOk}
+use Rattle.std.specs.Prelude.{◌≡◌, ◌⊎◌, IsTrue, Result, OnOk, OnErr}
 use Rattle.sqlite.specs.State as db
 use Rattle.sqlite.specs.State.{HasCleanDisk}
 use Rattle.dep_types.specs.State.{State}
@@ -20,6 +20,10 @@ module _ {A E : Type 0} (old new : db.State) (result : Result A E) where
   -- inside a transaction over our tables, an Ok makes this of them, were it by no statement
   abbrev pub Becomes : (Tables → Tables) → Type 0
   Becomes change = HasCleanDisk new → IsTrue old.in_transaction → IsOurs old → OnOk result (Sees new (change (tables_of old)))
+
+  -- a failure has committed nothing: the transaction goes on, for its owner to give back, or has ended as it began
+  abbrev pub FailsUncommitted : Type 0
+  FailsUncommitted = HasCleanDisk new → IsTrue old.in_transaction → IsTrue new.is_open → OnErr result ((new.committed ≡ old.committed) × (IsTrue new.in_transaction ⊎ (new.now ≡ old.committed)))
 
   -- after an Ok they are our tables still
   abbrev pub KeepsOurs : Type 0

@@ -1,9 +1,10 @@
 -- What each edit of the tables makes of the state that they are, and what is read of it.
 use Rattle.std.specs.Prelude.{◌≡◌, ◌≢◌, ℕ, ◌≤◌, ◌*◌, ◌++◌, pos, not, List, [], ◌∷◌, length, filter, fold, Option, Some, None, option_map, option_and_then, find, map as each, if◌then◌else◌, Bool, IsTrue, cond, unwrap_or, nat_eq}
-use Rattle.std.specs.List.{AllByRecursion, flat_map}
+use Rattle.std.specs.List.{AllByRecursion, flat_map, slice_get}
+use Rattle.std.specs.Option.{option_to_list}
 use Rattle.std.specs.FinMap as map
 use Rattle.std.specs.FinSet as set
-use Rattle.sqlite.specs.declared.types.Value.TheVariants.{Int}
+use Rattle.sqlite.specs.declared.types.Value.TheVariants.{Int, Blob}
 use Rattle.sqlite_value.specs.Order.{Row}
 use Rattle.sqlite_trees.specs.Tree.{rowid, put_row, without_rowid}
 use Rattle.dep_types.specs.Maps.{Numbered, Numbers}
@@ -17,7 +18,7 @@ use Rattle.dep_types.specs.declared.rows.FileRow.{FileRow}
 use Rattle.dep_types.specs.declared.rows.UploadRow.{UploadRow}
 use Rattle.dep_statements.specs.Rows.{IsOrdered, row_at, replaced, is_after, put_next, InOrder}
 use Rattle.dep_tables.specs.Tables.{Tables}
-use Rattle.dep_tables.specs.Rows.{shown_state, state_values, shown_object, object_values, shown_file, file_values, shown_upload, upload_values, shown_metadata, metadata_values, by_name_and_place, shown_segment, segment_values, by_number, stored_number, block_values, is_block_of, is_part_of, moved_to, shown_block, by_part_and_place}
+use Rattle.dep_tables.specs.Rows.{shown_state, state_values, shown_object, object_values, shown_file, file_values, shown_upload, upload_values, shown_metadata, metadata_values, by_name_and_place, shown_segment, segment_values, by_number, stored_number, block_values, is_block_of, is_block, bytes_in, is_part_of, moved_to, shown_block, by_part_and_place}
 use Rattle.dep_tables.specs.declared.state.StateRow.{StateRow}
 use Rattle.dep_tables.specs.declared.metadata.MetadataRow.{MetadataRow}
 use Rattle.dep_tables.specs.declared.segments.SegmentRow.{SegmentRow}
@@ -252,6 +253,11 @@ ContentRead = Always (λ t s. (n f : ℕ) (file : File) → map.get (files_at s.
 abbrev pub AssembledRead : Type 0
 AssembledRead = Always (λ t s. (u : ℕ) (it : Upload) → map.get s.uploads u ≡ Some it → ((k : ℕ) (bytes : List ℕ) → map.get it.segments k ≡ Some bytes → (1 ≤ k) × (k ≤ it.count))
     → (found : List Row) → InOrder by_part_and_place (each shown_block (filter (is_block_of (owner.Upload u)) t.blocks)) found → flat_map bytes_seen found ≡ assembled it)
+
+-- the block of a segment at a place is that one of its blocks, and none is there behind the last
+abbrev pub BlockRead : Type 0
+BlockRead = Always (λ t s. (u : ℕ) (it : Upload) → map.get s.uploads u ≡ Some it → (k : ℕ) (bytes : List ℕ) → map.get it.segments k ≡ Some bytes
+    → (place : ℕ) → each bytes_in (filter (is_block (block_key (owner.Upload u) k place)) t.blocks) ≡ option_to_list (option_map Blob (slice_get (blocks_of bytes) place)))
 
 -- ---- blocks
 

@@ -1,5 +1,5 @@
 //! What an edit of the rows makes of the state that the tables are, and what is read of it.
-ghost use Rattle.dep_row_maps.specs.Laws.{StateWritten, ObjectPut, ObjectWritten, ObjectRemoved, ObjectDeleted, TextAdded, TextsAdded, TextsCleared, TextsReplaced, FileAdded, FileRemoved, UploadPut, UploadWritten, SegmentAdded, UploadRemoved, TimedOutPut, FileAssembled, StateFound, StateRead, ObjectFound, ObjectRead, NextObjectFound, NextObjectRead, FileFound, FileRead, FilesListed, FilesRead, UploadFound, UploadRead, NextUploadRead, TextsRead, TextsGrouped, SegmentsRead, ContentRead, AssembledRead, BlockPut, BlocksDeleted, BlocksMoved, BlocksJoin, FirstTables, ContentPut, PartMoved, FilesDropped, FileReplaced, TextsSet, FilePosted, SegmentReceived, FileAssembledByParts, TickedOneByOne, BlocksSized};
+ghost use Rattle.dep_row_maps.specs.Laws.{StateWritten, ObjectPut, ObjectWritten, ObjectRemoved, ObjectDeleted, TextAdded, TextsAdded, TextsCleared, TextsReplaced, FileAdded, FileRemoved, UploadPut, UploadWritten, SegmentAdded, UploadRemoved, TimedOutPut, FileAssembled, StateFound, StateRead, ObjectFound, ObjectRead, NextObjectFound, NextObjectRead, FileFound, FileRead, FilesListed, FilesRead, UploadFound, UploadRead, NextUploadRead, TextsRead, TextsGrouped, SegmentsRead, ContentRead, BlockRead, AssembledRead, BlockPut, BlocksDeleted, BlocksMoved, BlocksJoin, FirstTables, ContentPut, PartMoved, FilesDropped, FileReplaced, TextsSet, FilePosted, SegmentReceived, FileAssembledByParts, TickedOneByOne, BlocksSized};
 
 /// The state's row is written.
 pub fn state_written()
@@ -174,6 +174,11 @@ pub fn content_read()
 /// An upload's blocks by part and place join to what it assembles.
 pub fn assembled_read()
     ensures { AssembledRead }
+{}
+
+/// The block of a segment at a place is that one of its blocks.
+pub fn block_read()
+    ensures { BlockRead }
 {}
 
 /// A block behind full ones lengthens its part.
