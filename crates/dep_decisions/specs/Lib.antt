@@ -1,4 +1,6 @@
-pub mod Kinds
+pub mod Asked
 pub mod Decisions
-pub mod Rules
 pub mod Effects
+pub mod Kinds
+pub mod Purposes
+pub mod Rules

@@ -2,8 +2,14 @@
 //! of the archive.
 #![tactic(auto)]
 
+mod asked;
 mod decision;
+mod numbers;
 mod operation;
+mod purpose;
 
+pub use asked::{ReadContent, content_digests, decision_on};
 pub use decision::{Decision, Deposit, NewFile, NewFiles, Source};
+pub use numbers::numbers_for;
 pub use operation::Operation;
+pub use purpose::{Purpose, content_purpose, is_completion};

@@ -1,0 +1,71 @@
+-- What is asked for, by the target and by the purpose of the content.
+use Rattle.std.proofs.Common.{◌≡◌, ◌<◌, ◌+◌, ◌∙◌, ℕ, List, [], ◌∷◌, ◌++◌, take, length, get_or, Option, Some, None, option_map, option_and_then, unwrap_or, refl, sym, ap}
+use Rattle.std.proofs.lemmas.List.{take_more}
+use Rattle.std.proofs.lemmas.List.Elements.{filter_map-append}
+use Rattle.std.specs.List.{cons_option}
+use Rattle.dep_types.specs.declared.target.Resource.{Resource}
+use Rattle.dep_types.specs.declared.target.Resource.TheVariants.{Service, Object, Metadata, FileSet, File, Staging, Upload, BagList, BagFile}
+use Rattle.dep_types.specs.declared.target.Method.{Method}
+use Rattle.dep_types.specs.declared.target.Method.TheVariants.{Get, Head}
+use Rattle.dep_fields.specs.declared.kind.Kind.{Kind}
+use Rattle.dep_fields.specs.declared.kind.Kind.TheVariants as of
+use Rattle.dep_docs_in.specs.declared.reference.Reference.{Reference}
+use Rattle.dep_decisions.specs.Asked.{asked_at, opened_by, received_by}
+use Rattle.dep_decisions.specs.Decisions.{decision_with, opened, received, referred_file, referred_files}
+use Rattle.dep_decisions.specs.Purposes.{purpose_of}
+use Rattle.dep_decisions.specs.declared.operation.Operation.{Operation}
+use Rattle.dep_decisions.specs.declared.decision.Decision.TheVariants.{Show}
+
+pub opened_is : (o : Option Kind) → opened_by (option_map purpose_of o) ≡ unwrap_or (option_and_then opened o) Show
+unfolding opened_by
+opened_is None = refl
+opened_is (Some (of.File name)) = refl
+opened_is (Some of.Metadata) = refl
+opened_is (Some of.References) = refl
+opened_is (Some (of.Opening o)) = refl
+opened_is (Some (of.Segment k)) = refl
+
+pub received_is : (u : ℕ) (o : Option Kind) → received_by u (option_map purpose_of o) ≡ unwrap_or (option_and_then (received u) o) Show
+unfolding received_by
+received_is u None = refl
+received_is u (Some (of.File name)) = refl
+received_is u (Some of.Metadata) = refl
+received_is u (Some of.References) = refl
+received_is u (Some (of.Opening o)) = refl
+received_is u (Some (of.Segment k)) = refl
+
+pub shown_by_get : (refs : Option (List Reference)) (op : Operation) (resource : Resource) → Show ≡ asked_at refs op resource Get
+shown_by_get refs op Service = refl
+shown_by_get refs op (Object n) = refl
+shown_by_get refs op (Metadata n) = refl
+shown_by_get refs op (FileSet n) = refl
+shown_by_get refs op (File n f) = refl
+shown_by_get refs op Staging = refl
+shown_by_get refs op (Upload u) = refl
+shown_by_get refs op (BagList n) = refl
+shown_by_get refs op (BagFile n path) = refl
+
+pub shown_by_head : (refs : Option (List Reference)) (op : Operation) (resource : Resource) → Show ≡ asked_at refs op resource Head
+shown_by_head refs op Service = refl
+shown_by_head refs op (Object n) = refl
+shown_by_head refs op (Metadata n) = refl
+shown_by_head refs op (FileSet n) = refl
+shown_by_head refs op (File n f) = refl
+shown_by_head refs op Staging = refl
+shown_by_head refs op (Upload u) = refl
+shown_by_head refs op (BagList n) = refl
+shown_by_head refs op (BagFile n path) = refl
+
+-- what is asked for, once the method is known
+pub asked_by : (refs : Option (List Reference)) (op : Operation) (method : Method) → op.target.method ≡ method
+    → asked_at refs op op.target.resource method ≡ decision_with refs op
+unfolding decision_with
+asked_by refs op method is = ap (λ (m : Method). asked_at refs op op.target.resource m) (sym is)
+
+-- the files up to one more entry
+pub files_more : (op : Operation) (refs : List Reference) (i : ℕ) (r : Reference) → i < length refs → r ≡ get_or refs i r
+    → referred_files op (take (i + 1) refs) ≡ referred_files op (take i refs) ++ cons_option (referred_file op r) []
+files_more op refs i r h is =
+    ap (λ (l : List Reference). referred_files op l) (take_more refs i r h)
+    ∙ filter_map-append (referred_file op) (take i refs) (get_or refs i r ∷ [])
+    ∙ ap (λ (x : Reference). referred_files op (take i refs) ++ cons_option (referred_file op x) []) (sym is)

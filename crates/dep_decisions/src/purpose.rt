@@ -1,0 +1,132 @@
+//! What the content of a request is for.
+ghost use Rattle.std.specs.Prelude.{◌≡◌, option_map};
+ghost use Rattle.dep_decisions.specs.Kinds.{is_absent, is_completion, is_true, kind_of, kind_without, may_complete, may_hold, takes_kind};
+ghost use Rattle.dep_decisions.specs.Purposes.{is_deposit, purpose_of};
+
+use crate::operation::Operation;
+use dep_fields::{Field, Kind, Opening};
+use dep_types::{Method, Octets, Resource, Target};
+
+/// What a content is for: its kind, without the name of a file.
+#[derive(Clone, Copy, Debug, PartialEq, Eq)]
+pub enum Purpose {
+    /// It is a file.
+    File,
+    /// It is a metadata document.
+    Metadata,
+    /// It is a document of references.
+    References,
+    /// There is none: a staged upload is to begin.
+    Opening(Opening),
+    /// It is the segment of a staged upload with this number.
+    Segment(u64),
+}
+
+/// What the content is for, where the operation takes it so. It takes no memory.
+#[tactic(auto, unfolding(crate::specs::Kinds::kind_of))]
+pub fn content_purpose(operation: &Operation<'_>) -> Option<Purpose>
+    ensures { result ≡ option_map purpose_of (kind_of operation.now) }
+{
+    match &operation.fields.disposition {
+        Field::Value(kind) => {
+            if takes_kind(&operation.target, kind) && may_hold(kind, &operation.content) {
+                Some(purpose_of(kind))
+            } else {
+                None
+            }
+        }
+        Field::Bad => None,
+        Field::Absent => purpose_without(&operation.target),
+    }
+}
+
+fn purpose_of(kind: &Kind) -> Purpose
+    ensures { result ≡ purpose_of kind.now }
+{
+    match kind {
+        Kind::File(_) => Purpose::File,
+        Kind::Metadata => Purpose::Metadata,
+        Kind::References => Purpose::References,
+        Kind::Opening(opening) => Purpose::Opening(*opening),
+        Kind::Segment(segment) => Purpose::Segment(*segment),
+    }
+}
+
+pub(crate) fn takes_kind(target: &Target, kind: &Kind) -> bool
+    ensures { result ≡ takes_kind target.now.resource target.now.method kind.now }
+{
+    match (&target.resource, target.method) {
+        (Resource::Service, Method::Post) => is_deposit(kind),
+        (Resource::Object(_), Method::Post) => is_deposit(kind),
+        (Resource::Object(_), Method::Put) => is_deposit(kind),
+        (Resource::Metadata(_), Method::Put) => matches!(kind, Kind::Metadata),
+        (Resource::FileSet(_), Method::Put) => matches!(kind, Kind::File(_) | Kind::References),
+        (Resource::File(_, _), Method::Put) => matches!(kind, Kind::File(_)),
+        (Resource::Staging, Method::Post) => matches!(kind, Kind::Opening(_)),
+        (Resource::Upload(_), Method::Post) => matches!(kind, Kind::Segment(_)),
+        _ => false,
+    }
+}
+
+fn is_deposit(kind: &Kind) -> bool
+    ensures { result ≡ is_deposit kind.now }
+{
+    matches!(kind, Kind::File(_) | Kind::Metadata | Kind::References)
+}
+
+fn may_hold(kind: &Kind, content: &Octets) -> bool
+    ensures { result ≡ may_hold kind.now content.now }
+{
+    match kind {
+        Kind::Opening(_) => content.as_slice().is_empty(),
+        _ => true,
+    }
+}
+
+fn purpose_without(target: &Target) -> Option<Purpose>
+    ensures { result ≡ option_map purpose_of (kind_without target.now.resource target.now.method) }
+{
+    match (&target.resource, target.method) {
+        (Resource::Metadata(_), Method::Put) => Some(Purpose::Metadata),
+        _ => None,
+    }
+}
+
+/// Whether the request completes an object: POST on the Object-URL without Content-Disposition and
+/// without content, where In-Progress isn't true.
+#[tactic(auto, unfolding(crate::specs::Kinds::is_completion))]
+pub fn is_completion(operation: &Operation<'_>) -> bool
+    ensures { result ≡ is_completion operation.now }
+{
+    may_complete(&operation.target)
+        && is_absent(&operation.fields.disposition)
+        && operation.content.as_slice().is_empty()
+        && !is_true(&operation.fields.in_progress)
+}
+
+fn may_complete(target: &Target) -> bool
+    ensures { result ≡ may_complete target.now.resource target.now.method }
+{
+    match (&target.resource, target.method) {
+        (Resource::Object(_), Method::Post) => true,
+        _ => false,
+    }
+}
+
+fn is_absent(disposition: &Field<Kind>) -> bool
+    ensures { result ≡ is_absent disposition.now }
+{
+    match disposition {
+        Field::Absent => true,
+        _ => false,
+    }
+}
+
+pub(crate) fn is_true(in_progress: &Field<bool>) -> bool
+    ensures { result ≡ is_true in_progress.now }
+{
+    match in_progress {
+        Field::Value(value) => *value,
+        _ => false,
+    }
+}
