@@ -3,3 +3,4 @@ pub mod Names
 pub mod Items
 pub mod Keeping
 pub mod FitDocuments
+pub mod ShownMetadata

@@ -1,3 +1,4 @@
 pub mod Json
 pub mod Documents
 pub mod ExampleDocuments
+pub mod ReadBack

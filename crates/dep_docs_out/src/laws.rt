@@ -1,5 +1,14 @@
 //! Whole documents, computed.
-ghost use Rattle.std.specs.Prelude.{◌≡◌, ◌∷◌, []};
+ghost use Rattle.std.specs.Prelude.{◌≡◌, ◌≤◌, ℕ, List, ◌∷◌, []};
+ghost use Rattle.dep_moment.specs.Greatest.{greatest_moment};
+ghost use Rattle.dep_docs_out.specs.ReadBack.{ReadsAs, HasTexts, FileHasTexts, HasKeptNames, MetadataHasTexts, HasNumbers};
+ghost use Rattle.dep_types.specs.Config.{HasLimits};
+ghost use Rattle.dep_types.specs.State.{Texts};
+ghost use Rattle.dep_types.specs.declared.refusal.Refusal.{Refusal as ARefusal};
+ghost use Rattle.dep_types.specs.declared.config.Config.{Config as AConfig};
+ghost use Rattle.dep_types.specs.declared.rows.ObjectView.{ObjectView as AnObjectView};
+ghost use Rattle.dep_types.specs.declared.rows.UploadRow.{UploadRow as AnUploadRow};
+ghost use Rattle.std.specs.List.{AllByRecursion};
 ghost use Rattle.dep_docs_out.specs.Documents as spec;
 ghost use Rattle.dep_docs_out.specs.ExampleDocuments.{example_config, example_empty, example_object, example_unfinished, example_title, example_titles, example_upload, bag_metadata_text, empty_text, error_text, metadata_text, service_text, status_text, unfinished_text, upload_text};
 ghost use Rattle.dep_types.specs.Rows.{object_view};
@@ -44,4 +53,34 @@ pub fn bag_metadata_document_of_example()
 /// The document of an upload whose second segment of three is still to come.
 pub fn upload_document_of_example()
     ensures { spec.upload_document example_config example_upload (1 ∷ 3 ∷ []) ≡ upload_text }
+{}
+
+/// The service document is read back as the value that it spells.
+pub fn service_document_is_read_back()
+    ensures { (config : AConfig) → HasTexts config → HasLimits config → ReadsAs (spec.service_document config) (spec.service_data config) }
+{}
+
+/// The error document is read back as the value that it spells.
+pub fn error_document_is_read_back()
+    ensures { (refusal : ARefusal) (clock : ℕ) → clock ≤ greatest_moment → ReadsAs (spec.error_document refusal clock) (spec.error_data refusal clock) }
+{}
+
+/// The status document is read back as the value that it spells.
+pub fn status_document_is_read_back()
+    ensures { (config : AConfig) (view : AnObjectView) → HasTexts config → AllByRecursion FileHasTexts view.files → ReadsAs (spec.status_document config view) (spec.status_data config view) }
+{}
+
+/// The metadata document is read back as the value that it spells.
+pub fn metadata_document_is_read_back()
+    ensures { (config : AConfig) (n : ℕ) (texts : Texts) → HasTexts config → HasKeptNames texts → MetadataHasTexts texts → ReadsAs (spec.metadata_document config n texts) (spec.metadata_data config n texts) }
+{}
+
+/// The metadata document of a bag is read back as the value that it spells.
+pub fn bag_metadata_document_is_read_back()
+    ensures { (texts : Texts) → HasKeptNames texts → MetadataHasTexts texts → ReadsAs (spec.bag_metadata_document texts) (spec.bag_metadata_data texts) }
+{}
+
+/// The document of an upload is read back as the value that it spells.
+pub fn upload_document_is_read_back()
+    ensures { (config : AConfig) (row : AnUploadRow) (received : List ℕ) → HasTexts config → HasNumbers row received → ReadsAs (spec.upload_document config row received) (spec.upload_data config row received) }
 {}

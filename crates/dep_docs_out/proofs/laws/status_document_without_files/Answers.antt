@@ -1,4 +1,4 @@
-use Rattle.std.proofs.Common.{refl, [], ◌∷◌, nat_cmp}
+use Rattle.std.proofs.Common.{refl, [], nat_cmp}
 use Rattle.std.specs.FinMap as finmap
 use Rattle.std.specs.Fmt.{digits}
 use Rattle.serde_json.proofs.OnLiterals.{serde_json_on_literals}
