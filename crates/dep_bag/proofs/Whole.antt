@@ -10,7 +10,8 @@ use Rattle.std.specs.FinMap as finmap
 use Rattle.std.proofs.lemmas.List.Elements.{All-tail, All-map, All-weaker}
 use Rattle.std.proofs.lemmas.List.Sorted.{IsPermutation-map, IsPermutation-sym, length_permutation, sum_by-IsPermutation}
 use Rattle.dep_types.specs.Maps.{◌>>=◌}
-use Rattle.dep_types.specs.State.{State, Object, File, greatest_clock}
+use Rattle.dep_types.specs.State.{State, Object, File}
+use Rattle.dep_types.specs.Limits.{greatest_moment}
 use Rattle.dep_types.specs.Sound.{IsSound}
 use Rattle.dep_types.specs.BagPaths.{payload_path, tag_paths, bag_paths}
 use Rattle.dep_moment.specs.Civil.{day_text, civil_of}
@@ -136,7 +137,7 @@ told lines = filter (λ line. starts_with nat_eq line (codes "Payload-Oxum:")) l
 counted : (o : Object) → All IsSmall (finmap.entries o.files)
     → told (lines_of (info_text o.changed (oxum (payload o)))) ≡ (codes "Payload-Oxum: " ++ oxum (payload_in (bag_of o))) ∷ []
 counted o small =
-    ap told (info_lines (day_text (min o.changed greatest_clock)) (oxum (payload o)) (date-no_lf (min o.changed greatest_clock)) (oxum-no_lf (payload o)))
+    ap told (info_lines (day_text (min o.changed greatest_moment)) (oxum (payload o)) (date-no_lf (min o.changed greatest_moment)) (oxum-no_lf (payload o)))
     ∙ ap (λ sum. (codes "Payload-Oxum: " ++ sum) ∷ []) (same_oxum (payload o) (payload_in (bag_of o)) (payload_permuted o small))
 
 -- ---- the bag

@@ -2,7 +2,8 @@
 use Rattle.std.specs.Prelude.{ℕ, List, [], ◌∷◌, ◌++◌, length, map, min, sum_by, codes, decimal, flat_map, Option, option_map}
 use Rattle.std.specs.FinMap as finmap
 use Rattle.dep_types.specs.Maps.{Named}
-use Rattle.dep_types.specs.State.{State, Object, greatest_clock}
+use Rattle.dep_types.specs.State.{State, Object}
+use Rattle.dep_types.specs.Limits.{greatest_moment}
 use Rattle.dep_types.specs.BagPaths.{payload_path}
 use Rattle.dep_moment.specs.Civil.{day_text}
 use Rattle.dep_docs_out.specs.Documents.{bag_metadata_document}
@@ -27,7 +28,7 @@ oxum files = oxum_text (sum_by (λ f. length f.1) files) (length files)
 -- the day of the last change, and what the payload has
 abbrev pub info_text : (changed : ℕ) → (payload_oxum : List ℕ) → List ℕ
 info_text changed payload_oxum =
-    codes "Bagging-Date: " ++ day_text (min changed greatest_clock) ++ codes "\nPayload-Oxum: " ++ payload_oxum ++ codes "\n"
+    codes "Bagging-Date: " ++ day_text (min changed greatest_moment) ++ codes "\nPayload-Oxum: " ++ payload_oxum ++ codes "\n"
 
 abbrev pub payload : Object → List Entry
 payload o = map (λ e. (payload_path e.0 e.1.name, e.1.content)) (finmap.entries o.files)

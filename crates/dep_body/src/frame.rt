@@ -1,5 +1,8 @@
 //! What frames a body.
 
+use std::error::Error;
+use std::fmt;
+
 /// How many bytes of a stream are a request's body.
 #[derive(Clone, Copy, Debug, PartialEq, Eq)]
 pub enum Framing {
@@ -19,3 +22,14 @@ pub enum FrameFault {
     /// The body has more bytes than are allowed.
     TooLarge,
 }
+
+impl fmt::Display for FrameFault {
+    fn fmt<W: fmt::Write>(&self, f: &mut fmt::Formatter<W>) -> fmt::Result {
+        match self {
+            FrameFault::Bad => write!(f, "the body is malformed"),
+            FrameFault::TooLarge => write!(f, "the body is too large"),
+        }
+    }
+}
+
+impl Error for FrameFault {}

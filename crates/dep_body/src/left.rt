@@ -3,7 +3,7 @@ ghost use Rattle.std.specs.Prelude.{◌<◌};
 
 /// How many bytes of a chunk are to come.
 #[derive(Clone, Copy)]
-pub struct DataLeft {
+pub(crate) struct DataLeft {
     pub bytes: u64,
     ghost some: { 0 < bytes },
 }

@@ -9,7 +9,7 @@ pub(crate) const LINE_LIMIT: usize = 1024;
 
 /// What the bytes of a chunk line say so far. A number above the limit is `None`.
 #[derive(Clone, Copy)]
-pub enum SizeReading {
+pub(crate) enum SizeReading {
     Start,
     Digits(Option<u64>),
     Extension(Option<u64>),
@@ -18,7 +18,7 @@ pub enum SizeReading {
 
 /// A chunk line whose end has not come. The reading leaves out a CR at its end.
 #[derive(Clone, Copy)]
-pub struct SizeLine {
+pub(crate) struct SizeLine {
     pub length: usize,
     pub after_cr: bool,
     pub reading: SizeReading,

@@ -8,7 +8,7 @@ use crate::trailers::{SECTION_LIMIT, TrailerReading, Trailers};
 
 /// Where a chunk reader stands in a chunked body.
 #[derive(Clone, Copy)]
-pub enum Stage {
+pub(crate) enum Stage {
     /// In a chunk line.
     Line(SizeLine),
     /// In a chunk.

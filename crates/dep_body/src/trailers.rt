@@ -10,7 +10,7 @@ pub(crate) const SECTION_LIMIT: usize = 16_384;
 
 /// What the bytes of a trailer line are so far.
 #[derive(Clone, Copy)]
-pub enum TrailerReading {
+pub(crate) enum TrailerReading {
     Empty,
     Name,
     Value,
@@ -19,7 +19,7 @@ pub enum TrailerReading {
 
 /// Trailers whose end has not come. The reading is of the last line, and leaves out a CR at its end.
 #[derive(Clone, Copy)]
-pub struct Trailers {
+pub(crate) struct Trailers {
     pub length: usize,
     pub good: bool,
     pub after_cr: bool,

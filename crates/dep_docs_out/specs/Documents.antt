@@ -14,7 +14,7 @@ use Rattle.dep_types.specs.declared.rows.UploadRow.{UploadRow}
 use Rattle.dep_types.specs.State.{Texts}
 use Rattle.dep_types.specs.Names.{binary, metadata_format}
 use Rattle.dep_moment.specs.Civil.{rfc3339_text}
-use Rattle.dep_moment.specs.Greatest.{greatest_moment}
+use Rattle.dep_types.specs.Limits.{greatest_moment}
 use Rattle.dep_docs_out.specs.Json.{text, whole, list, only, document}
 
 abbrev pub context : List ℕ × Data

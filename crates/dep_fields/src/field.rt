@@ -1,3 +1,4 @@
+//! What a field of a request tells.
 /// What a field of a request tells.
 #[derive(Drop)]
 pub enum Field<T: Drop> {

@@ -41,7 +41,7 @@ pub enum Kind {
 }
 
 /// The kind that a Content-Disposition text says, or bad.
-pub fn read_kind(alloc: Global, text: &[u8]) -> Result<Field<Kind>, AllocError>
+pub(crate) fn read_kind(alloc: Global, text: &[u8]) -> Result<Field<Kind>, AllocError>
     ensures { IfOk result (IsRead (IsKind text.now)) }
 {
     match read_disposition(alloc, text) {
@@ -130,7 +130,7 @@ fn flag(text: Option<&[u8]>) -> Option<bool>
 }
 
 /// `true` or `false`, in any letter case.
-pub fn truth(text: &[u8]) -> Option<bool>
+pub(crate) fn truth(text: &[u8]) -> Option<bool>
     ensures { result ≡ truth text.now }
 {
     if text.eq_ignore_ascii_case(b"true") {

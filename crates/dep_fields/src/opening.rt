@@ -9,7 +9,7 @@ use dep_octets::{Number, decimal};
 use dep_params::Disposition;
 
 /// What is to be opened, where each number is there and at least 1, and the digest can be read.
-pub fn read_opening(disposition: &Disposition) -> Option<Opening>
+pub(crate) fn read_opening(disposition: &Disposition) -> Option<Opening>
     ensures { result ≡ spec.opening_of disposition.now }
 {
     let size = positive(disposition.parameter(b"size"))?;
@@ -33,7 +33,7 @@ fn positive(text: Option<&[u8]>) -> Option<u64>
 }
 
 /// A number in decimal digits, cut at the greatest of 64 bits.
-pub fn number(text: Option<&[u8]>) -> Option<u64>
+pub(crate) fn number(text: Option<&[u8]>) -> Option<u64>
     ensures { result ≡ spec.number (option_copied text.entry) }
 {
     match decimal(text?, u64::MAX) {

@@ -9,7 +9,7 @@ use dep_head::{Head, Values};
 use std::alloc::{AllocError, Global};
 
 /// The text of the field with this name, which is bad where it stands twice.
-pub fn single<'a>(head: &'a Head, name: &'a str) -> Field<&'a [u8]>
+pub(crate) fn single<'a>(head: &'a Head, name: &'a str) -> Field<&'a [u8]>
     ensures { texts result ≡ single (values_of head.now.fields name.now) }
 {
     let mut values = head.values(name);
@@ -23,7 +23,7 @@ pub fn single<'a>(head: &'a Head, name: &'a str) -> Field<&'a [u8]>
 }
 
 /// The texts with a comma between each two.
-pub fn joined(alloc: Global, mut values: Values<'_>) -> Result<Vec<u8>, AllocError>
+pub(crate) fn joined(alloc: Global, mut values: Values<'_>) -> Result<Vec<u8>, AllocError>
     ensures { IfOk result (λ text. text.items ≡ join_with_byte 44 values.entry) }
 {
     let Some(first) = values.next() else {

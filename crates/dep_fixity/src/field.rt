@@ -1,3 +1,4 @@
+//! The Digest field.
 ghost use Rattle.std.specs.Prelude.{◌≡◌, ◌==◌, MatchOption, codes, position};
 ghost use Rattle.std.specs.Result.{result_ok};
 ghost use Rattle.std.specs.Str.{str_eq_ignore_ascii_case};
@@ -6,6 +7,8 @@ ghost use Rattle.dep_fixity.specs.Fixity.{digest_field, joined, keeps, name_and_
 use crate::hasher::Digests;
 use crate::spelling::read_sha256;
 use dep_octets::split_list;
+use std::error::Error;
+use std::fmt;
 
 /// The digests that a request promises of its content, where it promises one.
 #[derive(Clone, Copy, Debug, PartialEq, Eq)]
@@ -22,7 +25,17 @@ pub enum DigestFault {
     Unreadable,
 }
 
-/// Reads the value of a Digest field (RFC 3230 section 4.3.2): members `algorithm=digest` in a comma list. A member is
+impl fmt::Display for DigestFault {
+    fn fmt<W: fmt::Write>(&self, f: &mut fmt::Formatter<W>) -> fmt::Result {
+        match self {
+            DigestFault::Unreadable => write!(f, "the digests could not be read"),
+        }
+    }
+}
+
+impl Error for DigestFault {}
+
+/// Reads the value of a Digest field (RFC 3230, section 4.3.2): members `algorithm=digest` in a comma list. A member is
 /// cut at its first `=`, and no white space may stand about it. `SHA-256`, in any letter case, has as value the digest
 /// in base64 with its padding (RFC 5843) or in hexadecimal digits of either case. Other algorithms are ignored. The
 /// same digest may stand twice, and a list without members promises nothing.

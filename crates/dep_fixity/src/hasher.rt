@@ -1,3 +1,4 @@
+//! Digests of contents.
 use sha2::{Digest, Sha256};
 
 /// The digests of one message, an algorithm each.

@@ -1,3 +1,4 @@
+//! Texts of digests.
 ghost use Rattle.std.specs.Prelude.{◌≡◌};
 ghost use Rattle.base64.specs.GeneralPurpose.{encode_of};
 ghost use Rattle.base64.specs.Engines.{standard};
@@ -6,7 +7,7 @@ ghost use Rattle.dep_fixity.specs.Fixity.{octets_of, octets_of_hex, octets_of_ba
 
 use base64::engine::general_purpose::STANDARD;
 
-/// The digest in hexadecimal digits, in lower case, as a manifest of RFC 8493 section 2.1.3 has it.
+/// The digest in hexadecimal digits, in lower case, as a manifest of RFC 8493, section 2.1.3 has it.
 pub fn to_hex(digest: &[u8; 32]) -> [u8; 64]
     ensures { result ≡ encode_lower digest.now }
 {
@@ -15,7 +16,7 @@ pub fn to_hex(digest: &[u8; 32]) -> [u8; 64]
     text
 }
 
-/// The digest in base64 with padding (RFC 4648 section 4), as RFC 5843 has it in a Digest field.
+/// The digest in base64 with padding (RFC 4648, section 4), as RFC 5843 has it in a Digest field.
 pub fn to_base64(digest: &[u8; 32]) -> [u8; 44]
     ensures { result ≡ encode_of standard digest.now }
 {
@@ -26,7 +27,7 @@ pub fn to_base64(digest: &[u8; 32]) -> [u8; 44]
 
 // The digest that a text spells, in hexadecimal digits or in base64.
 #[tactic(auto, unfolding(crate::specs::Fixity::octets_of))]
-pub fn read_sha256(text: &[u8]) -> Option<[u8; 32]>
+pub(crate) fn read_sha256(text: &[u8]) -> Option<[u8; 32]>
     ensures { result ≡ octets_of 32 text.now }
 {
     match from_hex(text) {

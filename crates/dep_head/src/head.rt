@@ -8,6 +8,8 @@ use http_uri::{Uri, UriError};
 use httparse::Status;
 use httparse::spans::{EMPTY_HEADER_SPAN, HeaderSpan, Span, parse_request};
 use std::alloc::Global;
+use std::error::Error;
+use std::fmt;
 use std::marker::Model;
 
 /// Why no head was read.
@@ -18,6 +20,17 @@ pub enum HeadFault {
     /// Memory was refused.
     Memory,
 }
+
+impl fmt::Display for HeadFault {
+    fn fmt<W: fmt::Write>(&self, f: &mut fmt::Formatter<W>) -> fmt::Result {
+        match self {
+            HeadFault::NotAHead => write!(f, "the text is no head of a request"),
+            HeadFault::Memory => write!(f, "out of memory"),
+        }
+    }
+}
+
+impl Error for HeadFault {}
 
 /// The head of a request, which keeps a copy of its text.
 #[derive(Drop)]

@@ -7,7 +7,7 @@ use std::marker::Model;
 /// Bytes that come at the end and go at the front. What is left isn't moved when some go, until it is less than a
 /// quarter of the room.
 #[derive(Drop)]
-pub struct Buffer {
+pub(crate) struct Buffer {
     alloc: Global,
     bytes: Vec<u8>,
     /// How many of the bytes, at the front, are gone.

@@ -13,7 +13,7 @@ use std::alloc::{AllocError, Global};
 
 /// A head, how many bytes it has, and how the body behind it is framed.
 #[derive(Drop)]
-pub struct FramedHead {
+pub(crate) struct FramedHead {
     pub head: Head,
     pub length: usize,
     pub framing: Framing,
@@ -21,7 +21,7 @@ pub struct FramedHead {
 
 /// What stands first in bytes.
 #[derive(Drop)]
-pub enum FirstHead {
+pub(crate) enum FirstHead {
     /// The head of a request, whose body may come.
     Head(FramedHead),
     /// The head of a request whose client waits to be told to go on.
@@ -33,7 +33,7 @@ pub enum FirstHead {
 
 /// The head that stands first in the bytes, of which the first `searched` hold no end of one. `continued` says that the
 /// client of the first request was told to go on.
-pub fn first_head(
+pub(crate) fn first_head(
     alloc: Global,
     limit: u64,
     continued: bool,
@@ -87,7 +87,7 @@ fn framed(limit: u64, continued: bool, head: Head, end: usize, bytes: &[u8]) -> 
 }
 
 /// The refusal that a fault of a body is answered with.
-pub fn refusal_for(fault: FrameFault) -> Refusal
+pub(crate) fn refusal_for(fault: FrameFault) -> Refusal
     ensures { result ≡ refusal_of fault }
 {
     match fault {

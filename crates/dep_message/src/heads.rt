@@ -37,7 +37,7 @@ fn names_close(value: &[u8]) -> bool
 
 /// Whether the client waits to be told that it may send the body (RFC 9110, section 10.1.1).
 #[tactic(auto, unfolding(crate::specs::Heads::awaits_continue))]
-pub fn awaits_continue(head: &Head, framing: Framing) -> bool
+pub(crate) fn awaits_continue(head: &Head, framing: Framing) -> bool
     ensures { result ≡ spec.awaits_continue head.now framing }
 {
     let mut expectations = head.values("Expect");

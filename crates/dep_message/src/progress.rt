@@ -7,7 +7,7 @@ use std::alloc::AllocError;
 
 /// A request whose body has a known length, and had not come whole with its head.
 #[derive(Drop)]
-pub struct SizedRequest {
+pub(crate) struct SizedRequest {
     pub head: Head,
     /// How many bytes the body has.
     pub length: usize,
@@ -17,7 +17,7 @@ pub struct SizedRequest {
 
 /// A request whose body is in chunks.
 #[derive(Drop)]
-pub struct ChunkedRequest {
+pub(crate) struct ChunkedRequest {
     pub head: Head,
     /// How many bytes the head has.
     pub head_length: usize,
@@ -28,7 +28,7 @@ pub struct ChunkedRequest {
 
 /// How far the first request was read.
 #[derive(Drop)]
-pub enum Progress {
+pub(crate) enum Progress {
     /// No head ends in so many bytes.
     Searched(usize),
     Sized(SizedRequest),

@@ -17,7 +17,7 @@ use std::mem;
 
 /// What stands first in the bytes.
 #[derive(Drop)]
-pub enum Found {
+pub(crate) enum Found {
     /// A whole request, whose bytes are gone.
     Message(Message),
     /// The head of a request whose client is to be told to go on.
@@ -28,7 +28,7 @@ pub enum Found {
 
 /// The bytes of a connection that no item has used, and how far the first request of them was read.
 #[derive(Drop)]
-pub struct Work {
+pub(crate) struct Work {
     pub alloc: Global,
     pub limit: u64,
     /// The client of the first request was told to go on.

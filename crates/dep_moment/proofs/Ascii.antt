@@ -3,7 +3,7 @@ use Rattle.std.proofs.Common.{ℕ, ◌+◌, ◌/◌, ◌%◌, ◌<◌, ◌≤◌
 use Rattle.std.specs.Str.{IsAscii}
 use Rattle.std.proofs.lemmas.Str.Ascii.{IsAscii-nil, IsAscii-cons}
 use Rattle.dep_moment.specs.Civil.{civil_of, rfc3339_text}
-use Rattle.dep_moment.specs.Greatest.{greatest_moment}
+use Rattle.dep_types.specs.Limits.{greatest_moment}
 use Rattle.dep_moment.proofs.Agreement.{short_months}
 use Rattle.dep_moment.proofs.Walk.{civil_of-civil}
 

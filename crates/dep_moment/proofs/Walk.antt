@@ -4,7 +4,7 @@ use borrow.Author.Tests.{ltb-true, ltb-false}
 use Rattle.httpdate.specs.Calendar.{days_in_year, days_in_month, days_of_years, days_of_months}
 use Rattle.httpdate.proofs.CalendarLemmas.{days_of_years_closed, days_of_months_all}
 use Rattle.dep_moment.specs.Civil.{IsCivilOf, year_from, month_from, civil_of}
-use Rattle.dep_moment.specs.Greatest.{greatest_moment}
+use Rattle.dep_types.specs.Limits.{greatest_moment}
 
 years_none : days_of_years 0 ≡ 0
 unfolding days_of_years

@@ -1,7 +1,7 @@
 //! Laws of the calendar and of the texts.
 ghost use Rattle.std.specs.Prelude.{◌≡◌, ◌≤◌, ℕ, codes, take};
 ghost use Rattle.dep_moment.specs.Civil.{Civil, IsCivilOf, civil_of, day_text, rfc3339_text, http_text};
-ghost use Rattle.dep_moment.specs.Greatest.{greatest_moment};
+ghost use Rattle.dep_types.specs.Limits.{greatest_moment};
 
 /// Each moment has a day and a time of day.
 pub fn moment_has_civil()

@@ -2,17 +2,15 @@
 ghost use Rattle.std.specs.Prelude.{◌≡◌, ◌<◌, ◌≤◌, min, IsAscii};
 ghost use Rattle.httpdate.specs.Text.{two_digits, four_digits};
 ghost use Rattle.dep_moment.specs.Civil.{civil_of, day_text, rfc3339_text, http_text};
-ghost use Rattle.dep_moment.specs.Greatest.{greatest_moment};
+ghost use Rattle.dep_types.specs.Limits.{greatest_moment};
 
+use dep_types::GREATEST_MOMENT;
 use httpdate::HttpDate;
 use jiff::ToSpan;
 use jiff::civil::date;
 use std::marker::Model;
 
 const SECONDS_IN_DAY: u64 = 86_400;
-
-// The last second of the year 9999.
-const GREATEST: u64 = 253_402_300_799;
 
 /// A moment in whole seconds since 1 January 1970, without leap seconds. The greatest is the last second of the
 /// year 9999.
@@ -23,7 +21,7 @@ pub struct Moment {
 
 impl Model for Moment {
     ghost use Rattle.std.specs.Prelude.{ℕ, ◌≤◌};
-    ghost use Rattle.dep_moment.specs.Greatest.{greatest_moment};
+    ghost use Rattle.dep_types.specs.Limits.{greatest_moment};
 
     ghost Value = { ℕ };
 
@@ -40,7 +38,7 @@ impl Moment {
         ensures { result ≡ min secs greatest_moment }
     {
         Moment {
-            secs: secs.min(GREATEST),
+            secs: secs.min(GREATEST_MOMENT),
         }
     }
 

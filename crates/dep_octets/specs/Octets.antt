@@ -13,7 +13,8 @@ is_digits text = nat_lt 0 (length text) && list_all is_ascii_digit text
 -- the number that the digits write, up to a greatest one
 abbrev pub decimal_number : List ℕ → ℕ → Number
 decimal_number text most =
-    if is_digits text then (if nat_le (digits_value 10 text) most then Value (digits_value 10 text) else Above)
+    if is_digits text then
+    (if nat_le (digits_value 10 text) most then Value (digits_value 10 text) else Above)
     else NotDigits
 
 -- the number, if there is one
@@ -27,7 +28,8 @@ begins_with_zero (b ∷ text) = b == 48
 
 -- a number from 1 up to a greatest one that is written without a leading zero
 abbrev pub positive_number : (text : List ℕ) → (most : ℕ) → Option ℕ
-positive_number text most = if begins_with_zero text then None else value_of (decimal_number text most)
+positive_number text most =
+    if begins_with_zero text then None else value_of (decimal_number text most)
 
 -- n, unless it is past the greatest
 abbrev pub capped : ℕ → ℕ → Option ℕ

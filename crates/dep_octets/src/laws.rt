@@ -16,6 +16,7 @@ pub fn members_of_rfc9110()
 
 /// The greatest number of 64 bits, and the next one.
 pub fn numbers_of_64_bits()
-    ensures greatest { decimal_number (codes "18446744073709551615") 18446744073709551615 ≡ Value 18446744073709551615 }
+    ensures greatest { decimal_number (codes "18446744073709551615") 18446744073709551615 ≡
+        Value 18446744073709551615 }
     ensures above { decimal_number (codes "18446744073709551616") 18446744073709551615 ≡ Above }
 {}

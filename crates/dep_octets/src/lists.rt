@@ -1,3 +1,4 @@
+//! Comma lists.
 ghost use Rattle.std.specs.Prelude.{◌≡◌, ◌==◌, position, ◌≤◌, ◌∷◌, length};
 ghost use Rattle.dep_octets.specs.Octets.{members, parts, parts_left, octets_left};
 ghost use Rattle.std.specs.Option.{option_copied};
@@ -23,7 +24,7 @@ impl<'a> Model for SplitList<'a> {
 }
 
 /// The members of a comma list in their order, each without the white space at its ends. Empty members are passed
-/// over, as RFC 9110 section 5.6.1.2 asks of a recipient. A comma between quotation marks parts members too.
+/// over, as RFC 9110, section 5.6.1.2 asks of a recipient. A comma between quotation marks parts members too.
 pub fn split_list(text: &[u8]) -> SplitList<'_>
     ensures { result ≡ members text.now }
 {

@@ -1,3 +1,4 @@
+//! Decimal numbers.
 ghost use Rattle.std.specs.Prelude.{◌≡◌, ◌+◌, ◌*◌, ℕ};
 ghost use Rattle.dep_octets.specs.Octets.{decimal_number, positive_number, capped};
 
@@ -12,7 +13,7 @@ pub enum Number {
     Value(u64),
 }
 
-/// Reads the whole text as a decimal number (`1*DIGIT`, RFC 9110 section 8.6) that is at most `max`. It may have
+/// Reads the whole text as a decimal number (`1*DIGIT`, RFC 9110, section 8.6) that is at most `max`. It may have
 /// any length and begin with zeros; a sign or white space makes it `NotDigits`.
 pub fn decimal(text: &[u8], max: u64) -> Number
     ensures { result ≡ decimal_number text.now max }

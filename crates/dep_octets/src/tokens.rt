@@ -1,8 +1,9 @@
+//! Tokens.
 ghost use Rattle.std.specs.Prelude.{◌≡◌};
 ghost use Rattle.std.specs.List.{list_all};
 ghost use Rattle.dep_octets.specs.Octets.{is_token, is_token_octet};
 
-/// Whether the text is a token: one or more ASCII letters, digits or bytes of ``!#$%&'*+-.^_`|~`` (RFC 9110 section
+/// Whether the text is a token: one or more ASCII letters, digits or bytes of ``!#$%&'*+-.^_`|~`` (RFC 9110, section
 /// 5.6.2).
 pub fn is_token(text: &[u8]) -> bool
     ensures { result ≡ is_token text.now }

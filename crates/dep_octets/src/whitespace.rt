@@ -1,7 +1,8 @@
+//! White space at the ends of a text.
 ghost use Rattle.std.specs.Prelude.{◌≡◌};
 ghost use Rattle.dep_octets.specs.Octets.{is_blank, trim_start, trim_end, trimmed};
 
-/// The text without the spaces and tabs at its two ends, which are optional white space (RFC 9110 section 5.6.3).
+/// The text without the spaces and tabs at its two ends, which are optional white space (RFC 9110, section 5.6.3).
 /// What stands between stays as it is.
 #[tactic(auto, unfolding(crate::specs::Octets::trimmed))]
 pub fn trim_ows(text: &[u8]) -> &[u8]

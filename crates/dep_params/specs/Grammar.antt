@@ -1,4 +1,4 @@
--- The grammar of Content-Disposition (RFC 6266 section 4.1).
+-- The grammar of Content-Disposition (RFC 6266, section 4.1).
 use Rattle.std.specs.Prelude.{◌≡◌, ℕ, ◌==◌, ◌&&◌, ◌||◌, not, nat_le, nat_lt, Bool, true, List, [], ◌∷◌, ◌++◌, length, Option, Some, None, option_map, find, map}
 use Rattle.std.specs.List.{list_all, flat_map, filter_map, AllByRecursion}
 use Rattle.std.specs.Str.{str_to_ascii_lowercase, str_eq_ignore_ascii_case}

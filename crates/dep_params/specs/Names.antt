@@ -1,4 +1,4 @@
--- The file name that a disposition gives (RFC 6266 section 4.3, RFC 8187 section 3.2).
+-- The file name that a disposition gives (RFC 6266, section 4.3; RFC 8187, section 3.2).
 use Rattle.std.specs.Prelude.{◌≡◌, ℕ, ◌+◌, ◌<◌, ◌==◌, not, Bool, true, IsTrue, List, ◌∷◌, ◌++◌, length, slice_index, Option, Some, None, codes}
 use Rattle.std.specs.List.{list_all}
 use Rattle.std.specs.Char.{is_ascii_hexdigit}

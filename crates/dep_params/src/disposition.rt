@@ -1,7 +1,10 @@
+//! What a Content-Disposition field says.
 ghost use Rattle.std.specs.Prelude.{◌≡◌};
 ghost use Rattle.std.specs.Str.{str_eq_ignore_ascii_case};
 
 use std::alloc::{AllocError, AllocFailed};
+use std::error::Error;
+use std::fmt;
 use std::marker::Model;
 
 /// Why a Content-Disposition field, or the file name in it, is refused.
@@ -17,9 +20,22 @@ pub enum ParamFault {
     Memory,
 }
 
+impl fmt::Display for ParamFault {
+    fn fmt<W: fmt::Write>(&self, f: &mut fmt::Formatter<W>) -> fmt::Result {
+        match self {
+            ParamFault::Malformed => write!(f, "the text is no disposition"),
+            ParamFault::Repeated => write!(f, "two parameters have one name"),
+            ParamFault::NoName => write!(f, "there is no file name that may stand"),
+            ParamFault::Memory => write!(f, "out of memory"),
+        }
+    }
+}
+
+impl Error for ParamFault {}
+
 /// A parameter: its name in lower case, and its value without quotation marks and escapes.
 #[derive(Drop)]
-pub struct Parameter {
+pub(crate) struct Parameter {
     pub name: Vec<u8>,
     pub value: Vec<u8>,
 }
@@ -52,7 +68,7 @@ impl Disposition {
         Disposition { form, parameters }
     }
 
-    /// The type in lower case, as `attachment` (RFC 6266 section 4.2).
+    /// The type in lower case, as `attachment` (RFC 6266, section 4.2).
     pub fn form(&self) -> &[u8]
         ensures { result.now ≡ self.now.form }
     {

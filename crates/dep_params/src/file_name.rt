@@ -1,3 +1,4 @@
+//! The file name that a disposition gives.
 ghost use Rattle.std.specs.Prelude.{◌≡◌, ◌==◌, ◌<◌, ◌↔◌, ◌⊎◌, ℕ, List, codes, IsTrue, IfOk, IfErr, MatchOption, MatchResult, length, position, slice_index, string_bytes};
 ghost use Rattle.percent_encoding.specs.Percent as spec;
 ghost use Rattle.std.specs.Str.{str_eq_ignore_ascii_case};
@@ -11,9 +12,9 @@ use percent_encoding::percent_decode;
 use std::alloc::Global;
 
 impl Disposition {
-    /// The file name: that of `filename*` where it is there, also beside a `filename` (RFC 6266 section 4.3), and else
+    /// The file name: that of `filename*` where it is there, also beside a `filename` (RFC 6266, section 4.3), and else
     /// that of `filename`. A `filename*` has the character set `UTF-8`, in any letter case, a language that may be
-    /// empty, and octets in which each `%` stands before two hexadecimal digits (RFC 8187 section 3.2). A name has 1 to
+    /// empty, and octets in which each `%` stands before two hexadecimal digits (RFC 8187, section 3.2). A name has 1 to
     /// 255 bytes of UTF-8 without controls of ASCII, `/` and `\`, and is neither `.` nor `..`.
     pub fn file_name(&self, alloc: Global) -> Result<String, ParamFault>
         ensures named { IfOk result (λ name. IsFileName self.now (string_bytes name)) }

@@ -1,3 +1,4 @@
+//! The parts that a field is made of.
 ghost use Rattle.std.specs.Prelude.{◌≡◌, take, drop};
 ghost use Rattle.std.specs.List.{prefix_len};
 ghost use Rattle.dep_octets.specs.Octets.{is_token_octet, is_blank, trim_start};
@@ -6,7 +7,7 @@ ghost use Rattle.dep_params.specs.Grammar.{is_bare_octet};
 use dep_octets::is_token_octet;
 
 // The longest token at the front, and what follows it.
-pub fn split_token(text: &[u8]) -> (&[u8], &[u8])
+pub(crate) fn split_token(text: &[u8]) -> (&[u8], &[u8])
     ensures token { result.0.now ≡ take (prefix_len is_token_octet text.now) text.now }
     ensures rest { result.1.now ≡ drop (prefix_len is_token_octet text.now) text.now }
 {
@@ -18,7 +19,7 @@ pub fn split_token(text: &[u8]) -> (&[u8], &[u8])
 }
 
 // The longest run of octets of a bare value at the front, and what follows it.
-pub fn split_bare(text: &[u8]) -> (&[u8], &[u8])
+pub(crate) fn split_bare(text: &[u8]) -> (&[u8], &[u8])
     ensures run { result.0.now ≡ take (prefix_len is_bare_octet text.now) text.now }
     ensures rest { result.1.now ≡ drop (prefix_len is_bare_octet text.now) text.now }
 {
@@ -30,7 +31,7 @@ pub fn split_bare(text: &[u8]) -> (&[u8], &[u8])
 }
 
 // The text behind the spaces and tabs at its front.
-pub fn skip_blanks(text: &[u8]) -> &[u8]
+pub(crate) fn skip_blanks(text: &[u8]) -> &[u8]
     ensures { result.now ≡ trim_start text.now }
 {
     let mut start = 0;

@@ -1,3 +1,4 @@
+//! Quoted strings.
 ghost use Rattle.std.specs.Prelude.{◌≡◌, ◌<◌, true, false, length, MatchResult, IfOk};
 ghost use Rattle.dep_params.specs.Grammar.{is_control};
 ghost use Rattle.dep_params.specs.Reading.{Fails, quoted, stepped};
@@ -6,7 +7,7 @@ use crate::disposition::ParamFault;
 use std::alloc::Global;
 
 // Reads a quoted string behind its first quotation mark: the octets that it stands for, and what follows it.
-pub fn read_quoted(alloc: Global, text: &[u8]) -> Result<(Vec<u8>, &[u8]), ParamFault>
+pub(crate) fn read_quoted(alloc: Global, text: &[u8]) -> Result<(Vec<u8>, &[u8]), ParamFault>
     ensures { MatchResult result (λ x. quoted false text.now ≡ Some (x.0.items, x.1.now)) (λ e. Fails e (quoted false text.now)) }
 {
     let mut value = Vec::new(alloc);

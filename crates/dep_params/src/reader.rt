@@ -1,3 +1,4 @@
+//! Reading a Content-Disposition field.
 ghost use Rattle.std.specs.Prelude.{◌≡◌, ◌≢◌, ◌⊎◌, List, not, map, bytes_eq, MatchResult, IfOk, IfErr};
 ghost use Rattle.std.specs.Bool.{Decides};
 ghost use Rattle.std.specs.List.{IsDistinct};
@@ -13,9 +14,9 @@ use crate::quoted::read_quoted;
 use std::alloc::Global;
 use std::collections::BTreeSet;
 
-/// Reads the value of a Content-Disposition field (RFC 6266 section 4.1): a type, and parameters behind semicolons.
+/// Reads the value of a Content-Disposition field (RFC 6266, section 4.1): a type, and parameters behind semicolons.
 /// White space may stand about a semicolon and at the end, not in front and not about a `=`. Nothing need stand behind a
-/// semicolon. A value is a quoted string (RFC 9110 section 5.6.4), in which a backslash stands before any octet that is
+/// semicolon. A value is a quoted string (RFC 9110, section 5.6.4), in which a backslash stands before any octet that is
 /// no control, or one or more visible ASCII octets other than `;` and `"`.
 pub fn read_disposition(alloc: Global, text: &[u8]) -> Result<Disposition, ParamFault>
     ensures read { IfOk result (λ reading. IsDisposition text.now reading × IsDistinct bytes_eq (names_of reading)) }

@@ -13,7 +13,8 @@ use Rattle.httpdate.specs.Text.{day_name, month_name, two_digits, four_digits}
 use Rattle.dep_moment.specs.Civil.{Civil, civil_of, time_of, http_text}
 use Rattle.dep_head.specs.Head.{head_end, empty_line, EndsOnce}
 use Rattle.dep_types.specs.Names.{is_media_byte, is_media}
-use Rattle.dep_reply.specs.Head.{ReplyHead, phrase, line, status_text, status_line, field_text, optional, quoted, connection, head_text}
+use Rattle.dep_types.specs.Numbers.{quoted_tag}
+use Rattle.dep_reply.specs.Head.{ReplyHead, phrase, line, status_text, status_line, field_text, optional, connection, head_text}
 use Rattle.dep_reply.specs.Lines.{is_unbroken, IsUnbroken, field_lines, head_lines, lines_behind, lines_of}
 
 -- neither CR nor LF
@@ -122,7 +123,7 @@ unbroken_status n =
     (unbroken_both (codes "HTTP/1.1 " ++ decimal n) (codes " ") (unbroken_both (codes "HTTP/1.1 ") (decimal n) refl (unbroken_decimal n)) refl)
     (phrase_is_unbroken n)
 
-unbroken_quoted : (tag : ℕ) → IsTrue (is_unbroken (quoted tag))
+unbroken_quoted : (tag : ℕ) → IsTrue (is_unbroken (quoted_tag tag))
 unbroken_quoted tag =
     unbroken_both (codes "\"" ++ decimal tag) (codes "\"") (unbroken_both (codes "\"") (decimal tag) refl (unbroken_decimal tag)) refl
 
@@ -272,7 +273,7 @@ abbrev pub length_lines : ReplyHead → List (List ℕ)
 length_lines r = type_lines r ++ field_lines (codes "Content-Length") (option_map decimal r.content_length)
 
 abbrev pub tag_lines : ReplyHead → List (List ℕ)
-tag_lines r = length_lines r ++ field_lines (codes "ETag") (option_map quoted r.tag)
+tag_lines r = length_lines r ++ field_lines (codes "ETag") (option_map quoted_tag r.tag)
 
 abbrev pub location_lines : ReplyHead → List (List ℕ)
 location_lines r = tag_lines r ++ field_lines (codes "Location") r.location
@@ -288,13 +289,13 @@ own_are_lines r u =
     are_both (allow_lines r) (field_lines (codes "Connection") (connection r.closes))
     (are_both (location_lines r) (field_lines (codes "Allow") r.allow)
     (are_both (tag_lines r) (field_lines (codes "Location") r.location)
-    (are_both (length_lines r) (field_lines (codes "ETag") (option_map quoted r.tag))
+    (are_both (length_lines r) (field_lines (codes "ETag") (option_map quoted_tag r.tag))
     (are_both (type_lines r) (field_lines (codes "Content-Length") (option_map decimal r.content_length))
     (are_both (date_lines r) (field_lines (codes "Content-Type") r.content_type)
     (given_line (codes "Date") (Some (http_text r.date)) _ _ refl refl (unbroken_date r.date))
     (given_line (codes "Content-Type") r.content_type _ _ refl refl u.content_type))
     (given_line (codes "Content-Length") (option_map decimal r.content_length) _ _ refl refl (unbroken_map decimal r.content_length unbroken_decimal)))
-    (given_line (codes "ETag") (option_map quoted r.tag) _ _ refl refl (unbroken_map quoted r.tag unbroken_quoted)))
+    (given_line (codes "ETag") (option_map quoted_tag r.tag) _ _ refl refl (unbroken_map quoted_tag r.tag unbroken_quoted)))
     (given_line (codes "Location") r.location _ _ refl refl u.location))
     (given_line (codes "Allow") r.allow _ _ refl refl u.allow))
     (given_line (codes "Connection") (connection r.closes) _ _ refl refl (closes_line r.closes))
@@ -329,13 +330,13 @@ joined_own r =
     let date = joined_given (codes "Date") (Some (http_text r.date)) in
     let kind = joined_next (date_lines r) _ (codes "Content-Type") r.content_type date in
     let size = joined_next (type_lines r) _ (codes "Content-Length") (option_map decimal r.content_length) kind in
-    let tag = joined_next (length_lines r) _ (codes "ETag") (option_map quoted r.tag) size in
+    let tag = joined_next (length_lines r) _ (codes "ETag") (option_map quoted_tag r.tag) size in
     let location = joined_next (tag_lines r) _ (codes "Location") r.location tag in
     let allow = joined_next (location_lines r) _ (codes "Allow") r.allow location in
     let own = joined_next (allow_lines r) _ (codes "Connection") (connection r.closes) allow in
     ap (λ l. status_text r.status ++ 13 ∷ 10 ∷ l) (joined_both (own_lines r) ([] ∷ []) ∙ ap (λ l. l ++ 13 ∷ 10 ∷ []) own)
     ∙ regroup (status_text r.status) (optional (codes "Date") (Some (http_text r.date))) (optional (codes "Content-Type") r.content_type)
-    (optional (codes "Content-Length") (option_map decimal r.content_length)) (optional (codes "ETag") (option_map quoted r.tag))
+    (optional (codes "Content-Length") (option_map decimal r.content_length)) (optional (codes "ETag") (option_map quoted_tag r.tag))
     (optional (codes "Location") r.location) (optional (codes "Allow") r.allow) (optional (codes "Connection") (connection r.closes)) (line [])
 
 -- ---- the head as a whole

@@ -1,5 +1,6 @@
 -- The bytes of a reply's head (RFC 9110, RFC 9112).
 use Rattle.std.specs.Prelude.{ℕ, ◌==◌, Bool, List, [], ◌++◌, Option, Some, None, option_map, codes, decimal, if◌then◌else◌}
+use Rattle.dep_types.specs.Numbers.{quoted_tag}
 use Rattle.dep_moment.specs.Civil.{http_text}
 
 -- what a head tells, with the date in seconds since 1970
@@ -50,10 +51,6 @@ abbrev pub optional : (name : List ℕ) → Option (List ℕ) → List ℕ
 optional name None = []
 optional name (Some value) = field name value
 
--- an entity tag as it stands in a field
-abbrev pub quoted : ℕ → List ℕ
-quoted tag = codes "\"" ++ decimal tag ++ codes "\""
-
 abbrev pub connection : Bool → Option (List ℕ)
 connection closes = if closes then Some (codes "close") else None
 
@@ -64,7 +61,7 @@ head_text r =
     ++ field (codes "Date") (http_text r.date)
     ++ optional (codes "Content-Type") r.content_type
     ++ optional (codes "Content-Length") (option_map decimal r.content_length)
-    ++ optional (codes "ETag") (option_map quoted r.tag)
+    ++ optional (codes "ETag") (option_map quoted_tag r.tag)
     ++ optional (codes "Location") r.location
     ++ optional (codes "Allow") r.allow
     ++ optional (codes "Connection") (connection r.closes)

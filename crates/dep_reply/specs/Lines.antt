@@ -2,7 +2,8 @@
 use Rattle.std.specs.Prelude.{ℕ, ◌==◌, ◌&&◌, not, Bool, IsTrue, IfSome, List, [], ◌∷◌, ◌++◌, Option, Some, None, option_map, codes, decimal, if◌then◌else◌}
 use Rattle.std.specs.List.{list_all}
 use Rattle.dep_moment.specs.Civil.{http_text}
-use Rattle.dep_reply.specs.Head.{ReplyHead, status_text, field_text, quoted, connection}
+use Rattle.dep_types.specs.Numbers.{quoted_tag}
+use Rattle.dep_reply.specs.Head.{ReplyHead, status_text, field_text, connection}
 
 -- neither CR nor LF
 abbrev pub is_unbroken : List ℕ → Bool
@@ -26,7 +27,7 @@ head_lines r =
     ∷ field_lines (codes "Date") (Some (http_text r.date))
     ++ field_lines (codes "Content-Type") r.content_type
     ++ field_lines (codes "Content-Length") (option_map decimal r.content_length)
-    ++ field_lines (codes "ETag") (option_map quoted r.tag)
+    ++ field_lines (codes "ETag") (option_map quoted_tag r.tag)
     ++ field_lines (codes "Location") r.location
     ++ field_lines (codes "Allow") r.allow
     ++ field_lines (codes "Connection") (connection r.closes)

@@ -1,7 +1,8 @@
 //! The head of a reply as bytes.
 ghost use Rattle.std.specs.Prelude.{◌≡◌, ◌++◌, IfOk, OnOk, option_map, codes, decimal};
 ghost use Rattle.std.specs.Option.{option_copied};
-ghost use Rattle.dep_reply.specs.Head.{head_text, field, optional, status_line, quoted};
+ghost use Rattle.dep_types.specs.Numbers.{quoted_tag};
+ghost use Rattle.dep_reply.specs.Head.{head_text, field, optional, status_line};
 ghost use Rattle.dep_reply.specs.Statuses.{status_number};
 
 use crate::reply::Reply;
@@ -71,7 +72,7 @@ fn push_number(head: &mut Vec<u8>, name: &str, value: Option<u64>) -> Result<(),
 }
 
 fn push_tag(head: &mut Vec<u8>, value: Option<u64>) -> Result<(), AllocError>
-    ensures { OnOk result (head.new.items ≡ head.old.items ++ optional (codes "ETag") (option_map quoted value)) }
+    ensures { OnOk result (head.new.items ≡ head.old.items ++ optional (codes "ETag") (option_map quoted_tag value)) }
 {
     let Some(tag) = value else {
         return Ok(());

@@ -46,7 +46,7 @@ impl Allow {
 }
 
 // The method of this name, if the resource has it.
-pub fn method_at(resource: &Resource, name: &[u8]) -> Option<Method>
+pub(crate) fn method_at(resource: &Resource, name: &[u8]) -> Option<Method>
     ensures { result ≡ method_of resource.now name.now }
 {
     methods(resource)

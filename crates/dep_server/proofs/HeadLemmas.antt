@@ -33,7 +33,8 @@ use Rattle.dep_operations.specs.declared.operation.Decision.TheVariants.{Show, C
 use Rattle.dep_operations.proofs.Fits.{fields_are_fit}
 use Rattle.dep_operations.proofs.Accepted.{accepted_sound}
 use Rattle.dep_store.specs.Answers.{Answer, Shown, Document, StoredContent, media_of, document_of, head_of}
-use Rattle.dep_store.specs.Replies.{unless_bare, front_text, object_url, shown_file, content_at, shown_answer, made_answer, last_object, answer_to, accepted_answer, refused_answer}
+use Rattle.dep_docs_out.specs.Documents.{object_url}
+use Rattle.dep_store.specs.Replies.{unless_bare, front_text, shown_file, content_at, shown_answer, made_answer, last_object, answer_to, accepted_answer, refused_answer}
 use Rattle.dep_store.specs.Steps.{Stepped, answered_step, refused_step, accepted_step, is_head, step_by, operation_step}
 use Rattle.dep_server.specs.Machine.{operation_of, routed_step, step}
 use Rattle.dep_server.specs.Targets.{target, allow_text}

@@ -14,7 +14,7 @@ use Rattle.dep_types.specs.declared.refusal.Refusal.{Refusal}
 use Rattle.dep_types.specs.declared.rows.FileRow.{FileRow}
 use Rattle.dep_types.specs.declared.rows.ObjectView.{ObjectView}
 use Rattle.dep_types.proofs.Kept.{get-insert_same}
-use Rattle.dep_docs_out.specs.Documents.{status_document}
+use Rattle.dep_docs_out.specs.Documents.{status_document, object_url}
 use Rattle.dep_reply.specs.Head.{head_text}
 use Rattle.dep_operations.specs.declared.operation.Operation.{Operation}
 use Rattle.dep_operations.specs.declared.operation.NewFile.{NewFile}
@@ -24,7 +24,7 @@ use Rattle.dep_operations.specs.Decisions.{decision}
 use Rattle.dep_operations.specs.Rules.{refusal}
 use Rattle.dep_operations.specs.Effects.{file_from, object_from, effect_of, effect}
 use Rattle.dep_store.specs.Answers.{Answer, Document, document_of, stored_of, answer, head_of}
-use Rattle.dep_store.specs.Replies.{unless_bare, front_text, stored_text, shown_file, refused_answer, answer_to, accepted_answer, file_answer, made_answer, created_answer, last_object, object_url}
+use Rattle.dep_store.specs.Replies.{unless_bare, front_text, stored_text, shown_file, refused_answer, answer_to, accepted_answer, file_answer, made_answer, created_answer, last_object}
 use Rattle.dep_store.specs.Steps.{answered_step, is_head, step_by, operation_step}
 use Rattle.dep_store.specs.Performing.{document_in, stored_in, HasStored, IsReady, IsReply, Performs, Deposits, body_behind}
 use Rattle.dep_store.specs.declared.answer.Delivery.{Delivery}

@@ -1,5 +1,5 @@
 -- The bytes of replies (RFC 9110, sections 6.4 and 15; SWORD 3.0).
-use Rattle.std.specs.Prelude.{ℕ, ◌-◌, Bool, List, [], ◌++◌, Option, Some, None, option_map, codes, decimal, if◌then◌else◌}
+use Rattle.std.specs.Prelude.{ℕ, ◌-◌, Bool, List, [], ◌++◌, Option, Some, None, option_map, codes, if◌then◌else◌}
 use Rattle.std.specs.FinMap as map
 use Rattle.dep_types.specs.State.{State, File as StateFile, file_at}
 use Rattle.dep_types.specs.Rows.{object_view}
@@ -12,7 +12,7 @@ use Rattle.dep_types.specs.declared.target.Resource.TheVariants.{Service, File}
 use Rattle.dep_types.specs.declared.target.Method.{Method}
 use Rattle.dep_types.specs.declared.target.Method.TheVariants.{Get, Head}
 use Rattle.dep_reply.specs.Head.{head_text}
-use Rattle.dep_docs_out.specs.Documents.{service_document, status_document, error_document}
+use Rattle.dep_docs_out.specs.Documents.{service_document, status_document, error_document, object_url}
 use Rattle.dep_operations.specs.declared.operation.Operation.{Operation}
 use Rattle.dep_operations.specs.declared.operation.Decision.{Decision}
 use Rattle.dep_operations.specs.declared.operation.Decision.TheVariants.{Show, Create}
@@ -30,10 +30,6 @@ front_text a clock is_bare closes =
 -- the content of a file behind it
 unfoldable pub stored_text : Answer → (is_bare : Bool) → List ℕ
 stored_text a is_bare = unless_bare is_bare (stored_of a.content)
-
--- the URL of an object (SWORD 3.0, Object-URL)
-abbrev pub object_url : Config → ℕ → List ℕ
-object_url config n = config.base ++ codes "/objects/" ++ decimal n
 
 abbrev pub shown_file : StateFile → Shown
 shown_file file = StoredContent file.media file.content

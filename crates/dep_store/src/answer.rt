@@ -6,14 +6,13 @@ ghost use Rattle.dep_reply.specs.Statuses.{status_number};
 ghost use Rattle.dep_docs_out.specs.Documents.{service_document};
 ghost use Rattle.dep_store.specs.Answers.{answer, Document, head_of};
 ghost use Rattle.dep_store.specs.Performing.{IsReply, HasStored, document_in};
-ghost use Rattle.dep_store.specs.Replies.{created_answer, object_url, refused_answer, unless_bare};
+ghost use Rattle.dep_store.specs.Replies.{created_answer, refused_answer, unless_bare};
 
 use crate::performed::{Body, Performed};
-use dep_docs_out::{error_doc, service_doc, status_doc};
+use dep_docs_out::{error_doc, object_url, service_doc, status_doc};
 use dep_moment::Moment;
 use dep_reply::{Reply, Status, spell_head};
 use dep_types::{Config, ObjectView, Refusal, Text};
-use itoa::Buffer;
 use std::alloc::{AllocError, Global};
 use std::marker::Model;
 
@@ -101,7 +100,7 @@ impl Answer {
             status: Status::Created,
             document: Some(status_doc(alloc, config, view)?),
             tag: Some(view.object.object_tag),
-            location: Some(object_url(alloc, config, view.object.object)?),
+            location: Some(Text::new(object_url(alloc, config, view.object.object)?)),
             allow: None,
         })
     }
@@ -164,15 +163,4 @@ fn body_of(document: Option<Vec<u8>>, is_bare: bool) -> Body
         Some(document) if !is_bare => Body::Bytes(document),
         _ => Body::None,
     }
-}
-
-// The URL of an object (SWORD 3.0, Object-URL).
-fn object_url(alloc: Global, config: &Config, object: u64) -> Result<Text, AllocError>
-    ensures { IfOk result (λ url. url ≡ object_url config.now object) }
-{
-    let mut url = String::from_str(alloc, config.base.as_str())?;
-    let mut digits = Buffer::new();
-    url.push_str("/objects/")?;
-    url.push_str(digits.format(object))?;
-    Ok(Text::new(url))
 }

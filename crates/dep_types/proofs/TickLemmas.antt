@@ -5,7 +5,8 @@ use Rattle.std.specs.Cmp.{nat_cmp_total}
 use Rattle.std.specs.FinMap as map
 use Rattle.std.specs.FinSet as set
 use Rattle.dep_types.specs.Maps.{Numbered, Numbers}
-use Rattle.dep_types.specs.State.{State, Upload, tick, clock_at, greatest_clock, expires, expired, unexpired, is_idle}
+use Rattle.dep_types.specs.Limits.{greatest_moment}
+use Rattle.dep_types.specs.State.{State, Upload, tick, clock_at, expires, expired, unexpired, is_idle}
 use Rattle.dep_types.specs.declared.config.Config.{Config}
 use Rattle.dep_types.proofs.Kept.{get-kept}
 
@@ -48,7 +49,7 @@ same_clock a b = omega arith
 pub again : (config : Config) (s : State) (moment : ℕ) → tick config (tick config s moment) moment ≡ tick config s moment
 again config s moment =
     let c = clock_at s moment in
-    let same : clock_at (tick config s moment) moment ≡ c = same_clock s.clock (min moment greatest_clock) in
+    let same : clock_at (tick config s moment) moment ≡ c = same_clock s.clock (min moment greatest_moment) in
     (λ i. record (tick config s moment) {
       clock = same i;
       uploads = unexpired config (same i) (unexpired config c s.uploads);
@@ -62,7 +63,7 @@ rises : (a b : ℕ) → a ≤ max a b
 rises a b = omega arith
 
 pub clock_rises : (config : Config) (s : State) (moment : ℕ) → s.clock ≤ (tick config s moment).clock
-clock_rises config s moment = rises s.clock (min moment greatest_clock)
+clock_rises config s moment = rises s.clock (min moment greatest_moment)
 
 pub contains-timed_out : (config : Config) (s : State) (moment u : ℕ)
     → set.contains (tick config s moment).timed_out u ≡ (set.contains s.timed_out u || is_some (cond (expires config (clock_at s moment) s.uploads u) (map.get s.uploads u) None))

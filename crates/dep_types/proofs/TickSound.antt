@@ -1,6 +1,7 @@
 -- A tick keeps a sound state sound.
 use Rattle.std.proofs.Common.{◌≡◌, ℕ, ◌≤◌, min, max, Bool, true, false, cond, not, ◌||◌, ◌⊎◌, Option, Some, None, is_some, refl, sym, ◌∙◌, arith, le_refl, inl, inr}
-use Rattle.dep_types.specs.State.{State, Upload, tick, clock_at, greatest_clock}
+use Rattle.dep_types.specs.Limits.{greatest_moment}
+use Rattle.dep_types.specs.State.{State, Upload, tick, clock_at}
 use Rattle.dep_types.specs.Sound.{IsSound}
 use Rattle.dep_types.specs.declared.config.Config.{Config}
 use Rattle.dep_types.proofs.Kept.{kept-was}
@@ -38,7 +39,7 @@ keeps_sound config s moment h =
     let later = ticked_later config s moment in
     let left = get-unexpired config (clock_at s moment) s.uploads in
     record {
-      clock = clock_bounded s.clock moment greatest_clock h.clock;
+      clock = clock_bounded s.clock moment greatest_moment h.clock;
       next_object = h.next_object;
       next_file = h.next_file;
       next_upload = h.next_upload;

@@ -19,4 +19,5 @@ AreInOrder entries = T (is_sorted (slice_cmp nat_cmp) (map name_and_texts entrie
 abbrev pub IsPlaceOf : List MetadataEntry → List ℕ → Result ℕ ℕ → Type 0
 IsPlaceOf entries name place = MatchResult place
     (HoldsAt (λ e. slice_cmp nat_cmp e.name name ≡ Equal) entries)
-    (IsPartitionPoint (λ e. slice_cmp nat_cmp e.name name ≡ Less) (λ e. slice_cmp nat_cmp e.name name ≡ Greater) entries)
+    (IsPartitionPoint (λ e. slice_cmp nat_cmp e.name name ≡ Less)
+    (λ e. slice_cmp nat_cmp e.name name ≡ Greater) entries)

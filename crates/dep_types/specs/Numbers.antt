@@ -21,11 +21,15 @@ numbers object file upload change = record { object = object; file = file; uploa
 
 -- the counters once numbers are taken
 abbrev pub counters_after : Counters → Counters → Counters
-counters_after next taken = numbers (next.object + taken.object) (next.file + taken.file) (next.upload + taken.upload) (next.change + taken.change)
+counters_after next taken =
+    numbers (next.object + taken.object) (next.file + taken.file) (next.upload + taken.upload)
+    (next.change + taken.change)
 
 -- numbers up to the greatest are given, and none beyond
 abbrev pub has_room : (next wanted : ℕ) → Bool
 has_room next wanted = (wanted == 0) || nat_le (next + wanted) greatest_number
 
 unfoldable pub room_for : Counters → Counters → Bool
-room_for next taken = has_room next.object taken.object && has_room next.file taken.file && has_room next.upload taken.upload && has_room next.change taken.change
+room_for next taken =
+    has_room next.object taken.object && has_room next.file taken.file
+    && has_room next.upload taken.upload && has_room next.change taken.change

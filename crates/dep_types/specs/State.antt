@@ -3,13 +3,10 @@ use Rattle.std.specs.Prelude.{ℕ, ◌-◌, min, max, nat_lt, Bool, false, not, 
 use Rattle.std.specs.Option.{option_map_or}
 use Rattle.std.specs.FinMap as map
 use Rattle.std.specs.FinSet as set
+use Rattle.dep_types.specs.Limits.{greatest_moment}
 use Rattle.dep_types.specs.Maps.{Numbered, Named, Numbers}
 use Rattle.dep_types.specs.declared.counters.Counters.{Counters}
 use Rattle.dep_types.specs.declared.config.Config.{Config}
-
--- the last second of the year 9999
-abbrev pub greatest_clock : ℕ
-greatest_clock = 253402300799
 
 -- under each name its texts
 abbrev pub Texts : Type 0
@@ -78,9 +75,10 @@ unexpired config clock uploads = map.retain_keys uploads (λ u. not (expires con
 
 -- the clock at a moment
 abbrev pub clock_at : State → ℕ → ℕ
-clock_at s moment = max s.clock (min moment greatest_clock)
+clock_at s moment = max s.clock (min moment greatest_moment)
 
--- the clock goes to the moment and never back; uploads left idle go, and their numbers are remembered
+-- the clock goes to the moment and never back; uploads left idle go, and their numbers are
+-- remembered
 abbrev pub tick : Config → State → ℕ → State
 tick config s moment = record s {
   clock = clock_at s moment;

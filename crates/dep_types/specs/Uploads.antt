@@ -21,8 +21,10 @@ assembled u = flat_map (λ k. unwrap_or (map.get u.segments k) []) (segment_numb
 
 -- so many segments of this size hold just so many bytes, and none of them is empty
 abbrev pub sizes_agree : (size count segment_size : ℕ) → Bool
-sizes_agree size count segment_size = nat_lt ((count - 1) * segment_size) size && nat_le size (count * segment_size)
+sizes_agree size count segment_size =
+    nat_lt ((count - 1) * segment_size) size && nat_le size (count * segment_size)
 
 -- the length of a segment: the last one has the rest
 abbrev pub segment_length : Upload → ℕ → ℕ
-segment_length u k = if k == u.count then u.size - (u.count - 1) * u.segment_size else u.segment_size
+segment_length u k =
+    if k == u.count then u.size - (u.count - 1) * u.segment_size else u.segment_size

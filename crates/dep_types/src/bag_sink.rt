@@ -26,14 +26,16 @@ impl Error for SinkFailed {}
 pub trait BagSink: Outlet {
     /// Makes a folder.
     fn folder(&mut self, path: &str) -> Result<(), SinkFailed>
-        ensures ok { OnOk result (Appends (Self.taken self.old) (Self.taken self.new) (folder_made path.now)) }
+        ensures ok { OnOk result
+            (Appends (Self.taken self.old) (Self.taken self.new) (folder_made path.now)) }
         ensures err { OnErr result (Keeps (Self.taken self.old) (Self.taken self.new)) }
         ensures count { OnOk result (Self.failures self.new ≡ Self.failures self.old) }
         ensures cause { OnErr result (HasRisen (Self.failures self.old) (Self.failures self.new)) };
 
     /// Begins a file, and makes the folders that its path names.
     fn begin(&mut self, path: &str) -> Result<(), SinkFailed>
-        ensures ok { OnOk result (Appends (Self.taken self.old) (Self.taken self.new) (file_begun path.now)) }
+        ensures ok { OnOk result
+            (Appends (Self.taken self.old) (Self.taken self.new) (file_begun path.now)) }
         ensures err { OnErr result (Keeps (Self.taken self.old) (Self.taken self.new)) }
         ensures count { OnOk result (Self.failures self.new ≡ Self.failures self.old) }
         ensures cause { OnErr result (HasRisen (Self.failures self.old) (Self.failures self.new)) };

@@ -7,7 +7,7 @@ use std::alloc::Global;
 use url::{ParseError, Url};
 
 /// Whether a text may be the base.
-pub fn check_base(alloc: Global, base: &str) -> Result<(), ConfigFault>
+pub(crate) fn check_base(alloc: Global, base: &str) -> Result<(), ConfigFault>
     ensures kept { OnOk result (IsBase base.now) }
     ensures refused { result ≡ Err ConfigFault.Base → ¬ IsBase base.now }
     ensures other { result ≢ Err ConfigFault.Limit }

@@ -5,6 +5,8 @@ ghost use Rattle.dep_types.specs.Limits.{IsLimit};
 use crate::base::check_base;
 use crate::text::Text;
 use std::alloc::Global;
+use std::error::Error;
+use std::fmt;
 
 /// The greatest content of one request, in bytes.
 pub const GREATEST_MAX_UPLOAD: u64 = 16_777_216;
@@ -69,6 +71,18 @@ impl ConfigFault {
         }
     }
 }
+
+impl fmt::Display for ConfigFault {
+    fn fmt<W: fmt::Write>(&self, f: &mut fmt::Formatter<W>) -> fmt::Result {
+        match self {
+            ConfigFault::Base => write!(f, "the base is not the URL of a server"),
+            ConfigFault::Limit => write!(f, "a limit is not in its range"),
+            ConfigFault::Memory => write!(f, "out of memory"),
+        }
+    }
+}
+
+impl Error for ConfigFault {}
 
 impl Config {
     ghost use Rattle.std.specs.Prelude.{◌≡◌, OnOk, Err};

@@ -7,7 +7,8 @@ ghost use Rattle.dep_types.specs.declared.config.Config.{Config};
 
 /// A tick at the same moment changes nothing more.
 pub fn tick_again()
-    ensures { (config : Config) (s : State) (moment : ℕ) → tick config (tick config s moment) moment ≡ tick config s moment }
+    ensures { (config : Config) (s : State) (moment : ℕ) →
+        tick config (tick config s moment) moment ≡ tick config s moment }
 {}
 
 /// The clock never goes back.
@@ -17,7 +18,8 @@ pub fn clock_never_falls()
 
 /// A number that timed out stays so.
 pub fn timed_out_for_good()
-    ensures { (config : Config) (s : State) (moment u : ℕ) → IsTrue (set.contains s.timed_out u) → IsTrue (set.contains (tick config s moment).timed_out u) }
+    ensures { (config : Config) (s : State) (moment u : ℕ) → IsTrue (set.contains s.timed_out u) →
+        IsTrue (set.contains (tick config s moment).timed_out u) }
 {}
 
 /// A tick keeps a sound state sound.

@@ -6,6 +6,7 @@ mod base;
 mod config;
 mod counters;
 pub mod laws;
+mod limits;
 mod metadata;
 mod names;
 mod octets;
@@ -24,6 +25,7 @@ pub use config::{
     GREATEST_STAGING_MAX_IDLE,
 };
 pub use counters::{Counters, GREATEST_NUMBER};
+pub use limits::GREATEST_MOMENT;
 pub use metadata::{Metadata, MetadataEntry, TextList};
 pub use names::{BINARY_PACKAGING, METADATA_FORMAT, is_good_name, is_kept_name, is_media};
 pub use octets::Octets;

@@ -3,9 +3,20 @@ ghost use Rattle.std.specs.Prelude.{◌≡◌, ℕ, List, Option, None, OnOk, On
 ghost use Rattle.std.specs.Io.KnownBytes.{Appends};
 ghost use Rattle.dep_types.specs.Writing.{TakesPart, HasRisen};
 
+use std::error::Error;
+use std::fmt;
+
 /// A write failed, after a proper prefix of its bytes.
 #[derive(Clone, Copy, Debug, PartialEq, Eq)]
 pub struct WriteFailed;
+
+impl fmt::Display for WriteFailed {
+    fn fmt<W: fmt::Write>(&self, f: &mut fmt::Formatter<W>) -> fmt::Result {
+        write!(f, "a write failed")
+    }
+}
+
+impl Error for WriteFailed {}
 
 /// Where reply bytes go. It holds the bytes that it took and counts its failures.
 pub trait Outlet {
