@@ -1,5 +1,5 @@
 -- Every reply of a sound machine begins with a head that ends once.
-use Rattle.std.proofs.Common.{◌≡◌, ℕ, Bool, true, List, [], ◌∷◌, ◌++◌, length, Option, Some, None, codes, refl, sym, ap, subst, ◌∙◌, append_assoc}
+use Rattle.std.proofs.Common.{◌≡◌, ℕ, Bool, true, List, ◌++◌, length, Option, Some, None, codes, refl, sym, ap, ◌∙◌, append_assoc}
 use Rattle.std.specs.Prelude.{IsTrue, IfSome, decimal}
 use Rattle.std.specs.Option.{option_map, option_and_then}
 use Rattle.std.specs.FinMap as map
@@ -14,7 +14,7 @@ use Rattle.dep_types.specs.declared.target.Resource.TheVariants as at
 use Rattle.dep_types.specs.declared.target.Method.{Method}
 use Rattle.dep_types.specs.declared.target.Method.TheVariants.{Get, Head, Post, Put, Delete}
 use Rattle.dep_types.proofs.TickSound.{keeps_sound}
-use Rattle.dep_head.specs.Head.{head_end, EndsOnce}
+use Rattle.dep_head.specs.Head.{head_end}
 use Rattle.dep_head.proofs.HeadEnd.{end_more}
 use Rattle.dep_message.specs.Heads.{is_bare, closes}
 use Rattle.dep_message.specs.Stream.{Item, Fault, Continue, Request}
@@ -32,10 +32,10 @@ use Rattle.dep_operations.specs.declared.operation.Decision.{Decision}
 use Rattle.dep_operations.specs.declared.operation.Decision.TheVariants.{Show, Create}
 use Rattle.dep_operations.proofs.Fits.{fields_are_fit}
 use Rattle.dep_operations.proofs.Accepted.{accepted_sound}
-use Rattle.dep_store.specs.Answers.{Answer, Shown, Document, StoredContent, media_of, document_of, head_of}
+use Rattle.dep_store.specs.Answers.{Answer, Shown, Document, media_of, document_of, head_of}
 use Rattle.dep_docs_out.specs.Documents.{object_url}
-use Rattle.dep_store.specs.Replies.{unless_bare, front_text, shown_file, content_at, shown_answer, made_answer, last_object, answer_to, accepted_answer, refused_answer}
-use Rattle.dep_store.specs.Steps.{Stepped, answered_step, refused_step, accepted_step, is_head, step_by, operation_step}
+use Rattle.dep_store.specs.Replies.{unless_bare, front_text, shown_file, shown_answer, made_answer, last_object, answer_to, accepted_answer, refused_answer}
+use Rattle.dep_store.specs.Steps.{is_head, step_by, operation_step}
 use Rattle.dep_server.specs.Machine.{operation_of, routed_step, step}
 use Rattle.dep_server.specs.Targets.{target, allow_text}
 use Rattle.dep_server.specs.ReplyHeads.{IsWholeReply, IsUnsplit}
@@ -94,8 +94,8 @@ file_content s n f sound (Some object) e (Some file) g =
 module _ (config : Config) (checked : IsChecked config) where
   url_unbroken : (n : ℕ) → IsTrue (is_unbroken (object_url config n))
   url_unbroken n =
-      unbroken_both (config.base ++ codes "/objects/") (decimal n)
-      (unbroken_both config.base (codes "/objects/") (unbroken_base config.base checked.base) refl) (unbroken_decimal n)
+      unbroken_both config.base (codes "/objects/" ++ decimal n) (unbroken_base config.base checked.base)
+      (unbroken_both (codes "/objects/") (decimal n) refl (unbroken_decimal n))
 
   document_if : (o : Option Object) (f : Object → List ℕ) → IfSome (option_map (λ x. Document (f x)) o) (λ shown. IsTrue (is_unbroken (media_of shown)))
   document_if None f = tt

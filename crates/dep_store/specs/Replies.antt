@@ -1,5 +1,5 @@
 -- The bytes of replies (RFC 9110, sections 6.4 and 15; SWORD 3.0).
-use Rattle.std.specs.Prelude.{ℕ, ◌-◌, Bool, List, [], ◌++◌, Option, Some, None, option_map, codes, if◌then◌else◌}
+use Rattle.std.specs.Prelude.{ℕ, ◌-◌, Bool, List, [], ◌++◌, Option, Some, None, option_map, if◌then◌else◌}
 use Rattle.std.specs.FinMap as map
 use Rattle.dep_types.specs.State.{State, File as StateFile, file_at}
 use Rattle.dep_types.specs.Rows.{object_view}
