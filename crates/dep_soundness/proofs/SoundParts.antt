@@ -3,7 +3,8 @@ use Rattle.std.proofs.Common.{◌≡◌, ◌≢◌, ◌∙◌, ◌⊎◌, inl, i
 use Rattle.std.specs.FinMap as map
 use Rattle.std.specs.FinSet as set
 use Rattle.dep_types.specs.Maps.{Numbered}
-use Rattle.dep_types.specs.State.{State, Object, File, Upload, file_at, greatest_clock}
+use Rattle.dep_types.specs.State.{State, Object, File, Upload, file_at}
+use Rattle.dep_types.specs.Limits.{greatest_moment}
 use Rattle.dep_types.specs.Sound.{IsSound, IsSoundObject, IsSoundUpload, IsGiven}
 use Rattle.dep_types.proofs.Kept.{found, get-insert_other}
 use Rattle.dep_types.proofs.Later.{Later, object_later, upload_later, given_later}
@@ -52,7 +53,7 @@ module _ (s t : State) (sound : IsSound s) (later : Later s t) where
   -- sound as a whole
   pub stays_sound : (target : ℕ) → AreBounded t.next → t.clock ≡ s.clock → t.timed_out ≡ s.timed_out → AreObjects s t target → AreUploads s t → IsSound t
   stays_sound target bounded clock timed_out objects uploads = record {
-    clock = subst (λ (c : ℕ). c ≤ greatest_clock) (sym clock) sound.clock;
+    clock = subst (λ (c : ℕ). c ≤ greatest_moment) (sym clock) sound.clock;
     next_object = le_trans sound.next_object later.object;
     next_file = le_trans sound.next_file later.file;
     next_upload = le_trans sound.next_upload later.upload;
