@@ -4,7 +4,7 @@ use Rattle.std.specs.Prelude.{IfSome, filter}
 use Rattle.std.specs.List.{AllByRecursion, range_with_len}
 use Rattle.std.proofs.lemmas.Bool.{and_from}
 use Rattle.std.proofs.lemmas.Str.{IsUtf8-from_ascii}
-use Rattle.dep_moment.specs.Greatest.{greatest_moment}
+use Rattle.dep_types.specs.Limits.{greatest_moment}
 use Rattle.dep_moment.proofs.Ascii.{rfc3339-ascii}
 use Rattle.dep_types.specs.declared.config.Config.{Config}
 use Rattle.dep_types.specs.declared.rows.FileRow.{FileRow}

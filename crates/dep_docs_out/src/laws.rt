@@ -1,6 +1,6 @@
 //! Whole documents, computed.
 ghost use Rattle.std.specs.Prelude.{◌≡◌, ◌≤◌, ℕ, List, ◌∷◌, []};
-ghost use Rattle.dep_moment.specs.Greatest.{greatest_moment};
+ghost use Rattle.dep_types.specs.Limits.{greatest_moment};
 ghost use Rattle.dep_docs_out.specs.ReadBack.{ReadsAs, HasTexts, FileHasTexts, HasKeptNames, MetadataHasTexts, HasNumbers};
 ghost use Rattle.dep_types.specs.Config.{HasLimits};
 ghost use Rattle.dep_types.specs.State.{Texts};
