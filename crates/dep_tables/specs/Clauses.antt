@@ -1,6 +1,14 @@
 -- What the clauses of the statements say of the states before and after.
-use Rattle.std.specs.Prelude.{◌⊎◌, IsTrue, Result, OnOk, OnErr, IfOk}
-use Rattle.sqlite.specs.State.{State, HasCleanDisk, KeepsCommit, IsUnchanged, IsRolledBack, Survives}
+use Rattle.std.specs.Prelude.{◌≡◌, ◌⊎◌, ℕ, List, IsTrue, Result, Err, OnOk, OnErr, IfOk, IfErr, map}
+use Rattle.sqlite.specs.Order.{Row}
+use Rattle.sqlite.specs.declared.error.Error.{Error}
+use Rattle.sqlite.specs.State.{State, HasCleanDisk, KeepsCommit, IsUnchanged, IsRolledBack, Survives, ExecutesInside, FailsToQuery, IsTooLate, Shown}
+use Rattle.sqlite.specs.Given.{IsPlain}
+use Rattle.sqlite.specs.Listing.{understood}
+use Rattle.dep_statements.specs.Rows.{columns_from}
+use Rattle.dep_types.specs.declared.store_fault.StoreFault.{StoreFault}
+use Rattle.dep_types.specs.declared.store_fault.StoreFault.TheVariants.{Store}
+use Rattle.dep_tables.specs.Faults.{fault_for}
 use Rattle.dep_tables.specs.Tables.{Tables, tables_of, IsOurs, Leads}
 
 module _ {A E : Type 0} (old new : State) (result : Result A E) where
@@ -40,3 +48,36 @@ module _ (old new : State) where
   -- a crash leaves nothing that it did not leave before
   abbrev pub CommitsNothing : Type 0
   CommitsNothing = Survives old new (λ _. ⊥)
+
+-- the statement of this text was run, and its error is told by this fault
+abbrev pub FailsToRun : List ℕ → Row → State → State → StoreFault → Type 0
+FailsToRun sql params old new fault = (e : Error) × ExecutesInside 0 sql params old new (Err e) × (fault ≡ fault_for e)
+
+-- the query of this text was asked, and its error is told by this fault
+abbrev pub FailsToAsk : List ℕ → Row → State → State → StoreFault → Type 0
+FailsToAsk sql params old new fault = (e : Error) × (FailsToQuery sql params old new e ⊎ IsTooLate sql params old new e) × (fault ≡ fault_for e)
+
+-- the same, or a row that it showed was not read
+abbrev pub FailsToRead : List ℕ → Row → State → State → StoreFault → Type 0
+FailsToRead sql params old new fault = FailsToAsk sql params old new fault ⊎ ((rows : List Row) × Shown sql params old new rows)
+
+-- the query of this text showed rows, whose first columns are these values
+abbrev pub ShowsColumns : List ℕ → Row → State → State → ℕ → List Row → Type 0
+ShowsColumns sql params old new width values = (rows : List Row) × Shown sql params old new rows × (values ≡ map (columns_from 0 width) rows)
+
+-- the text is a query with no RETURNING and no clock
+abbrev pub IsPlainIn : State → List ℕ → Type 0
+IsPlainIn s sql = IsPlain (understood s.now.schema sql)
+
+module _ {A : Type 0} (old new : State) (result : Result A StoreFault) where
+  -- Where a number is none of SQL's, that is a fault of the store, and nothing is done.
+  abbrev pub RefusesNumbers : Type 0 → Type 0
+  RefusesNumbers storable = (storable → ⊥) → (result ≡ Err Store) × (IsTrue old.is_open → IsUnchanged old new)
+
+  -- Where all are, only the statement fails.
+  abbrev pub FailsByRunning : Type 0 → List ℕ → Row → Type 0
+  FailsByRunning storable sql params = storable → HasCleanDisk new → IsTrue old.in_transaction → IfErr result (FailsToRun sql params old new)
+
+  -- the same of a query
+  abbrev pub FailsByReading : Type 0 → List ℕ → Row → Type 0
+  FailsByReading storable sql params = storable → HasCleanDisk new → IfErr result (FailsToRead sql params old new)

@@ -1,14 +1,14 @@
 //! The bytes of contents, in blocks.
 
-ghost use Rattle.std.specs.Prelude.{◌≡◌, ◌∷◌, ◌++◌, [], pos, false, ◌<◌, ◌^◌, if◌then◌else◌, filter, map, not, option_map};
-ghost use Rattle.std.specs.List.{list_any};
+ghost use Rattle.std.specs.Prelude.{◌≡◌, ◌∷◌, [], pos, ◌<◌, ◌^◌, option_map};
 ghost use Rattle.std.specs.Option.{option_to_list};
 ghost use Rattle.sqlite.specs.declared.types.Value.TheVariants.{Int, Blob};
 ghost use Rattle.sqlite.specs.Held.{state};
 ghost use Rattle.sqlite.specs.Values.{bound};
-ghost use Rattle.dep_statements.specs.Rows.{put_next, IsFirst};
-ghost use Rattle.dep_tables.specs.Rows.{IsStorableKey, key_values, block_values, bytes_in, shown_place, place_values, is_block, is_block_of, is_part_of, is_later_block, moved_to, by_part_and_place};
-ghost use Rattle.dep_tables.specs.Clauses.{Changes, Shows, Reads, ReadsOnly, FailsWhole, FailsReading, GoesOn, StaysInside, CommitsNothing};
+ghost use Rattle.dep_tables.specs.Rows.{IsStorableOwner, owner_values, IsStorableKey, key_values, block_values, place_values};
+ghost use Rattle.dep_tables.specs.Edits.{with_new_block, without_blocks_of, with_part_moved, LacksBlock, AreBytesAt, IsBlockAfter};
+ghost use Rattle.dep_tables.specs.Clauses.{Changes, Shows, Reads, ReadsOnly, FailsWhole, FailsReading, GoesOn, StaysInside, CommitsNothing, RefusesNumbers, FailsByRunning, FailsByReading};
+ghost use Rattle.dep_tables.specs.Texts.{insert_block_text, delete_blocks_text, move_part_text, read_block_text, next_block_text};
 
 use crate::calls::run;
 use crate::numbers::{LIMIT, number};
@@ -34,8 +34,13 @@ pub fn insert_block<S: Alter>(
     key: &BlockKey,
     bytes: &[u8],
 ) -> Result<(), StoreFault>
-    ensures ok { Changes (state S.Store tx.old.conn.now) (state S.Store tx.new.conn.now) result (λ t. record t { blocks = put_next (block_values key.now bytes.now) t.blocks }) }
-    ensures free { Shows (state S.Store tx.old.conn.now) (state S.Store tx.new.conn.now) result (λ t. list_any (is_block key.now) t.blocks ≡ false) }
+    ensures ok { Changes (state S.Store tx.old.conn.now) (state S.Store tx.new.conn.now) result
+        (with_new_block key.now bytes.now) }
+    ensures free { Shows (state S.Store tx.old.conn.now) (state S.Store tx.new.conn.now) result (LacksBlock key.now) }
+    ensures numbers { RefusesNumbers (state S.Store tx.old.conn.now) (state S.Store tx.new.conn.now) result
+        (IsStorableKey key.now) }
+    ensures cause { FailsByRunning (state S.Store tx.old.conn.now) (state S.Store tx.new.conn.now) result
+        (IsStorableKey key.now) insert_block_text (block_values key.now bytes.now) }
     ensures err { FailsWhole (state S.Store tx.old.conn.now) (state S.Store tx.new.conn.now) result }
     ensures inside { GoesOn (state S.Store tx.old.conn.now) (state S.Store tx.new.conn.now) result }
     ensures kept { StaysInside (state S.Store tx.old.conn.now) (state S.Store tx.new.conn.now) }
@@ -57,7 +62,12 @@ pub fn delete_blocks<S: Alter>(
     tx: &mut Transaction<'_, S>,
     owner: BlockOwner,
 ) -> Result<(), StoreFault>
-    ensures ok { Changes (state S.Store tx.old.conn.now) (state S.Store tx.new.conn.now) result (λ t. record t { blocks = filter (λ r. not (is_block_of owner r)) t.blocks }) }
+    ensures ok { Changes (state S.Store tx.old.conn.now) (state S.Store tx.new.conn.now) result
+        (without_blocks_of owner) }
+    ensures numbers { RefusesNumbers (state S.Store tx.old.conn.now) (state S.Store tx.new.conn.now) result
+        (IsStorableOwner owner) }
+    ensures cause { FailsByRunning (state S.Store tx.old.conn.now) (state S.Store tx.new.conn.now) result
+        (IsStorableOwner owner) delete_blocks_text (owner_values owner) }
     ensures err { FailsWhole (state S.Store tx.old.conn.now) (state S.Store tx.new.conn.now) result }
     ensures inside { GoesOn (state S.Store tx.old.conn.now) (state S.Store tx.new.conn.now) result }
     ensures kept { StaysInside (state S.Store tx.old.conn.now) (state S.Store tx.new.conn.now) }
@@ -94,7 +104,12 @@ pub fn move_part<S: Alter>(
     part: u64,
     file: u64,
 ) -> Result<(), StoreFault>
-    ensures ok { Changes (state S.Store tx.old.conn.now) (state S.Store tx.new.conn.now) result (λ t. record t { blocks = map (λ r. if is_part_of (BlockOwner.Upload upload) part r then moved_to (BlockOwner.File file) r else r) t.blocks }) }
+    ensures ok { Changes (state S.Store tx.old.conn.now) (state S.Store tx.new.conn.now) result
+        (with_part_moved upload part file) }
+    ensures numbers { RefusesNumbers (state S.Store tx.old.conn.now) (state S.Store tx.new.conn.now) result
+        ((upload < 2 ^ 63) × (part < 2 ^ 63) × (file < 2 ^ 63)) }
+    ensures cause { FailsByRunning (state S.Store tx.old.conn.now) (state S.Store tx.new.conn.now) result
+        ((upload < 2 ^ 63) × (part < 2 ^ 63) × (file < 2 ^ 63)) move_part_text (Int (pos upload) ∷ Int (pos part) ∷ Int (pos file) ∷ []) }
     ensures err { FailsWhole (state S.Store tx.old.conn.now) (state S.Store tx.new.conn.now) result }
     ensures inside { GoesOn (state S.Store tx.old.conn.now) (state S.Store tx.new.conn.now) result }
     ensures kept { StaysInside (state S.Store tx.old.conn.now) (state S.Store tx.new.conn.now) }
@@ -144,8 +159,13 @@ pub fn read_block<S: Alter>(
     tx: &mut Transaction<'_, S>,
     key: &BlockKey,
 ) -> Result<Option<Vec<u8>>, StoreFault>
-    ensures ok { Reads (state S.Store tx.old.conn.now) (state S.Store tx.new.conn.now) result (λ t found. map bytes_in (filter (is_block key.now) t.blocks) ≡ option_to_list (option_map (λ bytes. Blob bytes.items) found)) }
+    ensures ok { Reads (state S.Store tx.old.conn.now) (state S.Store tx.new.conn.now) result
+        (λ t found. AreBytesAt key.now t (option_to_list (option_map (λ bytes. Blob bytes.items) found))) }
     ensures same { ReadsOnly (state S.Store tx.old.conn.now) (state S.Store tx.new.conn.now) result }
+    ensures numbers { RefusesNumbers (state S.Store tx.old.conn.now) (state S.Store tx.new.conn.now) result
+        (IsStorableKey key.now) }
+    ensures cause { FailsByReading (state S.Store tx.old.conn.now) (state S.Store tx.new.conn.now) result
+        (IsStorableKey key.now) read_block_text (key_values key.now) }
     ensures err { FailsReading (state S.Store tx.old.conn.now) (state S.Store tx.new.conn.now) result }
     ensures inside { GoesOn (state S.Store tx.old.conn.now) (state S.Store tx.new.conn.now) result }
     ensures kept { StaysInside (state S.Store tx.old.conn.now) (state S.Store tx.new.conn.now) }
@@ -167,8 +187,12 @@ pub fn next_block<S: Alter>(
     tx: &mut Transaction<'_, S>,
     key: &BlockKey,
 ) -> Result<Option<BlockPlace>, StoreFault>
-    ensures ok { Reads (state S.Store tx.old.conn.now) (state S.Store tx.new.conn.now) result (λ t found. IsFirst by_part_and_place (map shown_place (filter (is_later_block key.now) t.blocks)) (map place_values (option_to_list found))) }
+    ensures ok { Reads (state S.Store tx.old.conn.now) (state S.Store tx.new.conn.now) result (IsBlockAfter key.now) }
     ensures same { ReadsOnly (state S.Store tx.old.conn.now) (state S.Store tx.new.conn.now) result }
+    ensures numbers { RefusesNumbers (state S.Store tx.old.conn.now) (state S.Store tx.new.conn.now) result
+        (IsStorableKey key.now) }
+    ensures cause { FailsByReading (state S.Store tx.old.conn.now) (state S.Store tx.new.conn.now) result
+        (IsStorableKey key.now) next_block_text (key_values key.now) }
     ensures err { FailsReading (state S.Store tx.old.conn.now) (state S.Store tx.new.conn.now) result }
     ensures inside { GoesOn (state S.Store tx.old.conn.now) (state S.Store tx.new.conn.now) result }
     ensures kept { StaysInside (state S.Store tx.old.conn.now) (state S.Store tx.new.conn.now) }

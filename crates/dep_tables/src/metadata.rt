@@ -1,12 +1,13 @@
 //! The rows of the objects' metadata.
 
-ghost use Rattle.std.specs.Prelude.{◌≡◌, ◌↔◌, false, IsTrue, filter, map, not};
-ghost use Rattle.std.specs.List.{list_any};
+ghost use Rattle.std.specs.Prelude.{◌≡◌, ◌↔◌, IsTrue, ◌<◌, ◌^◌, ◌∷◌, [], pos};
+ghost use Rattle.sqlite.specs.declared.types.Value.TheVariants.{Int};
 ghost use Rattle.sqlite.specs.Held.{state};
 ghost use Rattle.sqlite.specs.Values.{bound};
-ghost use Rattle.dep_statements.specs.Rows.{has_number, put_next, InOrder};
-ghost use Rattle.dep_tables.specs.Rows.{IsStorableMetadata, metadata_values, shown_metadata, has_metadata_key, by_name_and_place};
-ghost use Rattle.dep_tables.specs.Clauses.{Changes, Shows, Reads, ReadsOnly, FailsWhole, FailsReading, GoesOn, StaysInside, CommitsNothing};
+ghost use Rattle.dep_tables.specs.Rows.{IsStorableMetadata, metadata_values};
+ghost use Rattle.dep_tables.specs.Edits.{with_new_metadata_row, without_metadata_rows, LacksMetadataRow, AreMetadataRowsOf};
+ghost use Rattle.dep_tables.specs.Clauses.{Changes, Shows, Reads, ReadsOnly, FailsWhole, FailsReading, GoesOn, StaysInside, CommitsNothing, RefusesNumbers, FailsByRunning, FailsByReading};
+ghost use Rattle.dep_tables.specs.Texts.{insert_metadata_text, delete_metadata_text, metadata_of_text};
 
 use crate::calls::run;
 use crate::numbers::{LIMIT, key_param, number};
@@ -50,8 +51,14 @@ pub fn insert_metadata<S: Alter>(
     tx: &mut Transaction<'_, S>,
     row: &MetadataRow,
 ) -> Result<(), StoreFault>
-    ensures ok { Changes (state S.Store tx.old.conn.now) (state S.Store tx.new.conn.now) result (λ t. record t { metadata = put_next (metadata_values row.now) t.metadata }) }
-    ensures free { Shows (state S.Store tx.old.conn.now) (state S.Store tx.new.conn.now) result (λ t. list_any (has_metadata_key row.now) t.metadata ≡ false) }
+    ensures ok { Changes (state S.Store tx.old.conn.now) (state S.Store tx.new.conn.now) result
+        (with_new_metadata_row row.now) }
+    ensures free { Shows (state S.Store tx.old.conn.now) (state S.Store tx.new.conn.now) result
+        (LacksMetadataRow row.now) }
+    ensures numbers { RefusesNumbers (state S.Store tx.old.conn.now) (state S.Store tx.new.conn.now) result
+        (IsStorableMetadata row.now) }
+    ensures cause { FailsByRunning (state S.Store tx.old.conn.now) (state S.Store tx.new.conn.now) result
+        (IsStorableMetadata row.now) insert_metadata_text (metadata_values row.now) }
     ensures err { FailsWhole (state S.Store tx.old.conn.now) (state S.Store tx.new.conn.now) result }
     ensures inside { GoesOn (state S.Store tx.old.conn.now) (state S.Store tx.new.conn.now) result }
     ensures kept { StaysInside (state S.Store tx.old.conn.now) (state S.Store tx.new.conn.now) }
@@ -70,7 +77,12 @@ pub fn insert_metadata<S: Alter>(
 
 /// Deletes the rows of an object. A number of 2^63 or more is a fault of the store.
 pub fn delete_metadata<S: Alter>(tx: &mut Transaction<'_, S>, object: u64) -> Result<(), StoreFault>
-    ensures ok { Changes (state S.Store tx.old.conn.now) (state S.Store tx.new.conn.now) result (λ t. record t { metadata = filter (λ r. not (has_number 1 object r)) t.metadata }) }
+    ensures ok { Changes (state S.Store tx.old.conn.now) (state S.Store tx.new.conn.now) result
+        (without_metadata_rows object) }
+    ensures numbers { RefusesNumbers (state S.Store tx.old.conn.now) (state S.Store tx.new.conn.now) result
+        (object < 2 ^ 63) }
+    ensures cause { FailsByRunning (state S.Store tx.old.conn.now) (state S.Store tx.new.conn.now) result
+        (object < 2 ^ 63) delete_metadata_text (Int (pos object) ∷ []) }
     ensures err { FailsWhole (state S.Store tx.old.conn.now) (state S.Store tx.new.conn.now) result }
     ensures inside { GoesOn (state S.Store tx.old.conn.now) (state S.Store tx.new.conn.now) result }
     ensures kept { StaysInside (state S.Store tx.old.conn.now) (state S.Store tx.new.conn.now) }
@@ -110,8 +122,13 @@ pub fn metadata_of<S: Alter>(
     alloc: Global,
     object: u64,
 ) -> Result<Vec<MetadataRow>, StoreFault>
-    ensures ok { Reads (state S.Store tx.old.conn.now) (state S.Store tx.new.conn.now) result (λ t found. InOrder by_name_and_place (map shown_metadata (filter (has_number 1 object) t.metadata)) (map metadata_values found.items)) }
+    ensures ok { Reads (state S.Store tx.old.conn.now) (state S.Store tx.new.conn.now) result
+        (λ t found. AreMetadataRowsOf object t found.items) }
     ensures same { ReadsOnly (state S.Store tx.old.conn.now) (state S.Store tx.new.conn.now) result }
+    ensures numbers { RefusesNumbers (state S.Store tx.old.conn.now) (state S.Store tx.new.conn.now) result
+        (object < 2 ^ 63) }
+    ensures cause { FailsByReading (state S.Store tx.old.conn.now) (state S.Store tx.new.conn.now) result
+        (object < 2 ^ 63) metadata_of_text (Int (pos object) ∷ []) }
     ensures err { FailsReading (state S.Store tx.old.conn.now) (state S.Store tx.new.conn.now) result }
     ensures inside { GoesOn (state S.Store tx.old.conn.now) (state S.Store tx.new.conn.now) result }
     ensures kept { StaysInside (state S.Store tx.old.conn.now) (state S.Store tx.new.conn.now) }

@@ -1,13 +1,13 @@
 //! The rows of the objects.
 
-ghost use Rattle.std.specs.Prelude.{◌≡◌, ◌↔◌, pos, IsTrue, None, find, option_map};
+ghost use Rattle.std.specs.Prelude.{◌≡◌, ◌↔◌, pos, IsTrue, ◌<◌, ◌^◌, ◌∷◌, []};
 ghost use Rattle.sqlite.specs.declared.types.Value.TheVariants.{Int};
 ghost use Rattle.sqlite.specs.Held.{state};
 ghost use Rattle.sqlite.specs.Values.{bound};
-ghost use Rattle.sqlite_trees.specs.Tree.{put_row, without_rowid, rowid};
-ghost use Rattle.dep_statements.specs.Rows.{row_at, replaced, is_after};
-ghost use Rattle.dep_tables.specs.Rows.{IsStorableObject, stored_object, object_values, shown_object};
-ghost use Rattle.dep_tables.specs.Clauses.{Changes, Shows, Reads, ReadsOnly, FailsWhole, FailsReading, GoesOn, StaysInside, CommitsNothing};
+ghost use Rattle.dep_tables.specs.Rows.{IsStorableObject, object_values};
+ghost use Rattle.dep_tables.specs.Edits.{with_new_object_row, with_object_row, without_object_row, LacksObjectRow, IsObjectRowAt, IsObjectAfter};
+ghost use Rattle.dep_tables.specs.Clauses.{Changes, Shows, Reads, ReadsOnly, FailsWhole, FailsReading, GoesOn, StaysInside, CommitsNothing, RefusesNumbers, FailsByRunning, FailsByReading};
+ghost use Rattle.dep_tables.specs.Texts.{insert_object_text, write_object_text, delete_object_text, find_object_text, next_object_text};
 
 use crate::calls::run;
 use crate::numbers::{LIMIT, flag_at, flag_number, key_param, number};
@@ -45,8 +45,14 @@ pub fn insert_object<S: Alter>(
     tx: &mut Transaction<'_, S>,
     row: &ObjectRow,
 ) -> Result<(), StoreFault>
-    ensures ok { Changes (state S.Store tx.old.conn.now) (state S.Store tx.new.conn.now) result (λ t. record t { objects = put_row (stored_object row.now) t.objects }) }
-    ensures free { Shows (state S.Store tx.old.conn.now) (state S.Store tx.new.conn.now) result (λ t. row_at t.objects row.now.object ≡ None) }
+    ensures ok { Changes (state S.Store tx.old.conn.now) (state S.Store tx.new.conn.now) result
+        (with_new_object_row row.now) }
+    ensures free { Shows (state S.Store tx.old.conn.now) (state S.Store tx.new.conn.now) result
+        (LacksObjectRow row.now.object) }
+    ensures numbers { RefusesNumbers (state S.Store tx.old.conn.now) (state S.Store tx.new.conn.now) result
+        (IsStorableObject row.now) }
+    ensures cause { FailsByRunning (state S.Store tx.old.conn.now) (state S.Store tx.new.conn.now) result
+        (IsStorableObject row.now) insert_object_text (object_values row.now) }
     ensures err { FailsWhole (state S.Store tx.old.conn.now) (state S.Store tx.new.conn.now) result }
     ensures inside { GoesOn (state S.Store tx.old.conn.now) (state S.Store tx.new.conn.now) result }
     ensures kept { StaysInside (state S.Store tx.old.conn.now) (state S.Store tx.new.conn.now) }
@@ -68,7 +74,12 @@ pub fn write_object<S: Alter>(
     tx: &mut Transaction<'_, S>,
     row: &ObjectRow,
 ) -> Result<(), StoreFault>
-    ensures ok { Changes (state S.Store tx.old.conn.now) (state S.Store tx.new.conn.now) result (λ t. record t { objects = replaced (stored_object row.now) t.objects }) }
+    ensures ok { Changes (state S.Store tx.old.conn.now) (state S.Store tx.new.conn.now) result
+        (with_object_row row.now) }
+    ensures numbers { RefusesNumbers (state S.Store tx.old.conn.now) (state S.Store tx.new.conn.now) result
+        (IsStorableObject row.now) }
+    ensures cause { FailsByRunning (state S.Store tx.old.conn.now) (state S.Store tx.new.conn.now) result
+        (IsStorableObject row.now) write_object_text (object_values row.now) }
     ensures err { FailsWhole (state S.Store tx.old.conn.now) (state S.Store tx.new.conn.now) result }
     ensures inside { GoesOn (state S.Store tx.old.conn.now) (state S.Store tx.new.conn.now) result }
     ensures kept { StaysInside (state S.Store tx.old.conn.now) (state S.Store tx.new.conn.now) }
@@ -87,7 +98,12 @@ pub fn write_object<S: Alter>(
 
 /// Deletes the row of this key, if there is one. A number of 2^63 or more is a fault of the store.
 pub fn delete_object<S: Alter>(tx: &mut Transaction<'_, S>, object: u64) -> Result<(), StoreFault>
-    ensures ok { Changes (state S.Store tx.old.conn.now) (state S.Store tx.new.conn.now) result (λ t. record t { objects = without_rowid (pos object) t.objects }) }
+    ensures ok { Changes (state S.Store tx.old.conn.now) (state S.Store tx.new.conn.now) result
+        (without_object_row object) }
+    ensures numbers { RefusesNumbers (state S.Store tx.old.conn.now) (state S.Store tx.new.conn.now) result
+        (object < 2 ^ 63) }
+    ensures cause { FailsByRunning (state S.Store tx.old.conn.now) (state S.Store tx.new.conn.now) result
+        (object < 2 ^ 63) delete_object_text (Int (pos object) ∷ []) }
     ensures err { FailsWhole (state S.Store tx.old.conn.now) (state S.Store tx.new.conn.now) result }
     ensures inside { GoesOn (state S.Store tx.old.conn.now) (state S.Store tx.new.conn.now) result }
     ensures kept { StaysInside (state S.Store tx.old.conn.now) (state S.Store tx.new.conn.now) }
@@ -128,8 +144,12 @@ pub fn find_object<S: Alter>(
     tx: &mut Transaction<'_, S>,
     object: u64,
 ) -> Result<Option<ObjectRow>, StoreFault>
-    ensures ok { Reads (state S.Store tx.old.conn.now) (state S.Store tx.new.conn.now) result (λ t found. option_map object_values found ≡ option_map shown_object (row_at t.objects object)) }
+    ensures ok { Reads (state S.Store tx.old.conn.now) (state S.Store tx.new.conn.now) result (IsObjectRowAt object) }
     ensures same { ReadsOnly (state S.Store tx.old.conn.now) (state S.Store tx.new.conn.now) result }
+    ensures numbers { RefusesNumbers (state S.Store tx.old.conn.now) (state S.Store tx.new.conn.now) result
+        (object < 2 ^ 63) }
+    ensures cause { FailsByReading (state S.Store tx.old.conn.now) (state S.Store tx.new.conn.now) result
+        (object < 2 ^ 63) find_object_text (Int (pos object) ∷ []) }
     ensures err { FailsReading (state S.Store tx.old.conn.now) (state S.Store tx.new.conn.now) result }
     ensures inside { GoesOn (state S.Store tx.old.conn.now) (state S.Store tx.new.conn.now) result }
     ensures kept { StaysInside (state S.Store tx.old.conn.now) (state S.Store tx.new.conn.now) }
@@ -151,8 +171,12 @@ pub fn next_object<S: Alter>(
     tx: &mut Transaction<'_, S>,
     after: u64,
 ) -> Result<Option<u64>, StoreFault>
-    ensures ok { Reads (state S.Store tx.old.conn.now) (state S.Store tx.new.conn.now) result (λ t found. option_map (λ n. Int (pos n)) found ≡ option_map rowid (find (is_after after) t.objects)) }
+    ensures ok { Reads (state S.Store tx.old.conn.now) (state S.Store tx.new.conn.now) result (IsObjectAfter after) }
     ensures same { ReadsOnly (state S.Store tx.old.conn.now) (state S.Store tx.new.conn.now) result }
+    ensures numbers { RefusesNumbers (state S.Store tx.old.conn.now) (state S.Store tx.new.conn.now) result
+        (after < 2 ^ 63) }
+    ensures cause { FailsByReading (state S.Store tx.old.conn.now) (state S.Store tx.new.conn.now) result
+        (after < 2 ^ 63) next_object_text (Int (pos after) ∷ []) }
     ensures err { FailsReading (state S.Store tx.old.conn.now) (state S.Store tx.new.conn.now) result }
     ensures inside { GoesOn (state S.Store tx.old.conn.now) (state S.Store tx.new.conn.now) result }
     ensures kept { StaysInside (state S.Store tx.old.conn.now) (state S.Store tx.new.conn.now) }

@@ -1,16 +1,14 @@
 //! What is read from the rows that a query shows.
 
-ghost use Rattle.std.specs.Prelude.{◌≡◌, ◌⊎◌, ℕ, List, ◌∷◌, [], pos, IsTrue, IfOk, OnOk, OnErr, map};
+ghost use Rattle.std.specs.Prelude.{◌≡◌, ℕ, ◌∷◌, [], pos, IfOk, IfErr, OnOk, map};
 ghost use Rattle.std.specs.Option.{option_to_list};
 ghost use Rattle.sqlite.specs.Order.{Row as Values};
 ghost use Rattle.sqlite.specs.declared.types.Value.TheVariants.{Int};
-ghost use Rattle.sqlite.specs.State.{HasCleanDisk, IsUnchanged, IsRolledBack, Shown};
-ghost use Rattle.sqlite.specs.Given.{IsPlain};
-ghost use Rattle.sqlite.specs.Listing.{understood};
+ghost use Rattle.sqlite.specs.State.{HasCleanDisk, IsUnchanged};
 ghost use Rattle.sqlite.specs.Held.{state};
 ghost use Rattle.sqlite.specs.Values.{bound};
 ghost use Rattle.dep_statements.specs.Rows.{columns_from};
-ghost use Rattle.dep_tables.specs.Clauses.{GoesOn, StaysInside, CommitsNothing};
+ghost use Rattle.dep_tables.specs.Clauses.{FailsToRead, FailsWhole, ShowsColumns, IsPlainIn, GoesOn, StaysInside, CommitsNothing};
 
 use crate::calls::ask;
 use crate::fault::fault_of;
@@ -80,11 +78,14 @@ pub(crate) fn ask_one<S: Alter, R: FromRow>(
     params: &[ValueRef<'_>],
 ) -> Result<Option<R>, StoreFault>
     ensures shown { HasCleanDisk (state S.Store tx.new.conn.now)
-        → IfOk result (λ found. (rows : List Values) × Shown sql.now (bound params.now) (state S.Store tx.old.conn.now) (state S.Store tx.new.conn.now) rows × (map R.values (option_to_list found) ≡ map (columns_from 0 R.width) rows)) }
-    ensures same { HasCleanDisk (state S.Store tx.new.conn.now) → IsPlain (understood (state S.Store tx.old.conn.now).now.schema sql.now)
+        → IfOk result (λ found. ShowsColumns sql.now (bound params.now)
+        (state S.Store tx.old.conn.now) (state S.Store tx.new.conn.now) R.width (map R.values (option_to_list found))) }
+    ensures cause { HasCleanDisk (state S.Store tx.new.conn.now)
+        → IfErr result (FailsToRead sql.now (bound params.now) (state S.Store tx.old.conn.now) (state S.Store tx.new.conn.now)) }
+    ensures same { HasCleanDisk (state S.Store tx.new.conn.now) → IsPlainIn (state S.Store tx.old.conn.now) sql.now
         → OnOk result (IsUnchanged (state S.Store tx.old.conn.now) (state S.Store tx.new.conn.now)) }
-    ensures err { HasCleanDisk (state S.Store tx.new.conn.now) → IsTrue (state S.Store tx.old.conn.now).in_transaction → IsPlain (understood (state S.Store tx.old.conn.now).now.schema sql.now) → IsTrue (state S.Store tx.new.conn.now).is_open
-        → OnErr result (IsUnchanged (state S.Store tx.old.conn.now) (state S.Store tx.new.conn.now) ⊎ IsRolledBack (state S.Store tx.old.conn.now) (state S.Store tx.new.conn.now)) }
+    ensures err { IsPlainIn (state S.Store tx.old.conn.now) sql.now
+        → FailsWhole (state S.Store tx.old.conn.now) (state S.Store tx.new.conn.now) result }
     ensures inside { GoesOn (state S.Store tx.old.conn.now) (state S.Store tx.new.conn.now) result }
     ensures kept { StaysInside (state S.Store tx.old.conn.now) (state S.Store tx.new.conn.now) }
     ensures same_reference { tx.new.conn.ghost_name ≡ tx.old.conn.ghost_name }
@@ -102,11 +103,14 @@ pub(crate) fn ask_all<S: Alter, R: FromRow + Drop>(
     params: &[ValueRef<'_>],
 ) -> Result<Vec<R>, StoreFault>
     ensures shown { HasCleanDisk (state S.Store tx.new.conn.now)
-        → IfOk result (λ found. (rows : List Values) × Shown sql.now (bound params.now) (state S.Store tx.old.conn.now) (state S.Store tx.new.conn.now) rows × (map R.values found.items ≡ map (columns_from 0 R.width) rows)) }
-    ensures same { HasCleanDisk (state S.Store tx.new.conn.now) → IsPlain (understood (state S.Store tx.old.conn.now).now.schema sql.now)
+        → IfOk result (λ found. ShowsColumns sql.now (bound params.now)
+        (state S.Store tx.old.conn.now) (state S.Store tx.new.conn.now) R.width (map R.values found.items)) }
+    ensures cause { HasCleanDisk (state S.Store tx.new.conn.now)
+        → IfErr result (FailsToRead sql.now (bound params.now) (state S.Store tx.old.conn.now) (state S.Store tx.new.conn.now)) }
+    ensures same { HasCleanDisk (state S.Store tx.new.conn.now) → IsPlainIn (state S.Store tx.old.conn.now) sql.now
         → OnOk result (IsUnchanged (state S.Store tx.old.conn.now) (state S.Store tx.new.conn.now)) }
-    ensures err { HasCleanDisk (state S.Store tx.new.conn.now) → IsTrue (state S.Store tx.old.conn.now).in_transaction → IsPlain (understood (state S.Store tx.old.conn.now).now.schema sql.now) → IsTrue (state S.Store tx.new.conn.now).is_open
-        → OnErr result (IsUnchanged (state S.Store tx.old.conn.now) (state S.Store tx.new.conn.now) ⊎ IsRolledBack (state S.Store tx.old.conn.now) (state S.Store tx.new.conn.now)) }
+    ensures err { IsPlainIn (state S.Store tx.old.conn.now) sql.now
+        → FailsWhole (state S.Store tx.old.conn.now) (state S.Store tx.new.conn.now) result }
     ensures inside { GoesOn (state S.Store tx.old.conn.now) (state S.Store tx.new.conn.now) result }
     ensures kept { StaysInside (state S.Store tx.old.conn.now) (state S.Store tx.new.conn.now) }
     ensures same_reference { tx.new.conn.ghost_name ≡ tx.old.conn.ghost_name }

@@ -1,11 +1,14 @@
 //! The row of the clock and the counters.
 
-ghost use Rattle.std.specs.Prelude.{◌≡◌, ◌↔◌, IsTrue, Some, option_map};
+ghost use Rattle.std.specs.Prelude.{◌≡◌, IfErr, ◌↔◌, IsTrue, Some, ◌<◌, ◌^◌, []};
+ghost use Rattle.sqlite.specs.declared.types.Value.TheVariants.{Int};
+ghost use Rattle.sqlite.specs.State.{HasCleanDisk};
 ghost use Rattle.sqlite.specs.Held.{state};
 ghost use Rattle.sqlite.specs.Values.{bound};
-ghost use Rattle.dep_statements.specs.Rows.{row_at, replaced};
-ghost use Rattle.dep_tables.specs.Rows.{IsStorableState, stored_state, state_values, shown_state};
-ghost use Rattle.dep_tables.specs.Clauses.{Changes, Reads, ReadsOnly, FailsWhole, FailsReading, GoesOn, StaysInside, CommitsNothing};
+ghost use Rattle.dep_tables.specs.Rows.{IsStorableState, state_values};
+ghost use Rattle.dep_tables.specs.Edits.{with_state_row, HasStateRow};
+ghost use Rattle.dep_tables.specs.Clauses.{Changes, Reads, ReadsOnly, FailsWhole, FailsReading, GoesOn, StaysInside, CommitsNothing, RefusesNumbers, FailsByRunning, FailsToRead};
+ghost use Rattle.dep_tables.specs.Texts.{write_state_text, read_state_text};
 
 use crate::calls::run;
 use crate::numbers::{LIMIT, number};
@@ -46,7 +49,12 @@ fn state_params(row: &StateRow) -> [ValueRef<'static>; 5]
 
 /// Sets the row, if there is one. A number of 2^63 or more is a fault of the store.
 pub fn write_state<S: Alter>(tx: &mut Transaction<'_, S>, row: &StateRow) -> Result<(), StoreFault>
-    ensures ok { Changes (state S.Store tx.old.conn.now) (state S.Store tx.new.conn.now) result (λ t. record t { state = replaced (stored_state row.now) t.state }) }
+    ensures ok { Changes (state S.Store tx.old.conn.now) (state S.Store tx.new.conn.now) result
+        (with_state_row row.now) }
+    ensures numbers { RefusesNumbers (state S.Store tx.old.conn.now) (state S.Store tx.new.conn.now) result
+        (IsStorableState row.now) }
+    ensures cause { FailsByRunning (state S.Store tx.old.conn.now) (state S.Store tx.new.conn.now) result
+        (IsStorableState row.now) write_state_text (state_values row.now) }
     ensures err { FailsWhole (state S.Store tx.old.conn.now) (state S.Store tx.new.conn.now) result }
     ensures inside { GoesOn (state S.Store tx.old.conn.now) (state S.Store tx.new.conn.now) result }
     ensures kept { StaysInside (state S.Store tx.old.conn.now) (state S.Store tx.new.conn.now) }
@@ -85,8 +93,10 @@ impl FromRow for StateRow {
 
 /// Reads the row. It is a fault of the store where there is none, or where it is not one that `write_state` writes.
 pub fn read_state<S: Alter>(tx: &mut Transaction<'_, S>) -> Result<StateRow, StoreFault>
-    ensures ok { Reads (state S.Store tx.old.conn.now) (state S.Store tx.new.conn.now) result (λ t row. option_map shown_state (row_at t.state 1) ≡ Some (state_values row)) }
+    ensures ok { Reads (state S.Store tx.old.conn.now) (state S.Store tx.new.conn.now) result HasStateRow }
     ensures same { ReadsOnly (state S.Store tx.old.conn.now) (state S.Store tx.new.conn.now) result }
+    ensures cause { HasCleanDisk (state S.Store tx.new.conn.now)
+        → IfErr result (FailsToRead read_state_text [] (state S.Store tx.old.conn.now) (state S.Store tx.new.conn.now)) }
     ensures err { FailsReading (state S.Store tx.old.conn.now) (state S.Store tx.new.conn.now) result }
     ensures inside { GoesOn (state S.Store tx.old.conn.now) (state S.Store tx.new.conn.now) result }
     ensures kept { StaysInside (state S.Store tx.old.conn.now) (state S.Store tx.new.conn.now) }

@@ -1,11 +1,11 @@
 //! The numbers of the uploads that timed out.
 
-ghost use Rattle.std.specs.Prelude.{◌≡◌, pos, None, IsTrue, is_some};
+ghost use Rattle.std.specs.Prelude.{◌≡◌, pos, is_some, ◌<◌, ◌^◌, ◌∷◌, []};
+ghost use Rattle.sqlite.specs.declared.types.Value.TheVariants.{Int};
 ghost use Rattle.sqlite.specs.Held.{state};
-ghost use Rattle.sqlite_trees.specs.Tree.{put_row};
-ghost use Rattle.dep_statements.specs.Rows.{row_at};
-ghost use Rattle.dep_tables.specs.Rows.{stored_number};
-ghost use Rattle.dep_tables.specs.Clauses.{Changes, Shows, Reads, ReadsOnly, FailsWhole, FailsReading, GoesOn, StaysInside, CommitsNothing};
+ghost use Rattle.dep_tables.specs.Edits.{with_timed_out, LacksTimedOut, has_timed_out};
+ghost use Rattle.dep_tables.specs.Clauses.{Changes, Shows, Reads, ReadsOnly, FailsWhole, FailsReading, GoesOn, StaysInside, CommitsNothing, RefusesNumbers, FailsByRunning, FailsByReading};
+ghost use Rattle.dep_tables.specs.Texts.{insert_timed_out_text, find_timed_out_text};
 
 use crate::calls::run;
 use crate::numbers::{LIMIT, key_param};
@@ -18,8 +18,13 @@ pub fn insert_timed_out<S: Alter>(
     tx: &mut Transaction<'_, S>,
     upload: u64,
 ) -> Result<(), StoreFault>
-    ensures ok { Changes (state S.Store tx.old.conn.now) (state S.Store tx.new.conn.now) result (λ t. record t { timed_out = put_row (stored_number upload) t.timed_out }) }
-    ensures free { Shows (state S.Store tx.old.conn.now) (state S.Store tx.new.conn.now) result (λ t. row_at t.timed_out upload ≡ None) }
+    ensures ok { Changes (state S.Store tx.old.conn.now) (state S.Store tx.new.conn.now) result
+        (with_timed_out upload) }
+    ensures free { Shows (state S.Store tx.old.conn.now) (state S.Store tx.new.conn.now) result (LacksTimedOut upload) }
+    ensures numbers { RefusesNumbers (state S.Store tx.old.conn.now) (state S.Store tx.new.conn.now) result
+        (upload < 2 ^ 63) }
+    ensures cause { FailsByRunning (state S.Store tx.old.conn.now) (state S.Store tx.new.conn.now) result
+        (upload < 2 ^ 63) insert_timed_out_text (Int (pos upload) ∷ []) }
     ensures err { FailsWhole (state S.Store tx.old.conn.now) (state S.Store tx.new.conn.now) result }
     ensures inside { GoesOn (state S.Store tx.old.conn.now) (state S.Store tx.new.conn.now) result }
     ensures kept { StaysInside (state S.Store tx.old.conn.now) (state S.Store tx.new.conn.now) }
@@ -40,8 +45,13 @@ fn find_number<S: Alter>(
     tx: &mut Transaction<'_, S>,
     upload: u64,
 ) -> Result<Option<u64>, StoreFault>
-    ensures ok { Reads (state S.Store tx.old.conn.now) (state S.Store tx.new.conn.now) result (λ t found. is_some found ≡ is_some (row_at t.timed_out upload)) }
+    ensures ok { Reads (state S.Store tx.old.conn.now) (state S.Store tx.new.conn.now) result
+        (λ t found. is_some found ≡ has_timed_out upload t) }
     ensures same { ReadsOnly (state S.Store tx.old.conn.now) (state S.Store tx.new.conn.now) result }
+    ensures numbers { RefusesNumbers (state S.Store tx.old.conn.now) (state S.Store tx.new.conn.now) result
+        (upload < 2 ^ 63) }
+    ensures cause { FailsByReading (state S.Store tx.old.conn.now) (state S.Store tx.new.conn.now) result
+        (upload < 2 ^ 63) find_timed_out_text (Int (pos upload) ∷ []) }
     ensures err { FailsReading (state S.Store tx.old.conn.now) (state S.Store tx.new.conn.now) result }
     ensures inside { GoesOn (state S.Store tx.old.conn.now) (state S.Store tx.new.conn.now) result }
     ensures kept { StaysInside (state S.Store tx.old.conn.now) (state S.Store tx.new.conn.now) }
@@ -63,8 +73,13 @@ pub fn find_timed_out<S: Alter>(
     tx: &mut Transaction<'_, S>,
     upload: u64,
 ) -> Result<bool, StoreFault>
-    ensures ok { Reads (state S.Store tx.old.conn.now) (state S.Store tx.new.conn.now) result (λ t found. found ≡ is_some (row_at t.timed_out upload)) }
+    ensures ok { Reads (state S.Store tx.old.conn.now) (state S.Store tx.new.conn.now) result
+        (λ t found. found ≡ has_timed_out upload t) }
     ensures same { ReadsOnly (state S.Store tx.old.conn.now) (state S.Store tx.new.conn.now) result }
+    ensures numbers { RefusesNumbers (state S.Store tx.old.conn.now) (state S.Store tx.new.conn.now) result
+        (upload < 2 ^ 63) }
+    ensures cause { FailsByReading (state S.Store tx.old.conn.now) (state S.Store tx.new.conn.now) result
+        (upload < 2 ^ 63) find_timed_out_text (Int (pos upload) ∷ []) }
     ensures err { FailsReading (state S.Store tx.old.conn.now) (state S.Store tx.new.conn.now) result }
     ensures inside { GoesOn (state S.Store tx.old.conn.now) (state S.Store tx.new.conn.now) result }
     ensures kept { StaysInside (state S.Store tx.old.conn.now) (state S.Store tx.new.conn.now) }

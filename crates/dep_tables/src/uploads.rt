@@ -1,13 +1,13 @@
 //! The rows of the staged uploads.
 
-ghost use Rattle.std.specs.Prelude.{◌≡◌, ◌↔◌, pos, None, IsTrue, find, option_map};
+ghost use Rattle.std.specs.Prelude.{◌≡◌, ◌↔◌, pos, IsTrue, ◌<◌, ◌^◌, ◌∷◌, []};
 ghost use Rattle.sqlite.specs.declared.types.Value.TheVariants.{Int};
 ghost use Rattle.sqlite.specs.Held.{state};
 ghost use Rattle.sqlite.specs.Values.{bound};
-ghost use Rattle.sqlite_trees.specs.Tree.{put_row, without_rowid, rowid};
-ghost use Rattle.dep_statements.specs.Rows.{row_at, replaced, is_after};
-ghost use Rattle.dep_tables.specs.Rows.{IsStorableUpload, stored_upload, upload_values, shown_upload};
-ghost use Rattle.dep_tables.specs.Clauses.{Changes, Shows, Reads, ReadsOnly, FailsWhole, FailsReading, GoesOn, StaysInside, CommitsNothing};
+ghost use Rattle.dep_tables.specs.Rows.{IsStorableUpload, upload_values};
+ghost use Rattle.dep_tables.specs.Edits.{with_new_upload_row, with_upload_row, without_upload_row, LacksUploadRow, IsUploadRowAt, IsUploadAfter};
+ghost use Rattle.dep_tables.specs.Clauses.{Changes, Shows, Reads, ReadsOnly, FailsWhole, FailsReading, GoesOn, StaysInside, CommitsNothing, RefusesNumbers, FailsByRunning, FailsByReading};
+ghost use Rattle.dep_tables.specs.Texts.{insert_upload_text, write_upload_text, delete_upload_text, find_upload_text, next_upload_text};
 
 use crate::calls::run;
 use crate::numbers::{LIMIT, key_param, number};
@@ -46,8 +46,14 @@ pub fn insert_upload<S: Alter>(
     tx: &mut Transaction<'_, S>,
     row: &UploadRow,
 ) -> Result<(), StoreFault>
-    ensures ok { Changes (state S.Store tx.old.conn.now) (state S.Store tx.new.conn.now) result (λ t. record t { uploads = put_row (stored_upload row.now) t.uploads }) }
-    ensures free { Shows (state S.Store tx.old.conn.now) (state S.Store tx.new.conn.now) result (λ t. row_at t.uploads row.now.upload ≡ None) }
+    ensures ok { Changes (state S.Store tx.old.conn.now) (state S.Store tx.new.conn.now) result
+        (with_new_upload_row row.now) }
+    ensures free { Shows (state S.Store tx.old.conn.now) (state S.Store tx.new.conn.now) result
+        (LacksUploadRow row.now.upload) }
+    ensures numbers { RefusesNumbers (state S.Store tx.old.conn.now) (state S.Store tx.new.conn.now) result
+        (IsStorableUpload row.now) }
+    ensures cause { FailsByRunning (state S.Store tx.old.conn.now) (state S.Store tx.new.conn.now) result
+        (IsStorableUpload row.now) insert_upload_text (upload_values row.now) }
     ensures err { FailsWhole (state S.Store tx.old.conn.now) (state S.Store tx.new.conn.now) result }
     ensures inside { GoesOn (state S.Store tx.old.conn.now) (state S.Store tx.new.conn.now) result }
     ensures kept { StaysInside (state S.Store tx.old.conn.now) (state S.Store tx.new.conn.now) }
@@ -69,7 +75,12 @@ pub fn write_upload<S: Alter>(
     tx: &mut Transaction<'_, S>,
     row: &UploadRow,
 ) -> Result<(), StoreFault>
-    ensures ok { Changes (state S.Store tx.old.conn.now) (state S.Store tx.new.conn.now) result (λ t. record t { uploads = replaced (stored_upload row.now) t.uploads }) }
+    ensures ok { Changes (state S.Store tx.old.conn.now) (state S.Store tx.new.conn.now) result
+        (with_upload_row row.now) }
+    ensures numbers { RefusesNumbers (state S.Store tx.old.conn.now) (state S.Store tx.new.conn.now) result
+        (IsStorableUpload row.now) }
+    ensures cause { FailsByRunning (state S.Store tx.old.conn.now) (state S.Store tx.new.conn.now) result
+        (IsStorableUpload row.now) write_upload_text (upload_values row.now) }
     ensures err { FailsWhole (state S.Store tx.old.conn.now) (state S.Store tx.new.conn.now) result }
     ensures inside { GoesOn (state S.Store tx.old.conn.now) (state S.Store tx.new.conn.now) result }
     ensures kept { StaysInside (state S.Store tx.old.conn.now) (state S.Store tx.new.conn.now) }
@@ -88,7 +99,12 @@ pub fn write_upload<S: Alter>(
 
 /// Deletes the row of this key, if there is one. A number of 2^63 or more is a fault of the store.
 pub fn delete_upload<S: Alter>(tx: &mut Transaction<'_, S>, upload: u64) -> Result<(), StoreFault>
-    ensures ok { Changes (state S.Store tx.old.conn.now) (state S.Store tx.new.conn.now) result (λ t. record t { uploads = without_rowid (pos upload) t.uploads }) }
+    ensures ok { Changes (state S.Store tx.old.conn.now) (state S.Store tx.new.conn.now) result
+        (without_upload_row upload) }
+    ensures numbers { RefusesNumbers (state S.Store tx.old.conn.now) (state S.Store tx.new.conn.now) result
+        (upload < 2 ^ 63) }
+    ensures cause { FailsByRunning (state S.Store tx.old.conn.now) (state S.Store tx.new.conn.now) result
+        (upload < 2 ^ 63) delete_upload_text (Int (pos upload) ∷ []) }
     ensures err { FailsWhole (state S.Store tx.old.conn.now) (state S.Store tx.new.conn.now) result }
     ensures inside { GoesOn (state S.Store tx.old.conn.now) (state S.Store tx.new.conn.now) result }
     ensures kept { StaysInside (state S.Store tx.old.conn.now) (state S.Store tx.new.conn.now) }
@@ -129,8 +145,12 @@ pub fn find_upload<S: Alter>(
     tx: &mut Transaction<'_, S>,
     upload: u64,
 ) -> Result<Option<UploadRow>, StoreFault>
-    ensures ok { Reads (state S.Store tx.old.conn.now) (state S.Store tx.new.conn.now) result (λ t found. option_map upload_values found ≡ option_map shown_upload (row_at t.uploads upload)) }
+    ensures ok { Reads (state S.Store tx.old.conn.now) (state S.Store tx.new.conn.now) result (IsUploadRowAt upload) }
     ensures same { ReadsOnly (state S.Store tx.old.conn.now) (state S.Store tx.new.conn.now) result }
+    ensures numbers { RefusesNumbers (state S.Store tx.old.conn.now) (state S.Store tx.new.conn.now) result
+        (upload < 2 ^ 63) }
+    ensures cause { FailsByReading (state S.Store tx.old.conn.now) (state S.Store tx.new.conn.now) result
+        (upload < 2 ^ 63) find_upload_text (Int (pos upload) ∷ []) }
     ensures err { FailsReading (state S.Store tx.old.conn.now) (state S.Store tx.new.conn.now) result }
     ensures inside { GoesOn (state S.Store tx.old.conn.now) (state S.Store tx.new.conn.now) result }
     ensures kept { StaysInside (state S.Store tx.old.conn.now) (state S.Store tx.new.conn.now) }
@@ -152,8 +172,12 @@ pub fn next_upload<S: Alter>(
     tx: &mut Transaction<'_, S>,
     after: u64,
 ) -> Result<Option<u64>, StoreFault>
-    ensures ok { Reads (state S.Store tx.old.conn.now) (state S.Store tx.new.conn.now) result (λ t found. option_map (λ n. Int (pos n)) found ≡ option_map rowid (find (is_after after) t.uploads)) }
+    ensures ok { Reads (state S.Store tx.old.conn.now) (state S.Store tx.new.conn.now) result (IsUploadAfter after) }
     ensures same { ReadsOnly (state S.Store tx.old.conn.now) (state S.Store tx.new.conn.now) result }
+    ensures numbers { RefusesNumbers (state S.Store tx.old.conn.now) (state S.Store tx.new.conn.now) result
+        (after < 2 ^ 63) }
+    ensures cause { FailsByReading (state S.Store tx.old.conn.now) (state S.Store tx.new.conn.now) result
+        (after < 2 ^ 63) next_upload_text (Int (pos after) ∷ []) }
     ensures err { FailsReading (state S.Store tx.old.conn.now) (state S.Store tx.new.conn.now) result }
     ensures inside { GoesOn (state S.Store tx.old.conn.now) (state S.Store tx.new.conn.now) result }
     ensures kept { StaysInside (state S.Store tx.old.conn.now) (state S.Store tx.new.conn.now) }

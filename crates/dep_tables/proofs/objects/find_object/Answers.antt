@@ -12,4 +12,7 @@ pub returns-clause-same : goal.returns-clause-same
 returns-clause-same g c clean ours = c.ask_one.ensures.same clean (plain_here (state g.S.Store c.args.tx.now.conn.now) find_object_text ours find_is.plain)
 
 pub returns-clause-err : goal.returns-clause-err
-returns-clause-err g c clean inside ours is_open = c.ask_one.ensures.err clean inside (plain_here (state g.S.Store c.args.tx.now.conn.now) find_object_text ours find_is.plain) is_open
+returns-clause-err g c clean inside ours is_open = c.ask_one.ensures.err (plain_here (state g.S.Store c.args.tx.now.conn.now) find_object_text ours find_is.plain) clean inside is_open
+
+pub returns-clause-cause : goal.returns-clause-cause
+returns-clause-cause g c storable clean = rw c.key_param.ensures at (c.ask_one.ensures.cause clean)

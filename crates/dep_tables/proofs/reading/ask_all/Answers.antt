@@ -8,5 +8,5 @@ pub returns-clause-same : goal.returns-clause-same
 returns-clause-same g c clean plain = if_ok c.all.result (shown_unchanged _ _ (state g.S.Store c.args.tx.now.conn.now) (state g.S.Store c.ask.new.tx.conn.now) plain _ (c.in_ok-rows.ensures.shown clean))
 
 pub returns-clause-err : goal.returns-clause-err
-returns-clause-err g c clean inside plain is_open =
+returns-clause-err g c plain clean inside is_open =
     if_failed c.all.result (inl (shown_unchanged _ _ (state g.S.Store c.args.tx.now.conn.now) (state g.S.Store c.ask.new.tx.conn.now) plain _ (c.in_ok-rows.ensures.shown clean)))

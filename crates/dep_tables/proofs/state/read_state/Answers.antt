@@ -16,4 +16,4 @@ returns-in-None-clause-err g c clean inside ours is_open = inl (c.in_ok-found.en
 
 pub returns-in_err-found-clause-err : goal.returns-in_err-found-clause-err
 returns-in_err-found-clause-err g c clean inside ours is_open =
-    let failed = c.in_err-found.ensures.err clean inside (plain_here (state g.S.Store c.args.tx.now.conn.now) read_state_text ours read_is.plain) is_open in search rules
+    let failed = c.in_err-found.ensures.err (plain_here (state g.S.Store c.args.tx.now.conn.now) read_state_text ours read_is.plain) clean inside is_open in search rules

@@ -1,0 +1,148 @@
+-- What each statement makes of the tables, and what it tells of them.
+use Rattle.std.specs.Prelude.{◌≡◌, ℕ, pos, false, Bool, if◌then◌else◌, None, Some, Option, is_some, find, option_map, List, filter, map, not}
+use Rattle.std.specs.List.{list_any}
+use Rattle.std.specs.Option.{option_to_list}
+use Rattle.sqlite.specs.declared.types.Value.{Value}
+use Rattle.sqlite.specs.declared.types.Value.TheVariants.{Int}
+use Rattle.sqlite_trees.specs.Tree.{put_row, without_rowid, rowid}
+use Rattle.dep_statements.specs.Rows.{row_at, replaced, is_after, has_number, put_next, InOrder, IsFirst}
+use Rattle.dep_types.specs.declared.rows.ObjectRow.{ObjectRow}
+use Rattle.dep_types.specs.declared.rows.FileRow.{FileRow}
+use Rattle.dep_types.specs.declared.rows.UploadRow.{UploadRow}
+use Rattle.dep_tables.specs.declared.state.StateRow.{StateRow}
+use Rattle.dep_tables.specs.declared.metadata.MetadataRow.{MetadataRow}
+use Rattle.dep_tables.specs.declared.segments.SegmentRow.{SegmentRow}
+use Rattle.dep_tables.specs.declared.owner.BlockOwner.{BlockOwner}
+use Rattle.dep_tables.specs.declared.owner.BlockOwner.TheVariants.{File, Upload}
+use Rattle.dep_tables.specs.declared.owner.BlockKey.{BlockKey}
+use Rattle.dep_tables.specs.declared.owner.BlockPlace.{BlockPlace}
+use Rattle.dep_tables.specs.Rows.{stored_state, state_values, shown_state, stored_object, object_values, shown_object, metadata_values, shown_metadata, has_metadata_key, by_name_and_place, stored_file, file_values, shown_file, stored_upload, upload_values, shown_upload, segment_values, shown_segment, has_segment_key, by_number, stored_number, block_values, bytes_in, shown_place, place_values, is_block, is_block_of, is_part_of, is_later_block, moved_to, by_part_and_place}
+use Rattle.dep_tables.specs.Tables.{Tables}
+
+-- ---- state
+
+abbrev pub with_state_row : StateRow → Tables → Tables
+with_state_row row t = record t { state = replaced (stored_state row) t.state }
+
+abbrev pub HasStateRow : Tables → StateRow → Type 0
+HasStateRow t row = option_map shown_state (row_at t.state 1) ≡ Some (state_values row)
+
+-- ---- objects
+
+abbrev pub with_new_object_row : ObjectRow → Tables → Tables
+with_new_object_row row t = record t { objects = put_row (stored_object row) t.objects }
+
+abbrev pub with_object_row : ObjectRow → Tables → Tables
+with_object_row row t = record t { objects = replaced (stored_object row) t.objects }
+
+abbrev pub without_object_row : ℕ → Tables → Tables
+without_object_row object t = record t { objects = without_rowid (pos object) t.objects }
+
+abbrev pub LacksObjectRow : ℕ → Tables → Type 0
+LacksObjectRow object t = row_at t.objects object ≡ None
+
+abbrev pub IsObjectRowAt : ℕ → Tables → Option ObjectRow → Type 0
+IsObjectRowAt object t found = option_map object_values found ≡ option_map shown_object (row_at t.objects object)
+
+abbrev pub IsObjectAfter : ℕ → Tables → Option ℕ → Type 0
+IsObjectAfter after t found = option_map (λ n. Int (pos n)) found ≡ option_map rowid (find (is_after after) t.objects)
+
+-- ---- metadata
+
+abbrev pub with_new_metadata_row : MetadataRow → Tables → Tables
+with_new_metadata_row row t = record t { metadata = put_next (metadata_values row) t.metadata }
+
+abbrev pub without_metadata_rows : ℕ → Tables → Tables
+without_metadata_rows object t = record t { metadata = filter (λ r. not (has_number 1 object r)) t.metadata }
+
+abbrev pub LacksMetadataRow : MetadataRow → Tables → Type 0
+LacksMetadataRow row t = list_any (has_metadata_key row) t.metadata ≡ false
+
+abbrev pub AreMetadataRowsOf : ℕ → Tables → List MetadataRow → Type 0
+AreMetadataRowsOf object t found = InOrder by_name_and_place (map shown_metadata (filter (has_number 1 object) t.metadata)) (map metadata_values found)
+
+-- ---- files
+
+abbrev pub with_new_file_row : FileRow → Tables → Tables
+with_new_file_row row t = record t { files = put_row (stored_file row) t.files }
+
+abbrev pub without_file_row : ℕ → Tables → Tables
+without_file_row file t = record t { files = without_rowid (pos file) t.files }
+
+abbrev pub without_file_rows : ℕ → Tables → Tables
+without_file_rows object t = record t { files = filter (λ r. not (has_number 2 object r)) t.files }
+
+abbrev pub LacksFileRow : ℕ → Tables → Type 0
+LacksFileRow file t = row_at t.files file ≡ None
+
+abbrev pub IsFileRowAt : ℕ → Tables → Option FileRow → Type 0
+IsFileRowAt file t found = option_map file_values found ≡ option_map shown_file (row_at t.files file)
+
+abbrev pub AreFileRowsOf : ℕ → Tables → List FileRow → Type 0
+AreFileRowsOf object t found = map file_values found ≡ map shown_file (filter (has_number 2 object) t.files)
+
+-- ---- uploads
+
+abbrev pub with_new_upload_row : UploadRow → Tables → Tables
+with_new_upload_row row t = record t { uploads = put_row (stored_upload row) t.uploads }
+
+abbrev pub with_upload_row : UploadRow → Tables → Tables
+with_upload_row row t = record t { uploads = replaced (stored_upload row) t.uploads }
+
+abbrev pub without_upload_row : ℕ → Tables → Tables
+without_upload_row upload t = record t { uploads = without_rowid (pos upload) t.uploads }
+
+abbrev pub LacksUploadRow : ℕ → Tables → Type 0
+LacksUploadRow upload t = row_at t.uploads upload ≡ None
+
+abbrev pub IsUploadRowAt : ℕ → Tables → Option UploadRow → Type 0
+IsUploadRowAt upload t found = option_map upload_values found ≡ option_map shown_upload (row_at t.uploads upload)
+
+abbrev pub IsUploadAfter : ℕ → Tables → Option ℕ → Type 0
+IsUploadAfter after t found = option_map (λ n. Int (pos n)) found ≡ option_map rowid (find (is_after after) t.uploads)
+
+-- ---- segments
+
+abbrev pub with_new_segment_row : SegmentRow → Tables → Tables
+with_new_segment_row row t = record t { segments = put_next (segment_values row) t.segments }
+
+abbrev pub without_segment_rows : ℕ → Tables → Tables
+without_segment_rows upload t = record t { segments = filter (λ r. not (has_number 1 upload r)) t.segments }
+
+abbrev pub LacksSegmentRow : SegmentRow → Tables → Type 0
+LacksSegmentRow row t = list_any (has_segment_key row) t.segments ≡ false
+
+abbrev pub AreSegmentRowsOf : ℕ → Tables → List SegmentRow → Type 0
+AreSegmentRowsOf upload t found = InOrder by_number (map shown_segment (filter (has_number 1 upload) t.segments)) (map segment_values found)
+
+-- ---- timed_out
+
+abbrev pub with_timed_out : ℕ → Tables → Tables
+with_timed_out upload t = record t { timed_out = put_row (stored_number upload) t.timed_out }
+
+abbrev pub LacksTimedOut : ℕ → Tables → Type 0
+LacksTimedOut upload t = row_at t.timed_out upload ≡ None
+
+abbrev pub has_timed_out : ℕ → Tables → Bool
+has_timed_out upload t = is_some (row_at t.timed_out upload)
+
+-- ---- blocks
+
+abbrev pub with_new_block : BlockKey → List ℕ → Tables → Tables
+with_new_block key bytes t = record t { blocks = put_next (block_values key bytes) t.blocks }
+
+abbrev pub without_blocks_of : BlockOwner → Tables → Tables
+without_blocks_of owner t = record t { blocks = filter (λ r. not (is_block_of owner r)) t.blocks }
+
+-- the blocks of one part of an upload are a file's
+abbrev pub with_part_moved : ℕ → ℕ → ℕ → Tables → Tables
+with_part_moved upload part file t = record t { blocks = map (λ r. if is_part_of (Upload upload) part r then moved_to (File file) r else r) t.blocks }
+
+abbrev pub LacksBlock : BlockKey → Tables → Type 0
+LacksBlock key t = list_any (is_block key) t.blocks ≡ false
+
+abbrev pub AreBytesAt : BlockKey → Tables → List Value → Type 0
+AreBytesAt key t found = map bytes_in (filter (is_block key) t.blocks) ≡ found
+
+abbrev pub IsBlockAfter : BlockKey → Tables → Option BlockPlace → Type 0
+IsBlockAfter key t found = IsFirst by_part_and_place (map shown_place (filter (is_later_block key) t.blocks)) (map place_values (option_to_list found))
