@@ -39,7 +39,7 @@ use Rattle.dep_tables.specs.declared.owner.BlockOwner.{BlockOwner}
 use Rattle.dep_tables.specs.declared.owner.BlockOwner.TheVariants.{File, Upload}
 use Rattle.dep_tables.specs.declared.owner.BlockKey.{BlockKey}
 use Rattle.dep_tables.specs.declared.owner.BlockPlace.{BlockPlace}
-use Rattle.dep_tables.specs.Rows.{kind_of, number_of, owner_values, key_values, block_values, place_values, bytes_in, shown_place, is_block, is_block_of, is_part_of, is_later_block, moved_to, by_part_and_place}
+use Rattle.dep_tables.specs.Rows.{kind_of, number_of, owner_values, key_values, block_values, move_values, place_values, bytes_in, shown_place, is_block, is_block_of, is_part_of, is_later_block, moved_to, by_part_and_place}
 use Rattle.dep_tables.specs.Tables.{tables_of, IsOurs, Leads}
 use Rattle.dep_tables.proofs.Leading.{leads, blocks_at}
 use Rattle.dep_tables.proofs.Answered.{read_few, read_first}
@@ -97,37 +97,33 @@ deletes_blocks old new o count ours h =
 -- ---- the move of a part
 
 abbrev of_part : List Term
-of_part = equals (col 1 1) (lit (Int (pos 1))) ∷ equals (col 1 2) (col 0 0) ∷ equals (col 1 3) (col 0 1) ∷ []
-
-abbrev move_values : ℕ → ℕ → ℕ → Row
-move_values upload part file = Int (pos upload) ∷ Int (pos part) ∷ Int (pos file) ∷ []
+of_part = equals (col 1 1) (col 0 0) ∷ equals (col 1 2) (col 0 1) ∷ equals (col 1 3) (col 0 2) ∷ []
 
 tests_part : (upload part file : ℕ) (row : Row) → passes (move_values upload part file) of_part row ≡ is_part_of (Upload upload) part row
 tests_part upload part file row =
     let params = move_values upload part file in
-    passes_three params row (equals (col 1 1) (lit (Int (pos 1)))) (equals (col 1 2) (col 0 0)) (equals (col 1 3) (col 0 1)) _ _ _ (equals_int (column row 1) (pos 1)) (holds_number params 0 upload 2 row refl) (holds_number params 1 part 3 row refl)
+    passes_three params row (equals (col 1 1) (col 0 0)) (equals (col 1 2) (col 0 1)) (equals (col 1 3) (col 0 2)) _ _ _ (holds_number params 0 1 1 row refl) (holds_number params 1 upload 2 row refl) (holds_number params 2 part 3 row refl)
 
-move_is : Updates our_schema move_part_text 8 10 of_part (col 1 0 ∷ lit (Int (pos 0)) ∷ col 0 2 ∷ col 1 3 ∷ col 1 4 ∷ col 1 5 ∷ [])
+move_is : Updates our_schema move_part_text 8 10 of_part (col 1 0 ∷ col 0 3 ∷ col 0 4 ∷ col 1 3 ∷ col 1 4 ∷ col 1 5 ∷ [])
 unfolding understood everything
 move_is = (refl, (refl, refl))
 
 -- what the UPDATE stores of a block that is there
-moves_row : (s : State) → IsOurs s → (params : Row) (file : ℕ) → column params 2 ≡ Int (pos file) → (r : Row) → Has (s.now.trees 10) r
-    → changed_by blocks_table (col 1 0 ∷ col 1 0 ∷ lit (Int (pos 0)) ∷ col 0 2 ∷ col 1 3 ∷ col 1 4 ∷ col 1 5 ∷ []) params r ≡ moved_to (File file) r
-moves_row s ours params file given r there =
+moves_row : (s : State) → IsOurs s → (upload part file : ℕ) (r : Row) → Has (s.now.trees 10) r
+    → changed_by blocks_table (col 1 0 ∷ col 1 0 ∷ col 0 3 ∷ col 0 4 ∷ col 1 3 ∷ col 1 4 ∷ col 1 5 ∷ []) (move_values upload part file) r ≡ moved_to (File file) r
+moves_row s ours upload part file r there =
     let keyed = has_its_key (s.now.trees 10) r ours.trees.ordered.1.1.1.1.1.1.1.1.0 there in
     let id : cast Integer (column r 0) ≡ column r 0 = ap (cast Integer) keyed ∙ cast_int (key_of r) ∙ sym keyed in
-    let owner : cast Integer (column params 2) ≡ Int (pos file) = ap (cast Integer) given ∙ cast_int (pos file) in
     let part = kept_integer (column r 3) (stored_column our_schema blocks_table 8 refl refl s.now.trees ours.trees.sound.obeys r there 2 _ _ _ refl) in
     let place = kept_integer (column r 4) (stored_column our_schema blocks_table 8 refl refl s.now.trees ours.trees.sound.obeys r there 3 _ _ _ refl) in
-    λ i. id i ∷ cast_int (pos 0) i ∷ owner i ∷ part i ∷ place i ∷ column r 5 ∷ []
+    λ i. id i ∷ cast_int (pos 0) i ∷ cast_int (pos file) i ∷ part i ∷ place i ∷ column r 5 ∷ []
 
 pub moves_part : (old new : State) (upload part file count : ℕ) → IsOurs old → ExecutesInside 0 move_part_text (move_values upload part file) old new (Ok count)
     → Leads old new (record (tables_of old) { blocks = map (λ r. if is_part_of (Upload upload) part r then moved_to (File file) r else r) (tables_of old).blocks })
 moves_part old new upload part file count ours h =
     leads old new 10 _ ours
     (updates_where our_schema 8 10 blocks_at move_part_text (move_values upload part file) old new ours.schema ours.trees.ordered.1.1.1.1.1.1.1.1.0 count h of_part _ move_is (is_part_of (Upload upload) part) (moved_to (File file))
-    (tests_part upload part file) (λ r there passing. (moves_row old ours (move_values upload part file) file refl r there, refl))) _ refl
+    (tests_part upload part file) (λ r there passing. (moves_row old ours upload part file r there, refl))) _ refl
 
 -- ---- reading a block
 

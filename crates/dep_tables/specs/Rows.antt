@@ -182,6 +182,10 @@ key_values k = Int (pos (kind_of k.owner)) ∷ Int (pos (number_of k.owner)) ∷
 abbrev pub block_values : BlockKey → List ℕ → Row
 block_values k bytes = Int (pos (kind_of k.owner)) ∷ Int (pos (number_of k.owner)) ∷ Int (pos k.at.part) ∷ Int (pos k.at.place) ∷ Blob bytes ∷ []
 
+-- the blocks of this part of an upload, and the file that they are moved to
+abbrev pub move_values : ℕ → ℕ → ℕ → Row
+move_values upload part file = Int (pos (kind_of (Upload upload))) ∷ Int (pos upload) ∷ Int (pos part) ∷ Int (pos (kind_of (File file))) ∷ Int (pos file) ∷ []
+
 abbrev pub place_values : BlockPlace → Row
 place_values p = Int (pos p.part) ∷ Int (pos p.place) ∷ []
 

@@ -95,4 +95,4 @@ abbrev pub delete_blocks_text : List ℕ
 delete_blocks_text = codes "DELETE FROM blocks WHERE kind = ?1 AND owner = ?2"
 
 abbrev pub move_part_text : List ℕ
-move_part_text = codes "UPDATE blocks SET kind = 0, owner = ?3 WHERE kind = 1 AND owner = ?1 AND part = ?2"
+move_part_text = codes "UPDATE blocks SET kind = ?4, owner = ?5 WHERE kind = ?1 AND owner = ?2 AND part = ?3"

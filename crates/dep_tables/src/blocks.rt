@@ -5,15 +5,16 @@ ghost use Rattle.std.specs.Option.{option_to_list};
 ghost use Rattle.sqlite.specs.declared.types.Value.TheVariants.{Int, Blob};
 ghost use Rattle.sqlite.specs.Held.{state};
 ghost use Rattle.sqlite.specs.Values.{bound};
-ghost use Rattle.dep_tables.specs.Rows.{IsStorableOwner, owner_values, IsStorableKey, key_values, block_values, place_values};
+ghost use Rattle.dep_tables.specs.Rows.{IsStorableOwner, owner_values, IsStorableKey, key_values, block_values, move_values, place_values};
 ghost use Rattle.dep_tables.specs.Edits.{with_new_block, without_blocks_of, with_part_moved, LacksBlock, AreBytesAt, IsBlockAfter};
 ghost use Rattle.dep_tables.specs.Clauses.{Changes, Shows, Reads, ReadsOnly, FailsWhole, FailsReading, GoesOn, StaysInside, CommitsNothing, RefusesNumbers, FailsByRunning, FailsByReading};
 ghost use Rattle.dep_tables.specs.Texts.{insert_block_text, delete_blocks_text, move_part_text, read_block_text, next_block_text};
 
 use crate::calls::run;
-use crate::numbers::{LIMIT, number};
+use crate::numbers::LIMIT;
 use crate::owner::{
     BlockKey, BlockOwner, BlockPlace, is_storable_key, is_storable_owner, key_params, owner_params,
+    part_params,
 };
 use crate::reading::{FromRow, ask_one};
 use dep_types::StoreFault;
@@ -84,17 +85,15 @@ pub fn delete_blocks<S: Alter>(
     )
 }
 
-fn move_params(upload: u64, part: u64, file: u64) -> [ValueRef<'static>; 3]
+fn move_params(upload: u64, part: u64, file: u64) -> [ValueRef<'static>; 5]
     requires upload { upload < 2 ^ 63 }
     requires part { part < 2 ^ 63 }
     requires file { file < 2 ^ 63 }
-    ensures { bound result ≡ Int (pos upload) ∷ Int (pos part) ∷ Int (pos file) ∷ [] }
+    ensures { bound result ≡ move_values upload part file }
 {
-    [
-        ValueRef::Int(number(upload)),
-        ValueRef::Int(number(part)),
-        ValueRef::Int(number(file)),
-    ]
+    let [kind, owner, part] = part_params(BlockOwner::Upload(upload), part);
+    let [new_kind, new_owner] = owner_params(BlockOwner::File(file));
+    [kind, owner, part, new_kind, new_owner]
 }
 
 /// Gives the blocks of one part of an upload to a file. It is a fault of the store where the file has a block of that key, and where a number is 2^63 or more.
@@ -109,7 +108,7 @@ pub fn move_part<S: Alter>(
     ensures numbers { RefusesNumbers (state S.Store tx.old.conn.now) (state S.Store tx.new.conn.now) result
         ((upload < 2 ^ 63) × (part < 2 ^ 63) × (file < 2 ^ 63)) }
     ensures cause { FailsByRunning (state S.Store tx.old.conn.now) (state S.Store tx.new.conn.now) result
-        ((upload < 2 ^ 63) × (part < 2 ^ 63) × (file < 2 ^ 63)) move_part_text (Int (pos upload) ∷ Int (pos part) ∷ Int (pos file) ∷ []) }
+        ((upload < 2 ^ 63) × (part < 2 ^ 63) × (file < 2 ^ 63)) move_part_text (move_values upload part file) }
     ensures err { FailsWhole (state S.Store tx.old.conn.now) (state S.Store tx.new.conn.now) result }
     ensures inside { GoesOn (state S.Store tx.old.conn.now) (state S.Store tx.new.conn.now) result }
     ensures kept { StaysInside (state S.Store tx.old.conn.now) (state S.Store tx.new.conn.now) }
@@ -121,7 +120,7 @@ pub fn move_part<S: Alter>(
     }
     run(
         tx,
-        "UPDATE blocks SET kind = 0, owner = ?3 WHERE kind = 1 AND owner = ?1 AND part = ?2",
+        "UPDATE blocks SET kind = ?4, owner = ?5 WHERE kind = ?1 AND owner = ?2 AND part = ?3",
         &move_params(upload, part, file),
     )
 }
@@ -182,29 +181,29 @@ pub fn read_block<S: Alter>(
     )
 }
 
-/// The next block of the same owner, by part and place, whether or not the key itself is there. A number of 2^63 or more is a fault of the store.
+/// The next block of the same owner, by part and place, whether or not there is a block of the key itself. A number of 2^63 or more is a fault of the store.
 pub fn next_block<S: Alter>(
     tx: &mut Transaction<'_, S>,
-    key: &BlockKey,
+    after: &BlockKey,
 ) -> Result<Option<BlockPlace>, StoreFault>
-    ensures ok { Reads (state S.Store tx.old.conn.now) (state S.Store tx.new.conn.now) result (IsBlockAfter key.now) }
+    ensures ok { Reads (state S.Store tx.old.conn.now) (state S.Store tx.new.conn.now) result (IsBlockAfter after.now) }
     ensures same { ReadsOnly (state S.Store tx.old.conn.now) (state S.Store tx.new.conn.now) result }
     ensures numbers { RefusesNumbers (state S.Store tx.old.conn.now) (state S.Store tx.new.conn.now) result
-        (IsStorableKey key.now) }
+        (IsStorableKey after.now) }
     ensures cause { FailsByReading (state S.Store tx.old.conn.now) (state S.Store tx.new.conn.now) result
-        (IsStorableKey key.now) next_block_text (key_values key.now) }
+        (IsStorableKey after.now) next_block_text (key_values after.now) }
     ensures err { FailsReading (state S.Store tx.old.conn.now) (state S.Store tx.new.conn.now) result }
     ensures inside { GoesOn (state S.Store tx.old.conn.now) (state S.Store tx.new.conn.now) result }
     ensures kept { StaysInside (state S.Store tx.old.conn.now) (state S.Store tx.new.conn.now) }
     ensures same_reference { tx.new.conn.ghost_name ≡ tx.old.conn.ghost_name }
     ensures survives { CommitsNothing (state S.Store tx.old.conn.now) (state S.Store tx.new.conn.now) }
 {
-    if !is_storable_key(key) {
+    if !is_storable_key(after) {
         return Err(StoreFault::Store);
     }
     ask_one(
         tx,
         "SELECT part, place FROM blocks WHERE kind = ?1 AND owner = ?2 AND (part > ?3 OR (part = ?3 AND place > ?4)) ORDER BY part, place LIMIT 1",
-        &key_params(key),
+        &key_params(after),
     )
 }

@@ -6,7 +6,7 @@ use Rattle.dep_tables.proofs.BlocksTable.{nexts_block, next_is}
 use Rattle.dep_tables.proofs.blocks.next_block.Goals as goal
 
 pub returns-clause-ok : goal.returns-clause-ok
-returns-clause-ok g c clean ours = if_then c.ask_one.result (c.ask_one.ensures.shown clean) (λ found read. nexts_block (state g.S.Store c.args.tx.now.conn.now) (state g.S.Store c.ask_one.new.tx.conn.now) c.args.key.now found ours (rw c.key_params.ensures at read))
+returns-clause-ok g c clean ours = if_then c.ask_one.result (c.ask_one.ensures.shown clean) (λ found read. nexts_block (state g.S.Store c.args.tx.now.conn.now) (state g.S.Store c.ask_one.new.tx.conn.now) c.args.after.now found ours (rw c.key_params.ensures at read))
 
 pub returns-clause-same : goal.returns-clause-same
 returns-clause-same g c clean ours = c.ask_one.ensures.same clean (plain_here (state g.S.Store c.args.tx.now.conn.now) next_block_text ours next_is.plain)
