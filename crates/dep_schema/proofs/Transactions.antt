@@ -1,5 +1,5 @@
 -- What a transaction leaves: on the connection, and after a crash.
-use Rattle.std.proofs.Common.{◌≡◌, true, false, IsTrue, sym, ap, subst, ◌∙◌, arith}
+use Rattle.std.proofs.Common.{◌≡◌, inl, inr, true, false, IsTrue, refl, sym, ap, subst, ◌∙◌, arith}
 use Rattle.sqlite.specs.Effect.{Database}
 use Rattle.sqlite.specs.State.{State, HasCleanDisk, Survives}
 use Rattle.sqlite.specs.Held.{Held, state}
@@ -8,7 +8,7 @@ use Rattle.sqlite_trees.specs.declared.store.Store.{Ghosts}
 use Rattle.sqlite.proofs.StateLemmas.{survives_then}
 use Rattle.sqlite.proofs.Callers.{survives_begin}
 use Rattle.dep_tables.specs.Tables.{Tables, tables_in, tables_of, HasOurTables, Leads}
-use Rattle.dep_schema.specs.Standing.{Stands, Holds}
+use Rattle.dep_schema.specs.Standing.{Stands, Holds, EndsTransaction, WholeTransaction}
 
 -- the connection is back at the last commit
 pub stands_left : (old new : State) (was : Tables) → Stands old was → IsTrue new.is_open → new.in_transaction ≡ false → new.now ≡ old.committed → new.committed ≡ old.committed → Stands new was
@@ -33,3 +33,15 @@ commits g old mid new P one two made =
 
 pub holds_led : (old mid : State) (was : Tables) (change : Tables → Tables) → tables_of old ≡ was → Leads old mid (change (tables_of old)) → Holds mid.now.trees (change was)
 holds_led old mid was change e led = record { ours = led.ours.trees; rows = led.rows ∙ ap change e }
+
+-- whatever ends a transaction opens no store
+ends_open : (inside new : State) → EndsTransaction inside new → IsTrue new.is_open → IsTrue inside.is_open
+ends_open inside new (inl committed) is_open = committed.0.was_open
+ends_open inside new (inr (inl (e, inl failed))) is_open = failed.3.was_open is_open
+ends_open inside new (inr (inl (e, inr late))) is_open = late.2.0.was_open
+ends_open inside new (inr (inr undone)) is_open = undone.was_open is_open
+
+pub begins_open : {S : Type 0} (g : Ghosts S) (old inside new : Held S) → WholeTransaction g old inside new → HasCleanDisk (state g new) → IsTrue (state g new).is_open → IsTrue (state g old).is_open
+begins_open g old inside new whole clean is_open =
+    let then : HasCleanDisk (state g inside) = omega (arith, clean, whole.survives.clean) in
+    (whole.kept then refl).was_open (ends_open (state g inside) (state g new) (whole.ends clean) is_open)

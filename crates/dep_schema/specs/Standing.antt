@@ -1,17 +1,22 @@
 -- What an open, a transaction and a crash leave of the tables.
-use Rattle.std.specs.Prelude.{◌≡◌, ◌⊎◌, ℕ, pos, false, IsTrue, [], ◌∷◌, map}
+use Rattle.std.specs.Prelude.{◌≡◌, ◌⊎◌, ℕ, pos, true, false, IsTrue, Result, OnOk, [], ◌∷◌, map}
 use Rattle.sqlite.specs.declared.types.Value.TheVariants.{Int}
 use Rattle.sqlite.specs.Order.{column}
 use Rattle.sqlite.specs.Schema.{Schema}
 use Rattle.sqlite.specs.Tree.{Trees}
 use Rattle.sqlite.specs.Effect.{Database}
-use Rattle.sqlite.specs.State.{State}
+use Rattle.sqlite.specs.State.{State, HasCleanDisk, Survives, Commits, IsRolledBack}
+use Rattle.sqlite.specs.Held.{Held, state}
+use Rattle.sqlite.specs.Steps.{FailsToCommit}
+use Rattle.sqlite.specs.declared.error.Error.{Error}
+use Rattle.sqlite_trees.specs.declared.store.Store.{Ghosts}
 use Rattle.sqlite_catalog.specs.Listing.{IsSound}
 use Rattle.sqlite_catalog.specs.Change.{next_tree, KeepsRows}
 use Rattle.dep_statements.specs.Adding.{HasCounters}
 use Rattle.dep_tables.specs.declared.state.StateRow.{StateRow}
 use Rattle.dep_tables.specs.Rows.{stored_format, stored_state}
 use Rattle.dep_tables.specs.Tables.{Tables, tables_from, tables_in, tables_of, AreOurs, IsOurs}
+use Rattle.dep_tables.specs.Clauses.{StaysInside}
 use Rattle.dep_schema.specs.Beside.{LacksFormat, AreFree, with_ours}
 
 -- what a crash may leave, and the next `open` find
@@ -100,3 +105,25 @@ pub record CommitsOpen (s : State) (trees : Trees) : Type 0 where
   pub new : IsTrue s.is_open → HoldsNone s.now.trees → Holds trees first_tables
   pub free : LacksFormat s.now.schema → AreFree s.now.schema
   pub beside : LacksFormat s.now.schema → HasCounters s.now.schema → IsBeside s.now trees
+
+-- back at the last commit
+abbrev pub IsBack : State → State → Type 0
+IsBack old new = (new.now ≡ old.committed) × (new.committed ≡ old.committed)
+
+-- there is some table, and where the tables are ours they don't have our version
+abbrev pub HasOtherVersion : State → Type 0
+HasOtherVersion s = (s.now.schema ≡ no_schema → ⊥) × (IsOurs s → HasVersion our_version (tables_of s) → ⊥)
+
+-- inside a transaction, an Ok does this to the database that the connection sees
+abbrev pub Turns : {A E : Type 0} → State → State → Result A E → (Database → Database → Type 0) → Type 0
+Turns old new result does = HasCleanDisk new → IsTrue old.in_transaction → OnOk result (does old.now new.now)
+
+-- how a transaction ends: committed, by a commit that failed, or given up
+abbrev pub EndsTransaction : State → State → Type 0
+EndsTransaction inside new = Commits inside new ⊎ (((e : Error) × FailsToCommit inside new e) ⊎ IsRolledBack inside new)
+
+-- a transaction from its beginning to its end, as the clauses of the statements and of its end tell it
+pub record WholeTransaction {S : Type 0} (g : Ghosts S) (old inside new : Held S) : Type 0 where
+  pub kept : StaysInside (state g (record old { in_transaction = true })) (state g inside)
+  pub survives : Survives (state g inside) (state g new) (λ trees. trees ≡ (state g inside).now.trees)
+  pub ends : HasCleanDisk (state g new) → EndsTransaction (state g inside) (state g new)

@@ -5,5 +5,5 @@ mod crashes;
 mod making;
 mod opening;
 
-pub use crashes::settled;
+pub use crashes::{began_open, settled};
 pub use opening::{OpenFault, Schema, open};

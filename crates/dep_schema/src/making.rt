@@ -11,7 +11,7 @@ ghost use Rattle.dep_tables.specs.Schema.{format_table, state_table, objects_tab
 ghost use Rattle.dep_tables.specs.Rows.{stored_format, stored_state};
 ghost use Rattle.dep_tables.specs.Clauses.{GoesOn, StaysInside, CommitsNothing};
 ghost use Rattle.dep_schema.specs.Beside.{AreFree, with_ours};
-ghost use Rattle.dep_schema.specs.Standing.{Sees, GainsOurs, no_schema, first_tables, first_state, our_version};
+ghost use Rattle.dep_schema.specs.Standing.{Turns, Sees, GainsOurs, no_schema, first_tables, first_state, our_version};
 
 use dep_tables::run;
 use dep_types::StoreFault;
@@ -19,7 +19,8 @@ use sqlite::{Alter, Transaction};
 
 /// The version of the tables.
 fn create_format<S: Alter>(tx: &mut Transaction<'_, S>) -> Result<(), StoreFault>
-    ensures adds { HasCleanDisk (state S.Store tx.new.conn.now) → IsTrue (state S.Store tx.old.conn.now).in_transaction → OnOk result (Adds format_table (state S.Store tx.old.conn.now).now (state S.Store tx.new.conn.now).now) }
+    ensures adds { Turns (state S.Store tx.old.conn.now) (state S.Store tx.new.conn.now) result
+        (Adds format_table) }
     ensures inside { GoesOn (state S.Store tx.old.conn.now) (state S.Store tx.new.conn.now) result }
     ensures kept { StaysInside (state S.Store tx.old.conn.now) (state S.Store tx.new.conn.now) }
     ensures same_reference { tx.new.conn.ghost_name ≡ tx.old.conn.ghost_name }
@@ -34,7 +35,8 @@ fn create_format<S: Alter>(tx: &mut Transaction<'_, S>) -> Result<(), StoreFault
 
 /// The clock and the counters.
 fn create_state<S: Alter>(tx: &mut Transaction<'_, S>) -> Result<(), StoreFault>
-    ensures adds { HasCleanDisk (state S.Store tx.new.conn.now) → IsTrue (state S.Store tx.old.conn.now).in_transaction → OnOk result (Adds state_table (state S.Store tx.old.conn.now).now (state S.Store tx.new.conn.now).now) }
+    ensures adds { Turns (state S.Store tx.old.conn.now) (state S.Store tx.new.conn.now) result
+        (Adds state_table) }
     ensures inside { GoesOn (state S.Store tx.old.conn.now) (state S.Store tx.new.conn.now) result }
     ensures kept { StaysInside (state S.Store tx.old.conn.now) (state S.Store tx.new.conn.now) }
     ensures same_reference { tx.new.conn.ghost_name ≡ tx.old.conn.ghost_name }
@@ -49,7 +51,8 @@ fn create_state<S: Alter>(tx: &mut Transaction<'_, S>) -> Result<(), StoreFault>
 
 /// One row for each object.
 fn create_objects<S: Alter>(tx: &mut Transaction<'_, S>) -> Result<(), StoreFault>
-    ensures adds { HasCleanDisk (state S.Store tx.new.conn.now) → IsTrue (state S.Store tx.old.conn.now).in_transaction → OnOk result (Adds objects_table (state S.Store tx.old.conn.now).now (state S.Store tx.new.conn.now).now) }
+    ensures adds { Turns (state S.Store tx.old.conn.now) (state S.Store tx.new.conn.now) result
+        (Adds objects_table) }
     ensures inside { GoesOn (state S.Store tx.old.conn.now) (state S.Store tx.new.conn.now) result }
     ensures kept { StaysInside (state S.Store tx.old.conn.now) (state S.Store tx.new.conn.now) }
     ensures same_reference { tx.new.conn.ghost_name ≡ tx.old.conn.ghost_name }
@@ -64,7 +67,8 @@ fn create_objects<S: Alter>(tx: &mut Transaction<'_, S>) -> Result<(), StoreFaul
 
 /// One row for each text of an object's metadata.
 fn create_metadata<S: Alter>(tx: &mut Transaction<'_, S>) -> Result<(), StoreFault>
-    ensures adds { HasCleanDisk (state S.Store tx.new.conn.now) → IsTrue (state S.Store tx.old.conn.now).in_transaction → OnOk result (Adds metadata_table (state S.Store tx.old.conn.now).now (state S.Store tx.new.conn.now).now) }
+    ensures adds { Turns (state S.Store tx.old.conn.now) (state S.Store tx.new.conn.now) result
+        (Adds metadata_table) }
     ensures inside { GoesOn (state S.Store tx.old.conn.now) (state S.Store tx.new.conn.now) result }
     ensures kept { StaysInside (state S.Store tx.old.conn.now) (state S.Store tx.new.conn.now) }
     ensures same_reference { tx.new.conn.ghost_name ≡ tx.old.conn.ghost_name }
@@ -79,7 +83,8 @@ fn create_metadata<S: Alter>(tx: &mut Transaction<'_, S>) -> Result<(), StoreFau
 
 /// One row for each file.
 fn create_files<S: Alter>(tx: &mut Transaction<'_, S>) -> Result<(), StoreFault>
-    ensures adds { HasCleanDisk (state S.Store tx.new.conn.now) → IsTrue (state S.Store tx.old.conn.now).in_transaction → OnOk result (Adds files_table (state S.Store tx.old.conn.now).now (state S.Store tx.new.conn.now).now) }
+    ensures adds { Turns (state S.Store tx.old.conn.now) (state S.Store tx.new.conn.now) result
+        (Adds files_table) }
     ensures inside { GoesOn (state S.Store tx.old.conn.now) (state S.Store tx.new.conn.now) result }
     ensures kept { StaysInside (state S.Store tx.old.conn.now) (state S.Store tx.new.conn.now) }
     ensures same_reference { tx.new.conn.ghost_name ≡ tx.old.conn.ghost_name }
@@ -94,7 +99,8 @@ fn create_files<S: Alter>(tx: &mut Transaction<'_, S>) -> Result<(), StoreFault>
 
 /// One row for each staged upload.
 fn create_uploads<S: Alter>(tx: &mut Transaction<'_, S>) -> Result<(), StoreFault>
-    ensures adds { HasCleanDisk (state S.Store tx.new.conn.now) → IsTrue (state S.Store tx.old.conn.now).in_transaction → OnOk result (Adds uploads_table (state S.Store tx.old.conn.now).now (state S.Store tx.new.conn.now).now) }
+    ensures adds { Turns (state S.Store tx.old.conn.now) (state S.Store tx.new.conn.now) result
+        (Adds uploads_table) }
     ensures inside { GoesOn (state S.Store tx.old.conn.now) (state S.Store tx.new.conn.now) result }
     ensures kept { StaysInside (state S.Store tx.old.conn.now) (state S.Store tx.new.conn.now) }
     ensures same_reference { tx.new.conn.ghost_name ≡ tx.old.conn.ghost_name }
@@ -109,7 +115,8 @@ fn create_uploads<S: Alter>(tx: &mut Transaction<'_, S>) -> Result<(), StoreFaul
 
 /// One row for each segment that was received.
 fn create_segments<S: Alter>(tx: &mut Transaction<'_, S>) -> Result<(), StoreFault>
-    ensures adds { HasCleanDisk (state S.Store tx.new.conn.now) → IsTrue (state S.Store tx.old.conn.now).in_transaction → OnOk result (Adds segments_table (state S.Store tx.old.conn.now).now (state S.Store tx.new.conn.now).now) }
+    ensures adds { Turns (state S.Store tx.old.conn.now) (state S.Store tx.new.conn.now) result
+        (Adds segments_table) }
     ensures inside { GoesOn (state S.Store tx.old.conn.now) (state S.Store tx.new.conn.now) result }
     ensures kept { StaysInside (state S.Store tx.old.conn.now) (state S.Store tx.new.conn.now) }
     ensures same_reference { tx.new.conn.ghost_name ≡ tx.old.conn.ghost_name }
@@ -124,7 +131,8 @@ fn create_segments<S: Alter>(tx: &mut Transaction<'_, S>) -> Result<(), StoreFau
 
 /// One row for each upload that timed out.
 fn create_timed_out<S: Alter>(tx: &mut Transaction<'_, S>) -> Result<(), StoreFault>
-    ensures adds { HasCleanDisk (state S.Store tx.new.conn.now) → IsTrue (state S.Store tx.old.conn.now).in_transaction → OnOk result (Adds timed_out_table (state S.Store tx.old.conn.now).now (state S.Store tx.new.conn.now).now) }
+    ensures adds { Turns (state S.Store tx.old.conn.now) (state S.Store tx.new.conn.now) result
+        (Adds timed_out_table) }
     ensures inside { GoesOn (state S.Store tx.old.conn.now) (state S.Store tx.new.conn.now) result }
     ensures kept { StaysInside (state S.Store tx.old.conn.now) (state S.Store tx.new.conn.now) }
     ensures same_reference { tx.new.conn.ghost_name ≡ tx.old.conn.ghost_name }
@@ -139,7 +147,8 @@ fn create_timed_out<S: Alter>(tx: &mut Transaction<'_, S>) -> Result<(), StoreFa
 
 /// The bytes of contents, in blocks.
 fn create_blocks<S: Alter>(tx: &mut Transaction<'_, S>) -> Result<(), StoreFault>
-    ensures adds { HasCleanDisk (state S.Store tx.new.conn.now) → IsTrue (state S.Store tx.old.conn.now).in_transaction → OnOk result (Adds blocks_table (state S.Store tx.old.conn.now).now (state S.Store tx.new.conn.now).now) }
+    ensures adds { Turns (state S.Store tx.old.conn.now) (state S.Store tx.new.conn.now) result
+        (Adds blocks_table) }
     ensures inside { GoesOn (state S.Store tx.old.conn.now) (state S.Store tx.new.conn.now) result }
     ensures kept { StaysInside (state S.Store tx.old.conn.now) (state S.Store tx.new.conn.now) }
     ensures same_reference { tx.new.conn.ghost_name ≡ tx.old.conn.ghost_name }
@@ -154,8 +163,10 @@ fn create_blocks<S: Alter>(tx: &mut Transaction<'_, S>) -> Result<(), StoreFault
 
 /// Version 1.
 fn add_format<S: Alter>(tx: &mut Transaction<'_, S>) -> Result<(), StoreFault>
-    ensures beside { HasCleanDisk (state S.Store tx.new.conn.now) → IsTrue (state S.Store tx.old.conn.now).in_transaction → (others : Schema) → AreFree others → (state S.Store tx.old.conn.now).now.schema ≡ with_ours others
-        → OnOk result (Puts (next_tree others) (stored_format our_version) (state S.Store tx.old.conn.now).now (state S.Store tx.new.conn.now).now) }
+    ensures beside { HasCleanDisk (state S.Store tx.new.conn.now) → IsTrue (state S.Store tx.old.conn.now).in_transaction
+        → (others : Schema) → AreFree others → (state S.Store tx.old.conn.now).now.schema ≡ with_ours others
+        → OnOk result (Puts (next_tree others) (stored_format our_version)
+        (state S.Store tx.old.conn.now).now (state S.Store tx.new.conn.now).now) }
     ensures inside { GoesOn (state S.Store tx.old.conn.now) (state S.Store tx.new.conn.now) result }
     ensures kept { StaysInside (state S.Store tx.old.conn.now) (state S.Store tx.new.conn.now) }
     ensures same_reference { tx.new.conn.ghost_name ≡ tx.old.conn.ghost_name }
@@ -166,8 +177,10 @@ fn add_format<S: Alter>(tx: &mut Transaction<'_, S>) -> Result<(), StoreFault>
 
 /// The clock at 0, and each counter at 1.
 fn add_state<S: Alter>(tx: &mut Transaction<'_, S>) -> Result<(), StoreFault>
-    ensures beside { HasCleanDisk (state S.Store tx.new.conn.now) → IsTrue (state S.Store tx.old.conn.now).in_transaction → (others : Schema) → AreFree others → (state S.Store tx.old.conn.now).now.schema ≡ with_ours others
-        → OnOk result (Puts (next_tree (created others format_table)) (stored_state first_state) (state S.Store tx.old.conn.now).now (state S.Store tx.new.conn.now).now) }
+    ensures beside { HasCleanDisk (state S.Store tx.new.conn.now) → IsTrue (state S.Store tx.old.conn.now).in_transaction
+        → (others : Schema) → AreFree others → (state S.Store tx.old.conn.now).now.schema ≡ with_ours others
+        → OnOk result (Puts (next_tree (created others format_table)) (stored_state first_state)
+        (state S.Store tx.old.conn.now).now (state S.Store tx.new.conn.now).now) }
     ensures inside { GoesOn (state S.Store tx.old.conn.now) (state S.Store tx.new.conn.now) result }
     ensures kept { StaysInside (state S.Store tx.old.conn.now) (state S.Store tx.new.conn.now) }
     ensures same_reference { tx.new.conn.ghost_name ≡ tx.old.conn.ghost_name }
@@ -182,7 +195,8 @@ fn add_state<S: Alter>(tx: &mut Transaction<'_, S>) -> Result<(), StoreFault>
 
 /// The first three tables.
 fn create_first<S: Alter>(tx: &mut Transaction<'_, S>) -> Result<(), StoreFault>
-    ensures adds { HasCleanDisk (state S.Store tx.new.conn.now) → IsTrue (state S.Store tx.old.conn.now).in_transaction → OnOk result (AddsAll (format_table ∷ state_table ∷ objects_table ∷ []) (state S.Store tx.old.conn.now).now (state S.Store tx.new.conn.now).now) }
+    ensures adds { Turns (state S.Store tx.old.conn.now) (state S.Store tx.new.conn.now) result
+        (AddsAll (format_table ∷ state_table ∷ objects_table ∷ [])) }
     ensures inside { GoesOn (state S.Store tx.old.conn.now) (state S.Store tx.new.conn.now) result }
     ensures kept { StaysInside (state S.Store tx.old.conn.now) (state S.Store tx.new.conn.now) }
     ensures same_reference { tx.new.conn.ghost_name ≡ tx.old.conn.ghost_name }
@@ -195,7 +209,8 @@ fn create_first<S: Alter>(tx: &mut Transaction<'_, S>) -> Result<(), StoreFault>
 
 /// The tables of metadata, files and uploads.
 fn create_second<S: Alter>(tx: &mut Transaction<'_, S>) -> Result<(), StoreFault>
-    ensures adds { HasCleanDisk (state S.Store tx.new.conn.now) → IsTrue (state S.Store tx.old.conn.now).in_transaction → OnOk result (AddsAll (metadata_table ∷ files_table ∷ uploads_table ∷ []) (state S.Store tx.old.conn.now).now (state S.Store tx.new.conn.now).now) }
+    ensures adds { Turns (state S.Store tx.old.conn.now) (state S.Store tx.new.conn.now) result
+        (AddsAll (metadata_table ∷ files_table ∷ uploads_table ∷ [])) }
     ensures inside { GoesOn (state S.Store tx.old.conn.now) (state S.Store tx.new.conn.now) result }
     ensures kept { StaysInside (state S.Store tx.old.conn.now) (state S.Store tx.new.conn.now) }
     ensures same_reference { tx.new.conn.ghost_name ≡ tx.old.conn.ghost_name }
@@ -208,7 +223,8 @@ fn create_second<S: Alter>(tx: &mut Transaction<'_, S>) -> Result<(), StoreFault
 
 /// The tables after them.
 fn create_last<S: Alter>(tx: &mut Transaction<'_, S>) -> Result<(), StoreFault>
-    ensures adds { HasCleanDisk (state S.Store tx.new.conn.now) → IsTrue (state S.Store tx.old.conn.now).in_transaction → OnOk result (AddsAll (segments_table ∷ timed_out_table ∷ blocks_table ∷ []) (state S.Store tx.old.conn.now).now (state S.Store tx.new.conn.now).now) }
+    ensures adds { Turns (state S.Store tx.old.conn.now) (state S.Store tx.new.conn.now) result
+        (AddsAll (segments_table ∷ timed_out_table ∷ blocks_table ∷ [])) }
     ensures inside { GoesOn (state S.Store tx.old.conn.now) (state S.Store tx.new.conn.now) result }
     ensures kept { StaysInside (state S.Store tx.old.conn.now) (state S.Store tx.new.conn.now) }
     ensures same_reference { tx.new.conn.ghost_name ≡ tx.old.conn.ghost_name }
@@ -221,8 +237,11 @@ fn create_last<S: Alter>(tx: &mut Transaction<'_, S>) -> Result<(), StoreFault>
 
 /// The rows of a new store.
 fn add_rows<S: Alter>(tx: &mut Transaction<'_, S>) -> Result<(), StoreFault>
-    ensures beside { HasCleanDisk (state S.Store tx.new.conn.now) → IsTrue (state S.Store tx.old.conn.now).in_transaction → (others : Schema) → AreFree others → (state S.Store tx.old.conn.now).now.schema ≡ with_ours others
-        → OnOk result ((next : Database) × Puts (next_tree others) (stored_format our_version) (state S.Store tx.old.conn.now).now next × Puts (next_tree (created others format_table)) (stored_state first_state) next (state S.Store tx.new.conn.now).now) }
+    ensures beside { HasCleanDisk (state S.Store tx.new.conn.now) → IsTrue (state S.Store tx.old.conn.now).in_transaction
+        → (others : Schema) → AreFree others → (state S.Store tx.old.conn.now).now.schema ≡ with_ours others
+        → OnOk result ((next : Database)
+        × Puts (next_tree others) (stored_format our_version) (state S.Store tx.old.conn.now).now next
+        × Puts (next_tree (created others format_table)) (stored_state first_state) next (state S.Store tx.new.conn.now).now) }
     ensures inside { GoesOn (state S.Store tx.old.conn.now) (state S.Store tx.new.conn.now) result }
     ensures kept { StaysInside (state S.Store tx.old.conn.now) (state S.Store tx.new.conn.now) }
     ensures same_reference { tx.new.conn.ghost_name ≡ tx.old.conn.ghost_name }
@@ -234,8 +253,10 @@ fn add_rows<S: Alter>(tx: &mut Transaction<'_, S>) -> Result<(), StoreFault>
 
 /// The tables of a new store, where their names are free.
 pub(crate) fn make_tables<S: Alter>(tx: &mut Transaction<'_, S>) -> Result<(), StoreFault>
-    ensures ok { HasCleanDisk (state S.Store tx.new.conn.now) → IsTrue (state S.Store tx.old.conn.now).in_transaction → (state S.Store tx.old.conn.now).now.schema ≡ no_schema → OnOk result (Sees (state S.Store tx.new.conn.now) first_tables) }
-    ensures gains { HasCleanDisk (state S.Store tx.new.conn.now) → IsTrue (state S.Store tx.old.conn.now).in_transaction → OnOk result (GainsOurs (state S.Store tx.old.conn.now).now (state S.Store tx.new.conn.now).now) }
+    ensures ok { HasCleanDisk (state S.Store tx.new.conn.now) → IsTrue (state S.Store tx.old.conn.now).in_transaction
+        → (state S.Store tx.old.conn.now).now.schema ≡ no_schema → OnOk result (Sees (state S.Store tx.new.conn.now) first_tables) }
+    ensures gains { Turns (state S.Store tx.old.conn.now) (state S.Store tx.new.conn.now) result
+        GainsOurs }
     ensures inside { GoesOn (state S.Store tx.old.conn.now) (state S.Store tx.new.conn.now) result }
     ensures kept { StaysInside (state S.Store tx.old.conn.now) (state S.Store tx.new.conn.now) }
     ensures same_reference { tx.new.conn.ghost_name ≡ tx.old.conn.ghost_name }

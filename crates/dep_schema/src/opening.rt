@@ -7,7 +7,7 @@ ghost use Rattle.sqlite.specs.State.{HasCleanDisk, IsUnchanged, Survives};
 ghost use Rattle.sqlite.specs.Held.{state};
 ghost use Rattle.dep_tables.specs.Tables.{Tables, tables_of, IsOurs};
 ghost use Rattle.dep_tables.specs.Clauses.{GoesOn, StaysInside, CommitsNothing};
-ghost use Rattle.dep_schema.specs.Standing.{no_schema, our_version, Holds, HoldsNone, Sees, Stands, HasVersion, IsOpenable, CommitsBySchema, CommitsOpen, GainsOurs, StandsBeside, first_tables};
+ghost use Rattle.dep_schema.specs.Standing.{no_schema, our_version, Holds, HoldsNone, Sees, Stands, HasVersion, IsOpenable, CommitsBySchema, CommitsOpen, IsBack, HasOtherVersion, GainsOurs, StandsBeside, first_tables};
 ghost use Rattle.dep_statements.specs.Adding.{HasCounters};
 ghost use Rattle.dep_schema.specs.Beside.{LacksFormat, AreFree};
 
@@ -58,7 +58,8 @@ fn is_known(row: &Row) -> bool
 
 /// Whether it is the one row of id 1 and version 1.
 fn are_known(rows: &[Row]) -> bool
-    ensures { IsTrue result ↔ ((found : _) × (rows.now ≡ found ∷ []) × (column found 0 ≡ Int (pos 1)) × (column found 1 ≡ Int (pos 1))) }
+    ensures { IsTrue result
+        ↔ ((found : _) × (rows.now ≡ found ∷ []) × (column found 0 ≡ Int (pos 1)) × (column found 1 ≡ Int (pos 1))) }
 {
     match rows {
         [row] => is_known(row),
@@ -75,12 +76,17 @@ fn is_missing(fault: &CompileError) -> bool
 
 /// Whether there is a table `format`, which then has to tell version 1.
 fn find_format<S: Alter>(tx: &mut Transaction<'_, S>) -> Result<bool, OpenFault>
-    ensures empty { HasCleanDisk (state S.Store tx.new.conn.now) → (state S.Store tx.old.conn.now).now.schema ≡ no_schema → MatchResult result (λ found. found ≡ false) (λ fault. fault ≢ OpenFault.UnknownVersion) }
+    ensures empty { HasCleanDisk (state S.Store tx.new.conn.now) → (state S.Store tx.old.conn.now).now.schema ≡ no_schema
+        → MatchResult result (λ found. found ≡ false) (λ fault. fault ≢ OpenFault.UnknownVersion) }
     ensures ours { HasCleanDisk (state S.Store tx.new.conn.now) → IsOurs (state S.Store tx.old.conn.now)
-        → MatchResult result (λ found. IsTrue found × HasVersion our_version (tables_of (state S.Store tx.old.conn.now))) (λ fault. fault ≡ OpenFault.UnknownVersion → HasVersion our_version (tables_of (state S.Store tx.old.conn.now)) → ⊥) }
-    ensures lacking { HasCleanDisk (state S.Store tx.new.conn.now) → LacksFormat (state S.Store tx.old.conn.now).now.schema → MatchResult result (λ found. found ≡ false) (λ fault. fault ≢ OpenFault.UnknownVersion) }
-    ensures same { HasCleanDisk (state S.Store tx.new.conn.now) → IsOurs (state S.Store tx.old.conn.now) ⊎ ((state S.Store tx.old.conn.now).now.schema ≡ no_schema) → OnOk result (IsUnchanged (state S.Store tx.old.conn.now) (state S.Store tx.new.conn.now)) }
-    ensures left { HasCleanDisk (state S.Store tx.new.conn.now) → LacksFormat (state S.Store tx.old.conn.now).now.schema → OnOk result (IsUnchanged (state S.Store tx.old.conn.now) (state S.Store tx.new.conn.now)) }
+        → MatchResult result (λ found. IsTrue found × HasVersion our_version (tables_of (state S.Store tx.old.conn.now)))
+        (λ fault. fault ≡ OpenFault.UnknownVersion → HasVersion our_version (tables_of (state S.Store tx.old.conn.now)) → ⊥) }
+    ensures lacking { HasCleanDisk (state S.Store tx.new.conn.now) → LacksFormat (state S.Store tx.old.conn.now).now.schema
+        → MatchResult result (λ found. found ≡ false) (λ fault. fault ≢ OpenFault.UnknownVersion) }
+    ensures same { HasCleanDisk (state S.Store tx.new.conn.now) → IsOurs (state S.Store tx.old.conn.now) ⊎ ((state S.Store tx.old.conn.now).now.schema ≡ no_schema)
+        → OnOk result (IsUnchanged (state S.Store tx.old.conn.now) (state S.Store tx.new.conn.now)) }
+    ensures left { HasCleanDisk (state S.Store tx.new.conn.now) → LacksFormat (state S.Store tx.old.conn.now).now.schema
+        → OnOk result (IsUnchanged (state S.Store tx.old.conn.now) (state S.Store tx.new.conn.now)) }
     ensures inside { GoesOn (state S.Store tx.old.conn.now) (state S.Store tx.new.conn.now) result }
     ensures kept { StaysInside (state S.Store tx.old.conn.now) (state S.Store tx.new.conn.now) }
     ensures same_reference { tx.new.conn.ghost_name ≡ tx.old.conn.ghost_name }
@@ -107,13 +113,17 @@ fn find_format<S: Alter>(tx: &mut Transaction<'_, S>) -> Result<bool, OpenFault>
 
 /// Makes the tables where there are none.
 fn find_or_make<S: Alter>(tx: &mut Transaction<'_, S>) -> Result<(), OpenFault>
-    ensures empty { HasCleanDisk (state S.Store tx.new.conn.now) → IsTrue (state S.Store tx.old.conn.now).in_transaction → (state S.Store tx.old.conn.now).now.schema ≡ no_schema → OnOk result (Sees (state S.Store tx.new.conn.now) first_tables) }
+    ensures empty { HasCleanDisk (state S.Store tx.new.conn.now) → IsTrue (state S.Store tx.old.conn.now).in_transaction
+        → (state S.Store tx.old.conn.now).now.schema ≡ no_schema → OnOk result (Sees (state S.Store tx.new.conn.now) first_tables) }
     ensures ours { HasCleanDisk (state S.Store tx.new.conn.now) → IsOurs (state S.Store tx.old.conn.now)
-        → OnOk result (HasVersion our_version (tables_of (state S.Store tx.old.conn.now)) × ((state S.Store tx.new.conn.now).now ≡ (state S.Store tx.old.conn.now).now)) }
+        → OnOk result (HasVersion our_version (tables_of (state S.Store tx.old.conn.now))
+        × ((state S.Store tx.new.conn.now).now ≡ (state S.Store tx.old.conn.now).now)) }
     ensures version { HasCleanDisk (state S.Store tx.new.conn.now) → result ≡ Err OpenFault.UnknownVersion
-        → (((state S.Store tx.old.conn.now).now.schema ≡ no_schema → ⊥) × (IsOurs (state S.Store tx.old.conn.now) → HasVersion our_version (tables_of (state S.Store tx.old.conn.now)) → ⊥)) }
-    ensures gains { HasCleanDisk (state S.Store tx.new.conn.now) → IsTrue (state S.Store tx.old.conn.now).in_transaction → LacksFormat (state S.Store tx.old.conn.now).now.schema → OnOk result (GainsOurs (state S.Store tx.old.conn.now).now (state S.Store tx.new.conn.now).now) }
-    ensures lacking { HasCleanDisk (state S.Store tx.new.conn.now) → result ≡ Err OpenFault.UnknownVersion → LacksFormat (state S.Store tx.old.conn.now).now.schema → ⊥ }
+        → HasOtherVersion (state S.Store tx.old.conn.now) }
+    ensures gains { HasCleanDisk (state S.Store tx.new.conn.now) → IsTrue (state S.Store tx.old.conn.now).in_transaction
+        → LacksFormat (state S.Store tx.old.conn.now).now.schema → OnOk result (GainsOurs (state S.Store tx.old.conn.now).now (state S.Store tx.new.conn.now).now) }
+    ensures lacking { HasCleanDisk (state S.Store tx.new.conn.now) → result ≡ Err OpenFault.UnknownVersion
+        → LacksFormat (state S.Store tx.old.conn.now).now.schema → ⊥ }
     ensures inside { GoesOn (state S.Store tx.old.conn.now) (state S.Store tx.new.conn.now) result }
     ensures kept { StaysInside (state S.Store tx.old.conn.now) (state S.Store tx.new.conn.now) }
     ensures same_reference { tx.new.conn.ghost_name ≡ tx.old.conn.ghost_name }
@@ -130,19 +140,26 @@ fn find_or_make<S: Alter>(tx: &mut Transaction<'_, S>) -> Result<(), OpenFault>
 
 fn prepare<S: Alter>(connection: &mut Connection<S>) -> Result<(), OpenFault>
     requires settled { (state S.Store connection.old).in_transaction ≡ false }
-    ensures fresh { HasCleanDisk (state S.Store connection.new) → (state S.Store connection.old).now.schema ≡ no_schema → OnOk result (Stands (state S.Store connection.new) first_tables) }
+    ensures fresh { HasCleanDisk (state S.Store connection.new) → (state S.Store connection.old).now.schema ≡ no_schema
+        → OnOk result (Stands (state S.Store connection.new) first_tables) }
     ensures found { HasCleanDisk (state S.Store connection.new) → IsOurs (state S.Store connection.old)
-        → OnOk result (HasVersion our_version (tables_of (state S.Store connection.old)) × Stands (state S.Store connection.new) (tables_of (state S.Store connection.old))) }
+        → OnOk result (HasVersion our_version (tables_of (state S.Store connection.old))
+        × Stands (state S.Store connection.new) (tables_of (state S.Store connection.old))) }
     ensures version { HasCleanDisk (state S.Store connection.new) → result ≡ Err OpenFault.UnknownVersion
-        → (((state S.Store connection.old).now.schema ≡ no_schema → ⊥) × (IsOurs (state S.Store connection.old) → HasVersion our_version (tables_of (state S.Store connection.old)) → ⊥)) }
-    ensures lacking { HasCleanDisk (state S.Store connection.new) → result ≡ Err OpenFault.UnknownVersion → LacksFormat (state S.Store connection.old).now.schema → ⊥ }
-    ensures free { HasCleanDisk (state S.Store connection.new) → LacksFormat (state S.Store connection.old).now.schema → OnOk result (AreFree (state S.Store connection.old).now.schema) }
-    ensures beside { HasCleanDisk (state S.Store connection.new) → LacksFormat (state S.Store connection.old).now.schema → HasCounters (state S.Store connection.old).now.schema → OnOk result (StandsBeside (state S.Store connection.old) (state S.Store connection.new)) }
+        → HasOtherVersion (state S.Store connection.old) }
+    ensures lacking { HasCleanDisk (state S.Store connection.new) → result ≡ Err OpenFault.UnknownVersion
+        → LacksFormat (state S.Store connection.old).now.schema → ⊥ }
+    ensures free { HasCleanDisk (state S.Store connection.new) → LacksFormat (state S.Store connection.old).now.schema
+        → OnOk result (AreFree (state S.Store connection.old).now.schema) }
+    ensures beside { HasCleanDisk (state S.Store connection.new) → LacksFormat (state S.Store connection.old).now.schema
+        → HasCounters (state S.Store connection.old).now.schema → OnOk result (StandsBeside (state S.Store connection.old) (state S.Store connection.new)) }
     ensures left { HasCleanDisk (state S.Store connection.new) → IsTrue (state S.Store connection.new).is_open
-        → OnErr result (((state S.Store connection.new).now ≡ (state S.Store connection.old).committed) × ((state S.Store connection.new).committed ≡ (state S.Store connection.old).committed)) }
-    ensures opened { HasCleanDisk (state S.Store connection.new) → OnOk result (IsTrue (state S.Store connection.old).is_open) }
+        → OnErr result (IsBack (state S.Store connection.old) (state S.Store connection.new)) }
+    ensures opened { HasCleanDisk (state S.Store connection.new)
+        → OnOk result (IsTrue (state S.Store connection.old).is_open) }
     ensures mode { (state S.Store connection.new).in_transaction ≡ false }
-    ensures crash { Survives (state S.Store connection.old) (state S.Store connection.new) (CommitsBySchema (state S.Store connection.old)) }
+    ensures crash { Survives (state S.Store connection.old) (state S.Store connection.new)
+        (CommitsBySchema (state S.Store connection.old)) }
 {
     let mut tx = connection.transaction();
     find_or_make(&mut tx)?;
@@ -159,14 +176,26 @@ pub fn open<S: Alter>(
     mut connection: Connection<S>,
 ) -> Result<Schema<S>, (OpenFault, Connection<S>)>
     requires settled { (state S.Store connection).in_transaction ≡ false }
-    ensures fresh { IfOk result (λ schema. HasCleanDisk (state S.Store schema.connection) → HoldsNone (state S.Store connection).now.trees → Stands (state S.Store schema.connection) first_tables) }
-    ensures found { IfOk result (λ schema. HasCleanDisk (state S.Store schema.connection) → (tables : Tables) → Holds (state S.Store connection).now.trees tables → HasVersion our_version tables × Stands (state S.Store schema.connection) tables) }
-    ensures free { IfOk result (λ schema. HasCleanDisk (state S.Store schema.connection) → LacksFormat (state S.Store connection).now.schema → AreFree (state S.Store connection).now.schema) }
-    ensures beside { IfOk result (λ schema. HasCleanDisk (state S.Store schema.connection) → LacksFormat (state S.Store connection).now.schema → HasCounters (state S.Store connection).now.schema → StandsBeside (state S.Store connection) (state S.Store schema.connection)) }
-    ensures version { IfErr result (λ e. HasCleanDisk (state S.Store e.1) → e.0 ≡ OpenFault.UnknownVersion → IsOpenable (state S.Store connection) → ⊥) }
-    ensures left { IfErr result (λ e. HasCleanDisk (state S.Store e.1) → IsTrue (state S.Store e.1).is_open → ((state S.Store e.1).now ≡ (state S.Store connection).committed) × ((state S.Store e.1).committed ≡ (state S.Store connection).committed)) }
-    ensures mode { MatchResult result (λ schema. (state S.Store schema.connection).in_transaction ≡ false) (λ e. (state S.Store e.1).in_transaction ≡ false) }
-    ensures crash { MatchResult result (λ schema. Survives (state S.Store connection) (state S.Store schema.connection) (CommitsOpen (state S.Store connection))) (λ e. Survives (state S.Store connection) (state S.Store e.1) (CommitsOpen (state S.Store connection))) }
+    ensures fresh { IfOk result (λ schema. HasCleanDisk (state S.Store schema.connection)
+        → HoldsNone (state S.Store connection).now.trees → Stands (state S.Store schema.connection) first_tables) }
+    ensures found { IfOk result (λ schema. HasCleanDisk (state S.Store schema.connection)
+        → (tables : Tables) → Holds (state S.Store connection).now.trees tables
+        → HasVersion our_version tables × Stands (state S.Store schema.connection) tables) }
+    ensures free { IfOk result (λ schema. HasCleanDisk (state S.Store schema.connection)
+        → LacksFormat (state S.Store connection).now.schema → AreFree (state S.Store connection).now.schema) }
+    ensures beside { IfOk result (λ schema. HasCleanDisk (state S.Store schema.connection)
+        → LacksFormat (state S.Store connection).now.schema → HasCounters (state S.Store connection).now.schema
+        → StandsBeside (state S.Store connection) (state S.Store schema.connection)) }
+    ensures version { IfErr result (λ e. HasCleanDisk (state S.Store e.1)
+        → e.0 ≡ OpenFault.UnknownVersion → IsOpenable (state S.Store connection) → ⊥) }
+    ensures left { IfErr result (λ e. HasCleanDisk (state S.Store e.1)
+        → IsTrue (state S.Store e.1).is_open → IsBack (state S.Store connection) (state S.Store e.1)) }
+    ensures mode { MatchResult result
+        (λ schema. (state S.Store schema.connection).in_transaction ≡ false)
+        (λ e. (state S.Store e.1).in_transaction ≡ false) }
+    ensures crash { MatchResult result
+        (λ schema. Survives (state S.Store connection) (state S.Store schema.connection) (CommitsOpen (state S.Store connection)))
+        (λ e. Survives (state S.Store connection) (state S.Store e.1) (CommitsOpen (state S.Store connection))) }
 {
     let _schema = connection.schema();
     match prepare(&mut connection) {
