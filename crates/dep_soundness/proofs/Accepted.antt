@@ -35,7 +35,7 @@ use Rattle.dep_decisions.specs.declared.decision.Deposit.TheVariants as deposit
 use Rattle.dep_decisions.specs.declared.decision.Decision.{Decision}
 use Rattle.dep_decisions.specs.declared.decision.Decision.TheVariants.{Show, Create, Append, Replace, Complete, SetMetadata, SetFiles}
 use Rattle.dep_soundness.proofs.FoundInMaps.{all_passed, unless-none}
-use Rattle.dep_soundness.proofs.SoundEffects.{carried_sound}
+use Rattle.dep_soundness.proofs.SoundEffects.{decision_sound}
 use Rattle.dep_soundness.proofs.AcceptedRoom.{accepted_has_room}
 
 -- ---- kinds
@@ -264,4 +264,4 @@ module _ (config : Config) (s : State) (op : Operation) (fit : AreFit op.fields)
   -- a request that is accepted keeps a sound state sound
   pub effect_sound : refusal config s op ≡ None → IsSound s → IsSound (effect config s op)
   unfolding effect
-  effect_sound e sound = carried_sound s op.content sound (decision config op) (decision_fit e) (accepted_has_room config s op e)
+  effect_sound e sound = decision_sound s op.content sound (decision config op) (decision_fit e) (accepted_has_room config s op e)

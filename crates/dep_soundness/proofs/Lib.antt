@@ -5,4 +5,10 @@ pub mod SoundParts
 pub mod SoundEffects
 pub mod AcceptedRoom
 pub mod Accepted
+pub mod GivenOnce
+pub mod ReadAlone
+pub mod Ingested
+pub mod Lengths
 pub mod InOrder
+pub mod Referred
+pub mod Deposited

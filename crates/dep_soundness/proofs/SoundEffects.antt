@@ -15,7 +15,7 @@ use Rattle.dep_docs_in.specs.Fit.{IsFitMetadata}
 use Rattle.dep_docs_in.proofs.FitDocuments.{kept-found}
 use Rattle.dep_decisions.specs.Decisions.{count_of, numbers_for}
 use Rattle.dep_decisions.specs.Rules.{segment_refusal, unless}
-use Rattle.dep_decisions.specs.Effects.{added, appended, at, effect_of, changed, file_from, filled, fresh, ingested_by, used, with_files, with_segment, with_texts}
+use Rattle.dep_decisions.specs.Effects.{without, added, appended, at, effect_of, changed, file_from, filled, fresh, ingested_by, used, with_files, with_segment, with_texts}
 use Rattle.dep_soundness.specs.Fit.{IsFitDecision, IsFitDeposit, IsFitFile}
 use Rattle.dep_decisions.specs.declared.decision.NewFile.{NewFile}
 use Rattle.dep_decisions.specs.declared.decision.Deposit.{Deposit}
@@ -26,7 +26,7 @@ use Rattle.dep_types.specs.Numbers.{room_for}
 use Rattle.dep_soundness.proofs.Bounds.{bounded_after}
 use Rattle.dep_soundness.proofs.FoundInMaps.{AreNamed, all_passed, at-some, at-none, left-was, named-joined, nothing_named, nothing_there, unless-none}
 use Rattle.dep_soundness.proofs.AddedFiles.{IsMade, added-sound, added-place, made, made-sound}
-use Rattle.dep_soundness.proofs.SoundParts.{AreUploads, IsInPlace, stays_sound, objects_same, objects_left, objects_put, objects_at, in_place, uploads_left, uploads_put}
+use Rattle.dep_soundness.proofs.SoundParts.{AreObjects, AreUploads, IsInPlace, stays_sound, objects_same, objects_left, objects_put, objects_at, in_place, uploads_left, uploads_put}
 
 given_next : (n : ℕ) → 1 ≤ n → IsGiven (n + 1) n
 given_next n h = record { least = h; below = omega arith }
@@ -214,93 +214,101 @@ module _ (s : State) (content : List ℕ) (sound : IsSound s) where
   not_itself : (n m : ℕ) → n ≡ m → n < m → ⊥
   not_itself n m same h = omega arith
 
-  pub carried_sound : (d : Decision) → IsFitDecision s content d → room_for s.next (numbers_for d) ≡ true → IsSound (effect_of s content d)
-  carried_sound Show fit room =
-      let t = effect_of s content Show in
-      stays_sound s t sound (later_by Show) 0 (bounded_after s sound (numbers_for Show) room) refl refl (objects_same s t sound (later_by Show) 0 refl) (uploads_left s t sound (later_by Show) [] refl)
-  carried_sound (Create d ingested) fit room =
-      let t = effect_of s content (Create d ingested) in
-      let later = later_by (Create d ingested) in
-      stays_sound s t sound later s.next.object (bounded_after s sound (numbers_for (Create d ingested)) room) refl refl
-      (objects_put s t sound later s.next.object (filled s content d ingested) refl
-      (filled_sound s t content sound later change_given s.next.object d ingested fit (given_next s.next.object sound.next_object) refl)
-      (filled_place s t content sound later change_given s.next.object d ingested fit))
-      (uploads_left s t sound later (used (Create d ingested)) refl)
-  carried_sound (Append n d ingests) fit room =
+  -- the object that a decision changes
+  pub target_of : Decision → ℕ
+  target_of (Create d ingests) = s.next.object
+  target_of (Append n d ingests) = n
+  target_of (Replace n d ingests) = n
+  target_of (Complete n) = n
+  target_of (SetMetadata n texts) = n
+  target_of (SetFiles n new) = n
+  target_of (SetFile n f new) = n
+  target_of (DropFile n f) = n
+  target_of (DropObject n) = n
+  target_of _ = 0
+
+  pub objects_by : (d : Decision) → IsFitDecision s content d → AreObjects s (effect_of s content d) (target_of d)
+  unfolding target_of
+  objects_by Show fit = objects_same s (effect_of s content Show) sound (later_by Show) 0 refl
+  objects_by (Create d ingests) fit =
+      let t = effect_of s content (Create d ingests) in
+      let later = later_by (Create d ingests) in
+      objects_put s t sound later s.next.object (filled s content d ingests) refl
+      (filled_sound s t content sound later change_given s.next.object d ingests fit (given_next s.next.object sound.next_object) refl)
+      (filled_place s t content sound later change_given s.next.object d ingests fit)
+  objects_by (Append n d ingests) fit =
       let t = effect_of s content (Append n d ingests) in
       let later = later_by (Append n d ingests) in
-      stays_sound s t sound later n (bounded_after s sound (numbers_for (Append n d ingests)) room) refl refl
-      (objects_at s t sound later n (λ o. ingested_by ingests (appended s content d o)) refl (λ o e.
-      (appended_sound s t content sound later change_given n o e d ingests fit refl, appended_place s t content sound later change_given n o e d ingests fit)))
-      (uploads_left s t sound later (used (Append n d ingests)) refl)
-  carried_sound (Replace n d ingests) fit room =
+      objects_at s t sound later n (λ o. ingested_by ingests (appended s content d o)) refl (λ o e.
+      (appended_sound s t content sound later change_given n o e d ingests fit refl, appended_place s t content sound later change_given n o e d ingests fit))
+  objects_by (Replace n d ingests) fit =
       let t = effect_of s content (Replace n d ingests) in
       let later = later_by (Replace n d ingests) in
-      stays_sound s t sound later n (bounded_after s sound (numbers_for (Replace n d ingests)) room) refl refl
-      (objects_at s t sound later n (λ o. filled s content d (o.ingested || ingests)) refl (λ o e. (
+      objects_at s t sound later n (λ o. filled s content d (o.ingested || ingests)) refl (λ o e. (
         filled_sound s t content sound later change_given n d (o.ingested || ingests) fit (given_later _ _ n later.object (sound.objects n o e).number_given) refl,
         filled_place s t content sound later change_given n d (o.ingested || ingests) fit,
-      )))
-      (uploads_left s t sound later (used (Replace n d ingests)) refl)
-  carried_sound (Complete n) fit room =
+      ))
+  objects_by (Complete n) fit =
       let t = effect_of s content (Complete n) in
       let later = later_by (Complete n) in
-      stays_sound s t sound later n (bounded_after s sound (numbers_for (Complete n)) room) refl refl
-      (objects_at s t sound later n (λ o. ingested_by true (changed s o)) refl (λ o e.
-      (completed_sound s t content sound later change_given n o e, in_place s t sound later n o e)))
-      (uploads_left s t sound later [] refl)
-  carried_sound (SetMetadata n texts) fit room =
+      objects_at s t sound later n (λ o. ingested_by true (changed s o)) refl (λ o e.
+      (completed_sound s t content sound later change_given n o e, in_place s t sound later n o e))
+  objects_by (SetMetadata n texts) fit =
       let t = effect_of s content (SetMetadata n texts) in
       let later = later_by (SetMetadata n texts) in
-      stays_sound s t sound later n (bounded_after s sound (numbers_for (SetMetadata n texts)) room) refl refl
-      (objects_at s t sound later n (with_texts s texts) refl (λ o e.
-      (with_texts_sound s t content sound later change_given n o e texts (named_texts texts fit), in_place s t sound later n o e)))
-      (uploads_left s t sound later [] refl)
-  carried_sound (SetFiles n new) fit room =
+      objects_at s t sound later n (with_texts s texts) refl (λ o e.
+      (with_texts_sound s t content sound later change_given n o e texts (named_texts texts fit), in_place s t sound later n o e))
+  objects_by (SetFiles n new) fit =
       let t = effect_of s content (SetFiles n new) in
       let later = later_by (SetFiles n new) in
-      stays_sound s t sound later n (bounded_after s sound (numbers_for (SetFiles n new)) room) refl refl
-      (objects_at s t sound later n (with_files s (added s content new map.empty)) refl (λ o e. (
+      objects_at s t sound later n (with_files s (added s content new map.empty)) refl (λ o e. (
         with_files_sound s t content sound later change_given n o e (added s content new map.empty)
             (added-sound s content t sound later change_given new map.empty fit refl (no_files s t content sound later change_given)),
         λ f a is. new_place s t content sound later change_given n f a (added-place s content new map.empty fit f a is),
-      )))
-      (uploads_left s t sound later (used (SetFiles n new)) refl)
-  carried_sound (SetFile n f new) fit room =
+      ))
+  objects_by (SetFile n f new) fit =
       let t = effect_of s content (SetFile n f new) in
       let later = later_by (SetFile n f new) in
-      stays_sound s t sound later n (bounded_after s sound (numbers_for (SetFile n f new)) room) refl refl
-      (objects_at s t sound later n (λ o. with_files s (map.insert o.files f (file_from s content new)) o) refl (λ o e.
+      objects_at s t sound later n (λ o. with_files s (map.insert o.files f (file_from s content new)) o) refl (λ o e.
       let was = there_by n f o fit.1 e in (
         with_files_sound s t content sound later change_given n o e (map.insert o.files f (file_from s content new))
             (λ g a is. replaced_sound s t content sound later change_given n o e f new fit.0 was.0 was.1 g a (found o.files f (file_from s content new) g a is)),
         λ g a is. replaced_place s t content sound later change_given n o e f new was.0 was.1 g a (found o.files f (file_from s content new) g a is),
-      )))
-      (uploads_left s t sound later [] refl)
-  carried_sound (DropFile n f) fit room =
+      ))
+  objects_by (DropFile n f) fit =
       let t = effect_of s content (DropFile n f) in
       let later = later_by (DropFile n f) in
-      stays_sound s t sound later n (bounded_after s sound (numbers_for (DropFile n f)) room) refl refl
-      (objects_at s t sound later n (λ o. with_files s (map.remove o.files f) o) refl (λ o e. (
+      objects_at s t sound later n (λ o. with_files s (map.remove o.files f) o) refl (λ o e. (
         with_files_sound s t content sound later change_given n o e (map.remove o.files f)
             (λ g a is. file_later s t later g a ((sound.objects n o e).files g a (left-was o.files f g a is))),
         λ g a is. in_place s t sound later n o e g a (left-was o.files f g a is),
-      )))
-      (uploads_left s t sound later [] refl)
-  carried_sound (DropObject n) fit room =
-      let t = effect_of s content (DropObject n) in
-      let later = later_by (DropObject n) in
-      stays_sound s t sound later n (bounded_after s sound (numbers_for (DropObject n)) room) refl refl (objects_left s t sound later n n refl) (uploads_left s t sound later [] refl)
-  carried_sound (Open o) fit room =
-      let t = effect_of s content (Open o) in
-      let later = later_by (Open o) in
-      stays_sound s t sound later 0 (bounded_after s sound (numbers_for (Open o)) room) refl refl (objects_same s t sound later 0 refl)
-      (uploads_put s t sound later s.next.upload (fresh s o) refl (opened_sound o fit) (λ n given none same. absurd (not_itself n s.next.upload same given.below)))
-  carried_sound (Receive u k) fit room =
-      let t = effect_of s content (Receive u k) in
-      let later = later_by (Receive u k) in
-      stays_sound s t sound later 0 (bounded_after s sound (numbers_for (Receive u k)) room) refl refl (objects_same s t sound later 0 refl) (received s t content sound later u k refl fit)
-  carried_sound (DropUpload u) fit room =
-      let t = effect_of s content (DropUpload u) in
-      let later = later_by (DropUpload u) in
-      stays_sound s t sound later 0 (bounded_after s sound (numbers_for (DropUpload u)) room) refl refl (objects_same s t sound later 0 refl) (uploads_left s t sound later (u ∷ []) refl)
+      ))
+  objects_by (DropObject n) fit = objects_left s (effect_of s content (DropObject n)) sound (later_by (DropObject n)) n n refl
+  objects_by (Open o) fit = objects_same s (effect_of s content (Open o)) sound (later_by (Open o)) 0 refl
+  objects_by (Receive u k) fit = objects_same s (effect_of s content (Receive u k)) sound (later_by (Receive u k)) 0 refl
+  objects_by (DropUpload u) fit = objects_same s (effect_of s content (DropUpload u)) sound (later_by (DropUpload u)) 0 refl
+
+  left_by : (d : Decision) → (effect_of s content d).uploads ≡ without s.uploads (used d) → AreUploads s (effect_of s content d)
+  left_by d same = uploads_left s (effect_of s content d) sound (later_by d) (used d) same
+
+  pub uploads_by : (d : Decision) → IsFitDecision s content d → AreUploads s (effect_of s content d)
+  uploads_by (Open o) fit =
+      uploads_put s (effect_of s content (Open o)) sound (later_by (Open o)) s.next.upload (fresh s o) refl (opened_sound o fit)
+      (λ n given none same. absurd (not_itself n s.next.upload same given.below))
+  uploads_by (Receive u k) fit = received s (effect_of s content (Receive u k)) content sound (later_by (Receive u k)) u k refl fit
+  uploads_by Show fit = left_by Show refl
+  uploads_by (Create d ingests) fit = left_by (Create d ingests) refl
+  uploads_by (Append n d ingests) fit = left_by (Append n d ingests) refl
+  uploads_by (Replace n d ingests) fit = left_by (Replace n d ingests) refl
+  uploads_by (Complete n) fit = left_by (Complete n) refl
+  uploads_by (SetMetadata n texts) fit = left_by (SetMetadata n texts) refl
+  uploads_by (SetFiles n new) fit = left_by (SetFiles n new) refl
+  uploads_by (SetFile n f new) fit = left_by (SetFile n f new) refl
+  uploads_by (DropFile n f) fit = left_by (DropFile n f) refl
+  uploads_by (DropObject n) fit = left_by (DropObject n) refl
+  uploads_by (DropUpload u) fit = left_by (DropUpload u) refl
+
+  pub decision_sound : (d : Decision) → IsFitDecision s content d → room_for s.next (numbers_for d) ≡ true → IsSound (effect_of s content d)
+  decision_sound d fit room =
+      stays_sound s (effect_of s content d) sound (later_by d) (target_of d) (bounded_after s sound (numbers_for d) room) refl refl
+      (objects_by d fit) (uploads_by d fit)

@@ -1,1 +1,2 @@
 pub mod Fit
+pub mod Laws

@@ -1,0 +1,68 @@
+-- Words of the laws.
+use Rattle.std.specs.Prelude.{◌≡◌, ◌⊎◌, ℕ, ◌<◌, ◌≤◌, Bool, true, false, length, Some, None, IsTrue}
+use Rattle.std.specs.FinMap as map
+use Rattle.dep_types.specs.State.{State, Object, File, Upload, file_at}
+use Rattle.dep_types.specs.Uploads.{assembled}
+use Rattle.dep_types.specs.declared.target.Resource.{Resource}
+use Rattle.dep_types.specs.declared.target.Resource.TheVariants.{Object as AnObject, FileSet as AFileSet, Upload as AnUpload}
+use Rattle.dep_types.specs.declared.target.Method.{Method}
+use Rattle.dep_types.specs.declared.target.Method.TheVariants.{Get, Head, Delete}
+use Rattle.dep_fixity.specs.Fixity.{digests_of, is_kept, keeps}
+use Rattle.dep_docs_in.specs.declared.reference.Reference.{Reference}
+use Rattle.dep_docs_in.specs.declared.reference.Pointed.TheVariants.{Upload as Pointing}
+use Rattle.dep_decisions.specs.Rules.{has_length}
+
+-- ---- numbers
+
+-- a number that was next, or behind the next, and has been given since
+pub record IsNew (next after number : ℕ) : Type 0 where
+  pub from : next ≤ number
+  pub below : number < after
+
+-- what stands at a number stood there before, or its number is new; and what is changed has a new tag
+pub record AreGivenOnce (s t : State) : Type 0 where
+  pub objects : (n : ℕ) (o : Object) → map.get t.objects n ≡ Some o
+      → ((old : Object) × (map.get s.objects n ≡ Some old)) ⊎ IsNew s.next.object t.next.object n
+  pub files : (n f : ℕ) (file : File) → file_at t n f ≡ Some file
+      → ((old : File) × (file_at s n f ≡ Some old)) ⊎ IsNew s.next.file t.next.file f
+  pub uploads : (n : ℕ) (u : Upload) → map.get t.uploads n ≡ Some u
+      → ((old : Upload) × (map.get s.uploads n ≡ Some old)) ⊎ IsNew s.next.upload t.next.upload n
+  pub tags : (n : ℕ) (o : Object) → map.get t.objects n ≡ Some o
+      → (map.get s.objects n ≡ Some o) ⊎ ((o.tag ≡ s.next.change) × IsNew s.next.change t.next.change o.tag)
+
+-- ---- requests that read alone
+
+abbrev pub is_read : Method → Bool
+is_read Get = true
+is_read Head = true
+is_read method = false
+
+-- they are asked for nothing but what is there
+abbrev pub reads_no_further : Resource → Method → Bool
+reads_no_further (AnUpload u) Delete = true
+reads_no_further resource method = is_read method
+
+-- ---- deposits by reference
+
+-- the object that takes what is deposited there
+abbrev pub deposited_object : State → Resource → ℕ
+deposited_object s (AnObject n) = n
+deposited_object s (AFileSet n) = n
+deposited_object s resource = s.next.object
+
+-- the file is the upload that the entry points at, joined by number, with the size that was told and
+-- each digest that was promised, and the upload is gone
+pub record IsDepositedFrom (s t : State) (r : Reference) (file : File) : Type 0 where
+  pub upload : ℕ
+  pub target : r.target ≡ Pointing upload
+  pub was : Upload
+  pub there : map.get s.uploads upload ≡ Some was
+  pub content : file.content ≡ assembled was
+  pub size : length file.content ≡ was.size
+  pub said : IsTrue (has_length r.length was)
+  pub promised : IsTrue (is_kept was.sha256 (digests_of file.content).sha256)
+  pub digest : IsTrue (keeps r.digest (digests_of file.content))
+  pub name : file.name ≡ r.name
+  pub media : file.media ≡ r.media
+  pub by_reference : file.by_reference ≡ true
+  pub gone : map.get t.uploads upload ≡ None
