@@ -25,6 +25,7 @@ pub fn stream_blocks<S: Alter, O: Outlet>(
     ensures streams { (sent : List ℕ) × Appends (O.taken out.old) (O.taken out.new) sent × (HasCleanDisk (state S.Store connection.new) → IsOurs (state S.Store connection.old) → SendsBlocks (filter (is_block_of owner) (tables_of (state S.Store connection.old)).blocks) size sent result) }
     ensures ok { HasCleanDisk (state S.Store connection.new) → IsOurs (state S.Store connection.old) → OnOk result ((connection.new ≡ connection.old) ⊎ IsUnchanged (state S.Store connection.old) (state S.Store connection.new)) }
     ensures err { HasCleanDisk (state S.Store connection.new) → IsOurs (state S.Store connection.old) → IsTrue (state S.Store connection.new).is_open → OnErr result (IsUnchanged (state S.Store connection.old) (state S.Store connection.new) ⊎ IsRolledBack (state S.Store connection.old) (state S.Store connection.new)) }
+    ensures clean { HasCleanDisk (state S.Store connection.new) → HasCleanDisk (state S.Store connection.old) }
     ensures survives { IsOurs (state S.Store connection.old) → Survives (state S.Store connection.old) (state S.Store connection.new) (λ _. ⊥) }
     ensures kept { OnOk result (O.failures out.new ≡ O.failures out.old) }
     ensures cause { result ≡ Err StreamFault.Writer → HasRisen (O.failures out.old) (O.failures out.new) }
@@ -55,6 +56,7 @@ pub fn stream_part<S: Alter, O: Outlet>(
     ensures streams { (sent : List ℕ) × Appends (O.taken out.old) (O.taken out.new) sent × (HasCleanDisk (state S.Store connection.new) → IsOurs (state S.Store connection.old) → SendsBlocks (filter (is_part_of owner part) (tables_of (state S.Store connection.old)).blocks) size sent result) }
     ensures ok { HasCleanDisk (state S.Store connection.new) → IsOurs (state S.Store connection.old) → OnOk result ((connection.new ≡ connection.old) ⊎ IsUnchanged (state S.Store connection.old) (state S.Store connection.new)) }
     ensures err { HasCleanDisk (state S.Store connection.new) → IsOurs (state S.Store connection.old) → IsTrue (state S.Store connection.new).is_open → OnErr result (IsUnchanged (state S.Store connection.old) (state S.Store connection.new) ⊎ IsRolledBack (state S.Store connection.old) (state S.Store connection.new)) }
+    ensures clean { HasCleanDisk (state S.Store connection.new) → HasCleanDisk (state S.Store connection.old) }
     ensures survives { IsOurs (state S.Store connection.old) → Survives (state S.Store connection.old) (state S.Store connection.new) (λ _. ⊥) }
     ensures kept { OnOk result (O.failures out.new ≡ O.failures out.old) }
     ensures cause { result ≡ Err StreamFault.Writer → HasRisen (O.failures out.old) (O.failures out.new) }

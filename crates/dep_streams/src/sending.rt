@@ -50,6 +50,7 @@ pub(crate) fn stream_sized<S: Alter, O: Outlet>(
         × (HasCleanDisk (state S.Store connection.new) → IsPlain (understood connection.old.schema sql.now) → SendsSized sql.now (bound params.now) (state S.Store connection.old) size sent result) }
     ensures ok { HasCleanDisk (state S.Store connection.new) → IsPlain (understood connection.old.schema sql.now) → OnOk result (IsUnchanged (state S.Store connection.old) (state S.Store connection.new)) }
     ensures err { HasCleanDisk (state S.Store connection.new) → IsPlain (understood connection.old.schema sql.now) → OnErr result (IsUnchanged (state S.Store connection.old) (state S.Store connection.new) ⊎ IsRolledBack (state S.Store connection.old) (state S.Store connection.new)) }
+    ensures clean { HasCleanDisk (state S.Store connection.new) → HasCleanDisk (state S.Store connection.old) }
     ensures survives { IsPlain (understood connection.old.schema sql.now) → Survives (state S.Store connection.old) (state S.Store connection.new) (λ _. ⊥) }
     ensures kept { OnOk result (O.failures out.new ≡ O.failures out.old) }
     ensures cause { result ≡ Err StreamFault.Writer → HasRisen (O.failures out.old) (O.failures out.new) }

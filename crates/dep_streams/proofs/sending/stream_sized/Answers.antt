@@ -42,6 +42,7 @@ rows-init g c =
       λ clean plain.
           let begun = begun_plain g.S.Store c.args.sql.now _ c.args.connection.now _ plain (made.begun clean) in
           ([], begun.0, begun.1, refl),
+      λ clean. omega (arith, clean, made.survives.clean),
     )
 
 pub returns-in-Err-next-clause-streams : goal.returns-in-Err-next-clause-streams
@@ -145,4 +146,5 @@ rows-preserved g c =
             unchanged_then (state g.S.Store c.args.connection.now) (state g.S.Store c.rows.rows.conn.now) (state g.S.Store now) was.2 same,
             ap (λ l. l ++ blob_of row) was.3 ∙ sym (joined_push was.0 row),
           ),
+      λ late. c.rows.invariant.8 (omega (arith, late, moved.survives.clean)),
     )

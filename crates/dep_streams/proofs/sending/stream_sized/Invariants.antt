@@ -17,3 +17,4 @@ invariant-rows g l =
     × (g.O.Outlet.failures l.out ≡ g.O.Outlet.failures l.fn.out)
     × (sent : List ℕ) × (l.left + length sent ≡ l.fn.size) × Appends (g.O.Outlet.taken l.fn.out) (g.O.Outlet.taken l.out) sent
     × (HasCleanDisk now → IsPlain (understood old.now.schema l.sql) → (given : List Row) × HasGiven g.S.Store l.sql (bound l.params) l.rows.conn.now given × IsUnchanged old now × (sent ≡ joined given))
+    × (HasCleanDisk now → HasCleanDisk old)
