@@ -1,0 +1,6 @@
+pub mod Cuts
+pub mod Written
+pub mod FileCalls
+pub mod Results
+pub mod SizeFound
+pub mod Streams

@@ -1,0 +1,34 @@
+use Rattle.std.proofs.Common.{◌≡◌, arith, ap, ◌∙◌, map}
+use Rattle.sqlite.specs.State.{HasCleanDisk}
+use Rattle.sqlite.specs.Held.{state}
+use Rattle.dep_types.specs.declared.rows.FileRow.{FileRow}
+use Rattle.dep_tables.specs.Tables.{Tables, tables_of}
+use Rattle.dep_tables.proofs.Results.{ok_then, if_failed}
+use Rattle.dep_row_maps.proofs.Readings.{files_read}
+use Rattle.dep_files.specs.Edits.{without_contents}
+use Rattle.dep_files.proofs.Results.{still_ours, same_tables, left_whole}
+use Rattle.dep_files.proofs.FileCalls.{files_gone}
+use Rattle.dep_files.proofs.files.delete_files.Goals as goal
+
+pub returns-clause-map : goal.returns-clause-map
+returns-clause-map g c clean inside ours s are o there =
+    let old = state g.S.Store c.args.tx.now.conn.now in
+    let one = state g.S.Store c.files_of.new.tx.conn.now in
+    let two = state g.S.Store c.delete_contents.new.tx.conn.now in
+    let new = state g.S.Store c.delete_files.new.tx.conn.now in
+    let clean_two : HasCleanDisk two = omega (arith, clean, c.delete_files.ensures.survives.clean) in
+    let clean_one : HasCleanDisk one = omega (arith, clean_two, c.delete_contents.ensures.survives.clean) in
+    let same = c.in_ok-rows.ensures.same clean_one ours in
+    let ours_one = still_ours old one same ours in
+    let tables_one = same_tables old one same in
+    let found = c.in_ok-rows.rows.items in
+    let is = files_read (tables_of old) s are c.args.object found (c.in_ok-rows.ensures.ok clean_one ours) in
+    let gone = c.in_ok-delete_contents.ensures.ok clean_two (c.in_ok-rows.ensures.inside clean_one inside) ours_one in
+    let first : tables_of two ≡ record (tables_of old) { blocks = without_contents (map (λ (r : FileRow). r.file) found) (tables_of old).blocks } =
+    gone.rows ∙ ap (λ (fs : _). record (tables_of one) { blocks = without_contents (map (λ (r : FileRow). r.file) fs) (tables_of one).blocks }) c.as_slice.ensures.value
+    ∙ ap (λ (t : Tables). record t { blocks = without_contents (map (λ (r : FileRow). r.file) found) t.blocks }) tables_one in
+    ok_then c.delete_files.result (c.delete_files.ensures.ok clean (c.in_ok-delete_contents.ensures.inside clean_two (c.in_ok-rows.ensures.inside clean_one inside)) gone.ours)
+    (λ leads. files_gone (tables_of old) (tables_of two) (tables_of new) s c.args.object o found are ours.trees.ordered.1.1.1.1.0 there is first leads.rows)
+
+pub returns-in_err-rows-clause-err : goal.returns-in_err-rows-clause-err
+returns-in_err-rows-clause-err g c ours clean inside is_open = if_failed _ (left_whole (state g.S.Store c.args.tx.now.conn.now) (state g.S.Store c.files_of.new.tx.conn.now) inside is_open (c.in_err-rows.ensures.err clean inside ours is_open))

@@ -1,0 +1,5 @@
+pub mod Edits
+pub mod Reading
+pub mod Sizes
+pub mod Sent
+pub mod Faults

@@ -1,0 +1,59 @@
+//! The files of an object, read without their contents.
+
+ghost use Rattle.std.specs.Prelude.{◌≡◌, nat_eq, map, option_map, option_and_then};
+ghost use Rattle.std.specs.FinMap as finmap;
+ghost use Rattle.sqlite.specs.Held.{state};
+ghost use Rattle.dep_types.specs.State.{file_at};
+ghost use Rattle.dep_types.specs.Rows.{file_row};
+ghost use Rattle.dep_tables.specs.Clauses.{ReadsOnly, FailsReading, GoesOn, StaysInside, CommitsNothing};
+ghost use Rattle.dep_row_maps.specs.TablesAre.{files_at};
+ghost use Rattle.dep_row_maps.specs.Laws.{if_passes};
+ghost use Rattle.dep_files.specs.Reading.{Tells};
+
+use dep_tables::files_of;
+use dep_types::{FileRow, FileRows, StoreFault};
+use sqlite::{Alter, Transaction};
+use std::alloc::Global;
+
+/// The files of an object, by ascending number; none where there is no such object. A number of 2^63 or more is a fault of the store.
+pub fn load_files<S: Alter>(
+    tx: &mut Transaction<'_, S>,
+    alloc: Global,
+    object: u64,
+) -> Result<FileRows, StoreFault>
+    ensures map { Tells (state S.Store tx.old.conn.now) (state S.Store tx.new.conn.now) result (λ s found. found ≡ map (λ e. file_row object e.0 e.1) (finmap.entries (files_at s.objects object))) }
+    ensures same { ReadsOnly (state S.Store tx.old.conn.now) (state S.Store tx.new.conn.now) result }
+    ensures err { FailsReading (state S.Store tx.old.conn.now) (state S.Store tx.new.conn.now) result }
+    ensures inside { GoesOn (state S.Store tx.old.conn.now) (state S.Store tx.new.conn.now) result }
+    ensures kept { StaysInside (state S.Store tx.old.conn.now) (state S.Store tx.new.conn.now) }
+    ensures same_reference { tx.new.conn.ghost_name ≡ tx.old.conn.ghost_name }
+    ensures survives { CommitsNothing (state S.Store tx.old.conn.now) (state S.Store tx.new.conn.now) }
+{
+    Ok(FileRows::new(files_of(tx, alloc, object)?))
+}
+
+fn if_of(found: Option<FileRow>, object: u64) -> Option<FileRow>
+    ensures { result ≡ option_and_then (if_passes (λ row. nat_eq row.object object)) found }
+{
+    match found {
+        Some(row) if row.object == object => Some(row),
+        _ => None,
+    }
+}
+
+/// The file of an object and a number, if the object has it. A number of a file of 2^63 or more is a fault of the store.
+pub fn find_file<S: Alter>(
+    tx: &mut Transaction<'_, S>,
+    object: u64,
+    file: u64,
+) -> Result<Option<FileRow>, StoreFault>
+    ensures map { Tells (state S.Store tx.old.conn.now) (state S.Store tx.new.conn.now) result (λ s found. found ≡ option_map (file_row object file) (file_at s object file)) }
+    ensures same { ReadsOnly (state S.Store tx.old.conn.now) (state S.Store tx.new.conn.now) result }
+    ensures err { FailsReading (state S.Store tx.old.conn.now) (state S.Store tx.new.conn.now) result }
+    ensures inside { GoesOn (state S.Store tx.old.conn.now) (state S.Store tx.new.conn.now) result }
+    ensures kept { StaysInside (state S.Store tx.old.conn.now) (state S.Store tx.new.conn.now) }
+    ensures same_reference { tx.new.conn.ghost_name ≡ tx.old.conn.ghost_name }
+    ensures survives { CommitsNothing (state S.Store tx.old.conn.now) (state S.Store tx.new.conn.now) }
+{
+    Ok(if_of(dep_tables::find_file(tx, file)?, object))
+}

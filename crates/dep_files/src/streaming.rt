@@ -1,0 +1,93 @@
+//! The content of a file, sent one block at a time, outside a transaction.
+
+ghost use Rattle.std.specs.Prelude.{◌≡◌, ◌⊎◌, ℕ, List, IsTrue, IfOk, OnOk, OnErr, Err};
+ghost use Rattle.std.specs.Io.KnownBytes.{Appends};
+ghost use Rattle.sqlite.specs.State.{HasCleanDisk, Survives};
+ghost use Rattle.sqlite.specs.Held.{state};
+ghost use Rattle.dep_types.specs.State.{State};
+ghost use Rattle.dep_types.specs.Writing.{HasRisen};
+ghost use Rattle.dep_tables.specs.Tables.{tables_of, IsOurs};
+ghost use Rattle.dep_row_maps.specs.TablesAre.{TablesAre};
+ghost use Rattle.dep_files.specs.Reading.{Tells, IsKept};
+ghost use Rattle.dep_files.specs.Sent.{IsStreamed, IsLoaded};
+ghost use Rattle.dep_files.specs.Faults.{fault_of_store, fault_of_blocks, load_fault};
+
+use crate::sizes::find_size;
+use dep_streams::stream_blocks;
+use dep_tables::BlockOwner;
+use dep_types::{Octets, Outlet, StoreFault, StreamFault, Through};
+use sqlite::{Alter, Connection};
+use std::alloc::Global;
+
+fn fault_of_store(fault: StoreFault) -> StreamFault
+    ensures { result ≡ fault_of_store fault }
+{
+    match fault {
+        StoreFault::Store => StreamFault::Store,
+        StoreFault::Memory => StreamFault::Memory,
+    }
+}
+
+fn fault_of_blocks(fault: dep_streams::StreamFault) -> StreamFault
+    ensures { result ≡ fault_of_blocks fault }
+{
+    match fault {
+        dep_streams::StreamFault::Writer => StreamFault::Writer,
+        dep_streams::StreamFault::Store => StreamFault::Store,
+        dep_streams::StreamFault::Memory => StreamFault::Memory,
+    }
+}
+
+/// Sends the content of a file. It holds one block at a time, and asks for no more of them than the file has bytes. A number of 2^63 or more is a fault of the store.
+pub fn stream_content<S: Alter, O: Outlet>(
+    connection: &mut Connection<S>,
+    file: u64,
+    out: &mut O,
+) -> Result<(), StreamFault>
+    ensures streams { (sent : List ℕ) × Appends (O.taken out.old) (O.taken out.new) sent × (HasCleanDisk (state S.Store connection.new) → IsOurs (state S.Store connection.old) → (s : State) → TablesAre (tables_of (state S.Store connection.old)) s → IsStreamed s file sent result) }
+    ensures same { HasCleanDisk (state S.Store connection.new) → IsOurs (state S.Store connection.old) → IsKept (state S.Store connection.old) (state S.Store connection.new) }
+    ensures clean { HasCleanDisk (state S.Store connection.new) → HasCleanDisk (state S.Store connection.old) }
+    ensures survives { HasCleanDisk (state S.Store connection.new) → IsOurs (state S.Store connection.old) → Survives (state S.Store connection.old) (state S.Store connection.new) (λ _. ⊥) }
+    ensures kept { OnOk result (O.failures out.new ≡ O.failures out.old) }
+    ensures cause { result ≡ Err StreamFault.Writer → HasRisen (O.failures out.old) (O.failures out.new) }
+{
+    let found = match find_size(connection, file) {
+        Ok(found) => found,
+        Err(fault) => return Err(fault_of_store(fault)),
+    };
+    let Some(found) = found else {
+        return Err(StreamFault::NoSuchFile);
+    };
+    match stream_blocks(connection, BlockOwner::File(file), found.size, out) {
+        Ok(()) => Ok(()),
+        Err(fault) => Err(fault_of_blocks(fault)),
+    }
+}
+
+fn load_fault(fault: StreamFault) -> StoreFault
+    ensures { result ≡ load_fault fault }
+{
+    match fault {
+        StreamFault::Store => StoreFault::Store,
+        _ => StoreFault::Memory,
+    }
+}
+
+/// The content of a file as a whole, if there is one of this number. A number of 2^63 or more is a fault of the store.
+pub fn load_content<S: Alter>(
+    connection: &mut Connection<S>,
+    alloc: Global,
+    file: u64,
+) -> Result<Option<Octets>, StoreFault>
+    ensures map { Tells (state S.Store connection.old) (state S.Store connection.new) result (λ s found. IsLoaded s file found) }
+    ensures same { HasCleanDisk (state S.Store connection.new) → IsOurs (state S.Store connection.old) → IsKept (state S.Store connection.old) (state S.Store connection.new) }
+    ensures clean { HasCleanDisk (state S.Store connection.new) → HasCleanDisk (state S.Store connection.old) }
+    ensures survives { HasCleanDisk (state S.Store connection.new) → IsOurs (state S.Store connection.old) → Survives (state S.Store connection.old) (state S.Store connection.new) (λ _. ⊥) }
+{
+    let mut out = Through::new(Vec::new(alloc));
+    match stream_content(connection, file, &mut out) {
+        Ok(()) => Ok(Some(Octets::from_vec(out.into_inner()))),
+        Err(StreamFault::NoSuchFile) => Ok(None),
+        Err(fault) => Err(load_fault(fault)),
+    }
+}
