@@ -1,5 +1,5 @@
 pub mod Places
 pub mod Heads
 pub mod Stream
-pub mod Steps
+pub mod Giving
 pub mod Working

@@ -8,9 +8,9 @@ pub data Place : Type 0 where
   Shut : Place
 
 -- the place once more bytes have come
-abbrev pub more : Place → List ℕ → Place
-more (Open continued rest) piece = Open continued (rest ++ piece)
-more Shut piece = Shut
+abbrev pub place_with : Place → List ℕ → Place
+place_with (Open continued rest) piece = Open continued (rest ++ piece)
+place_with Shut piece = Shut
 
 -- some byte of the next item is there
 abbrev pub HasBytes : Place → Type 0

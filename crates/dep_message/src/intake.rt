@@ -1,7 +1,7 @@
 //! Takes the items of a connection's bytes, in whatever pieces these come.
 ghost use Rattle.std.specs.Prelude.{◌≡◌, [], false, MatchResult, OnOk, OnErr};
-ghost use Rattle.dep_message.specs.Places.{Reading, Open, Shut, more, HasBytes};
-ghost use Rattle.dep_message.specs.Steps.{Gives};
+ghost use Rattle.dep_message.specs.Places.{Reading, Open, Shut, place_with, HasBytes};
+ghost use Rattle.dep_message.specs.Giving.{Gives};
 
 use crate::heads::closes;
 use crate::message::Message;
@@ -58,8 +58,8 @@ impl Intake {
 
     /// Takes the next piece of the stream. An `Err` changes nothing.
     pub fn feed(&mut self, piece: &[u8]) -> Result<(), AllocError>
-        ensures ok { OnOk result (self.new ≡ record self.old { place = more self.old.place piece.now }) }
-        ensures err { OnErr result ((self.new ≡ self.old) × HasBytes (more self.old.place piece.now)) }
+        ensures ok { OnOk result (self.new ≡ record self.old { place = place_with self.old.place piece.now }) }
+        ensures err { OnErr result ((self.new ≡ self.old) × HasBytes (place_with self.old.place piece.now)) }
     {
         if self.is_shut || piece.is_empty() {
             return Ok(());

@@ -1,13 +1,13 @@
 //! Laws of the definitions, apart from any code.
 ghost use Rattle.std.specs.Prelude.{◌≡◌, ℕ, Bool, List, ◌++◌};
-ghost use Rattle.dep_message.specs.Places.{Place, more};
+ghost use Rattle.dep_message.specs.Places.{Place, place_with};
 ghost use Rattle.dep_message.specs.Stream.{Item, Reads, IsRequestText, Spells};
 ghost use Rattle.dep_message.specs.declared.message.Message.{Message};
 
 /// What was read is read still when more bytes come, and what was left goes on with them.
 pub fn reading_carries_on()
     ensures { (limit : ℕ) (items : List Item) (from to : Place) (piece : List ℕ)
-        → Reads limit from items to → Reads limit (more from piece) items (more to piece) }
+        → Reads limit from items to → Reads limit (place_with from piece) items (place_with to piece) }
 {}
 
 /// Bytes begin with the text of at most one request.

@@ -24,7 +24,7 @@ use Rattle.dep_server.specs.Machine.{operation_of, routed_step, step}
 use Rattle.dep_message.specs.Heads.{closes}
 use Rattle.dep_message.specs.Stream.{Request}
 use Rattle.dep_server.specs.Targets.{target, to_resource, served_resource, allow_text}
-use Rattle.dep_server.specs.Bare.{asked_by, IsWithoutBody}
+use Rattle.dep_server.specs.Bare.{request_by, IsWithoutBody}
 use Rattle.dep_message.specs.declared.message.Message.{Message}
 
 -- the document and the content of a file are all that is shown
@@ -50,10 +50,10 @@ without_body s a clock ends content e = record {
 
 module _ (config : Config) (s : State) (m : Message) where
   abbrev get : Message
-  get = asked_by (codes "GET") m
+  get = request_by (codes "GET") m
 
   abbrev head : Message
-  head = asked_by (codes "HEAD") m
+  head = request_by (codes "HEAD") m
 
   turned : (r : Refusal) (allow : Option (List ℕ)) → IsWithoutBody (refused_step s r allow false (closes m.head)) (refused_step s r allow true (closes m.head))
   turned r allow = without_body s (refused_answer s.clock r allow) s.clock (closes m.head) (Document (error_document r s.clock)) refl
@@ -84,7 +84,7 @@ module _ (config : Config) (s : State) (m : Message) where
   by_resource (Some (at.BagFile n path)) = turned why.MethodNotAllowed (Some (allow_text (at.BagFile n path)))
 
 pub heads_have_no_body : (config : Config) (s : State) (m : Message) (moment : ℕ)
-    → IsWithoutBody (step config s (Request (asked_by (codes "GET") m)) moment) (step config s (Request (asked_by (codes "HEAD") m)) moment)
+    → IsWithoutBody (step config s (Request (request_by (codes "GET") m)) moment) (step config s (Request (request_by (codes "HEAD") m)) moment)
 unfolding step target
 heads_have_no_body config s m moment =
     by_resource config (tick config s moment) m (option_and_then served_resource (resource_of (segments m.head.path)))

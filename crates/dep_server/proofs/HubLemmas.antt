@@ -6,10 +6,10 @@ use Rattle.dep_types.specs.Sound.{IsSound}
 use Rattle.dep_types.specs.Writing.{HasRisen}
 use Rattle.dep_types.specs.declared.config.Config.{Config}
 use Rattle.dep_head.specs.Head.{head_end}
-use Rattle.dep_message.specs.Places.{Place, Open, Shut, Reading, IsOpen, HasBytes, more}
+use Rattle.dep_message.specs.Places.{Place, Open, Shut, Reading, IsOpen, HasBytes, place_with}
 use Rattle.dep_message.specs.Stream.{Item, Reads, Waits}
 use Rattle.dep_server.specs.Machine.{Serves, serves_all, step_fails, gives_up, answer_at_place}
-use Rattle.dep_server.specs.Records.{Event, Connect, Arrive, Close, Record, Line, Absent, Live, Ended, World, put, line_after, ReadsBeyond, Arrives, at_live, at_ended, connects, closes, arrives, Run, goes_on}
+use Rattle.dep_server.specs.Records.{Event, Connect, Arrive, Close, Record, Line, Absent, Live, ShutLine, World, with_line, line_after, ReadsBeyond, Arrives, at_live, at_shut_line, connects, closes, arrives, Run, goes_on}
 use Rattle.dep_server.specs.Serving.{arrival_of, ServesFrom, ServesOver}
 use Rattle.dep_server.specs.Standing.{intake_of, KeepsRest, IsKeptAs, StandsAt, StandsFor, Adds, Moves, ArrivesOver, ComesTo}
 use Rattle.dep_server.specs.Numbers.{index_of, Ascends, Ascends-prop}
@@ -32,9 +32,9 @@ kept_if limit false line line' o o' k k' = k'
 pub kept_put : (limit n : ℕ) (line : Line) (lines : ℕ → Line) (o : Option Reading) (old new : List Connection)
     → IsKeptAs limit line o → ((m : ℕ) → IsKeptAs limit (lines m) (intake_of old m))
     → ((m : ℕ) → intake_of new m ≡ (if m == n then o else intake_of old m))
-    → (m : ℕ) → IsKeptAs limit (put n line lines m) (intake_of new m)
+    → (m : ℕ) → IsKeptAs limit (with_line n line lines m) (intake_of new m)
 kept_put limit n line lines o old new k ks e m =
-    subst (λ x. IsKeptAs limit (put n line lines m) x) (sym (e m))
+    subst (λ x. IsKeptAs limit (with_line n line lines m) x) (sym (e m))
     (kept_if limit (m == n) line (lines m) o (intake_of old m) k (ks m))
 
 -- a fresh connection
@@ -78,12 +78,12 @@ serves_ended limit (gives_up (x ∷ xs) at r b y) = absurd r.1
 
 -- what was left goes on with the piece
 beyond : (limit : ℕ) (stream piece : List ℕ) (reading : Reading) → KeepsRest limit stream reading
-    → (items : List Item) (at : Place) → Reads limit (more reading.place piece) items at → ReadsBeyond limit stream piece items at
+    → (items : List Item) (at : Place) → Reads limit (place_with reading.place piece) items at → ReadsBeyond limit stream piece items at
 beyond limit stream piece reading k items at r = (
   k.items,
   reading.place,
   k.spells,
-  reads_append limit k.items items (Open false (stream ++ piece)) (more reading.place piece) at
+  reads_append limit k.items items (Open false (stream ++ piece)) (place_with reading.place piece) at
       (reads_more limit k.items (Open false stream) reading.place piece k.spells.reads) r,
 )
 
@@ -101,8 +101,8 @@ after_live config stream piece s left moment sent (Open continued rest) answer n
 after_live config stream piece s left moment sent Shut answer now l v = record { same_limit = l; shut = refl }
 
 at_end : {config : Config} {piece : List ℕ} {moment : ℕ} {s left : State} {sent : List ℕ} {at : Place} {answer : Arrived}
-    → Nothing s sent left at answer → Arrives config piece moment Ended s sent left Ended answer × (at ≡ Shut)
-at_end nothing = (at_ended, refl)
+    → Nothing s sent left at answer → Arrives config piece moment ShutLine s sent left ShutLine answer × (at ≡ Shut)
+at_end nothing = (at_shut_line, refl)
 
 -- an arrival at a line, by what is kept of it
 pub arrival : (config : Config) (piece : List ℕ) (moment : ℕ) (line : Line) (s : State) (sent : List ℕ) (left : State) (old new : Reading) (answer : Arrived)
@@ -112,19 +112,19 @@ pub arrival : (config : Config) (piece : List ℕ) (moment : ℕ) (line : Line) 
 arrival config piece moment Absent s sent left old new answer m k v = absurd k
 arrival config piece moment (Live stream) s sent left old new answer m k v =
     let w : Serves config (ReadsBeyond config.max_upload stream piece) s moment sent left new.place answer =
-    serves_map (λ items at. Reads old.limit (more old.place piece) items at) (ReadsBeyond config.max_upload stream piece)
-    (λ items at r. beyond config.max_upload stream piece old k items at (subst (λ n. Reads n (more old.place piece) items at) k.same_limit r)) (v k.same_limit) in
+    serves_map (λ items at. Reads old.limit (place_with old.place piece) items at) (ReadsBeyond config.max_upload stream piece)
+    (λ items at r. beyond config.max_upload stream piece old k items at (subst (λ n. Reads n (place_with old.place piece) items at) k.same_limit r)) (v k.same_limit) in
     record {
       becomes = line_after (stream ++ piece) new.place;
       arrival = at_live w;
       kept = after_live config stream piece s left moment sent new.place answer new.limit (m ∙ k.same_limit) w;
     }
-arrival config piece moment Ended s sent left old new answer m k v =
+arrival config piece moment ShutLine s sent left old new answer m k v =
     let w : Serves config (λ items at. Reads old.limit Shut items at) s moment sent left new.place answer =
-    serves_map (λ items at. Reads old.limit (more old.place piece) items at) (λ items at. Reads old.limit Shut items at)
-    (λ items at r. subst (λ p. Reads old.limit (more p piece) items at) k.shut r) (v k.same_limit) in
-    let e : Arrives config piece moment Ended s sent left Ended answer × (new.place ≡ Shut) = at_end (serves_ended old.limit w) in
-    record { becomes = Ended; arrival = e.0; kept = record { same_limit = m ∙ k.same_limit; shut = e.1 } }
+    serves_map (λ items at. Reads old.limit (place_with old.place piece) items at) (λ items at. Reads old.limit Shut items at)
+    (λ items at r. subst (λ p. Reads old.limit (place_with p piece) items at) k.shut r) (v k.same_limit) in
+    let e : Arrives config piece moment ShutLine s sent left ShutLine answer × (new.place ≡ Shut) = at_end (serves_ended old.limit w) in
+    record { becomes = ShutLine; arrival = e.0; kept = record { same_limit = m ∙ k.same_limit; shut = e.1 } }
 
 pub none_there : (o : Option Reading) → o ≡ None → IsSome o → ⊥
 none_there None e s = cc
@@ -154,7 +154,7 @@ module _ (old new : Hub) (n i : ℕ) (piece : List ℕ) (moment : ℕ) (c : Conn
   -- the world after the arrival
   pub arrives_at : (held holds : Option (List ℕ)) (answer : Arrived) (v : ServesOver old.config held holds (arrival_of c.intake piece moment) old.store new.store now.place answer)
       → (w : World) → StandsAt old w → (line : Line) × Arrives old.config piece moment (w.line n) w.state v.0 new.store line answer
-      × StandsAt new (record { state = new.store; line = put n line w.line })
+      × StandsAt new (record { state = new.store; line = with_line n line w.line })
   arrives_at held holds answer v w at =
       let found = index_some n i old.connections.items c index item in
       let kept : IsKeptAs old.config.max_upload (w.line n) (Some c.intake) = subst (λ o. IsKeptAs old.config.max_upload (w.line n) o) found.1 (at.kept n) in
@@ -165,7 +165,7 @@ module _ (old new : Hub) (n i : ℕ) (piece : List ℕ) (moment : ℕ) (c : Conn
         record {
           state = refl;
           sound = arrives_sound r.arrival (subst IsSound (sym at.state) at.sound);
-          kept = subst (λ (x : _). (m : ℕ) → IsKeptAs x.max_upload (put n r.becomes w.line m) (intake_of new.connections.items m)) (sym config)
+          kept = subst (λ (x : _). (m : ℕ) → IsKeptAs x.max_upload (with_line n r.becomes w.line m) (intake_of new.connections.items m)) (sym config)
               (kept_put old.config.max_upload n r.becomes w.line (Some now) old.connections.items new.connections.items r.kept at.kept
               (λ m. ap (λ cs. intake_of cs m) changed ∙ intake_set n i old.connections.items (record { number = c.number; intake = now }) index found.0 m));
         },
@@ -176,8 +176,8 @@ module _ (old new : Hub) (n i : ℕ) (piece : List ℕ) (moment : ℕ) (c : Conn
   arrives_adds held holds answer v first records h =
       let a = arrives_at held holds answer v h.world h.at in
       record {
-        world = record { state = new.store; line = put n a.0 h.world.line };
-        run = subst (λ (x : _). Run x first (records ++ record { event = Arrive n piece moment; sent = v.0 } ∷ []) (record { state = new.store; line = put n a.0 h.world.line })) (sym config)
+        world = record { state = new.store; line = with_line n a.0 h.world.line };
+        run = subst (λ (x : _). Run x first (records ++ record { event = Arrive n piece moment; sent = v.0 } ∷ []) (record { state = new.store; line = with_line n a.0 h.world.line })) (sym config)
             (goes_on h.run (arrives a.1));
         at = a.2;
       }
@@ -220,12 +220,12 @@ pub closes_moves : (old new : Hub) (n : ℕ) → new.config ≡ old.config → n
     → ((m : ℕ) → intake_of new.connections.items m ≡ (if m == n then None else intake_of old.connections.items m))
     → Moves old new (Close n) []
 closes_moves old new n config store gone w at = (
-  record { state = w.state; line = put n Absent w.line },
+  record { state = w.state; line = with_line n Absent w.line },
   closes,
   record {
     state = store ∙ at.state;
     sound = at.sound;
-    kept = subst (λ (x : _). (m : ℕ) → IsKeptAs x.max_upload (put n Absent w.line m) (intake_of new.connections.items m)) (sym config)
+    kept = subst (λ (x : _). (m : ℕ) → IsKeptAs x.max_upload (with_line n Absent w.line m) (intake_of new.connections.items m)) (sym config)
         (kept_put old.config.max_upload n Absent w.line None old.connections.items new.connections.items tt at.kept gone);
   },
 )
@@ -247,12 +247,12 @@ pub connects_moves : (old new : Hub) (n : ℕ) → new.config ≡ old.config →
 connects_moves old new n config store this items w at =
     let d : Connection = record { number = n; intake = record { limit = old.config.max_upload; place = Open false [] } } in
     let low : Ascends 0 old.connections.items n = subst (λ k. Ascends 0 old.connections.items k) (sym this) old.ascends in (
-      record { state = w.state; line = put n (Live []) w.line },
+      record { state = w.state; line = with_line n (Live []) w.line },
       connects,
       record {
         state = store ∙ at.state;
         sound = at.sound;
-        kept = subst (λ (x : _). (m : ℕ) → IsKeptAs x.max_upload (put n (Live []) w.line m) (intake_of new.connections.items m)) (sym config)
+        kept = subst (λ (x : _). (m : ℕ) → IsKeptAs x.max_upload (with_line n (Live []) w.line m) (intake_of new.connections.items m)) (sym config)
             (kept_put old.config.max_upload n (Live []) w.line (Some d.intake) old.connections.items new.connections.items (kept_fresh old.config.max_upload) at.kept
             (λ m. ap (λ cs. intake_of cs m) items ∙ intake_push 0 old.connections.items d low m));
       },

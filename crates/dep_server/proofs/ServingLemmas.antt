@@ -5,10 +5,10 @@ use Rattle.std.specs.Io.KnownBytes.{Appends}
 use Rattle.dep_types.specs.State.{State}
 use Rattle.dep_types.specs.declared.config.Config.{Config}
 use Rattle.dep_types.specs.Writing.{IsProperPrefix, HasRisen}
-use Rattle.dep_message.specs.Places.{Place, Open, Shut, IsOpen, HasBytes, more}
+use Rattle.dep_message.specs.Places.{Place, Open, Shut, IsOpen, HasBytes, place_with}
 use Rattle.dep_message.specs.Stream.{Item, Fault, FirstAt, Waits}
 use Rattle.dep_store.specs.Steps.{sent_by}
-use Rattle.dep_server.specs.Machine.{ticked, step, replies, state_after, Fails, given_up, cut_short, serves_all, step_fails, gives_up, SendsUpTo, all, cut, want_of_memory, answer_at_place}
+use Rattle.dep_server.specs.Machine.{starting_state, step, replies, state_after, Fails, given_up, cut_short, serves_all, step_fails, gives_up, SendsUpTo, all, cut, want_of_memory, answer_at_place}
 use Rattle.dep_server.specs.Sending.{IsSentUpTo, SendsOver, SendsReply}
 use Rattle.std.proofs.Common.{inl, inr, Bool}
 use Rattle.dep_types.specs.declared.refusal.Refusal.{Refusal}
@@ -44,7 +44,7 @@ appends_both (Some xs') (Some bs) None xs ys h k = absurd k
 appends_both (Some xs') (Some bs) (Some cs) xs ys h k = k ∙ (ap (λ l. l ++ ys) h ∙ append_assoc xs' xs ys)
 
 -- nothing is served yet
-pub served_none : (config : Config) (came : Arrival) (s : State) (held : Option (List ℕ)) → Progress config came s held held (more came.reading.place came.piece) s
+pub served_none : (config : Config) (came : Arrival) (s : State) (held : Option (List ℕ)) → Progress config came s held held (place_with came.reading.place came.piece) s
 served_none config came s held = record { items = []; sent = appends_none held; reads = refl; state = refl }
 
 -- an item more is answered
@@ -57,7 +57,7 @@ served_more {config} {came} {at} {next} {s} {now} {left} {held} {holds} {then} i
       sent = subst (λ bytes. Appends held then bytes)
           (ap (λ bytes. replies config s v.items came.moment ++ bytes) (answer.2.0 ∙ ap (λ t. sent_by (step config t item came.moment)) v.state) ∙ sym (replies_more config s v.items item came.moment))
           (appends_both held holds then (replies config s v.items came.moment) answer.0 v.sent answer.1);
-      reads = reads_one came.reading.limit v.items item (more came.reading.place came.piece) at next v.reads f;
+      reads = reads_one came.reading.limit v.items item (place_with came.reading.place came.piece) at next v.reads f;
       state = answer.2.1 ∙ (ap (λ t. (step config t item came.moment).state) v.state ∙ sym (state_after_more config s v.items item came.moment));
     }
 
@@ -69,7 +69,7 @@ sends_up_to whole sent CutShort h = cut h
 
 -- a fixed reply in place of the step's
 pub answers_fixed : (config : Config) (held holds : Option (List ℕ)) (s left : State) (item : Item) (moment : ℕ) (answer : Answered)
-    → left ≡ ticked config s item moment → SendsOver held holds want_of_memory answer → AnswersOver config held holds s item moment left answer
+    → left ≡ starting_state config s item moment → SendsOver held holds want_of_memory answer → AnswersOver config held holds s item moment left answer
 answers_fixed config held holds s left item moment Sent e a = absurd a.2
 answers_fixed config held holds s left item moment GaveUp e a = (a.0, a.1, given_up (inl refl) (sends_up_to want_of_memory a.0 GaveUp a.2) (inr e))
 answers_fixed config held holds s left item moment CutShort e a = (a.0, a.1, given_up (inl refl) (sends_up_to want_of_memory a.0 CutShort a.2) (inr e))
@@ -114,7 +114,7 @@ module _ (config : Config) (came : Arrival) (s : State) (held holds : Option (Li
   serves_failed item next then left answer sent f a fails = (
     replies config s v.items came.moment ++ sent,
     appends_both held holds then (replies config s v.items came.moment) sent v.sent a,
-    λ _. step_fails v.items item next (reads_one came.reading.limit v.items item (more came.reading.place came.piece) at next v.reads f)
+    λ _. step_fails v.items item next (reads_one came.reading.limit v.items item (place_with came.reading.place came.piece) at next v.reads f)
         (subst (λ t. Fails config t item came.moment sent left answer) v.state fails),
   )
 

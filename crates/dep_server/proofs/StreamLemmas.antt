@@ -13,8 +13,8 @@ use Rattle.dep_message.specs.Stream.{Item, Spells, Reads, Waits}
 use Rattle.dep_message.proofs.OneReading.{one_spelling}
 use Rattle.dep_message.proofs.Reading.{reads_more}
 use Rattle.dep_server.specs.Machine.{Serves}
-use Rattle.dep_server.specs.Records.{Event, Record, Line, Absent, Live, Ended, World, line_after, ReadsBeyond, Run, Happens, Arrives}
-use Rattle.dep_server.specs.Calm.{Step, steps_of, CalmServes, all_served, CalmArrives, live, ended, Calm, connect, close, arrive, none, CalmRun, nothing, more as one_more}
+use Rattle.dep_server.specs.Records.{Event, Record, Line, Absent, Live, ShutLine, World, line_after, ReadsBeyond, Run, Happens, Arrives}
+use Rattle.dep_server.specs.Calm.{SteppedItem, steps_of, CalmServes, all_served, CalmArrives, live, shut_line, Calm, connect, close, arrive, none, CalmRun, nothing, more as one_more}
 use Rattle.dep_server.specs.Streams.{Streams, all_streams, with_event, streams_over, streams_of, items_of, AreSpelled, no_stream, first_stream, Occasion, occasions_of}
 use Rattle.dep_server.specs.declared.arrived.Arrived.{Arrived}
 
@@ -47,7 +47,7 @@ record Spelled (limit : ℕ) (stream : List ℕ) (left : Place) (s : Streams) (i
 Accounts : ℕ → Line → Streams → List Item → Type 0
 Accounts limit Absent s items = (s.current ≡ None) × AreSpelled limit s.closed items
 Accounts limit (Live stream) s items = (left : Place) × Spelled limit stream left s items
-Accounts limit Ended s items = (stream : List ℕ) × Spelled limit stream Shut s items
+Accounts limit ShutLine s items = (stream : List ℕ) × Spelled limit stream Shut s items
 
 nothing_open : (o : Option (List ℕ)) → o ≡ None → option_map_or (λ (stream : List ℕ). stream ∷ []) o [] ≡ []
 nothing_open o e = ap (λ (x : Option (List ℕ)). option_map_or (λ (stream : List ℕ). stream ∷ []) x []) e
@@ -64,7 +64,7 @@ unfolding Accounts
 accounts_all limit Absent s items a =
     subst (λ l. AreSpelled limit l items) (sym (ap (λ l. s.closed ++ l) (nothing_open s.current a.0) ∙ append-nil s.closed)) a.1
 accounts_all limit (Live stream) s items a = spelled_all limit stream a.0 s items a.1
-accounts_all limit Ended s items a = spelled_all limit a.0 Shut s items a.1
+accounts_all limit ShutLine s items a = spelled_all limit a.0 Shut s items a.1
 
 -- a fresh connection
 opened_accounts : (limit : ℕ) (s : Streams) (items : List Item) → AreSpelled limit (all_streams s) items
@@ -142,19 +142,19 @@ other_items : (n m moment : ℕ) (items : List Item) → (n == m) ≡ false → 
 other_items n m moment [] e = refl
 other_items n m moment (i ∷ items) e = others_if (n == m) i (items_of n (steps_of m moment items)) e ∙ other_items n m moment items e
 
-serves_none : {config : Config} {reads : List Item → Place → Type 0} {s left : State} {moment : ℕ} {sent : List ℕ} {at : Place} {answer : Arrived} {v : Serves config reads s moment sent left at answer} {steps : List Step} (n number : ℕ)
+serves_none : {config : Config} {reads : List Item → Place → Type 0} {s left : State} {moment : ℕ} {sent : List ℕ} {at : Place} {answer : Arrived} {v : Serves config reads s moment sent left at answer} {steps : List SteppedItem} (n number : ℕ)
     → CalmServes number _ _ _ _ v steps → (n == number) ≡ false → items_of n steps ≡ []
 serves_none {moment = moment} n number (all_served items r w) e = other_items n number moment items e
 
-arrives_none : {config : Config} {piece : List ℕ} {moment : ℕ} {line after : Line} {s left : State} {sent : List ℕ} {answer : Arrived} {a : Arrives config piece moment line s sent left after answer} {steps : List Step} (n number : ℕ)
+arrives_none : {config : Config} {piece : List ℕ} {moment : ℕ} {line after : Line} {s left : State} {sent : List ℕ} {answer : Arrived} {a : Arrives config piece moment line s sent left after answer} {steps : List SteppedItem} (n number : ℕ)
     → CalmArrives number _ _ _ _ _ _ a steps → (n == number) ≡ false → items_of n steps ≡ []
 arrives_none n number (live v c) e = serves_none n number c e
-arrives_none n number ended e = refl
+arrives_none n number shut_line e = refl
 
 -- ---- one arrival
 
 serves_accounts : {config : Config} (stream piece : List ℕ) {s left : State} {moment : ℕ} {sent : List ℕ} {at : Place} {answer : Arrived}
-    {v : Serves config (ReadsBeyond config.max_upload stream piece) s moment sent left at answer} {steps : List Step}
+    {v : Serves config (ReadsBeyond config.max_upload stream piece) s moment sent left at answer} {steps : List SteppedItem}
     (number : ℕ) (was : Place) (streams : Streams) (items : List Item)
     → CalmServes number _ _ _ _ v steps → Spelled config.max_upload stream was streams items
     → Accounts config.max_upload (line_after (stream ++ piece) at) (with_piece piece streams) (items ++ items_of number steps)
@@ -163,14 +163,14 @@ serves_accounts {config} stream piece {moment = moment} number was streams items
     (subst (λ l. Spelled config.max_upload (stream ++ piece) at (with_piece piece streams) (items ++ l)) (sym (own_items number moment new))
     (served_accounts config stream piece was at streams items new h r w))
 
-arrives_accounts : {config : Config} {piece : List ℕ} {moment : ℕ} {line after : Line} {s left : State} {sent : List ℕ} {answer : Arrived} {a : Arrives config piece moment line s sent left after answer} {steps : List Step}
+arrives_accounts : {config : Config} {piece : List ℕ} {moment : ℕ} {line after : Line} {s left : State} {sent : List ℕ} {answer : Arrived} {a : Arrives config piece moment line s sent left after answer} {steps : List SteppedItem}
     (number : ℕ) (streams : Streams) (items : List Item)
     → CalmArrives number _ _ _ _ _ _ a steps → Accounts config.max_upload line streams items
     → Accounts config.max_upload after (with_piece piece streams) (items ++ items_of number steps)
 unfolding Accounts
 arrives_accounts {piece = piece} number streams items (live {stream = stream} v c) h = serves_accounts stream piece number h.0 streams items c h.1
-arrives_accounts {config} {piece} number streams items ended h =
-    subst (λ l. Accounts config.max_upload Ended (with_piece piece streams) l) (sym (append-nil items))
+arrives_accounts {config} {piece} number streams items shut_line h =
+    subst (λ l. Accounts config.max_upload ShutLine (with_piece piece streams) l) (sym (append-nil items))
     (h.0 ++ piece, ended_accounts config.max_upload h.0 piece streams items h.1)
 
 -- ---- one event
@@ -191,14 +191,14 @@ unknown_accounts : (limit : ℕ) (line : Line) (s : Streams) (piece : List ℕ) 
 unfolding Accounts
 unknown_accounts limit Absent s piece items e h = (ap (option_map (λ (x : List ℕ). x ++ piece)) h.0, h.1)
 unknown_accounts limit (Live stream) s piece items e h = cc
-unknown_accounts limit Ended s piece items e h = cc
+unknown_accounts limit ShutLine s piece items e h = cc
 
 unknown_if : (limit : ℕ) (b : Bool) (line : Line) (s : Streams) (piece : List ℕ) (items : List Item) → (b ≡ true → line ≡ Absent) → Accounts limit line s items
     → Accounts limit line (if b then with_piece piece s else s) items
 unknown_if limit true line s piece items e h = unknown_accounts limit line s piece items (e refl) h
 unknown_if limit false line s piece items e h = h
 
-happens_accounts : {config : Config} {w w' : World} {event : Event} {sent : List ℕ} {h : Happens config w event sent w'} {steps : List Step}
+happens_accounts : {config : Config} {w w' : World} {event : Event} {sent : List ℕ} {h : Happens config w event sent w'} {steps : List SteppedItem}
     (n : ℕ) (streams : Streams) (items : List Item) → Calm _ _ _ h steps → Accounts config.max_upload (w.line n) streams items
     → Accounts config.max_upload (w'.line n) (with_event n streams event) (items ++ items_of n steps)
 happens_accounts {config} {w} n streams items (connect {n = m}) a =
@@ -222,25 +222,25 @@ happens_accounts {config} {w} n streams items (none {n = m} {piece = piece} e) a
 
 -- ---- a whole run
 
-run_accounts : {config : Config} {first : State} {records : List Record} {w : World} {r : Run config first records w} {steps : List Step}
+run_accounts : {config : Config} {first : State} {records : List Record} {w : World} {r : Run config first records w} {steps : List SteppedItem}
     (n : ℕ) → CalmRun _ _ r steps → Accounts config.max_upload (w.line n) (streams_over n records) (items_of n steps)
 unfolding Accounts
 run_accounts n nothing = (refl, no_stream)
 run_accounts {config} n (one_more {records} {event} {sent} {w} {w'} {steps} {next} r h c k) =
     subst (λ l. Accounts config.max_upload (w'.line n) (streams_over n (records ++ record { event = event; sent = sent } ∷ [])) l)
-    (sym (flat_map-append (λ (t : Step). if n == t.number then t.item ∷ [] else []) steps next))
+    (sym (flat_map-append (λ (t : SteppedItem). if n == t.number then t.item ∷ [] else []) steps next))
     (subst (λ s. Accounts config.max_upload (w'.line n) s (items_of n steps ++ items_of n next))
     (sym (fold-append (λ (s : Streams) (r : Record). with_event n s r.event) (record { closed = []; current = None }) records (record { event = event; sent = sent } ∷ [])))
     (happens_accounts n (streams_over n records) (items_of n steps) k (run_accounts n c)))
 
-pub run_spelled : {config : Config} {first : State} {records : List Record} {w : World} {r : Run config first records w} {steps : List Step}
+pub run_spelled : {config : Config} {first : State} {records : List Record} {w : World} {r : Run config first records w} {steps : List SteppedItem}
     → CalmRun _ _ r steps → (n : ℕ) → AreSpelled config.max_upload (streams_of n records) (items_of n steps)
 run_spelled {config} {records = records} {w = w} {steps = steps} c n =
     accounts_all config.max_upload (w.line n) (streams_over n records) (items_of n steps) (run_accounts n c)
 
 -- ---- steps on the same occasions
 
-items_eq : (n : ℕ) (t u : Step) (ts us : List Step) → n ≡ t.number → t.number ≡ u.number → items_of n (t ∷ ts) ≡ items_of n (u ∷ us)
+items_eq : (n : ℕ) (t u : SteppedItem) (ts us : List SteppedItem) → n ≡ t.number → t.number ≡ u.number → items_of n (t ∷ ts) ≡ items_of n (u ∷ us)
     → (t.item ≡ u.item) × (items_of n ts ≡ items_of n us)
 items_eq n t u ts us e f h =
     let own = own_if (n == t.number) t.item (items_of n ts) (eq-eqb n t.number e) in
@@ -252,13 +252,13 @@ tail_if : (b : Bool) (x y : Item) (xs ys : List Item) → (if b then x ∷ [] el
 tail_if true x y xs ys e = cc
 tail_if false x y xs ys e = e
 
-items_rest : (n : ℕ) (t u : Step) (ts us : List Step) → t.number ≡ u.number → items_of n (t ∷ ts) ≡ items_of n (u ∷ us) → items_of n ts ≡ items_of n us
+items_rest : (n : ℕ) (t u : SteppedItem) (ts us : List SteppedItem) → t.number ≡ u.number → items_of n (t ∷ ts) ≡ items_of n (u ∷ us) → items_of n ts ≡ items_of n us
 items_rest n t u ts us f h =
     tail_if (n == t.number) t.item u.item (items_of n ts) (items_of n us)
     (h ∙ ap (λ k. (if n == k then u.item ∷ [] else []) ++ items_of n us) (sym f))
 
 -- the same items on the same occasions are the same steps
-pub same_steps : (ts us : List Step) → ((n : ℕ) → items_of n ts ≡ items_of n us) → occasions_of ts ≡ occasions_of us → ts ≡ us
+pub same_steps : (ts us : List SteppedItem) → ((n : ℕ) → items_of n ts ≡ items_of n us) → occasions_of ts ≡ occasions_of us → ts ≡ us
 same_steps [] [] f e = refl
 same_steps [] (u ∷ us) f e = cc
 same_steps (t ∷ ts) [] f e = cc

@@ -5,7 +5,7 @@ use Rattle.std.specs.List.{flat_map, FoldsTo}
 use Rattle.std.specs.Io.KnownBytes.{Appends, Consumes, Keeps}
 use Rattle.dep_types.specs.State.{State}
 use Rattle.dep_types.specs.declared.config.Config.{Config}
-use Rattle.dep_server.specs.Records.{World, put, Connect, Close, Record, Run, goes_on, Arrives, Happens, connects, closes, arrives}
+use Rattle.dep_server.specs.Records.{World, with_line, Connect, Close, Record, Run, goes_on, Arrives, Happens, connects, closes, arrives}
 use Rattle.dep_server.specs.Standing.{StandsAt, StandsFor, Moves, intake_of}
 use Rattle.dep_server.specs.declared.hub.Hub.{Hub}
 use Rattle.dep_server.specs.declared.arrived.Arrived.{Arrived}
@@ -240,7 +240,7 @@ talks_exchange n old new failures failures_after turns silent w at = (w, none_ye
 talks_exchange n old new failures failures_after turns (turn {mid = mid} {before = between} {turns = before} t talks stays same a) w at =
     let h = talks_exchange n old mid failures between before talks w at in
     let b = a.answers h.0 h.2 in (
-      record { state = b.left; line = put n b.line h.0.line },
+      record { state = b.left; line = with_line n b.line h.0.line },
       one_more t h.1 stays (subst (λ (x : Config). Arrives x t.piece t.moment (h.0.line n) h.0.state t.sent b.left b.line t.answer) same b.arrives),
       b.stands,
     )

@@ -5,8 +5,8 @@ use Rattle.dep_store.specs.Steps.{Stepped, sent_by}
 use Rattle.dep_message.specs.declared.message.Message.{Message}
 
 -- the same request by another method
-abbrev pub asked_by : List ℕ → Message → Message
-asked_by method m = record m { head = record m.head { method = method } }
+abbrev pub request_by : List ℕ → Message → Message
+request_by method m = record m { head = record m.head { method = method } }
 
 -- two steps that differ in the body of the reply alone: one sends it, and the other only tells its length
 pub record IsWithoutBody (whole bare : Stepped) : Type 0 where

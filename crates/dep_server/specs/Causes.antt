@@ -7,7 +7,7 @@ use Rattle.dep_message.specs.Places.{Place}
 use Rattle.dep_message.specs.Stream.{Item}
 use Rattle.dep_store.specs.Steps.{Stepped}
 use Rattle.dep_server.specs.Machine.{step, Fails, given_up, cut_short, Serves, serves_all, step_fails, gives_up}
-use Rattle.dep_server.specs.Records.{Line, Arrives, at_live, at_ended}
+use Rattle.dep_server.specs.Records.{Line, Arrives, at_live, at_shut_line}
 use Rattle.dep_server.specs.declared.arrived.Arrived.{Arrived}
 
 -- all of the front of the reply was sent, and a proper prefix of the stored content behind it
@@ -36,7 +36,7 @@ abbrev pub IsCutWhileStreaming : {config : Config} {piece : List ℕ} {moment : 
     {s left : State} {sent : List ℕ} {answer : Arrived}
     → Arrives config piece moment line s sent left after answer → Type 0
 IsCutWhileStreaming (at_live serves) = EndsInContent serves
-IsCutWhileStreaming at_ended = ⊥
+IsCutWhileStreaming at_shut_line = ⊥
 
 -- the outlet failed between these counts of its failures, or a stored content was being sent
 abbrev pub HasCause : {config : Config} {piece : List ℕ} {moment : ℕ} {line after : Line}

@@ -40,10 +40,10 @@ abbrev pub continue_line : List ℕ
 continue_line = codes "HTTP/1.1 100 Continue\r\n\r\n"
 
 -- the state that a step begins with: the tick's, but telling a client to go on takes no tick
-abbrev pub ticked : Config → State → Item → ℕ → State
-ticked config s (Fault r bare) moment = tick config s moment
-ticked config s Continue moment = s
-ticked config s (Request m) moment = tick config s moment
+abbrev pub starting_state : Config → State → Item → ℕ → State
+starting_state config s (Fault r bare) moment = tick config s moment
+starting_state config s Continue moment = s
+starting_state config s (Request m) moment = tick config s moment
 
 -- one step at a moment: the tick, and then what the item asks for
 unfoldable pub step : Config → State → Item → ℕ → Stepped
@@ -87,7 +87,7 @@ pub data Fails (config : Config) (s : State) (item : Item) (moment : ℕ)
   given_up : {fixed sent : List ℕ} {left : State} {answer : Arrived}
       → (fixed ≡ want_of_memory) ⊎ (fixed ≡ store_fault)
       → SendsUpTo fixed sent answer
-      → (left ≡ s) ⊎ (left ≡ ticked config s item moment)
+      → (left ≡ s) ⊎ (left ≡ starting_state config s item moment)
       → Fails config s item moment sent left answer
   -- its own reply is cut short: the state is the step's
   cut_short : {sent : List ℕ} {left : State}

@@ -23,23 +23,23 @@ pub record Record : Type 0 where
 pub data Line : Type 0 where
   Absent : Line
   Live : (stream : List ℕ) → Line
-  Ended : Line
+  ShutLine : Line
 
 -- the machine: what it keeps, and each connection by its number
 pub record World : Type 0 where
   pub state : State
   pub line : ℕ → Line
 
-abbrev pub put : ℕ → Line → (ℕ → Line) → ℕ → Line
-put number line lines n = if n == number then line else lines n
+abbrev pub with_line : ℕ → Line → (ℕ → Line) → ℕ → Line
+with_line number line lines n = if n == number then line else lines n
 
-abbrev pub begin_with : State → World
-begin_with s = record { state = s; line = λ _. Absent }
+abbrev pub first_world : State → World
+first_world s = record { state = s; line = λ _. Absent }
 
 -- a live connection goes on with its longer stream; where the reading has come to an end it has ended
 abbrev pub line_after : List ℕ → Place → Line
 line_after stream (Open continued rest) = Live stream
-line_after stream Shut = Ended
+line_after stream Shut = ShutLine
 
 -- the items that are complete with the piece and not before: those that the stream spells with it,
 -- less those that it spelled without
@@ -54,22 +54,22 @@ pub data Arrives (config : Config) (piece : List ℕ) (moment : ℕ)
   at_live : {stream sent : List ℕ} {s left : State} {at : Place} {answer : Arrived}
       → Serves config (ReadsBeyond config.max_upload stream piece) s moment sent left at answer
       → Arrives config piece moment (Live stream) s sent left (line_after (stream ++ piece) at) answer
-  at_ended : {s : State} → Arrives config piece moment Ended s [] s Ended Closed
+  at_shut_line : {s : State} → Arrives config piece moment ShutLine s [] s ShutLine Closed
 
 -- what may happen to the machine
 pub data Happens (config : Config) (w : World) : Event → List ℕ → World → Type 0 where
-  connects : {n : ℕ} → Happens config w (Connect n) [] (record w { line = put n (Live []) w.line })
-  closes : {n : ℕ} → Happens config w (Close n) [] (record w { line = put n Absent w.line })
+  connects : {n : ℕ} → Happens config w (Connect n) [] (record w { line = with_line n (Live []) w.line })
+  closes : {n : ℕ} → Happens config w (Close n) [] (record w { line = with_line n Absent w.line })
   arrives : {n moment : ℕ} {piece sent : List ℕ} {left : State} {line : Line} {answer : Arrived}
       → Arrives config piece moment (w.line n) w.state sent left line answer
       → Happens config w (Arrive n piece moment) sent
-      (record { state = left; line = put n line w.line })
+      (record { state = left; line = with_line n line w.line })
   unknown : {n moment : ℕ} {piece : List ℕ} → w.line n ≡ Absent
       → Happens config w (Arrive n piece moment) [] w
 
 -- the machine may be there after these records, from a state and no connection
 pub data Run (config : Config) (first : State) : List Record → World → Type 0 where
-  begins : Run config first [] (begin_with first)
+  begins : Run config first [] (first_world first)
   goes_on : {records : List Record} {event : Event} {sent : List ℕ} {w w' : World}
       → Run config first records w → Happens config w event sent w'
       → Run config first (records ++ record { event = event; sent = sent } ∷ []) w'

@@ -3,7 +3,7 @@ use Rattle.std.specs.Prelude.{◌≡◌, ℕ, List, Option}
 use Rattle.std.specs.Io.KnownBytes.{Appends}
 use Rattle.dep_types.specs.State.{State}
 use Rattle.dep_types.specs.declared.config.Config.{Config}
-use Rattle.dep_message.specs.Places.{Place, Reading, more}
+use Rattle.dep_message.specs.Places.{Place, Reading, place_with}
 use Rattle.dep_message.specs.Stream.{Item, Reads}
 use Rattle.dep_store.specs.Steps.{sent_by}
 use Rattle.dep_server.specs.Machine.{step, replies, state_after, Fails, Serves}
@@ -42,7 +42,7 @@ arrival_of reading piece moment = record { reading = reading; piece = piece; mom
 
 -- these items are the first that are read with the piece, and the reading then stands there
 abbrev pub ReadsWith : Arrival → List Item → Place → Type 0
-ReadsWith a items at = Reads a.reading.limit (more a.reading.place a.piece) items at
+ReadsWith a items at = Reads a.reading.limit (place_with a.reading.place a.piece) items at
 
 -- how far it was served: these items were read, and what was sent is their replies
 pub record Progress (config : Config) (a : Arrival) (s : State) (held holds : Option (List ℕ)) (at : Place)

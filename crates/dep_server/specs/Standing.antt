@@ -6,7 +6,7 @@ use Rattle.dep_types.specs.Sound.{IsSound}
 use Rattle.dep_types.specs.declared.config.Config.{Config}
 use Rattle.dep_message.specs.Places.{Shut, Reading, IsOpen}
 use Rattle.dep_message.specs.Stream.{Item, Spells}
-use Rattle.dep_server.specs.Records.{Event, Arrive, Record, Line, Absent, Live, Ended, World, Run, put, Arrives, Happens}
+use Rattle.dep_server.specs.Records.{Event, Arrive, Record, Line, Absent, Live, ShutLine, World, Run, with_line, Arrives, Happens}
 use Rattle.dep_server.specs.declared.arrived.Arrived.{Arrived}
 use Rattle.dep_server.specs.declared.arrived.Arrived.TheVariants.{Open as StaysOpen, Closed, Cut, NoSuch}
 use Rattle.dep_server.specs.declared.connections.Connection.{Connection}
@@ -37,8 +37,8 @@ IsKeptAs limit Absent None = Unit {0}
 IsKeptAs limit Absent (Some reading) = ⊥
 IsKeptAs limit (Live stream) None = ⊥
 IsKeptAs limit (Live stream) (Some reading) = KeepsRest limit stream reading
-IsKeptAs limit Ended None = ⊥
-IsKeptAs limit Ended (Some reading) = IsShut limit reading
+IsKeptAs limit ShutLine None = ⊥
+IsKeptAs limit ShutLine (Some reading) = IsShut limit reading
 
 -- the hub keeps what the machine is, and that is sound
 pub record StandsAt (hub : Hub) (w : World) : Type 0 where
@@ -70,7 +70,7 @@ pub record ArrivesTo (config : Config) (new : Hub) (number : ℕ) (piece : List 
   pub left : State
   pub line : Line
   pub arrives : Arrives config piece moment (w.line number) w.state sent left line answer
-  pub stands : StandsAt new (record { state = left; line = put number line w.line })
+  pub stands : StandsAt new (record { state = left; line = with_line number line w.line })
   pub cause : answer ≡ Cut → HasCause failures failures_after arrives
 
 -- an arrival at a connection that is there: what is sent for it is a run's, and so is the answer

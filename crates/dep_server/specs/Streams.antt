@@ -5,7 +5,7 @@ use Rattle.std.specs.Option.{option_map, option_map_or}
 use Rattle.dep_message.specs.Places.{Place}
 use Rattle.dep_message.specs.Stream.{Item, Spells}
 use Rattle.dep_server.specs.Records.{Event, Connect, Arrive, Close, Record}
-use Rattle.dep_server.specs.Calm.{Step}
+use Rattle.dep_server.specs.Calm.{SteppedItem}
 
 -- the streams of a number: one for each time that it was opened, the last of them open still or not
 pub record Streams : Type 0 where
@@ -31,7 +31,7 @@ abbrev pub streams_of : ℕ → List Record → List (List ℕ)
 streams_of n records = all_streams (streams_over n records)
 
 -- the items of the steps of this number, in their order
-abbrev pub items_of : ℕ → List Step → List Item
+abbrev pub items_of : ℕ → List SteppedItem → List Item
 items_of n steps =
     flat_map (λ t. if n == t.number then t.item ∷ [] else []) steps
 
@@ -47,5 +47,5 @@ pub record Occasion : Type 0 where
   pub number : ℕ
   pub moment : ℕ
 
-abbrev pub occasions_of : List Step → List Occasion
+abbrev pub occasions_of : List SteppedItem → List Occasion
 occasions_of steps = map (λ t. record { number = t.number; moment = t.moment }) steps

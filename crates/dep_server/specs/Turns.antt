@@ -4,7 +4,7 @@ use Rattle.std.specs.List.{flat_map}
 use Rattle.std.specs.Io.KnownBytes.{IsAtEnd}
 use Rattle.dep_types.specs.State.{State}
 use Rattle.dep_types.specs.declared.config.Config.{Config}
-use Rattle.dep_server.specs.Records.{World, Line, Live, Absent, put, Connect, Arrive, Close, Record, Arrives}
+use Rattle.dep_server.specs.Records.{World, Line, Live, Absent, with_line, Connect, Arrive, Close, Record, Arrives}
 use Rattle.dep_server.specs.declared.arrived.Arrived.{Arrived}
 use Rattle.dep_server.specs.declared.arrived.Arrived.TheVariants.{Open as StaysOpen, Closed as HasClosed, Cut, NoSuch}
 use Rattle.dep_server.specs.declared.connection.Served.{Served}
@@ -55,10 +55,10 @@ last_answer (t ∷ u ∷ turns) = last_answer (u ∷ turns)
 
 -- the machine once a connection was opened, and once it was closed
 abbrev pub with_opened : ℕ → World → World
-with_opened number w = record w { line = put number (Live []) w.line }
+with_opened number w = record w { line = with_line number (Live []) w.line }
 
 abbrev pub with_closed : ℕ → World → World
-with_closed number w = record w { line = put number Absent w.line }
+with_closed number w = record w { line = with_line number Absent w.line }
 
 -- the machine answers the turns one after another, each from where the one before left it; a turn that did not
 -- leave the connection open is the last
@@ -67,7 +67,7 @@ pub data Exchanges (config : Config) (number : ℕ) (first : World) : List Turn 
   one_more : {turns : List Turn} {w : World} {left : State} {line : Line} (t : Turn)
       → Exchanges config number first turns w → last_answer turns ≡ StaysOpen
       → Arrives config t.piece t.moment (w.line number) w.state t.sent left line t.answer
-      → Exchanges config number first (turns ++ t ∷ []) (record { state = left; line = put number line w.line })
+      → Exchanges config number first (turns ++ t ∷ []) (record { state = left; line = with_line number line w.line })
 
 -- why a connection was served no longer
 abbrev pub EndsAs : Option (List ℕ) → List Turn → Served → Type 0

@@ -5,21 +5,21 @@ ghost use Rattle.dep_message.specs.declared.message.Message.{Message};
 ghost use Rattle.dep_types.specs.State.{State};
 ghost use Rattle.dep_server.specs.Records.{Record, World, Run};
 ghost use Rattle.dep_types.specs.declared.config.Config.{Config};
-ghost use Rattle.dep_server.specs.Calm.{CalmRun, Step, sent_to};
+ghost use Rattle.dep_server.specs.Calm.{CalmRun, SteppedItem, sent_to};
 ghost use Rattle.dep_server.specs.Streams.{AreSpelled, streams_of, items_of, occasions_of};
 ghost use Rattle.dep_types.specs.Sound.{IsSound};
 ghost use Rattle.dep_head.specs.Head.{EndsOnce};
 ghost use Rattle.dep_types.specs.Config.{IsChecked};
 ghost use Rattle.dep_server.specs.ReplyHeads.{IsUnsplit};
 ghost use Rattle.dep_server.specs.Machine.{step, want_of_memory, store_fault};
-ghost use Rattle.dep_server.specs.Bare.{asked_by, IsWithoutBody};
+ghost use Rattle.dep_server.specs.Bare.{request_by, IsWithoutBody};
 ghost use Rattle.dep_server.specs.Turns.{Turn, records_of, with_opened, with_closed, Exchanges, EndsAs, IsEndedBy};
 ghost use Rattle.dep_server.specs.declared.connection.Served.{Served};
 
 /// Runs without failed steps that make the same steps send the same bytes, each connection its own, and end in the
 /// same state.
 pub fn cuts_move_moments_of_runs()
-    ensures { (config : Config) (first : State) (records others : List Record) (steps : List Step) (v w : World)
+    ensures { (config : Config) (first : State) (records others : List Record) (steps : List SteppedItem) (v w : World)
         (r : Run config first records v) (q : Run config first others w)
         → CalmRun records v r steps → CalmRun others w q steps
         → ((n : ℕ) → sent_to n records ≡ sent_to n others) × (v.state ≡ w.state) }
@@ -27,7 +27,7 @@ pub fn cuts_move_moments_of_runs()
 
 /// A run without failed steps makes of the streams of each connection the items that they spell, and no others.
 pub fn streams_make_the_steps()
-    ensures { (config : Config) (first : State) (records : List Record) (steps : List Step) (w : World)
+    ensures { (config : Config) (first : State) (records : List Record) (steps : List SteppedItem) (w : World)
         (r : Run config first records w) → CalmRun records w r steps
         → (n : ℕ) → AreSpelled config.max_upload (streams_of n records) (items_of n steps) }
 {}
@@ -37,7 +37,7 @@ pub fn streams_make_the_steps()
 /// make the same items of each connection; and where these come on the same occasions, both send the same bytes,
 /// to each connection its own, and end in the same state.
 pub fn cuts_move_occasions()
-    ensures { (config : Config) (first : State) (records others : List Record) (steps moves : List Step) (v w : World)
+    ensures { (config : Config) (first : State) (records others : List Record) (steps moves : List SteppedItem) (v w : World)
         (r : Run config first records v) (q : Run config first others w)
         → CalmRun records v r steps → CalmRun others w q moves
         → ((n : ℕ) → streams_of n records ≡ streams_of n others)
@@ -50,8 +50,8 @@ pub fn cuts_move_occasions()
 /// and no body.
 pub fn heads_have_no_body()
     ensures { (config : Config) (s : State) (m : Message) (moment : ℕ)
-        → IsWithoutBody (step config s (Request (asked_by (codes "GET") m)) moment)
-        (step config s (Request (asked_by (codes "HEAD") m)) moment) }
+        → IsWithoutBody (step config s (Request (request_by (codes "GET") m)) moment)
+        (step config s (Request (request_by (codes "HEAD") m)) moment) }
 {}
 
 /// No reply can be read as two, whatever was deposited: what is sent for an item of a sound machine begins with a

@@ -1,5 +1,5 @@
 use Rattle.std.proofs.Common.{ℕ, sym, ap, ◌∙◌, Option, List}
-use Rattle.dep_message.specs.Places.{Reading, more}
+use Rattle.dep_message.specs.Places.{Reading, place_with}
 use Rattle.dep_server.specs.Serving.{arrival_of}
 use Rattle.dep_message.specs.Stream.{Item, Fault, Continue, Request}
 use Rattle.dep_server.proofs.ServingLemmas.{served_none, served_more, serves_open, serves_shut, serves_last, serves_gives_up, first_at, fault_shuts, cut_cause, never_such}
@@ -58,7 +58,7 @@ loop-intake-preserved g c =
 pub returns-in-Err-clause-served : goal.returns-in-Err-clause-served
 returns-in-Err-clause-served g c =
     let held : Option (List ℕ) = g.O.Outlet.taken c.args.out.now in
-    serves_gives_up c.args.config.now (arrival_of c.args.intake.now c.args.piece.now c.args.moment) c.args.store.now held held (more c.args.intake.now.place c.args.piece.now) c.args.store.now
+    serves_gives_up c.args.config.now (arrival_of c.args.intake.now c.args.piece.now c.args.moment) c.args.store.now held held (place_with c.args.intake.now.place c.args.piece.now) c.args.store.now
     (served_none c.args.config.now (arrival_of c.args.intake.now c.args.piece.now c.args.moment) c.args.store.now held)
     (g.O.Outlet.taken c.give_up.new.out) c.give_up.result c.in-Err.ensures.err.1 c.give_up.ensures.sent c.give_up.new.intake.place (ap (λ (r : Reading). r.place) c.give_up.ensures.shut)
 

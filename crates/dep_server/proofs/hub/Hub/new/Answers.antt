@@ -1,6 +1,6 @@
 use Rattle.std.proofs.Common.{refl, sym, subst, List, [], arith}
 use Rattle.dep_server.specs.Numbers.{Ascends}
-use Rattle.dep_server.specs.Records.{Line, begins, begin_with}
+use Rattle.dep_server.specs.Records.{Line, begins, first_world}
 use Rattle.dep_server.specs.Standing.{IsKeptAs, intake_of}
 use Rattle.dep_server.specs.declared.connections.Connection.{Connection}
 use Rattle.dep_server.proofs.hub.Hub.new.Goals as goal
@@ -18,7 +18,7 @@ returns-in-Ok-clause-again c = λ first records w run absent e sound. record {
 }
 
 pub returns-in-Ok-clause-stands : goal.returns-in-Ok-clause-stands
-returns-in-Ok-clause-stands c = λ first e sound. returns-in-Ok-clause-again c first [] (begin_with first) begins (λ n. refl) e sound
+returns-in-Ok-clause-stands c = λ first e sound. returns-in-Ok-clause-again c first [] (first_world first) begins (λ n. refl) e sound
 
 pub invariant_of-result : goal.invariant_of-result
 invariant_of-result c = record {
