@@ -81,27 +81,29 @@ pub record IsLastPart (rest : List ℕ) : Type 0 where
   pub whole : IsSection section lines
   pub good : list_all is_trailer_line lines ≡ true
 
--- behind chunks of so many bytes the rest is a unit that is bad or too large, judged once it is whole or once its
--- limit of bytes stands there without its end; held are the bytes of an unfinished chunk
+-- behind chunks of so many bytes the rest is a unit that is bad or too large, judged once it is whole
+-- or once its limit of bytes stands there without its end; held are the bytes of an unfinished chunk
 pub data IsUnitFault (limit taken : ℕ) (rest : List ℕ) : FrameFault → (held : List ℕ) → Type 0 where
   long_line : line_end rest ≡ None → length rest ≡ line_limit → IsUnitFault limit taken rest Bad []
   bad_line : (line : List ℕ) → rest ≡ line_text line → IsLine line → length line + 2 ≤ line_limit
       → line_size line ≡ None → IsUnitFault limit taken rest Bad []
   large_chunk : (line : List ℕ) (size : ℕ) → rest ≡ line_text line → IsSizeLine line size
       → limit < taken + size → IsUnitFault limit taken rest TooLarge []
-  bad_end : (line bytes two : List ℕ) → rest ≡ line_text line ++ (bytes ++ two) → IsSizeLine line (length bytes)
-      → 0 < length bytes → taken + length bytes ≤ limit → length two ≡ 2 → ¬ (two ≡ crlf)
+  bad_end : (line bytes two : List ℕ) → rest ≡ line_text line ++ (bytes ++ two)
+      → IsSizeLine line (length bytes) → 0 < length bytes → taken + length bytes ≤ limit → length two ≡ 2 → ¬ (two ≡ crlf)
       → IsUnitFault limit taken rest Bad bytes
   long_trailers : (line section : List ℕ) → rest ≡ line_text line ++ section → IsSizeLine line 0
       → IsBegunSection section → length section ≡ section_limit → IsUnitFault limit taken rest Bad []
-  bad_trailers : (line section : List ℕ) (lines : List (List ℕ)) → rest ≡ line_text line ++ section → IsSizeLine line 0
-      → IsSection section lines → list_all is_trailer_line lines ≡ false → IsUnitFault limit taken rest Bad []
+  bad_trailers : (line section : List ℕ) (lines : List (List ℕ)) → rest ≡ line_text line ++ section
+      → IsSizeLine line 0 → IsSection section lines → list_all is_trailer_line lines ≡ false
+      → IsUnitFault limit taken rest Bad []
 
--- behind chunks of so many bytes the rest is a front of a unit, and no fault yet; held are the bytes of an unfinished chunk
+-- behind chunks of so many bytes the rest is a front of a unit, and no fault yet; held are the bytes
+-- of an unfinished chunk
 pub data IsBegunUnit (limit taken : ℕ) (rest : List ℕ) : (held : List ℕ) → Type 0 where
   begun_line : line_end rest ≡ None → length rest < line_limit → IsBegunUnit limit taken rest []
-  begun_chunk : (line come : List ℕ) (size : ℕ) → rest ≡ line_text line ++ come → IsSizeLine line size → 0 < size
-      → taken + size ≤ limit → length come < size + 2 → IsBegunUnit limit taken rest (take size come)
+  begun_chunk : (line come : List ℕ) (size : ℕ) → rest ≡ line_text line ++ come
+      → IsSizeLine line size → 0 < size → taken + size ≤ limit → length come < size + 2 → IsBegunUnit limit taken rest (take size come)
   begun_trailers : (line section : List ℕ) → rest ≡ line_text line ++ section → IsSizeLine line 0
       → IsBegunSection section → length section < section_limit → IsBegunUnit limit taken rest []
 
@@ -112,7 +114,8 @@ pub record IsChunkedBody (limit : ℕ) (text content : List ℕ) : Type 0 where
   pub last : IsLastPart rest
 
 -- chunks and a unit that is bad or too large; content are the bytes of chunks up to there
-pub record IsChunkedFault (limit : ℕ) (text : List ℕ) (fault : FrameFault) (content : List ℕ) : Type 0 where
+pub record IsChunkedFault (limit : ℕ) (text : List ℕ) (fault : FrameFault) (content : List ℕ)
+    : Type 0 where
   pub before : List ℕ
   pub rest : List ℕ
   pub held : List ℕ

@@ -43,7 +43,8 @@ is_extension (b ∷ text) = begins_extension b && list_all is_extension_octet te
 unfoldable pub line_size : List ℕ → Option ℕ
 line_size line =
     let digits = prefix_len is_hex_octet line in
-    if nat_lt 0 digits && is_extension (drop digits line) then Some (digits_value 16 (take digits line)) else None
+    if nat_lt 0 digits && is_extension (drop digits line)
+    then Some (digits_value 16 (take digits line)) else None
 
 -- any byte but NUL, CR and LF
 abbrev pub is_trailer_octet : ℕ → Bool

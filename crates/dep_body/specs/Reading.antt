@@ -15,7 +15,8 @@ with_digit most value digit = option_and_then (λ n. capped most (n * 16 + digit
 
 -- the reading of a chunk line after one byte more
 abbrev pub size_after : ℕ → SizeReading → ℕ → SizeReading
-size_after most Start b = if is_hex_octet b then Digits (with_digit most (Some 0) (digit_value b)) else Malformed
+size_after most Start b =
+    if is_hex_octet b then Digits (with_digit most (Some 0) (digit_value b)) else Malformed
 size_after most (Digits value) b =
     if is_hex_octet b then Digits (with_digit most value (digit_value b))
     else (if begins_extension b then Extension value else Malformed)

@@ -41,7 +41,8 @@ pub record IsInData (limit : ℕ) (content : List ℕ) (left : ℕ) (text : List
   pub content_is : content ≡ before ++ bytes
 
 -- behind the bytes of a chunk, and perhaps one byte more
-pub record IsBehindData (limit : ℕ) (content : List ℕ) (byte : Option ℕ) (text : List ℕ) : Type 0 where
+pub record IsBehindData (limit : ℕ) (content : List ℕ) (byte : Option ℕ) (text : List ℕ)
+    : Type 0 where
   pub before : List ℕ
   pub line : List ℕ
   pub bytes : List ℕ
@@ -84,7 +85,8 @@ is_settled S.TooLarge = true
 is_settled _ = false
 
 -- at the end of a chunk line with this reading
-pub record IsAtLineEnd (limit : ℕ) (content : List ℕ) (reading : SizeReading) (text : List ℕ) : Type 0 where
+pub record IsAtLineEnd (limit : ℕ) (content : List ℕ) (reading : SizeReading) (text : List ℕ)
+    : Type 0 where
   pub line : List ℕ
   pub chunks : HasChunks limit text content (line_text line)
   pub ends : IsLine line
@@ -92,14 +94,16 @@ pub record IsAtLineEnd (limit : ℕ) (content : List ℕ) (reading : SizeReading
   pub said : Says limit reading (line_size line)
 
 -- at the end of a chunk line of this value, which is None where it is above the limit
-pub record IsSizedLine (limit : ℕ) (content : List ℕ) (size : ℕ) (value : Option ℕ) (text : List ℕ) : Type 0 where
+pub record IsSizedLine (limit : ℕ) (content : List ℕ) (size : ℕ) (value : Option ℕ) (text : List ℕ)
+    : Type 0 where
   pub line : List ℕ
   pub chunks : HasChunks limit text content (line_text line)
   pub size_line : IsSizeLine line size
   pub value_is : value ≡ capped limit size
 
 -- behind whole trailer lines of so many bytes
-pub record IsBehindLines (limit : ℕ) (content : List ℕ) (size : ℕ) (good : Bool) (text : List ℕ) : Type 0 where
+pub record IsBehindLines (limit : ℕ) (content : List ℕ) (size : ℕ) (good : Bool) (text : List ℕ)
+    : Type 0 where
   pub size_line : List ℕ
   pub lines : List (List ℕ)
   pub chunks : HasChunks limit text content (line_text size_line ++ lines_text lines)

@@ -39,6 +39,7 @@ pub fn part_or_fault()
 /// Trailer lines and a CR LF behind them end at that CR LF, and where no line is empty yet they have no end: so the
 /// end is the first CR LF CR LF, or the CR LF at the front.
 pub fn sections_end()
-    ensures whole { (text : List ℕ) (lines : List (List ℕ)) → IsSection text lines → section_end text ≡ Some (length text) }
+    ensures whole { (text : List ℕ) (lines : List (List ℕ)) → IsSection text lines
+        → section_end text ≡ Some (length text) }
     ensures begun { (text : List ℕ) → IsBegunSection text → section_end text ≡ None }
 {}

@@ -56,8 +56,10 @@ impl ChunkReader {
     /// Reads a piece of the body's stream, and no byte of it twice. After `Bad` and `TooLarge` the answer
     /// stays, and after `Done` it is `Done(0)`.
     pub fn feed(&mut self, piece: &[u8]) -> Result<Fed, AllocError>
-        ensures fed { IfOk result (λ _. (fed : List ℕ) → HasFed self.old fed → HasFed self.new (fed ++ piece.now)) }
-        ensures told { IfOk result (λ answer. (fed : List ℕ) → HasFed self.old fed → TellsFed self.new fed piece.now answer) }
+        ensures fed { IfOk result (λ _. (fed : List ℕ) → HasFed self.old fed
+            → HasFed self.new (fed ++ piece.now)) }
+        ensures told { IfOk result (λ answer. (fed : List ℕ) → HasFed self.old fed
+            → TellsFed self.new fed piece.now answer) }
         ensures within { IfOk result (λ answer. used_by answer ≤ length piece.now) }
         ensures limit { self.new.limit ≡ self.old.limit }
         ensures err { OnErr result (self.new ≡ self.old) }
@@ -154,7 +156,8 @@ fn take_data(
     rest: &[u8],
 ) -> Result<(Stage, usize), AllocError>
     requires some { 0 < length rest.now }
-    ensures stands { IfOk result (λ r. (limit : ℕ) (text : List ℕ) → IsInData limit content.old.items left.bytes text
+    ensures stands { IfOk result (λ r. (limit : ℕ) (text : List ℕ)
+        → IsInData limit content.old.items left.bytes text
         → StandsAt limit content.new.items r.0 (text ++ take r.1 rest.now)) }
     ensures within { IfOk result (λ r. r.1 ≤ length rest.now) }
     ensures some { IfOk result (λ r. 0 < r.1) }

@@ -65,7 +65,8 @@ fn stage_of(reading: SizeReading, taken: u64, limit: u64) -> Stage
 
 // What follows a good chunk line, by its value.
 fn stage_of_size(value: Option<u64>, taken: u64, limit: u64) -> Stage
-    ensures { (text content : List ℕ) (size : ℕ) → length content ≡ taken → IsSizedLine limit content size value text
+    ensures { (text content : List ℕ) (size : ℕ) → length content ≡ taken
+        → IsSizedLine limit content size value text
         → StandsAt limit content result text }
 {
     let Some(size) = value else {
@@ -116,7 +117,8 @@ pub(crate) fn section_after(state: Trailers, byte: u8) -> Stage
 
 // What follows LF at the end of a trailer line.
 fn stage_of_line(state: Trailers) -> Stage
-    ensures { (limit : ℕ) (text content : List ℕ) → state.after_cr ≡ true → IsInTrailers limit content state text
+    ensures { (limit : ℕ) (text content : List ℕ) → state.after_cr ≡ true
+        → IsInTrailers limit content state text
         → StandsAt limit content result (text ++ 10 ∷ []) }
 {
     match state.reading {

@@ -6,6 +6,7 @@ use Rattle.dep_types.specs.Names.{if_passes, is_media}
 use Rattle.dep_fixity.specs.Fixity.{digest_field}
 use Rattle.dep_fields.specs.Kinds.{IsKind, truth}
 use Rattle.dep_fields.specs.Values.{IsReadFrom, joined, read_from, single}
+use Rattle.dep_fields.specs.declared.field.Field.{Field}
 use Rattle.dep_fields.specs.declared.fields.SwordFields.{SwordFields}
 
 -- a text that names someone
@@ -16,13 +17,17 @@ is_behalf text = nat_lt 0 (length text) && is_utf8 text
 abbrev pub as_it_stands : List ℕ → Option (List ℕ)
 as_it_stands text = Some text
 
+-- the text of the field of this name, which may stand once
+abbrev pub field_in : List (List ℕ × List ℕ) → (name : List ℕ) → Field (List ℕ)
+field_in fields name = single (values_of fields name)
+
 -- what the fields of a head tell
 pub record AreFields (fields : List (List ℕ × List ℕ)) (told : SwordFields) : Type 0 where
-  pub on_behalf_of : told.on_behalf_of ≡ read_from (if_passes is_behalf) (single (values_of fields (codes "On-Behalf-Of")))
-  pub disposition : IsReadFrom IsKind (single (values_of fields (codes "Content-Disposition"))) told.disposition
-  pub in_progress : told.in_progress ≡ read_from truth (single (values_of fields (codes "In-Progress")))
-  pub packaging : told.packaging ≡ read_from as_it_stands (single (values_of fields (codes "Packaging")))
-  pub metadata_format : told.metadata_format ≡ read_from as_it_stands (single (values_of fields (codes "Metadata-Format")))
-  pub content_type : told.content_type ≡ read_from (if_passes is_media) (single (values_of fields (codes "Content-Type")))
-  pub content_encoding : told.content_encoding ≡ read_from as_it_stands (single (values_of fields (codes "Content-Encoding")))
+  pub on_behalf_of : told.on_behalf_of ≡ read_from (if_passes is_behalf) (field_in fields (codes "On-Behalf-Of"))
+  pub disposition : IsReadFrom IsKind (field_in fields (codes "Content-Disposition")) told.disposition
+  pub in_progress : told.in_progress ≡ read_from truth (field_in fields (codes "In-Progress"))
+  pub packaging : told.packaging ≡ read_from as_it_stands (field_in fields (codes "Packaging"))
+  pub metadata_format : told.metadata_format ≡ read_from as_it_stands (field_in fields (codes "Metadata-Format"))
+  pub content_type : told.content_type ≡ read_from (if_passes is_media) (field_in fields (codes "Content-Type"))
+  pub content_encoding : told.content_encoding ≡ read_from as_it_stands (field_in fields (codes "Content-Encoding"))
   pub digest : told.digest ≡ read_from digest_field (joined (values_of fields (codes "Digest")))

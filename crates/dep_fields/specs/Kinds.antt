@@ -63,7 +63,8 @@ opening_by _ _ _ _ = None
 -- what the parameters say is to be opened
 abbrev pub opening_of : Reading → Option Opening
 opening_of reading =
-    opening_by (positive (value_of (codes "size") reading)) (positive (value_of (codes "segment_count") reading))
+    opening_by (positive (value_of (codes "size") reading))
+    (positive (value_of (codes "segment_count") reading))
     (positive (value_of (codes "segment_size") reading)) (promised (value_of (codes "digest") reading))
 
 -- an opening, with what is to be opened

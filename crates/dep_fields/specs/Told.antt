@@ -5,9 +5,9 @@ use Rattle.dep_types.specs.Names.{if_passes, is_media}
 use Rattle.dep_params.specs.Grammar.{Reading, names_of, value_of}
 use Rattle.dep_params.specs.Told.{file_name_of, is_each_once, reading_of}
 use Rattle.dep_fixity.specs.Fixity.{digest_field}
-use Rattle.dep_fields.specs.Fields.{as_it_stands, is_behalf}
+use Rattle.dep_fields.specs.Fields.{as_it_stands, field_in, is_behalf}
 use Rattle.dep_fields.specs.Kinds.{flag, number, opening_of, truth}
-use Rattle.dep_fields.specs.Values.{joined, read_from, single}
+use Rattle.dep_fields.specs.Values.{joined, read_from}
 use Rattle.dep_fields.specs.declared.fields.SwordFields.{SwordFields}
 use Rattle.dep_fields.specs.declared.kind.Kind.{Kind}
 use Rattle.dep_fields.specs.declared.kind.Kind.TheVariants.{File, Metadata, References, Opening as Opens, Segment}
@@ -22,9 +22,12 @@ attached reading _ _ = None
 -- a disposition of this form
 abbrev pub kind_in : (form : List ℕ) → Reading → Option Kind
 kind_in form reading =
-    if bytes_eq form (codes "attachment") then attached reading (flag (value_of (codes "metadata") reading)) (flag (value_of (codes "by-reference") reading))
+    if bytes_eq form (codes "attachment")
+    then attached reading (flag (value_of (codes "metadata") reading))
+        (flag (value_of (codes "by-reference") reading))
     else if bytes_eq form (codes "segment-init") then option_map (λ o. Opens o) (opening_of reading)
-    else if bytes_eq form (codes "segment") then option_map (λ n. Segment n) (number (value_of (codes "segment_number") reading))
+    else if bytes_eq form (codes "segment")
+    then option_map (λ n. Segment n) (number (value_of (codes "segment_number") reading))
     else None
 
 unfoldable pub kind_of : Reading → Option Kind
@@ -40,12 +43,12 @@ kind_read text = option_and_then kind_once (reading_of text)
 -- what the fields of a head tell
 abbrev pub fields_of : List (List ℕ × List ℕ) → SwordFields
 fields_of fields = record {
-  on_behalf_of = read_from (if_passes is_behalf) (single (values_of fields (codes "On-Behalf-Of")));
-  disposition = read_from kind_read (single (values_of fields (codes "Content-Disposition")));
-  in_progress = read_from truth (single (values_of fields (codes "In-Progress")));
-  packaging = read_from as_it_stands (single (values_of fields (codes "Packaging")));
-  metadata_format = read_from as_it_stands (single (values_of fields (codes "Metadata-Format")));
-  content_type = read_from (if_passes is_media) (single (values_of fields (codes "Content-Type")));
-  content_encoding = read_from as_it_stands (single (values_of fields (codes "Content-Encoding")));
+  on_behalf_of = read_from (if_passes is_behalf) (field_in fields (codes "On-Behalf-Of"));
+  disposition = read_from kind_read (field_in fields (codes "Content-Disposition"));
+  in_progress = read_from truth (field_in fields (codes "In-Progress"));
+  packaging = read_from as_it_stands (field_in fields (codes "Packaging"));
+  metadata_format = read_from as_it_stands (field_in fields (codes "Metadata-Format"));
+  content_type = read_from (if_passes is_media) (field_in fields (codes "Content-Type"));
+  content_encoding = read_from as_it_stands (field_in fields (codes "Content-Encoding"));
   digest = read_from digest_field (joined (values_of fields (codes "Digest")));
 }

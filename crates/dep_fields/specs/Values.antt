@@ -34,7 +34,8 @@ IsRead {X} Reads Bad = (x : X) → ¬ Reads x
 IsRead Reads (Value x) = Reads x
 
 -- what a relation of texts and values makes of a field's text
-abbrev pub IsReadFrom : {X : Type 0} → (List ℕ → X → Type 0) → Field (List ℕ) → Field X → Type 0
+abbrev pub IsReadFrom : {X : Type 0} → (List ℕ → X → Type 0) → Field (List ℕ) → Field X
+    → Type 0
 IsReadFrom Reads Absent told = told ≡ Absent
 IsReadFrom Reads Bad told = told ≡ Bad
 IsReadFrom Reads (Value text) told = IsRead (Reads text) told

@@ -143,7 +143,8 @@ fn ascii_text(bytes: &[u8]) -> &str
 
 // One field is read where it stands; the texts of several are joined in a copy.
 fn digest(alloc: Global, head: &Head) -> Result<Field<DigestList>, AllocError>
-    ensures { IfOk result (λ read. read ≡ read_from digest_field (joined (values_of head.now.fields (codes "Digest")))) }
+    ensures { IfOk result (λ read. read ≡
+        read_from digest_field (joined (values_of head.now.fields (codes "Digest")))) }
 {
     match single(head, "Digest") {
         Field::Absent => Ok(Field::Absent),

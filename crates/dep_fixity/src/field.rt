@@ -86,7 +86,8 @@ fn is_sha256(name: &[u8]) -> bool
 
 // A member's name and its value.
 fn cut_at_equals(member: &[u8]) -> Option<(&[u8], &[u8])>
-    ensures { MatchOption result (name_and_value member.now ≡ None) (λ cut. name_and_value member.now ≡ Some (cut.0.now, cut.1.now)) }
+    ensures { MatchOption result (name_and_value member.now ≡ None)
+        (λ cut. name_and_value member.now ≡ Some (cut.0.now, cut.1.now)) }
 {
     match first_equals(member) {
         Some(equals) => Some((&member[..equals], &member[equals + 1..])),

@@ -87,7 +87,8 @@ impl Head {
 /// Reads a text that is the whole head of a request, and nothing after it.
 pub fn read_head(alloc: Global, text: &[u8]) -> Result<Head, HeadFault>
     ensures read { IfOk result (IsHeadText text.now) }
-    ensures refused { result ≡ Err HeadFault.NotAHead → (parts : HeadParts) → ¬ IsHeadText text.now parts }
+    ensures refused { result ≡ Err HeadFault.NotAHead →
+        (parts : HeadParts) → ¬ IsHeadText text.now parts }
 {
     let Some(end) = find_end(text) else {
         return Err(HeadFault::NotAHead);
@@ -128,7 +129,8 @@ pub fn read_head(alloc: Global, text: &[u8]) -> Result<Head, HeadFault>
 
 // HTTP/1.1 has exactly one Host field, and HTTP/1.0 at most one (RFC 9112, section 3.2).
 fn has_good_host(head: &Head) -> bool
-    ensures { IsTrue result ↔ IsHostCount head.now.minor (length (values_of head.now.fields (codes "Host"))) }
+    ensures { IsTrue result ↔
+        IsHostCount head.now.minor (length (values_of head.now.fields (codes "Host"))) }
 {
     let mut hosts = head.values("Host");
     match hosts.next() {

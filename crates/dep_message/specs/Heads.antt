@@ -41,7 +41,8 @@ has_body Chunked = true
 
 -- the client waits to be told that it may send the body
 unfoldable pub awaits_continue : HeadParts → Framing → Bool
-awaits_continue head framing = expects_by head.minor (values_of head.fields (codes "Expect")) && has_body framing
+awaits_continue head framing =
+    expects_by head.minor (values_of head.fields (codes "Expect")) && has_body framing
 
 -- and it wasn't told yet
 abbrev pub is_due : (continued : Bool) → HeadParts → Framing → Bool

@@ -1,8 +1,8 @@
 -- Where the reading of a stream stands.
 use Rattle.std.specs.Prelude.{ℕ, ◌+◌, Bool, List, [], ◌∷◌, ◌++◌, length, if◌then◌else◌}
 
--- before these bytes, or at an end behind which no byte is read; continued: the request that stands first was told
--- to send its body
+-- before these bytes, or at an end behind which no byte is read; continued: the request that stands
+-- first was told to send its body
 pub data Place : Type 0 where
   Open : (continued : Bool) (rest : List ℕ) → Place
   Shut : Place

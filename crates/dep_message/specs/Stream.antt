@@ -1,5 +1,6 @@
--- What the bytes of a connection spell: requests, one after another, or a fault that ends them (RFC 9112, sections 2, 6
--- and 9.3), and between a head and its body what tells the client to go on (RFC 9110, section 10.1.1).
+-- What the bytes of a connection spell: requests, one after another, or a fault that ends them
+-- (RFC 9112, sections 2, 6 and 9.3), and between a head and its body what tells the client to go on
+-- (RFC 9110, section 10.1.1).
 use Rattle.std.specs.Prelude.{◌≡◌, ◌⊎◌, ℕ, ◌<◌, ◌≤◌, Bool, true, false, List, [], ◌∷◌, ◌++◌, length, if◌then◌else◌, None, Ok, Err}
 use Rattle.dep_head.specs.Head.{HeadParts, IsHeadText, EndsOnce, head_end, head_limit}
 use Rattle.dep_types.specs.declared.refusal.Refusal.{Refusal}
@@ -13,8 +14,8 @@ use Rattle.dep_message.specs.Heads.{is_bare, closes, is_due}
 use Rattle.dep_message.specs.Places.{Place, Open, Shut}
 use Rattle.dep_message.specs.declared.message.Message.{Message}
 
--- what a stream spells next: a fault, whose reply has no body where it is bare; that the client may send the body; a
--- request
+-- what a stream spells next: a fault, whose reply has no body where it is bare; that the client may
+-- send the body; a request
 pub data Item : Type 0 where
   Fault : (refusal : Refusal) (bare : Bool) → Item
   Continue : Item
@@ -38,7 +39,8 @@ IsNoHead front =
     ⊎ ((head_end front ≡ None) × (length front ≡ head_limit))
 
 -- a head whose framing is good, and the bytes behind it; what tells the client to go on is due, or is not
-pub record HasHead (limit : ℕ) (continued due : Bool) (text : List ℕ) (head : HeadParts) (frame : Framing) (body : List ℕ) : Type 0 where
+pub record HasHead (limit : ℕ) (continued due : Bool) (text : List ℕ) (head : HeadParts)
+    (frame : Framing) (body : List ℕ) : Type 0 where
   pub front : List ℕ
   pub whole : text ≡ front ++ body
   pub is_head : IsHeadText front head
@@ -49,9 +51,11 @@ pub record HasHead (limit : ℕ) (continued due : Bool) (text : List ℕ) (head 
 pub data IsFaultText (limit : ℕ) (continued : Bool) (text : List ℕ) : Refusal → Bool → Type 0 where
   no_head : IsNoHead text → IsFaultText limit continued text BadRequest false
   bad_framing : {head : HeadParts} (fault : FrameFault) → IsHeadText text head
-      → framing limit head ≡ Err fault → IsFaultText limit continued text (refusal_of fault) (is_bare head)
-  bad_body : {head : HeadParts} {frame : Framing} {body : List ℕ} (fault : FrameFault) → HasHead limit continued false text head frame body
-      → IsBodyFault limit frame body fault → IsFaultText limit continued text (refusal_of fault) (is_bare head)
+      → framing limit head ≡ Err fault
+      → IsFaultText limit continued text (refusal_of fault) (is_bare head)
+  bad_body : {head : HeadParts} {frame : Framing} {body : List ℕ} (fault : FrameFault)
+      → HasHead limit continued false text head frame body → IsBodyFault limit frame body fault
+      → IsFaultText limit continued text (refusal_of fault) (is_bare head)
 
 -- the head of a request that waits to be told to go on
 pub record IsContinueText (limit : ℕ) (continued : Bool) (text : List ℕ) : Type 0 where
@@ -86,7 +90,8 @@ FirstAt limit Shut item next = ⊥
 -- from one place, these items one after another lead to the other
 abbrev pub Reads : ℕ → Place → List Item → Place → Type 0
 Reads limit from [] to = to ≡ from
-Reads limit from (item ∷ items) to = (next : Place) × FirstAt limit from item next × Reads limit next items to
+Reads limit from (item ∷ items) to =
+    (next : Place) × FirstAt limit from item next × Reads limit next items to
 
 -- a good head whose body has not come whole, and shows no fault
 pub record HasPartOfBody (limit : ℕ) (continued : Bool) (bytes : List ℕ) : Type 0 where

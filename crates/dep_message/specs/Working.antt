@@ -57,7 +57,8 @@ kept_bytes work = work.buffer ++ bytes_apart work.progress
 -- what is known of the first request is so
 abbrev pub IsKnown : ℕ → Bool → List ℕ → Progress → Type 0
 IsKnown limit continued buffer (Searched n) = IsSearched n buffer
-IsKnown limit continued buffer (Sized request) = IsBegun limit continued buffer request.head (Length request.length)
+IsKnown limit continued buffer (Sized request) =
+    IsBegun limit continued buffer request.head (Length request.length)
 IsKnown limit continued buffer (Chunked request) = ReadsChunks limit continued buffer request
 
 -- the request before is done with, and nothing is known of the next
@@ -86,7 +87,8 @@ Begins IsText bytes = (text : List ℕ) × (behind : List ℕ) × (bytes ≡ tex
 -- the head that stands first in the bytes
 abbrev pub FindsHead : ℕ → Bool → List ℕ → FirstHead → Type 0
 FindsHead limit continued bytes (H.Head first) =
-    (first.length ≤ length bytes) × IsBegun limit continued (take first.length bytes) first.head first.framing
+    (first.length ≤ length bytes)
+    × IsBegun limit continued (take first.length bytes) first.head first.framing
 FindsHead limit continued bytes H.Continue = Begins (IsContinueText limit continued) bytes
 FindsHead limit continued bytes (H.Fault refusal bare) =
     Begins (λ text. IsFaultText limit continued text refusal bare) bytes
@@ -95,12 +97,15 @@ FindsHead limit continued bytes H.Nothing = (head_end bytes ≡ None) × (length
 -- what stands first in the bytes, and what is kept then
 abbrev pub Finds : ℕ → Bool → List ℕ → Work → Found → Type 0
 Finds limit continued bytes new (F.Message m) =
-    (text : List ℕ) × (behind : List ℕ) × (bytes ≡ text ++ behind) × IsRequestText limit continued text m
-    × (0 < length text) × Keeps limit false behind new
-Finds limit continued bytes new F.Continue = Begins (IsContinueText limit continued) bytes × Keeps limit true bytes new
+    (text : List ℕ) × (behind : List ℕ) × (bytes ≡ text ++ behind)
+    × IsRequestText limit continued text m × (0 < length text) × Keeps limit false behind new
+Finds limit continued bytes new F.Continue =
+    Begins (IsContinueText limit continued) bytes × Keeps limit true bytes new
 Finds limit continued bytes new (F.Fault refusal bare) =
-    Begins (λ text. IsFaultText limit continued text refusal bare) bytes × (new.limit ≡ limit) × IsWorking new
-Finds limit continued bytes new F.Nothing = Waits limit (Open continued bytes) × Keeps limit continued bytes new
+    Begins (λ text. IsFaultText limit continued text refusal bare) bytes × (new.limit ≡ limit)
+    × IsWorking new
+Finds limit continued bytes new F.Nothing =
+    Waits limit (Open continued bytes) × Keeps limit continued bytes new
 
 -- what is found over these bytes: for want of memory nothing changes, and some byte was there
 abbrev pub FindsNext : (old : Work) (bytes : List ℕ) (new : Work) → Result Found AllocError → Type 0

@@ -41,7 +41,8 @@ pub(crate) fn first_head(
     bytes: &[u8],
 ) -> Result<FirstHead, AllocError>
     requires { IsSearched searched bytes.now }
-    ensures { MatchResult result (FindsHead limit continued bytes.now) (λ _. HasBytes (Open continued bytes.now)) }
+    ensures { MatchResult result (FindsHead limit continued bytes.now)
+        (λ _. HasBytes (Open continued bytes.now)) }
 {
     let Some(end) = find_end_from(searched, bytes) else {
         if bytes.len() >= HEAD_LIMIT {

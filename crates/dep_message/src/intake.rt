@@ -58,8 +58,10 @@ impl Intake {
 
     /// Takes the next piece of the stream. An `Err` changes nothing.
     pub fn feed(&mut self, piece: &[u8]) -> Result<(), AllocError>
-        ensures ok { OnOk result (self.new ≡ record self.old { place = place_with self.old.place piece.now }) }
-        ensures err { OnErr result ((self.new ≡ self.old) × HasBytes (place_with self.old.place piece.now)) }
+        ensures ok { OnOk result
+            (self.new ≡ record self.old { place = place_with self.old.place piece.now }) }
+        ensures err { OnErr result
+            ((self.new ≡ self.old) × HasBytes (place_with self.old.place piece.now)) }
     {
         if self.is_shut || piece.is_empty() {
             return Ok(());
@@ -78,7 +80,8 @@ impl Intake {
     /// Takes the first item, where one is complete. An `Err` changes nothing. Behind a fault, and behind a request that
     /// closes the connection, the intake is `Dead`.
     pub fn next(&mut self) -> Result<Step, AllocError>
-        ensures { MatchResult result (Gives self.old self.new) (λ _. (self.new ≡ self.old) × HasBytes self.old.place) }
+        ensures { MatchResult result (Gives self.old self.new)
+            (λ _. (self.new ≡ self.old) × HasBytes self.old.place) }
     {
         if self.is_shut {
             return Ok(Step::Dead);

@@ -25,5 +25,6 @@ pub fn one_spelling()
 /// The items of a prefix are a prefix of the items.
 pub fn items_grow()
     ensures { (limit : ℕ) (stream piece : List ℕ) (xs ys : List Item) (p q : Place)
-        → Spells limit stream xs p → Spells limit (stream ++ piece) ys q → (more : List Item) × (ys ≡ xs ++ more) }
+        → Spells limit stream xs p → Spells limit (stream ++ piece) ys q
+        → (more : List Item) × (ys ≡ xs ++ more) }
 {}

@@ -1,4 +1,5 @@
--- Seconds since 1970 as a day and a time of day in UTC, and the texts of both (RFC 3339; RFC 9110, section 5.6.7).
+-- Seconds since 1970 as a day and a time of day in UTC, and the texts of both (RFC 3339; RFC 9110,
+-- section 5.6.7).
 use Rattle.std.specs.Prelude.{◌≡◌, ℕ, zero, suc, ◌+◌, ◌-◌, ◌/◌, ◌%◌, nat_lt, List, ◌++◌, codes, if◌then◌else◌}
 use Rattle.httpdate.specs.Calendar.{IsCivilDate, IsTimeOfDay, days_in_year, days_in_month, days_from_civil, seconds_from_civil, weekday}
 use Rattle.httpdate.specs.Text.{day_name, month_name, two_digits, four_digits}
@@ -18,15 +19,20 @@ pub record IsCivilOf (secs : ℕ) (c : Civil) : Type 0 where
   pub time : IsTimeOfDay c.hour c.minute c.second
   pub secs_are : seconds_from_civil c.year c.month c.day c.hour c.minute c.second ≡ secs
 
--- the year of a day, from the days since the year y began, and the days of that year before it; n years are looked at
+-- the year of a day, from the days since the year y began, and the days of that year before it;
+-- n years are looked at
 unfoldable pub year_from : (n y days : ℕ) → ℕ × ℕ
 year_from zero y days = (y, days)
-year_from (suc n) y days = if nat_lt days (days_in_year y) then (y, days) else year_from n (suc y) (days - days_in_year y)
+year_from (suc n) y days =
+    if nat_lt days (days_in_year y) then (y, days)
+    else year_from n (suc y) (days - days_in_year y)
 
 -- the same of the months of a year
 unfoldable pub month_from : (n y m days : ℕ) → ℕ × ℕ
 month_from zero y m days = (m, days)
-month_from (suc n) y m days = if nat_lt days (days_in_month y m) then (m, days) else month_from n y (suc m) (days - days_in_month y m)
+month_from (suc n) y m days =
+    if nat_lt days (days_in_month y m) then (m, days)
+    else month_from n y (suc m) (days - days_in_month y m)
 
 abbrev pub on_day : (year_and_day : ℕ × ℕ) → (rest : ℕ) → Civil
 on_day yd rest = record {

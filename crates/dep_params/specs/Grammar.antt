@@ -1,6 +1,6 @@
 -- The grammar of Content-Disposition (RFC 6266, section 4.1).
-use Rattle.std.specs.Prelude.{◌≡◌, ℕ, ◌==◌, ◌&&◌, ◌||◌, not, nat_le, nat_lt, Bool, true, List, [], ◌∷◌, ◌++◌, length, Option, Some, None, option_map, find, map}
-use Rattle.std.specs.List.{list_all, flat_map, filter_map, AllByRecursion}
+use Rattle.std.specs.Prelude.{◌≡◌, ℕ, ◌==◌, ◌&&◌, ◌||◌, not, nat_le, nat_lt, Bool, true, List, [], ◌∷◌, ◌++◌, length, Option, Some, None, option_map, find, map, bytes_eq}
+use Rattle.std.specs.List.{list_all, flat_map, filter_map, AllByRecursion, IsDistinct}
 use Rattle.std.specs.Str.{str_to_ascii_lowercase, str_eq_ignore_ascii_case}
 use Rattle.dep_octets.specs.Octets.{is_token, is_blank}
 
@@ -67,7 +67,8 @@ are_blanks text = list_all is_blank text
 abbrev pub IsPlace : Place → Type 0
 IsPlace (Empty before after) = (are_blanks before ≡ true) × (are_blanks after ≡ true)
 IsPlace (Holds before after name value) =
-    (are_blanks before ≡ true) × (are_blanks after ≡ true) × (is_token name ≡ true) × (is_value value ≡ true)
+    (are_blanks before ≡ true) × (are_blanks after ≡ true) × (is_token name ≡ true)
+    × (is_value value ≡ true)
 
 abbrev pub place_text : Place → List ℕ
 place_text (Empty before after) = before ++ 59 ∷ after
@@ -99,6 +100,10 @@ pub record IsDisposition (text : List ℕ) (reading : Reading) : Type 0 where
 -- the names of its parameters
 abbrev pub names_of : Reading → List (List ℕ)
 names_of reading = map (λ p. p.name) reading.parameters
+
+-- no two parameters have one name
+abbrev pub HasDistinctNames : Reading → Type 0
+HasDistinctNames reading = IsDistinct bytes_eq (names_of reading)
 
 -- the value of the parameter with this name, in any letter case
 abbrev pub value_of : List ℕ → Reading → Option (List ℕ)

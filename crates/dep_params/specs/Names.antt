@@ -1,20 +1,24 @@
 -- The file name that a disposition gives (RFC 6266, section 4.3; RFC 8187, section 3.2).
-use Rattle.std.specs.Prelude.{◌≡◌, ℕ, ◌+◌, ◌<◌, ◌==◌, not, Bool, true, IsTrue, List, ◌∷◌, ◌++◌, length, slice_index, Option, Some, None, codes}
+use Rattle.std.specs.Prelude.{◌≡◌, ◌⊎◌, ℕ, ◌+◌, ◌<◌, ◌==◌, not, Bool, true, IsTrue, List, ◌∷◌, ◌++◌, length, slice_index, Option, Some, None, codes}
 use Rattle.std.specs.List.{list_all}
 use Rattle.std.specs.Char.{is_ascii_hexdigit}
 use Rattle.std.specs.Str.{str_eq_ignore_ascii_case}
 use Rattle.percent_encoding.specs.Percent.{percent_decode}
 use Rattle.dep_types.specs.Names.{is_good_name}
 use Rattle.dep_params.specs.Grammar.{Reading, value_of}
+use Rattle.dep_params.specs.declared.disposition.ParamFault.{ParamFault}
+use Rattle.dep_params.specs.declared.disposition.ParamFault.TheVariants.{NoName, Memory}
 
 -- two hexadecimal digits stand behind the place
 abbrev pub HasTwoDigitsAfter : List ℕ → ℕ → Type 0
 HasTwoDigitsAfter text i =
-    (i + 2 < length text) × IsTrue (is_ascii_hexdigit (slice_index text (i + 1))) × IsTrue (is_ascii_hexdigit (slice_index text (i + 2)))
+    (i + 2 < length text) × IsTrue (is_ascii_hexdigit (slice_index text (i + 1)))
+    × IsTrue (is_ascii_hexdigit (slice_index text (i + 2)))
 
 -- each `%` stands before two hexadecimal digits
 abbrev pub HasWholeEscapes : List ℕ → Type 0
-HasWholeEscapes text = (i : ℕ) → i < length text → slice_index text i ≡ 37 → HasTwoDigitsAfter text i
+HasWholeEscapes text =
+    (i : ℕ) → i < length text → slice_index text i ≡ 37 → HasTwoDigitsAfter text i
 
 abbrev pub has_no_apostrophe : List ℕ → Bool
 has_no_apostrophe text = list_all (λ b. not (b == 39)) text
@@ -37,7 +41,16 @@ IsTold (Some text) plain name = IsExtended text name
 IsTold None (Some plain) name = name ≡ plain
 IsTold None None name = ⊥
 
+-- its parameters tell this name, whether it may stand or not
+abbrev pub IsToldName : Reading → List ℕ → Type 0
+IsToldName reading name =
+    IsTold (value_of (codes "filename*") reading) (value_of (codes "filename") reading) name
+
 -- the disposition gives this file name
 pub record IsFileName (reading : Reading) (name : List ℕ) : Type 0 where
-  pub told : IsTold (value_of (codes "filename*") reading) (value_of (codes "filename") reading) name
+  pub told : IsToldName reading name
   pub good : is_good_name name ≡ true
+
+-- why there is no name: none may stand, or memory was refused
+abbrev pub IsNameFault : ParamFault → Type 0
+IsNameFault e = (e ≡ NoName) ⊎ (e ≡ Memory)

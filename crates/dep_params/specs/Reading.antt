@@ -1,5 +1,5 @@
 -- What stands at the front of a text, and what follows it: values and parameters as they are read.
-use Rattle.std.specs.Prelude.{◌≡◌, ℕ, ◌+◌, ◌==◌, ◌&&◌, ◌||◌, not, Bool, true, false, List, [], ◌∷◌, ◌++◌, take, drop, Option, Some, None, option_map, if◌then◌else◌}
+use Rattle.std.specs.Prelude.{◌≡◌, ℕ, ◌+◌, ◌==◌, ◌&&◌, ◌||◌, not, Bool, true, false, List, [], ◌∷◌, ◌++◌, take, drop, Option, Some, None, Result, MatchResult, option_map, if◌then◌else◌}
 use Rattle.std.specs.List.{prefix_len, position}
 use Rattle.std.specs.Str.{str_to_ascii_lowercase}
 use Rattle.dep_octets.specs.Octets.{is_token_octet, trim_start}
@@ -13,6 +13,10 @@ Fails Malformed read = read ≡ None
 Fails Repeated read = ⊥
 Fails NoName read = ⊥
 Fails Memory read = Unit {0}
+
+-- what is read, as the code has it, or a fault that says so
+abbrev pub Gives : {X Y : Type 0} → (Y → X) → Result Y ParamFault → Option X → Type 0
+Gives shown result read = MatchResult result (λ y. read ≡ Some (shown y)) (λ e. Fails e read)
 
 -- the fault says that the text has no parameters, or that memory was refused
 abbrev pub Refuses : List ℕ → ParamFault → Type 0
@@ -33,7 +37,8 @@ with_octets front read = option_map (λ p. (front ++ p.0, p.1)) read
 abbrev pub is_plain_octet : ℕ → Bool
 is_plain_octet b = (not (is_control b) || b == 9) && not (b == 34) && not (b == 92)
 
--- the octets of a quoted string up to its last quotation mark, behind a backslash or not, and what follows it
+-- the octets of a quoted string up to its last quotation mark, behind a backslash or not, and what
+-- follows it
 unfoldable pub quoted : Bool → List ℕ → Option (List ℕ × List ℕ)
 quoted escaped [] = None
 quoted true (b ∷ rest) = if is_control b then None else with_octet b (quoted false rest)
@@ -73,7 +78,8 @@ parameter_read text = named (take (token_len text) text) (behind_name (drop (tok
 
 -- what stands before the first apostrophe, and after it
 abbrev pub cut_at_apostrophe : List ℕ → Option (List ℕ × List ℕ)
-cut_at_apostrophe text = option_map (λ i. (take i text, drop (i + 1) text)) (position (λ b. b == 39) text)
+cut_at_apostrophe text =
+    option_map (λ i. (take i text, drop (i + 1) text)) (position (λ b. b == 39) text)
 
 -- what follows a semicolon at the front, and the blanks behind it, or nothing at the end
 abbrev pub at_semicolon : List ℕ → Option (Option (List ℕ))

@@ -1,5 +1,5 @@
 -- The parameters of a disposition, as lists.
-use Rattle.std.specs.Prelude.{List, map}
+use Rattle.std.specs.Prelude.{ℕ, List, map}
 use Rattle.dep_params.specs.declared.disposition.Parameter.{Parameter}
 use Rattle.dep_params.specs.Grammar.{NamedValue}
 
@@ -8,3 +8,6 @@ view p = record { name = p.name.items; value = p.value.items }
 
 abbrev pub views : List Parameter → List NamedValue
 views ps = map view ps
+
+abbrev pub names_in : List Parameter → List (List ℕ)
+names_in ps = map (λ p. p.name.items) ps

@@ -9,14 +9,16 @@ use Rattle.dep_params.specs.Grammar.{NamedValue, Reading, value_of}
 use Rattle.dep_params.specs.Reading.{cut_at_apostrophe, parameter_read, semicolon_read, token_len}
 
 -- a parameter before those that follow it
-abbrev pub with_parameter : (List ℕ → Option (List NamedValue)) → Option (NamedValue × List ℕ) → Option (List NamedValue)
+abbrev pub with_parameter : (List ℕ → Option (List NamedValue)) → Option (NamedValue × List ℕ)
+    → Option (List NamedValue)
 with_parameter more read = option_and_then (λ p. option_map (λ ps. p.0 ∷ ps) (more p.1)) read
 
 -- behind a semicolon: a parameter, or nothing, and then the others
 abbrev pub behind_place : (List ℕ → Option (List NamedValue)) → List ℕ → Option (List NamedValue)
 behind_place more text = if token_len text == 0 then more text else with_parameter more (parameter_read text)
 
-abbrev pub at_place : (List ℕ → Option (List NamedValue)) → Option (Option (List ℕ)) → Option (List NamedValue)
+abbrev pub at_place : (List ℕ → Option (List NamedValue)) → Option (Option (List ℕ))
+    → Option (List NamedValue)
 at_place more None = None
 at_place more (Some None) = Some []
 at_place more (Some (Some text)) = behind_place more text
@@ -46,7 +48,8 @@ is_each_once (name ∷ names) = list_all (λ other. not (bytes_eq name other)) n
 -- the octet at the place is no `%`, or has two hexadecimal digits behind it
 abbrev pub has_two_digits_after : List ℕ → ℕ → Bool
 has_two_digits_after text i =
-    nat_lt (i + 2) (length text) && is_ascii_hexdigit (slice_index text (i + 1)) && is_ascii_hexdigit (slice_index text (i + 2))
+    nat_lt (i + 2) (length text) && is_ascii_hexdigit (slice_index text (i + 1))
+    && is_ascii_hexdigit (slice_index text (i + 2))
 
 abbrev pub is_whole_at : List ℕ → ℕ → Bool
 is_whole_at text i = not (slice_index text i == 37) || has_two_digits_after text i
@@ -57,13 +60,15 @@ has_whole_escapes text = list_all (is_whole_at text) (range_with_len 0 (length t
 -- the name that `UTF-8'LANGUAGE'ESCAPED` tells
 abbrev pub name_escaped : (charset escaped : List ℕ) → Option (List ℕ)
 name_escaped charset escaped =
-    if str_eq_ignore_ascii_case charset (codes "UTF-8") && has_whole_escapes escaped then Some (percent_decode escaped) else None
+    if str_eq_ignore_ascii_case charset (codes "UTF-8") && has_whole_escapes escaped
+    then Some (percent_decode escaped) else None
 
 abbrev pub name_behind : (charset : List ℕ) → Option (List ℕ × List ℕ) → Option (List ℕ)
 name_behind charset cut = option_and_then (λ second. name_escaped charset second.1) cut
 
 abbrev pub extended_name : List ℕ → Option (List ℕ)
-extended_name text = option_and_then (λ first. name_behind first.0 (cut_at_apostrophe first.1)) (cut_at_apostrophe text)
+extended_name text =
+    option_and_then (λ first. name_behind first.0 (cut_at_apostrophe first.1)) (cut_at_apostrophe text)
 
 -- an extended name goes before a plain one
 abbrev pub told_name : Option (List ℕ) → Option (List ℕ) → Option (List ℕ)
@@ -72,4 +77,6 @@ told_name None plain = plain
 
 -- the file name that a disposition gives, if it gives one
 unfoldable pub file_name_of : Reading → Option (List ℕ)
-file_name_of reading = option_and_then (if_passes is_good_name) (told_name (value_of (codes "filename*") reading) (value_of (codes "filename") reading))
+file_name_of reading =
+    option_and_then (if_passes is_good_name)
+    (told_name (value_of (codes "filename*") reading) (value_of (codes "filename") reading))

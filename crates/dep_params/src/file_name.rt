@@ -3,7 +3,7 @@ ghost use Rattle.std.specs.Prelude.{◌≡◌, ◌==◌, ◌<◌, ◌↔◌, ◌
 ghost use Rattle.percent_encoding.specs.Percent as spec;
 ghost use Rattle.std.specs.Str.{str_eq_ignore_ascii_case};
 ghost use Rattle.dep_params.specs.Grammar.{value_of};
-ghost use Rattle.dep_params.specs.Names.{HasTwoDigitsAfter, HasWholeEscapes, IsExtended, IsFileName, IsTold};
+ghost use Rattle.dep_params.specs.Names.{HasTwoDigitsAfter, HasWholeEscapes, IsExtended, IsFileName, IsNameFault, IsToldName};
 ghost use Rattle.dep_params.specs.Reading.{cut_at_apostrophe};
 
 use crate::disposition::{Disposition, ParamFault};
@@ -18,8 +18,9 @@ impl Disposition {
     /// 255 bytes of UTF-8 without controls of ASCII, `/` and `\`, and is neither `.` nor `..`.
     pub fn file_name(&self, alloc: Global) -> Result<String, ParamFault>
         ensures named { IfOk result (λ name. IsFileName self.now (string_bytes name)) }
-        ensures unnamed { result ≡ Err ParamFault.NoName → (name : List ℕ) → ¬ IsFileName self.now name }
-        ensures faults { IfErr result (λ e. (e ≡ ParamFault.NoName) ⊎ (e ≡ ParamFault.Memory)) }
+        ensures unnamed { result ≡ Err ParamFault.NoName →
+            (name : List ℕ) → ¬ IsFileName self.now name }
+        ensures faults { IfErr result IsNameFault }
     {
         let name = self.told_name(alloc)?;
         if !is_good_name(&name) {
@@ -33,9 +34,10 @@ impl Disposition {
 
     // The name that the parameters tell, whether it may stand or not.
     fn told_name(&self, alloc: Global) -> Result<Vec<u8>, ParamFault>
-        ensures told { IfOk result (λ name. IsTold (value_of (codes "filename*") self.now) (value_of (codes "filename") self.now) name.items) }
-        ensures untold { result ≡ Err ParamFault.NoName → (name : List ℕ) → ¬ IsTold (value_of (codes "filename*") self.now) (value_of (codes "filename") self.now) name }
-        ensures faults { IfErr result (λ e. (e ≡ ParamFault.NoName) ⊎ (e ≡ ParamFault.Memory)) }
+        ensures told { IfOk result (λ name. IsToldName self.now name.items) }
+        ensures untold { result ≡ Err ParamFault.NoName →
+            (name : List ℕ) → ¬ IsToldName self.now name }
+        ensures faults { IfErr result IsNameFault }
     {
         match self.parameter(b"filename*") {
             Some(text) => decoded(alloc, text),
@@ -50,8 +52,9 @@ impl Disposition {
 // The name that an extended value tells.
 fn decoded(alloc: Global, text: &[u8]) -> Result<Vec<u8>, ParamFault>
     ensures told { IfOk result (λ name. IsExtended text.now name.items) }
-    ensures untold { result ≡ Err ParamFault.NoName → (name : List ℕ) → ¬ IsExtended text.now name }
-    ensures faults { IfErr result (λ e. (e ≡ ParamFault.NoName) ⊎ (e ≡ ParamFault.Memory)) }
+    ensures untold { result ≡ Err ParamFault.NoName →
+        (name : List ℕ) → ¬ IsExtended text.now name }
+    ensures faults { IfErr result IsNameFault }
 {
     let Some(escaped) = escaped_part(text) else {
         return Err(ParamFault::NoName);
@@ -63,7 +66,8 @@ fn decoded(alloc: Global, text: &[u8]) -> Result<Vec<u8>, ParamFault>
 
 // The escaped octets of an extended value.
 fn escaped_part(text: &[u8]) -> Option<&[u8]>
-    ensures { MatchOption result ((name : List ℕ) → ¬ IsExtended text.now name) (λ escaped. IsExtended text.now (spec.percent_decode escaped.now)) }
+    ensures { MatchOption result ((name : List ℕ) → ¬ IsExtended text.now name)
+        (λ escaped. IsExtended text.now (spec.percent_decode escaped.now)) }
 {
     let (charset, rest) = cut_at_apostrophe(text)?;
     let (_, escaped) = cut_at_apostrophe(rest)?;
@@ -82,7 +86,8 @@ fn is_utf8_charset(charset: &[u8]) -> bool
 
 // What stands before the first apostrophe, and after it.
 fn cut_at_apostrophe(text: &[u8]) -> Option<(&[u8], &[u8])>
-    ensures { MatchOption result (cut_at_apostrophe text.now ≡ None) (λ cut. cut_at_apostrophe text.now ≡ Some (cut.0.now, cut.1.now)) }
+    ensures { MatchOption result (cut_at_apostrophe text.now ≡ None)
+        (λ cut. cut_at_apostrophe text.now ≡ Some (cut.0.now, cut.1.now)) }
 {
     match first_apostrophe(text) {
         Some(apostrophe) => Some((&text[..apostrophe], &text[apostrophe + 1..])),

@@ -1,14 +1,14 @@
 //! Quoted strings.
 ghost use Rattle.std.specs.Prelude.{◌≡◌, ◌<◌, true, false, length, MatchResult, IfOk};
 ghost use Rattle.dep_params.specs.Grammar.{is_control};
-ghost use Rattle.dep_params.specs.Reading.{Fails, quoted, stepped};
+ghost use Rattle.dep_params.specs.Reading.{Fails, Gives, quoted, stepped};
 
 use crate::disposition::ParamFault;
 use std::alloc::Global;
 
 // Reads a quoted string behind its first quotation mark: the octets that it stands for, and what follows it.
 pub(crate) fn read_quoted(alloc: Global, text: &[u8]) -> Result<(Vec<u8>, &[u8]), ParamFault>
-    ensures { MatchResult result (λ x. quoted false text.now ≡ Some (x.0.items, x.1.now)) (λ e. Fails e (quoted false text.now)) }
+    ensures { Gives (λ x. (x.0.items, x.1.now)) result (quoted false text.now) }
 {
     let mut value = Vec::new(alloc);
     let mut rest = text;
@@ -25,7 +25,8 @@ pub(crate) fn read_quoted(alloc: Global, text: &[u8]) -> Result<(Vec<u8>, &[u8])
 // The next octet that a quoted string stands for, or none at its last quotation mark, and what follows.
 #[tactic(auto, unfolding(crate::specs::Reading::quoted))]
 fn next_octet(text: &[u8]) -> Result<(Option<u8>, &[u8]), ParamFault>
-    ensures read { MatchResult result (λ x. quoted false text.now ≡ stepped x.0 x.1.now) (λ e. Fails e (quoted false text.now)) }
+    ensures read { MatchResult result (λ x. quoted false text.now ≡ stepped x.0 x.1.now)
+        (λ e. Fails e (quoted false text.now)) }
     ensures shorter { IfOk result (λ x. length x.1.now < length text.now) }
 {
     let Some((first, after)) = text.split_first() else {
@@ -42,7 +43,8 @@ fn next_octet(text: &[u8]) -> Result<(Option<u8>, &[u8]), ParamFault>
 // The octet behind a backslash, and what follows.
 #[tactic(auto, unfolding(crate::specs::Reading::quoted))]
 fn escaped_octet(text: &[u8]) -> Result<(Option<u8>, &[u8]), ParamFault>
-    ensures read { MatchResult result (λ x. quoted true text.now ≡ stepped x.0 x.1.now) (λ e. Fails e (quoted true text.now)) }
+    ensures read { MatchResult result (λ x. quoted true text.now ≡ stepped x.0 x.1.now)
+        (λ e. Fails e (quoted true text.now)) }
     ensures shorter { IfOk result (λ x. length x.1.now < length text.now) }
 {
     match text.split_first() {

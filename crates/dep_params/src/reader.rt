@@ -4,9 +4,9 @@ ghost use Rattle.std.specs.Bool.{Decides};
 ghost use Rattle.std.specs.List.{IsDistinct};
 ghost use Rattle.std.specs.Option.{option_copied};
 ghost use Rattle.std.specs.Str.{str_to_ascii_lowercase};
-ghost use Rattle.dep_params.specs.Grammar.{AreParameters, IsDisposition, NamedValue, Reading, names_of};
-ghost use Rattle.dep_params.specs.Reading.{Fails, Refuses, behind_name, named, semicolon_read, value_read};
-ghost use Rattle.dep_params.specs.Stored.{view, views};
+ghost use Rattle.dep_params.specs.Grammar.{AreParameters, HasDistinctNames, IsDisposition, NamedValue, Reading};
+ghost use Rattle.dep_params.specs.Reading.{Gives, Refuses, behind_name, named, semicolon_read, value_read};
+ghost use Rattle.dep_params.specs.Stored.{names_in, view, views};
 
 use crate::disposition::{Disposition, ParamFault, Parameter};
 use crate::parts::{skip_blanks, split_bare, split_token};
@@ -19,9 +19,12 @@ use std::collections::BTreeSet;
 /// semicolon. A value is a quoted string (RFC 9110, section 5.6.4), in which a backslash stands before any octet that is
 /// no control, or one or more visible ASCII octets other than `;` and `"`.
 pub fn read_disposition(alloc: Global, text: &[u8]) -> Result<Disposition, ParamFault>
-    ensures read { IfOk result (λ reading. IsDisposition text.now reading × IsDistinct bytes_eq (names_of reading)) }
-    ensures malformed { result ≡ Err ParamFault.Malformed → (reading : Reading) → ¬ IsDisposition text.now reading }
-    ensures repeated { result ≡ Err ParamFault.Repeated → (reading : Reading) × IsDisposition text.now reading × ¬ IsDistinct bytes_eq (names_of reading) }
+    ensures read { IfOk result (λ reading.
+        IsDisposition text.now reading × HasDistinctNames reading) }
+    ensures malformed { result ≡ Err ParamFault.Malformed →
+        (reading : Reading) → ¬ IsDisposition text.now reading }
+    ensures repeated { result ≡ Err ParamFault.Repeated →
+        (reading : Reading) × IsDisposition text.now reading × ¬ HasDistinctNames reading }
     ensures never_of_names { result ≢ Err ParamFault.NoName }
 {
     let (form, rest) = split_token(text);
@@ -57,7 +60,7 @@ fn read_parameters(alloc: Global, text: &[u8]) -> Result<Vec<Parameter>, ParamFa
 // What follows the next semicolon and the blanks about it, or nothing at the end.
 #[tactic(auto, unfolding(crate::specs::Reading::semicolon_read))]
 fn behind_semicolon(text: &[u8]) -> Result<Option<&[u8]>, ParamFault>
-    ensures { MatchResult result (λ after. semicolon_read text.now ≡ Some (option_copied after)) (λ e. Fails e (semicolon_read text.now)) }
+    ensures { Gives option_copied result (semicolon_read text.now) }
 {
     match skip_blanks(text).split_first() {
         None => Ok(None),
@@ -72,7 +75,7 @@ fn read_parameter<'a>(
     name: &[u8],
     text: &'a [u8],
 ) -> Result<(Parameter, &'a [u8]), ParamFault>
-    ensures { MatchResult result (λ x. named name.now (behind_name text.now) ≡ Some (view x.0, x.1.now)) (λ e. Fails e (named name.now (behind_name text.now))) }
+    ensures { Gives (λ x. (view x.0, x.1.now)) result (named name.now (behind_name text.now)) }
 {
     let Some((b'=', rest)) = text.split_first() else {
         return Err(ParamFault::Malformed);
@@ -85,7 +88,7 @@ fn read_parameter<'a>(
 // The value at the front, and what follows it.
 #[tactic(auto, unfolding(crate::specs::Reading::value_read))]
 fn read_value(alloc: Global, text: &[u8]) -> Result<(Vec<u8>, &[u8]), ParamFault>
-    ensures { MatchResult result (λ x. value_read text.now ≡ Some (x.0.items, x.1.now)) (λ e. Fails e (value_read text.now)) }
+    ensures { Gives (λ x. (x.0.items, x.1.now)) result (value_read text.now) }
 {
     if let Some((b'"', rest)) = text.split_first() {
         return read_quoted(alloc, rest);
@@ -98,7 +101,8 @@ fn read_value(alloc: Global, text: &[u8]) -> Result<(Vec<u8>, &[u8]), ParamFault
 }
 
 fn lower_case(alloc: Global, text: &[u8]) -> Result<Vec<u8>, ParamFault>
-    ensures { MatchResult result (λ lower. lower.items ≡ str_to_ascii_lowercase text.now) (λ e. e ≡ ParamFault.Memory) }
+    ensures { MatchResult result (λ lower. lower.items ≡ str_to_ascii_lowercase text.now)
+        (λ e. e ≡ ParamFault.Memory) }
 {
     let mut lower = text.to_vec(alloc)?;
     lower.make_ascii_lowercase();
@@ -107,7 +111,8 @@ fn lower_case(alloc: Global, text: &[u8]) -> Result<Vec<u8>, ParamFault>
 
 // Whether two parameters have one name.
 fn has_repeats(alloc: Global, parameters: &[Parameter]) -> Result<bool, ParamFault>
-    ensures read { IfOk result (λ repeats. Decides (not repeats) (IsDistinct bytes_eq (map (λ p. p.name.items) parameters.now))) }
+    ensures read { IfOk result (λ repeats.
+        Decides (not repeats) (IsDistinct bytes_eq (names_in parameters.now))) }
     ensures faults { IfErr result (λ e. e ≡ ParamFault.Memory) }
 {
     let mut names: BTreeSet<&[u8]> = BTreeSet::new(alloc);

@@ -1,5 +1,5 @@
 -- The bytes of a reply's head (RFC 9110, RFC 9112).
-use Rattle.std.specs.Prelude.{ℕ, ◌==◌, Bool, List, [], ◌++◌, Option, Some, None, option_map, codes, decimal, if◌then◌else◌}
+use Rattle.std.specs.Prelude.{◌≡◌, ℕ, ◌==◌, Bool, List, [], ◌++◌, Option, Some, None, option_map, codes, decimal, if◌then◌else◌}
 use Rattle.dep_types.specs.Numbers.{quoted_tag}
 use Rattle.dep_moment.specs.Civil.{http_text}
 
@@ -50,6 +50,10 @@ field name value = line (field_text name value)
 abbrev pub optional : (name : List ℕ) → Option (List ℕ) → List ℕ
 optional name None = []
 optional name (Some value) = field name value
+
+-- the head's bytes are these, with some behind them
+abbrev pub Grows : (old new more : List ℕ) → Type 0
+Grows old new more = new ≡ old ++ more
 
 abbrev pub connection : Bool → Option (List ℕ)
 connection closes = if closes then Some (codes "close") else None

@@ -60,7 +60,8 @@ of_object name resource = if bytes_eq name (codes "objects") then resource else 
 abbrev pub resource_of : List (List ℕ) → Option Resource
 resource_of ([] ∷ name ∷ []) = at_root name
 resource_of ([] ∷ name ∷ n ∷ []) = option_and_then (numbered name) (number_in n)
-resource_of ([] ∷ name ∷ n ∷ part ∷ []) = of_object name (option_and_then (λ k. object_part k part) (number_in n))
+resource_of ([] ∷ name ∷ n ∷ part ∷ []) =
+    of_object name (option_and_then (λ k. object_part k part) (number_in n))
 resource_of ([] ∷ name ∷ n ∷ part ∷ r ∷ rest) =
     of_object name (option_and_then (λ k. within_part k part (join_with_byte 47 (r ∷ rest))) (number_in n))
 resource_of _ = None

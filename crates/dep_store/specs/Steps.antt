@@ -33,7 +33,8 @@ answered_step s a clock is_bare closes = record {
 }
 
 -- what is refused leaves the state
-abbrev pub refused_step : State → Refusal → (allow : Option (List ℕ)) → (is_bare closes : Bool) → Stepped
+abbrev pub refused_step : State → Refusal → (allow : Option (List ℕ)) → (is_bare closes : Bool)
+    → Stepped
 refused_step s r allow is_bare closes =
     answered_step s (refused_answer s.clock r allow) s.clock is_bare closes
 
