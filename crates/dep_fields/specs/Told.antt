@@ -24,7 +24,7 @@ abbrev pub kind_in : (form : List ℕ) → Reading → Option Kind
 kind_in form reading =
     if bytes_eq form (codes "attachment")
     then attached reading (flag (value_of (codes "metadata") reading))
-        (flag (value_of (codes "by-reference") reading))
+    (flag (value_of (codes "by-reference") reading))
     else if bytes_eq form (codes "segment-init") then option_map (λ o. Opens o) (opening_of reading)
     else if bytes_eq form (codes "segment")
     then option_map (λ n. Segment n) (number (value_of (codes "segment_number") reading))

@@ -19,9 +19,8 @@ pub fn end_of_rfc9112()
 /// Names of fields are compared without their letter case (RFC 9110, section 5.1), and their values keep their order.
 #[tactic(auto, unfolding(crate::specs::Head::values_of))]
 pub fn values_in_any_letter_case()
-    ensures {
-        let fields =
-            (codes "If-Match", codes "1") ∷ (codes "Digest", codes "x")
-            ∷ (codes "if-match", codes "2") ∷ [] in
+    ensures { let fields =
+        (codes "If-Match", codes "1") ∷ (codes "Digest", codes "x")
+        ∷ (codes "if-match", codes "2") ∷ [] in
         values_of fields (codes "IF-MATCH") ≡ codes "1" ∷ codes "2" ∷ [] }
 {}
