@@ -28,7 +28,8 @@ oxum files = oxum_text (sum_by (λ f. length f.1) files) (length files)
 -- the day of the last change, and what the payload has
 abbrev pub info_text : (changed : ℕ) → (payload_oxum : List ℕ) → List ℕ
 info_text changed payload_oxum =
-    codes "Bagging-Date: " ++ day_text (min changed greatest_moment) ++ codes "\nPayload-Oxum: " ++ payload_oxum ++ codes "\n"
+    codes "Bagging-Date: " ++ day_text (min changed greatest_moment) ++ codes "\nPayload-Oxum: "
+    ++ payload_oxum ++ codes "\n"
 
 abbrev pub payload : Object → List Entry
 payload o = map (λ e. (payload_path e.0 e.1.name, e.1.content)) (finmap.entries o.files)

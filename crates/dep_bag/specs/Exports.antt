@@ -20,7 +20,8 @@ abbrev pub IsGivenInPart : State → ℕ → (given : List ℕ) → Type 0
 IsGivenInPart s n given = OfObject s n (λ o. IsFront given (bag_transcript o))
 
 -- what the sink was given
-abbrev pub IsExported : {X : Type 0} → State → ℕ → (given : List ℕ) → Result X ExportFault → Type 0
+abbrev pub IsExported : {X : Type 0} → State → ℕ → (given : List ℕ) → Result X ExportFault
+    → Type 0
 IsExported s n given (Ok x) = OfObject s n (λ o. given ≡ bag_transcript o)
 IsExported s n given (Err NoSuchObject) = (map.get s.objects n ≡ None) × (given ≡ [])
 IsExported s n given (Err Sink) = IsGivenInPart s n given

@@ -2,6 +2,7 @@
 use Rattle.std.specs.Prelude.{◌≡◌, ℕ, List, [], ◌∷◌, ◌++◌, flat_map, codes, Option, Result, Ok, Err, ⊤}
 use Rattle.std.specs.Io.KnownBytes.{Appends}
 use Rattle.dep_types.specs.State.{State}
+use Rattle.dep_types.specs.Writing.{HasRisen}
 use Rattle.dep_types.specs.Sinks.{Entry, folder_made, file_given, IsFront}
 use Rattle.dep_types.specs.declared.rows.FileRow.{FileRow}
 use Rattle.dep_types.specs.declared.rows.ObjectView.{ObjectView}
@@ -22,8 +23,14 @@ abbrev pub IsGiven : {X : Type 0} → (whole given : List ℕ) → Result X Expo
 IsGiven whole given (Ok x) = given ≡ whole
 IsGiven whole given (Err fault) = IsGivenAt fault whole given
 
-abbrev pub Gives : {X : Type 0} → Option (List ℕ) → Option (List ℕ) → (whole : List ℕ) → Result X ExportFault → Type 0
-Gives before after whole result = (given : List ℕ) × Appends before after given × IsGiven whole given result
+abbrev pub Gives : {X : Type 0} → Option (List ℕ) → Option (List ℕ) → (whole : List ℕ)
+    → Result X ExportFault → Type 0
+Gives before after whole result =
+    (given : List ℕ) × Appends before after given × IsGiven whole given result
+
+-- a fault of the sink comes only where its count of failures rose
+abbrev pub HasCause : {X : Type 0} → Result X ExportFault → (failures failures_after : ℕ) → Type 0
+HasCause result failures failures_after = result ≡ Err Sink → HasRisen failures failures_after
 
 -- the folder of the payload, and the files that are not payload
 abbrev pub tag_transcript : ObjectView → List ℕ
@@ -34,4 +41,5 @@ abbrev pub AreFilesOf : State → List FileRow → List Entry → Type 0
 AreFilesOf s [] [] = ⊤
 AreFilesOf s [] (file ∷ files) = ⊥
 AreFilesOf s (row ∷ rows) [] = ⊥
-AreFilesOf s (row ∷ rows) (file ∷ files) = (file.0 ≡ row_path row) × HasContent s row.file file.1 × AreFilesOf s rows files
+AreFilesOf s (row ∷ rows) (file ∷ files) =
+    (file.0 ≡ row_path row) × HasContent s row.file file.1 × AreFilesOf s rows files

@@ -67,7 +67,8 @@ told_parts view =
 
 -- what stands at a path
 abbrev pub told_part : ObjectView → List ℕ → Option BagPart
-told_part view path = option_map (λ part. part.1) (find (λ part. bytes_eq path part.0) (told_parts view))
+told_part view path =
+    option_map (λ part. part.1) (find (λ part. bytes_eq path part.0) (told_parts view))
 
 -- the bytes of a part of the object's bag, if it has them
 abbrev pub part_bytes : Object → BagPart → Option (List ℕ)

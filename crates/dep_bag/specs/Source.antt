@@ -1,5 +1,5 @@
 -- What a source of bags tells of a state.
-use Rattle.std.specs.Prelude.{◌≡◌, ℕ, List, [], Option, Some, option_map, Result, Ok, Err}
+use Rattle.std.specs.Prelude.{◌≡◌, ℕ, List, [], Option, Some, option_map, Result, Ok, Err, OnOk}
 use Rattle.std.specs.FinMap as map
 use Rattle.dep_types.specs.State.{State, File, file_at}
 use Rattle.dep_types.specs.Sinks.{IsFront}
@@ -11,6 +11,12 @@ use Rattle.dep_types.specs.declared.stream_fault.StreamFault.TheVariants.{Writer
 -- what is told of the object with this number
 abbrev pub view_at : State → ℕ → Option ObjectView
 view_at s n = option_map (object_view n) (map.get s.objects n)
+
+-- where the source can be relied on, it stands still for the states that it stood for
+abbrev pub KeepsStanding : {S X E : Type 0} → (IsClean : S → Type 0) → (Stands : S → State → Type 0)
+    → (old new : S) → Result X E → Type 0
+KeepsStanding IsClean Stands old new result =
+    IsClean new → (s : State) → Stands old s → OnOk result (Stands new s)
 
 -- some object has a file of this number, with these bytes
 pub record HasContent (s : State) (number : ℕ) (bytes : List ℕ) : Type 0 where
@@ -31,4 +37,5 @@ IsStreamed s number sent (Ok x) = HasContent s number sent
 IsStreamed s number sent (Err Writer) = IsPartOfContent s number sent
 IsStreamed s number sent (Err Store) = IsPartOfContent s number sent
 IsStreamed s number sent (Err Memory) = IsPartOfContent s number sent
-IsStreamed s number sent (Err NoSuchFile) = (sent ≡ []) × ((bytes : List ℕ) → HasContent s number bytes → ⊥)
+IsStreamed s number sent (Err NoSuchFile) =
+    (sent ≡ []) × ((bytes : List ℕ) → HasContent s number bytes → ⊥)

@@ -33,7 +33,8 @@ pub record Line : Type 0 where
 -- the digits, and what stands after them: blanks and the path
 abbrev pub parts_read : (digits rest : List ℕ) → Option Line
 parts_read digits rest =
-    if nat_lt 0 (length digits) && nat_lt 0 (blanks_len rest) then Some (record { digits = digits; path = drop (blanks_len rest) rest })
+    if nat_lt 0 (length digits) && nat_lt 0 (blanks_len rest)
+    then Some (record { digits = digits; path = drop (blanks_len rest) rest })
     else None
 
 abbrev pub line_read : List ℕ → Option Line
@@ -83,7 +84,8 @@ pub record IsTagManifest (d : Digest) (b : Bag) (path payload_manifest : List �
   pub lines : List Line
   pub has : HasManifest d b path lines
   pub names_manifest : Contains (paths_of lines) payload_manifest
-  pub names_no_tag_manifest : All (λ name. IsTrue (not (starts_with nat_eq name (codes "tagmanifest-")))) (paths_of lines)
+  pub names_no_tag_manifest
+      : All (λ name. IsTrue (not (starts_with nat_eq name (codes "tagmanifest-")))) (paths_of lines)
 
 -- one line tells how many bytes and files the payload has
 pub record TellsOxum (b : Bag) : Type 0 where

@@ -2,7 +2,8 @@
 ghost use Rattle.std.specs.Prelude.{◌≡◌, ℕ, List, OnOk, Err};
 ghost use Rattle.std.specs.Io.KnownBytes.{Appends, Keeps};
 ghost use Rattle.dep_types.specs.State.{State};
-ghost use Rattle.dep_types.specs.Writing.{HasRisen};
+ghost use Rattle.dep_bag.specs.Source.{KeepsStanding};
+ghost use Rattle.dep_bag.specs.Giving.{HasCause};
 ghost use Rattle.dep_bag.specs.Exports.{IsExported};
 
 use crate::export_fault::ExportFault;
@@ -21,11 +22,13 @@ pub fn export<S: BagSource, K: BagSink>(
     sink: &mut K,
 ) -> Result<(), ExportFault>
     ensures gives { (given : List ℕ) × Appends (K.taken sink.old) (K.taken sink.new) given
-        × (S.is_clean source.new → (s : State) → S.stands source.old s → IsExported s object given result) }
-    ensures absent { result ≡ Err ExportFault.NoSuchObject → Keeps (K.taken sink.old) (K.taken sink.new) }
+        × (S.is_clean source.new → (s : State) → S.stands source.old s
+        → IsExported s object given result) }
+    ensures absent { result ≡ Err ExportFault.NoSuchObject →
+        Keeps (K.taken sink.old) (K.taken sink.new) }
     ensures count { OnOk result (K.failures sink.new ≡ K.failures sink.old) }
-    ensures cause { result ≡ Err ExportFault.Sink → HasRisen (K.failures sink.old) (K.failures sink.new) }
-    ensures kept { S.is_clean source.new → (s : State) → S.stands source.old s → OnOk result (S.stands source.new s) }
+    ensures cause { HasCause result (K.failures sink.old) (K.failures sink.new) }
+    ensures kept { KeepsStanding S.is_clean S.stands source.old source.new result }
     ensures clean { S.is_clean source.new → S.is_clean source.old }
 {
     let view = match source.view(object) {

@@ -2,11 +2,10 @@
 ghost use Rattle.std.specs.Prelude.{◌≡◌, ◌≢◌, ◌++◌, ℕ, List, OnOk, Err, flat_map};
 ghost use Rattle.std.specs.Io.KnownBytes.{Appends};
 ghost use Rattle.dep_types.specs.State.{State};
-ghost use Rattle.dep_types.specs.Writing.{HasRisen};
 ghost use Rattle.dep_types.specs.Sinks.{Entry, file_given};
-ghost use Rattle.dep_bag.specs.Source.{HasContent};
+ghost use Rattle.dep_bag.specs.Source.{HasContent, KeepsStanding};
 ghost use Rattle.dep_bag.specs.Parts.{row_path};
-ghost use Rattle.dep_bag.specs.Giving.{IsGiven, Gives, tag_transcript, AreFilesOf};
+ghost use Rattle.dep_bag.specs.Giving.{IsGiven, Gives, HasCause, tag_transcript, AreFilesOf};
 
 use crate::export_fault::ExportFault;
 use crate::manifest::payload_manifest;
@@ -25,7 +24,7 @@ pub(crate) fn give_tag_files<K: BagSink>(
 ) -> Result<(), ExportFault>
     ensures gives { Gives (K.taken sink.old) (K.taken sink.new) (tag_transcript view.now) result }
     ensures count { OnOk result (K.failures sink.new ≡ K.failures sink.old) }
-    ensures cause { result ≡ Err ExportFault.Sink → HasRisen (K.failures sink.old) (K.failures sink.new) }
+    ensures cause { HasCause result (K.failures sink.old) (K.failures sink.new) }
 {
     sink.folder("data")?;
     give_text(sink, BAGIT, declaration(alloc)?)?;
@@ -39,7 +38,7 @@ pub(crate) fn give_tag_files<K: BagSink>(
 fn give_text<K: BagSink>(sink: &mut K, path: &str, text: Vec<u8>) -> Result<(), ExportFault>
     ensures gives { Gives (K.taken sink.old) (K.taken sink.new) (file_given (path.now, text.items)) result }
     ensures count { OnOk result (K.failures sink.new ≡ K.failures sink.old) }
-    ensures cause { result ≡ Err ExportFault.Sink → HasRisen (K.failures sink.old) (K.failures sink.new) }
+    ensures cause { HasCause result (K.failures sink.old) (K.failures sink.new) }
 {
     sink.begin(path)?;
     sink.write(text.as_slice())?;
@@ -55,11 +54,12 @@ pub(crate) fn give_payload<S: BagSource, K: BagSink>(
     sink: &mut K,
 ) -> Result<(), ExportFault>
     ensures gives { (given : List ℕ) × Appends (K.taken sink.old) (K.taken sink.new) given
-        × (S.is_clean source.new → (s : State) → S.stands source.old s → (files : List Entry) → AreFilesOf s rows.now files
+        × (S.is_clean source.new → (s : State) → S.stands source.old s
+        → (files : List Entry) → AreFilesOf s rows.now files
         → IsGiven (flat_map file_given files) given result) }
     ensures count { OnOk result (K.failures sink.new ≡ K.failures sink.old) }
-    ensures cause { result ≡ Err ExportFault.Sink → HasRisen (K.failures sink.old) (K.failures sink.new) }
-    ensures kept { S.is_clean source.new → (s : State) → S.stands source.old s → OnOk result (S.stands source.new s) }
+    ensures cause { HasCause result (K.failures sink.old) (K.failures sink.new) }
+    ensures kept { KeepsStanding S.is_clean S.stands source.old source.new result }
     ensures clean { S.is_clean source.new → S.is_clean source.old }
     ensures there { result ≢ Err ExportFault.NoSuchObject }
 {
@@ -77,11 +77,12 @@ fn give_stored<S: BagSource, K: BagSink>(
     sink: &mut K,
 ) -> Result<(), ExportFault>
     ensures gives { (given : List ℕ) × Appends (K.taken sink.old) (K.taken sink.new) given
-        × (S.is_clean source.new → (s : State) → S.stands source.old s → (bytes : List ℕ) → HasContent s row.now.file bytes
+        × (S.is_clean source.new → (s : State) → S.stands source.old s
+        → (bytes : List ℕ) → HasContent s row.now.file bytes
         → IsGiven (file_given (row_path row.now, bytes)) given result) }
     ensures count { OnOk result (K.failures sink.new ≡ K.failures sink.old) }
-    ensures cause { result ≡ Err ExportFault.Sink → HasRisen (K.failures sink.old) (K.failures sink.new) }
-    ensures kept { S.is_clean source.new → (s : State) → S.stands source.old s → OnOk result (S.stands source.new s) }
+    ensures cause { HasCause result (K.failures sink.old) (K.failures sink.new) }
+    ensures kept { KeepsStanding S.is_clean S.stands source.old source.new result }
     ensures clean { S.is_clean source.new → S.is_clean source.old }
     ensures there { result ≢ Err ExportFault.NoSuchObject }
 {

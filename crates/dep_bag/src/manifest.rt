@@ -22,7 +22,8 @@ pub(crate) fn payload_manifest(alloc: Global, view: &ObjectView) -> Result<Vec<u
 
 /// Adds the line of a file.
 pub(crate) fn add_line(text: &mut Vec<u8>, path: &[u8], digest: &[u8; 32]) -> Result<(), AllocError>
-    ensures { OnOk result (text.new.items ≡ text.old.items ++ manifest_line (record { path = path.now; value = digest.now })) }
+    ensures { OnOk result (text.new.items ≡
+        text.old.items ++ manifest_line (record { path = path.now; value = digest.now })) }
 {
     text.extend_from_slice(&to_hex(digest))?;
     text.extend_from_slice(b"  ")?;

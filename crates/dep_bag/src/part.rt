@@ -45,7 +45,8 @@ pub fn bag_file(
 
 // The payload file at this path.
 fn stored_file(rows: &[FileRow], path: &[u8]) -> Option<BagPart>
-    ensures { result ≡ option_map (λ part. part.1) (find (λ part. bytes_eq path.now part.0) (map stored_part rows.now)) }
+    ensures { result ≡ option_map (λ part. part.1)
+        (find (λ part. bytes_eq path.now part.0) (map stored_part rows.now)) }
 {
     for row in rows {
         if is_payload_path(path, row) {

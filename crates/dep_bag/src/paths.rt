@@ -67,7 +67,8 @@ pub(crate) fn is_payload_path(path: &[u8], row: &FileRow) -> bool
 
 // What stands behind the folder of this number.
 fn stripped<'a>(path: &'a [u8], number: &[u8]) -> Option<&'a [u8]>
-    ensures { MatchOption result ((name : List ℕ) → path.now ≢ in_folder number.now name) (λ name. path.now ≡ in_folder number.now name.now) }
+    ensures { MatchOption result ((name : List ℕ) → path.now ≢ in_folder number.now name)
+        (λ name. path.now ≡ in_folder number.now name.now) }
 {
     let folder = after(path, b"data/")?;
     let behind = after(folder, number)?;
@@ -76,7 +77,8 @@ fn stripped<'a>(path: &'a [u8], number: &[u8]) -> Option<&'a [u8]>
 
 // What stands behind a front.
 fn after<'a>(text: &'a [u8], front: &[u8]) -> Option<&'a [u8]>
-    ensures { MatchOption result ((rest : List ℕ) → text.now ≢ front.now ++ rest) (λ rest. text.now ≡ front.now ++ rest.now) }
+    ensures { MatchOption result ((rest : List ℕ) → text.now ≢ front.now ++ rest)
+        (λ rest. text.now ≡ front.now ++ rest.now) }
 {
     text.strip_prefix(front)
 }

@@ -4,7 +4,7 @@ ghost use Rattle.std.specs.Io.KnownBytes.{Appends};
 ghost use Rattle.dep_types.specs.State.{State};
 ghost use Rattle.dep_types.specs.Sound.{IsSound};
 ghost use Rattle.dep_types.specs.Writing.{HasRisen};
-ghost use Rattle.dep_bag.specs.Source.{view_at, IsStreamed};
+ghost use Rattle.dep_bag.specs.Source.{view_at, IsStreamed, KeepsStanding};
 
 use dep_types::{ObjectView, Outlet, StoreFault, StreamFault};
 
@@ -19,18 +19,21 @@ pub trait BagSource {
 
     /// What is told of the object with this number, if it is there.
     fn view(&mut self, object: u64) -> Result<Option<ObjectView>, StoreFault>
-        ensures ok { is_clean self.new → (s : State) → stands self.old s → IfOk result (λ view. view ≡ view_at s object) }
-        ensures kept { is_clean self.new → (s : State) → stands self.old s → OnOk result (stands self.new s) }
+        ensures ok { is_clean self.new → (s : State) → stands self.old s
+            → IfOk result (λ view. view ≡ view_at s object) }
+        ensures kept { KeepsStanding is_clean stands self.old self.new result }
         ensures clean { is_clean self.new → is_clean self.old };
 
     /// Sends the content of the file with this number.
     fn stream<O: Outlet>(&mut self, file: u64, out: &mut O) -> Result<(), StreamFault>
         ensures sends { (sent : List ℕ) × Appends (O.taken out.old) (O.taken out.new) sent
-            × (is_clean self.new → (s : State) → stands self.old s → IsStreamed s file sent result) }
-        ensures kept { is_clean self.new → (s : State) → stands self.old s → OnOk result (stands self.new s) }
+            × (is_clean self.new → (s : State) → stands self.old s
+            → IsStreamed s file sent result) }
+        ensures kept { KeepsStanding is_clean stands self.old self.new result }
         ensures clean { is_clean self.new → is_clean self.old }
         ensures count { OnOk result (O.failures out.new ≡ O.failures out.old) }
-        ensures cause { result ≡ Err StreamFault.Writer → HasRisen (O.failures out.old) (O.failures out.new) };
+        ensures cause { result ≡ Err StreamFault.Writer →
+            HasRisen (O.failures out.old) (O.failures out.new) };
 
     /// Each state for which it stands is sound.
     ghost sound: { (x : Self) (s : State) → stands x s → IsSound s };

@@ -74,7 +74,8 @@ pub(crate) fn tag_manifest(alloc: Global, view: &ObjectView) -> Result<Vec<u8>, 
 
 // Adds the line of a file with these bytes.
 fn add_file(text: &mut Vec<u8>, path: &str, bytes: Vec<u8>) -> Result<(), AllocError>
-    ensures { OnOk result (text.new.items ≡ text.old.items ++ manifest_line (record { path = path.now; value = sha256 bytes.items })) }
+    ensures { OnOk result (text.new.items ≡
+        text.old.items ++ manifest_line (record { path = path.now; value = sha256 bytes.items })) }
 {
     let mut hasher = Hasher::new();
     hasher.update(bytes.as_slice());

@@ -20,7 +20,8 @@ steps_of number moment items =
     map (λ item. record { number = number; item = item; moment = moment }) items
 
 -- an arrival at a live connection of this number that makes just these steps
-pub data CalmServes {config : Config} {reads : List Item → Place → Type 0} {s : State} {moment : ℕ} (number : ℕ)
+pub data CalmServes {config : Config} {reads : List Item → Place → Type 0} {s : State} {moment : ℕ}
+    (number : ℕ)
     : (sent : List ℕ) → (left : State) → (at : Place) → (answer : Arrived)
     → Serves config reads s moment sent left at answer → List SteppedItem → Type 0 where
   all_served : (items : List Item) {at : Place} (r : reads items at) (w : Waits config.max_upload at)
@@ -30,7 +31,8 @@ pub data CalmServes {config : Config} {reads : List Item → Place → Type 0} {
 pub data CalmArrives {config : Config} {piece : List ℕ} {moment : ℕ} (number : ℕ)
     : (line after : Line) → (s left : State) → (sent : List ℕ) → (answer : Arrived)
     → Arrives config piece moment line s sent left after answer → List SteppedItem → Type 0 where
-  live : {stream sent : List ℕ} {s left : State} {at : Place} {answer : Arrived} {steps : List SteppedItem}
+  live : {stream sent : List ℕ} {s left : State} {at : Place} {answer : Arrived}
+      {steps : List SteppedItem}
       (v : Serves config (ReadsBeyond config.max_upload stream piece) s moment sent left at answer)
       → CalmServes number _ _ _ _ v steps
       → CalmArrives number _ _ _ _ _ _ (at_live v) steps
@@ -38,10 +40,12 @@ pub data CalmArrives {config : Config} {piece : List ℕ} {moment : ℕ} (number
 
 -- an event
 pub data Calm {config : Config} {w : World}
-    : (event : Event) → (sent : List ℕ) → (w' : World) → Happens config w event sent w' → List SteppedItem → Type 0 where
+    : (event : Event) → (sent : List ℕ) → (w' : World) → Happens config w event sent w'
+    → List SteppedItem → Type 0 where
   connect : {n : ℕ} → Calm _ _ _ (connects {n = n}) []
   close : {n : ℕ} → Calm _ _ _ (closes {n = n}) []
-  arrive : {n moment : ℕ} {piece sent : List ℕ} {left : State} {line : Line} {answer : Arrived} {steps : List SteppedItem}
+  arrive : {n moment : ℕ} {piece sent : List ℕ} {left : State} {line : Line} {answer : Arrived}
+      {steps : List SteppedItem}
       (a : Arrives config piece moment (w.line n) w.state sent left line answer)
       → CalmArrives n _ _ _ _ _ _ a steps → Calm _ _ _ (arrives {n = n} a) steps
   none : {n moment : ℕ} {piece : List ℕ} (e : w.line n ≡ Absent)
@@ -49,9 +53,11 @@ pub data Calm {config : Config} {w : World}
 
 -- a run
 pub data CalmRun {config : Config} {first : State}
-    : (records : List Record) → (w : World) → Run config first records w → List SteppedItem → Type 0 where
+    : (records : List Record) → (w : World) → Run config first records w → List SteppedItem
+    → Type 0 where
   nothing : CalmRun _ _ begins []
-  more : {records : List Record} {event : Event} {sent : List ℕ} {w w' : World} {steps next : List SteppedItem}
+  more : {records : List Record} {event : Event} {sent : List ℕ} {w w' : World}
+      {steps next : List SteppedItem}
       (r : Run config first records w) (h : Happens config w event sent w')
       → CalmRun _ _ r steps → Calm _ _ _ h next → CalmRun _ _ (goes_on r h) (steps ++ next)
 

@@ -45,7 +45,8 @@ pub record Rests (before after : Wire) : Type 0 where
 -- for all records that it stood for, the hub stands for them with these after them
 abbrev pub AddsAll : Hub → Hub → List Record → Type 0
 AddsAll old new more =
-    (first : State) (records : List Record) → StandsFor old first records → StandsFor new first (records ++ more)
+    (first : State) (records : List Record) → StandsFor old first records
+    → StandsFor new first (records ++ more)
 
 -- the turns leave the connection open, one after another, each with the outlet's failures that the one before left
 pub data Talks (number : ℕ) : Hub → (failures : ℕ) → List Turn → Hub → (failures_after : ℕ) → Type 0 where
@@ -142,7 +143,8 @@ pub record IsUnserved (old new : Hub) (before after : Wire) : Type 0 where
   pub adds : AddsAll old new []
   pub rests : Rests before after
 
-abbrev pub ConversesOver : {C : Type 0} → (C → ℕ → C → Type 0) → (before : Session C) → (new : Hub) → (after : Wire)
+abbrev pub ConversesOver : {C : Type 0} → (C → ℕ → C → Type 0) → (before : Session C) → (new : Hub)
+    → (after : Wire)
     → Served → Type 0
 ConversesOver ticks before new after Unserved = IsUnserved before.hub new before.wire after
 ConversesOver ticks before new after Ended = Converses ticks before new after Ended

@@ -58,7 +58,8 @@ pub data Arrives (config : Config) (piece : List ℕ) (moment : ℕ)
 
 -- what may happen to the machine
 pub data Happens (config : Config) (w : World) : Event → List ℕ → World → Type 0 where
-  connects : {n : ℕ} → Happens config w (Connect n) [] (record w { line = with_line n (Live []) w.line })
+  connects : {n : ℕ}
+      → Happens config w (Connect n) [] (record w { line = with_line n (Live []) w.line })
   closes : {n : ℕ} → Happens config w (Close n) [] (record w { line = with_line n Absent w.line })
   arrives : {n moment : ℕ} {piece sent : List ℕ} {left : State} {line : Line} {answer : Arrived}
       → Arrives config piece moment (w.line n) w.state sent left line answer

@@ -53,11 +53,13 @@ pub record Progress (config : Config) (a : Arrival) (s : State) (held holds : Op
   pub state : now ≡ state_after config s items a.moment
 
 -- it was served from what the intake keeps
-abbrev pub ServesFrom : Config → Arrival → State → (sent : List ℕ) → (left : State) → Place → Arrived → Type 0
+abbrev pub ServesFrom : Config → Arrival → State → (sent : List ℕ) → (left : State) → Place → Arrived
+    → Type 0
 ServesFrom config a s sent left at answer = Serves config (ReadsWith a) s a.moment sent left at answer
 
 -- the same over an outlet, for an intake with the limit of the configuration
-abbrev pub ServesOver : Config → (held holds : Option (List ℕ)) → Arrival → State → (left : State) → Place → Arrived
+abbrev pub ServesOver : Config → (held holds : Option (List ℕ)) → Arrival → State → (left : State)
+    → Place → Arrived
     → Type 0
 ServesOver config held holds a s left at answer =
     (sent : List ℕ) × Appends held holds sent

@@ -67,7 +67,8 @@ pub data Exchanges (config : Config) (number : ℕ) (first : World) : List Turn 
   one_more : {turns : List Turn} {w : World} {left : State} {line : Line} (t : Turn)
       → Exchanges config number first turns w → last_answer turns ≡ StaysOpen
       → Arrives config t.piece t.moment (w.line number) w.state t.sent left line t.answer
-      → Exchanges config number first (turns ++ t ∷ []) (record { state = left; line = with_line number line w.line })
+      → Exchanges config number first (turns ++ t ∷ [])
+      (record { state = left; line = with_line number line w.line })
 
 -- why a connection was served no longer
 abbrev pub EndsAs : Option (List ℕ) → List Turn → Served → Type 0

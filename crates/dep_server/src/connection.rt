@@ -44,7 +44,8 @@ pub fn serve_connection<R: Read, W: Outlet, C: FnMut() -> Moment>(
     requires { C.IsAlwaysCallable clock }
     ensures config { hub.new.config ≡ hub.old.config }
     ensures converses { ConversesOver C.step
-        (session hub.old (wire (R.remaining reader.old) (W.taken writer.old) (W.failures writer.old)) clock)
+        (session hub.old
+        (wire (R.remaining reader.old) (W.taken writer.old) (W.failures writer.old)) clock)
         hub.new (wire (R.remaining reader.new) (W.taken writer.new) (W.failures writer.new)) result }
     ensures next { hub.new.next ≡ next_after hub.old.next result }
 {
@@ -81,8 +82,10 @@ fn converse<R: Read, W: Outlet, C: FnMut() -> Moment>(
     ensures config { hub.new.config ≡ hub.old.config }
     ensures next { hub.new.next ≡ hub.old.next }
     ensures talks { TalksUntil C.step connection
-        (session hub.old (wire (R.remaining reader.old) (W.taken writer.old) (W.failures writer.old)) clock.old)
-        (session hub.new (wire (R.remaining reader.new) (W.taken writer.new) (W.failures writer.new)) clock.new) result }
+        (session hub.old
+        (wire (R.remaining reader.old) (W.taken writer.old) (W.failures writer.old)) clock.old)
+        (session hub.new
+        (wire (R.remaining reader.new) (W.taken writer.new) (W.failures writer.new)) clock.new) result }
 {
     for count in 0..MOST_READS {
         if let Some(end) = turn(reader, writer, hub, clock, connection, buffer) {
@@ -110,8 +113,10 @@ fn turn<R: Read, W: Outlet, C: FnMut() -> Moment>(
     ensures config { hub.new.config ≡ hub.old.config }
     ensures next { hub.new.next ≡ hub.old.next }
     ensures turn { TurnsTo C.step connection
-        (session hub.old (wire (R.remaining reader.old) (W.taken writer.old) (W.failures writer.old)) clock.old)
-        (session hub.new (wire (R.remaining reader.new) (W.taken writer.new) (W.failures writer.new)) clock.new) result }
+        (session hub.old
+        (wire (R.remaining reader.old) (W.taken writer.old) (W.failures writer.old)) clock.old)
+        (session hub.new
+        (wire (R.remaining reader.new) (W.taken writer.new) (W.failures writer.new)) clock.new) result }
 {
     match reader.read(buffer) {
         Err(_) => Some(Served::ReadFault),

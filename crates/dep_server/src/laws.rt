@@ -19,7 +19,8 @@ ghost use Rattle.dep_server.specs.declared.connection.Served.{Served};
 /// Runs without failed steps that make the same steps send the same bytes, each connection its own, and end in the
 /// same state.
 pub fn cuts_move_moments_of_runs()
-    ensures { (config : Config) (first : State) (records others : List Record) (steps : List SteppedItem) (v w : World)
+    ensures { (config : Config) (first : State) (records others : List Record)
+        (steps : List SteppedItem) (v w : World)
         (r : Run config first records v) (q : Run config first others w)
         → CalmRun records v r steps → CalmRun others w q steps
         → ((n : ℕ) → sent_to n records ≡ sent_to n others) × (v.state ≡ w.state) }
@@ -27,7 +28,8 @@ pub fn cuts_move_moments_of_runs()
 
 /// A run without failed steps makes of the streams of each connection the items that they spell, and no others.
 pub fn streams_make_the_steps()
-    ensures { (config : Config) (first : State) (records : List Record) (steps : List SteppedItem) (w : World)
+    ensures { (config : Config) (first : State) (records : List Record)
+        (steps : List SteppedItem) (w : World)
         (r : Run config first records w) → CalmRun records w r steps
         → (n : ℕ) → AreSpelled config.max_upload (streams_of n records) (items_of n steps) }
 {}
@@ -37,7 +39,8 @@ pub fn streams_make_the_steps()
 /// make the same items of each connection; and where these come on the same occasions, both send the same bytes,
 /// to each connection its own, and end in the same state.
 pub fn cuts_move_occasions()
-    ensures { (config : Config) (first : State) (records others : List Record) (steps moves : List SteppedItem) (v w : World)
+    ensures { (config : Config) (first : State) (records others : List Record)
+        (steps moves : List SteppedItem) (v w : World)
         (r : Run config first records v) (q : Run config first others w)
         → CalmRun records v r steps → CalmRun others w q moves
         → ((n : ℕ) → streams_of n records ≡ streams_of n others)
