@@ -4,7 +4,7 @@ use Rattle.std.specs.Prelude.{All}
 use Rattle.std.specs.List.{FoldsTo}
 use Rattle.dep_types.specs.State.{State, empty_state}
 use Rattle.dep_types.specs.declared.config.Config.{Config}
-use Rattle.dep_server.specs.Records.{World, Record, begin_with, Run, begins, goes_on}
+use Rattle.dep_server.specs.Records.{World, Record, first_world, Run, begins, goes_on}
 use Rattle.dep_server.specs.Standing.{StandsAt, StandsFor}
 use Rattle.dep_server.specs.Turns.{Turn, with_opened, Exchanges}
 use Rattle.dep_server.specs.Conversation.{Wire, Session, Rests, Converses, ConversesOver}
@@ -28,7 +28,7 @@ not_nil [] r e = cc
 not_nil (x ∷ records) r e = cc
 
 -- after no records the machine is at its first state
-world_at_first : {config : Config} {first : State} {records : List Record} {w : World} → Run config first records w → records ≡ [] → w ≡ begin_with first
+world_at_first : {config : Config} {first : State} {records : List Record} {w : World} → Run config first records w → records ≡ [] → w ≡ first_world first
 world_at_first begins e = refl
 world_at_first (goes_on {records} {event} {sent} r h) e = absurd (not_nil records (record { event = event; sent = sent }) e)
 
@@ -47,15 +47,15 @@ module _ {C : Type 0} (ticks : C → ℕ → C → Type 0) (moment : ℕ) (tells
     replays : (end : Served) → Converses ticks before new after end → IsReplayed base moment before.wire after end
     replays end v =
         let fresh = world_at_first first.run refl in
-        let answers = v.answers (begin_with empty_state) (subst (λ w. StandsAt before.hub w) fresh first.at) in
-        let exchanges : Exchanges (program_config base) v.number (with_opened v.number (begin_with empty_state)) v.turns answers.talked =
-        subst (λ (x : Config). Exchanges x v.number (with_opened v.number (begin_with empty_state)) v.turns answers.talked) given answers.exchanges in
+        let answers = v.answers (first_world empty_state) (subst (λ w. StandsAt before.hub w) fresh first.at) in
+        let exchanges : Exchanges (program_config base) v.number (with_opened v.number (first_world empty_state)) v.turns answers.talked =
+        subst (λ (x : Config). Exchanges x v.number (with_opened v.number (first_world empty_state)) v.turns answers.talked) given answers.exchanges in
         record {
           number = v.number;
           turns = v.turns;
           talked = answers.talked;
           exchanges = exchanges;
-          run = conversation_run (program_config base) v.number empty_state [] (begin_with empty_state) answers.talked v.turns begins exchanges;
+          run = conversation_run (program_config base) v.number empty_state [] (first_world empty_state) answers.talked v.turns begins exchanges;
           moments = all_at v.turns before.clock v.moments.0 told v.moments.1;
           sizes = v.sizes;
           transfers = v.transfers;

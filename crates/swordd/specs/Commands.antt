@@ -1,5 +1,5 @@
 -- What the words of the command line ask for.
-use Rattle.std.specs.Prelude.{ℕ, ◌-◌, ◌^◌, List, [], ◌∷◌, Option, Some, None, option_map, codes, bytes_eq, if◌then◌else◌}
+use Rattle.std.specs.Prelude.{ℕ, ◌-◌, ◌^◌, List, [], ◌∷◌, Option, None, option_map, codes, bytes_eq, if◌then◌else◌}
 use Rattle.dep_octets.specs.Octets.{decimal_number, value_of}
 use Rattle.swordd.specs.declared.command.Command.{Command}
 use Rattle.swordd.specs.declared.command.Command.TheVariants as command

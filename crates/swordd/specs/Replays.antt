@@ -2,7 +2,7 @@
 use Rattle.std.specs.Prelude.{◌≡◌, ℕ, List, All}
 use Rattle.dep_types.specs.State.{empty_state}
 use Rattle.dep_types.specs.Config.{IsChecked}
-use Rattle.dep_server.specs.Records.{World, begin_with, Run}
+use Rattle.dep_server.specs.Records.{World, first_world, Run}
 use Rattle.dep_server.specs.Turns.{Turn, pieces_of, replies_of, records_of, ArePieces, with_opened, with_closed, Exchanges, EndsAs}
 use Rattle.dep_server.specs.Conversation.{Wire, Transfers, Rests}
 use Rattle.dep_server.specs.declared.connection.Served.{Served}
@@ -28,7 +28,7 @@ pub record IsReplayed (base : List ℕ) (moment : ℕ) (before after : Wire) (se
   pub turns : List Turn
   pub talked : World
   pub exchanges :
-      Exchanges (program_config base) number (with_opened number (begin_with empty_state)) turns talked
+      Exchanges (program_config base) number (with_opened number (first_world empty_state)) turns talked
   pub run :
       Run (program_config base) empty_state (records_of number turns) (with_closed number talked)
   pub moments : All (λ t. t.moment ≡ moment) turns
