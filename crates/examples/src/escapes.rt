@@ -84,12 +84,12 @@ fn escape(part: &str, bytes: &mut Vec<u8>) -> Result<(), Trouble> {
     let Some((sign, rest)) = part.split_at_checked(1) else {
         return Err(Trouble::Line("a backslash before nothing"));
     };
-    match sign.as_bytes() {
-        b"r" => put(b"\r", rest, bytes),
-        b"n" => put(b"\n", rest, bytes),
-        b"t" => put(b"\t", rest, bytes),
-        b"x" => hex(rest, bytes),
-        b"{" => repeat(rest, bytes),
+    match sign {
+        "r" => put(b"\r", rest, bytes),
+        "n" => put(b"\n", rest, bytes),
+        "t" => put(b"\t", rest, bytes),
+        "x" => hex(rest, bytes),
+        "{" => repeat(rest, bytes),
         _ => Err(Trouble::Line("an escape that is none")),
     }
 }

@@ -111,10 +111,10 @@ impl<'a> Example<'a> {
     }
 
     fn in_way(self, alloc: Global, words: &mut Words, way: &str) -> Result<(), Wrong<'a>> {
-        let cut = match way.as_bytes() {
-            b"anywhere" => return self.cut_anywhere(alloc, words),
-            b"pairs" => return self.cut_at_pairs(alloc, words),
-            b"whole" => Cut::Whole,
+        let cut = match way {
+            "anywhere" => return self.cut_anywhere(alloc, words),
+            "pairs" => return self.cut_at_pairs(alloc, words),
+            "whole" => Cut::Whole,
             _ => match size(way) {
                 Ok(size) => Cut::Sized(size),
                 Err(why) => return Err(self.wrong(0, Cut::Whole, why)),
@@ -170,10 +170,19 @@ impl<'a> Example<'a> {
         cut: Cut,
         skipped: usize,
     ) -> Result<usize, Wrong<'a>> {
-        let mut play = match Play::new(alloc, cut) {
-            Ok(play) => play,
-            Err(why) => return Err(self.wrong(0, cut, why)),
-        };
+        match Play::new(alloc, cut) {
+            Ok(mut play) => self.all_lines(words, &mut play, cut, skipped),
+            Err(why) => Err(self.wrong(0, cut, why)),
+        }
+    }
+
+    fn all_lines(
+        self,
+        words: &mut Words,
+        play: &mut Play,
+        cut: Cut,
+        skipped: usize,
+    ) -> Result<usize, Wrong<'a>> {
         let mut last = 0usize;
         for (i, line) in self.lines.lines().enumerate() {
             if i >= skipped {

@@ -74,10 +74,10 @@ impl Exchange {
             return blank(value);
         }
         let value = number(value)?;
-        match name.as_bytes() {
-            b"reads" => self.reads = Some(value),
-            b"writer-takes" => self.at_once = size(value)?,
-            b"writer-fails-after" => self.most = size(value)?,
+        match name {
+            "reads" => self.reads = Some(value),
+            "writer-takes" => self.at_once = size(value)?,
+            "writer-fails-after" => self.most = size(value)?,
             _ => return Err(Trouble::Line("no line of an example begins so")),
         }
         Ok(())
@@ -120,13 +120,13 @@ impl Exchange {
     // Whether the connection was given up for want of memory: behind whole replies the one that says so, or a reply
     // that is cut though its writer doesn't fail.
     fn is_given_up(&self, sent: &[u8], came: &str) -> bool {
-        match came.as_bytes() {
-            b"unserved" => sent.is_empty(),
-            b"closed" | b"served" => match sent.strip_suffix(WANT_OF_MEMORY) {
+        match came {
+            "unserved" => sent.is_empty(),
+            "closed" | "served" => match sent.strip_suffix(WANT_OF_MEMORY) {
                 Some(front) => self.want.as_slice().starts_with(front),
                 None => false,
             },
-            b"cut" | b"write-fault" => self.cut_front().starts_with(sent),
+            "cut" | "write-fault" => self.cut_front().starts_with(sent),
             _ => false,
         }
     }

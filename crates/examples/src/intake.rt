@@ -39,18 +39,31 @@ fn next(intake: &mut Intake) -> Result<Step, AllocError> {
 
 fn steps(intake: &mut Intake, page: &mut Page) -> Result<Arrived, Trouble> {
     for _ in 0..u64::MAX {
-        match next(intake)? {
-            Step::NeedMore => return Ok(Arrived::Open),
-            Step::Dead => return Ok(Arrived::Closed),
-            Step::Continue100 => page.tell(&[b"continue"])?,
-            Step::Message(message) => tell_message(&message, page)?,
-            Step::Refused(refusal, bare) => {
-                let bare = if bare { " without-body" } else { "" };
-                page.tell(&[b"refused ", refusal.name().as_bytes(), bare.as_bytes()])?;
-            }
+        if let Some(came) = step(intake, page)? {
+            return Ok(came);
         }
     }
     Err(Trouble::Line("the intake comes to no end"))
+}
+
+fn step(intake: &mut Intake, page: &mut Page) -> Result<Option<Arrived>, AllocError> {
+    let step = next(intake)?;
+    tell_step(&step, page)
+}
+
+// Tells a step, or what the pieces came to where it is the last one.
+fn tell_step(step: &Step, page: &mut Page) -> Result<Option<Arrived>, AllocError> {
+    match step {
+        Step::NeedMore => return Ok(Some(Arrived::Open)),
+        Step::Dead => return Ok(Some(Arrived::Closed)),
+        Step::Continue100 => page.tell(&[b"continue"])?,
+        Step::Message(message) => tell_message(message, page)?,
+        Step::Refused(refusal, bare) => {
+            let bare = if *bare { " without-body" } else { "" };
+            page.tell(&[b"refused ", refusal.name().as_bytes(), bare.as_bytes()])?;
+        }
+    }
+    Ok(None)
 }
 
 fn tell_message(message: &Message, page: &mut Page) -> Result<(), AllocError> {

@@ -31,12 +31,12 @@ pub enum Leaf {
 impl Leaf {
     /// By the word of the files, and what stands behind it.
     pub fn named(word: &str, rest: &str) -> Result<Leaf, Trouble> {
-        match word.as_bytes() {
-            b"fields" => Ok(Leaf::Fields),
-            b"if-match" => Ok(Leaf::IfMatch(number(rest)?)),
-            b"disposition" => Ok(Leaf::Disposition),
-            b"digest" => Ok(Leaf::Digest),
-            b"hash" => Ok(Leaf::Hash),
+        match word {
+            "fields" => Ok(Leaf::Fields),
+            "if-match" => Ok(Leaf::IfMatch(number(rest)?)),
+            "disposition" => Ok(Leaf::Disposition),
+            "digest" => Ok(Leaf::Digest),
+            "hash" => Ok(Leaf::Hash),
             _ => Err(Trouble::Line("no line of an example begins so")),
         }
     }

@@ -4,7 +4,6 @@ use crate::cut::Cut;
 use crate::escapes::{expand, fill};
 use crate::exchange::{Exchange, blank};
 use crate::leaf::Leaf;
-use crate::server::refused;
 use crate::settings::{Settings, number};
 use crate::side::Side;
 use crate::trouble::Trouble;
@@ -17,7 +16,7 @@ use std::alloc::Global;
 pub struct Play {
     alloc: Global,
     settings: Settings,
-    side: Option<Side>,
+    side: Side,
     exchange: Exchange,
     longest: usize,
 }
@@ -27,7 +26,7 @@ impl Play {
         Ok(Play {
             alloc,
             settings: Settings::new(alloc)?,
-            side: None,
+            side: Side::New,
             exchange: Exchange::new(alloc, cut),
             longest: 0,
         })
@@ -36,28 +35,28 @@ impl Play {
     /// Does what a line says.
     pub fn line(&mut self, words: &mut Words, line: &str) -> Result<(), Trouble> {
         let (word, rest) = line.split_once(' ').unwrap_or((line, ""));
-        match word.as_bytes() {
-            b"" | b"//" | b"pieces" | b"each" | b"-" => Ok(()),
-            b">" => {
+        match word {
+            "" | "//" | "pieces" | "each" | "-" => Ok(()),
+            ">" => {
                 self.exchange.begin();
                 line_to(self.alloc, words, rest, &mut self.exchange.stream)
             }
-            b"<" => {
+            "<" => {
                 self.exchange.begin();
                 line_to(self.alloc, words, rest, &mut self.exchange.want)
             }
-            b"let" | b"text" | b"|" => names(self.alloc, words, word, rest),
-            b"open"
-            | b"closed"
-            | b"cut"
-            | b"gone"
-            | b"ended"
-            | b"served"
-            | b"unserved"
-            | b"bound"
-            | b"read-fault"
-            | b"write-fault"
-            | b"told" => {
+            "let" | "text" | "|" => names(self.alloc, words, word, rest),
+            "open"
+            | "closed"
+            | "cut"
+            | "gone"
+            | "ended"
+            | "served"
+            | "unserved"
+            | "bound"
+            | "read-fault"
+            | "write-fault"
+            | "told" => {
                 blank(rest)?;
                 self.ends(word)
             }
@@ -76,20 +75,25 @@ impl Play {
 
     // An exchange ends.
     fn ends(&mut self, answer: &str) -> Result<(), Trouble> {
-        let mut side = self.side().opened(self.alloc, &self.settings)?;
-        let mut page = self.exchange.page(self.alloc)?;
-        let came = side.plays(self.alloc, &self.exchange, answer, &mut page)?;
-        self.exchange
-            .has_come(self.alloc, page.as_slice(), came, answer)?;
-        self.side = Some(side);
+        self.side.open(self.alloc, &self.settings)?;
+        self.is_as_written(answer)?;
         self.longest = self.longest.max(self.exchange.stream.len());
         self.exchange.clear();
         Ok(())
     }
 
+    fn is_as_written(&mut self, answer: &str) -> Result<(), Trouble> {
+        let mut page = self.exchange.page(self.alloc)?;
+        let came = self
+            .side
+            .plays(self.alloc, &self.exchange, answer, &mut page)?;
+        self.exchange
+            .has_come(self.alloc, page.as_slice(), came, answer)
+    }
+
     fn sets(&mut self, word: &str, rest: &str) -> Result<(), Trouble> {
-        match word.as_bytes() {
-            b"reader-fails" | b"reads" | b"writer-takes" | b"writer-fails-after" => {
+        match word {
+            "reader-fails" | "reads" | "writer-takes" | "writer-fails-after" => {
                 self.exchange.set(word, rest)
             }
             _ => self.between(word, rest),
@@ -99,21 +103,28 @@ impl Play {
     // A line that stands between two exchanges.
     fn between(&mut self, word: &str, rest: &str) -> Result<(), Trouble> {
         self.exchange.is_answered()?;
-        match word.as_bytes() {
-            b"at" => self.exchange.moment = number(rest)?,
-            b"config" => self.settings.configure(self.alloc, rest)?,
-            b"next" => self.number_next(rest)?,
-            b"connection" | b"close" | b"crowd" => self.commands(word, number(rest)?)?,
+        match word {
+            "at" => self.exchange.moment = number(rest)?,
+            "config" => self.settings.configure(self.alloc, rest)?,
+            "next" => self.number_next(rest)?,
+            "connection" | "close" | "crowd" => self.commands(word, rest)?,
             _ => self.turns(word, rest)?,
         }
         Ok(())
     }
 
     fn number_next(&mut self, rest: &str) -> Result<(), Trouble> {
-        if self.side.is_some() {
+        if !self.side.is_new() {
             return Err(Trouble::Line("the archive is there already"));
         }
         self.settings.number_next(rest)
+    }
+
+    // Does what a line asks of the hub's connections.
+    fn commands(&mut self, word: &str, rest: &str) -> Result<(), Trouble> {
+        let number = number(rest)?;
+        let server = self.side.server(self.alloc, &self.settings)?;
+        server.commanded(word, number)
     }
 
     // It goes on with another side.
@@ -121,58 +132,25 @@ impl Play {
         if word != "if-match" {
             blank(rest)?;
         }
-        let side = match word.as_bytes() {
-            b"full" => self.is_full()?,
-            b"restart" => Side::Archive(self.side().into_store()?),
-            b"refused" => self.refused()?,
-            b"intake" => Side::Intake(Intake::new(self.alloc, self.settings.max_upload())),
-            b"shut" => self.shut()?,
-            _ => Side::Leaf(Leaf::named(word, rest)?),
-        };
-        self.side = Some(side);
-        Ok(())
-    }
-
-    // What it is played against: at first an archive that is new.
-    fn side(&mut self) -> Side {
-        match self.side.take() {
-            Some(side) => side,
-            None => Side::Archive(self.settings.store(self.alloc)),
+        match word {
+            "full" => self.side.server(self.alloc, &self.settings)?.is_full(),
+            "restart" => self.side.leave(self.alloc, &self.settings),
+            "refused" => self.side.refuse(self.alloc, &self.settings),
+            "shut" => self.side.shut(),
+            "intake" => {
+                let intake = Intake::new(self.alloc, self.settings.max_upload());
+                self.side.change_to(Side::Intake(intake));
+                Ok(())
+            }
+            _ => self.alone(word, rest),
         }
     }
 
-    fn commands(&mut self, word: &str, number: u64) -> Result<(), Trouble> {
-        let mut side = self.side().opened(self.alloc, &self.settings)?;
-        let Side::Server(server) = &mut side else {
-            return Err(Trouble::Line("no connections are there"));
-        };
-        server.commanded(word, number)?;
-        self.side = Some(side);
+    // It goes on with a call by itself.
+    fn alone(&mut self, word: &str, rest: &str) -> Result<(), Trouble> {
+        let leaf = Leaf::named(word, rest)?;
+        self.side.change_to(Side::Leaf(leaf));
         Ok(())
-    }
-
-    fn is_full(&mut self) -> Result<Side, Trouble> {
-        let mut side = self.side().opened(self.alloc, &self.settings)?;
-        let Side::Server(server) = &mut side else {
-            return Err(Trouble::Line("no connections are there"));
-        };
-        server.is_full()?;
-        Ok(side)
-    }
-
-    // The archive stays, where no hub takes it.
-    fn refused(&mut self) -> Result<Side, Trouble> {
-        let store = self.side().into_store()?;
-        let config = self.settings.config(self.alloc)?;
-        Ok(Side::Archive(refused(self.alloc, config, store)?))
-    }
-
-    fn shut(&mut self) -> Result<Side, Trouble> {
-        let Some(Side::Intake(mut intake)) = self.side.take() else {
-            return Err(Trouble::Line("no intake is there"));
-        };
-        intake.shut();
-        Ok(Side::Intake(intake))
     }
 }
 
@@ -189,10 +167,10 @@ fn line_to(alloc: Global, words: &Words, text: &str, bytes: &mut Vec<u8>) -> Res
 }
 
 fn names(alloc: Global, words: &mut Words, word: &str, rest: &str) -> Result<(), Trouble> {
-    match (word.as_bytes(), rest.strip_suffix('\\')) {
-        (b"text", _) => words.add(alloc, rest, "")?,
-        (b"|", Some(front)) => words.extend(front, "")?,
-        (b"|", None) => words.extend(rest, "\\r\\n")?,
+    match (word, rest.strip_suffix('\\')) {
+        ("text", _) => words.add(alloc, rest, "")?,
+        ("|", Some(front)) => words.extend(front, "")?,
+        ("|", None) => words.extend(rest, "\\r\\n")?,
         _ => {
             let (name, text) = rest.split_once(' ').unwrap_or((rest, ""));
             words.add(alloc, name, text)?;

@@ -2,6 +2,7 @@
 
 use crate::exchange::Exchange;
 use crate::page::Page;
+use crate::settings::Settings;
 use crate::source::Source;
 use crate::trouble::Trouble;
 use dep_moment::Moment;
@@ -19,12 +20,8 @@ pub struct Server {
 
 impl Server {
     /// Over this archive, with connection 1.
-    pub fn open(alloc: Global, config: Config, store: Store) -> Result<Server, Trouble> {
-        let mut hub = match Hub::new(alloc, config, store) {
-            Ok(hub) => hub,
-            Err((HubFault::Memory, _)) => return Err(Trouble::Memory),
-            Err((HubFault::Config, _)) => return Err(Trouble::Line("the configuration is refused")),
-        };
+    pub fn open(alloc: Global, settings: &Settings, store: Store) -> Result<Server, Trouble> {
+        let mut hub = opened(alloc, settings.config(alloc)?, store)?;
         let current = connected(&mut hub)?;
         Ok(Server {
             hub,
@@ -35,14 +32,14 @@ impl Server {
 
     /// Does what a line asks of the connections.
     pub fn commanded(&mut self, word: &str, number: u64) -> Result<(), Trouble> {
-        match word.as_bytes() {
-            b"connection" => self.turn(number),
-            b"close" => {
+        match word {
+            "connection" => self.turn(number),
+            "close" => {
                 let connection = self.numbered(number)?;
                 self.hub.close(connection);
                 Ok(())
             }
-            b"crowd" => self.crowd(number),
+            "crowd" => self.crowd(number),
             _ => Err(Trouble::Line("no line of an example begins so")),
         }
     }
@@ -133,9 +130,17 @@ pub fn word_of(came: Arrived) -> &'static str {
     }
 }
 
-/// The archive, which no hub takes by this configuration.
-pub fn refused(alloc: Global, config: Config, store: Store) -> Result<Store, Trouble> {
+fn opened(alloc: Global, config: Config, store: Store) -> Result<Hub, Trouble> {
     match Hub::new(alloc, config, store) {
+        Ok(hub) => Ok(hub),
+        Err((HubFault::Memory, _)) => Err(Trouble::Memory),
+        Err((HubFault::Config, _)) => Err(Trouble::Line("the configuration is refused")),
+    }
+}
+
+/// The archive, which no hub takes by this configuration.
+pub fn refused(alloc: Global, settings: &Settings, store: Store) -> Result<Store, Trouble> {
+    match Hub::new(alloc, settings.config(alloc)?, store) {
         Ok(_) => Err(Trouble::Line("the configuration is accepted")),
         Err((HubFault::Memory, _)) => Err(Trouble::Memory),
         Err((HubFault::Config, store)) => Ok(store),

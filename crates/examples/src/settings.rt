@@ -69,24 +69,24 @@ impl Settings {
     /// Sets a part of the configuration, by a line `NAME VALUE`.
     pub fn configure(&mut self, alloc: Global, line: &str) -> Result<(), Trouble> {
         let (name, value) = line.split_once(' ').unwrap_or((line, ""));
-        match name.as_bytes() {
-            b"base" => self.config.base = Text::copied(alloc, value)?,
-            b"title" => self.config.title = Text::copied(alloc, value)?,
-            b"abstract" => self.config.abstract_text = Text::copied(alloc, value)?,
-            b"depositor" => self.config.depositor = Text::copied(alloc, value)?,
-            b"on-behalf-of" => self.config.on_behalf_of = truth(value)?,
-            b"require-if-match" => self.config.require_if_match = truth(value)?,
+        match name {
+            "base" => self.config.base = Text::copied(alloc, value)?,
+            "title" => self.config.title = Text::copied(alloc, value)?,
+            "abstract" => self.config.abstract_text = Text::copied(alloc, value)?,
+            "depositor" => self.config.depositor = Text::copied(alloc, value)?,
+            "on-behalf-of" => self.config.on_behalf_of = truth(value)?,
+            "require-if-match" => self.config.require_if_match = truth(value)?,
             _ => return self.limit(name, number(value)?),
         }
         Ok(())
     }
 
     fn limit(&mut self, name: &str, value: u64) -> Result<(), Trouble> {
-        match name.as_bytes() {
-            b"max-upload" => self.config.max_upload = value,
-            b"max-assembled" => self.config.max_assembled = value,
-            b"max-segments" => self.config.max_segments = value,
-            b"staging-max-idle" => self.config.staging_max_idle = value,
+        match name {
+            "max-upload" => self.config.max_upload = value,
+            "max-assembled" => self.config.max_assembled = value,
+            "max-segments" => self.config.max_segments = value,
+            "staging-max-idle" => self.config.staging_max_idle = value,
             _ => return Err(Trouble::Line("no part of the configuration has that name")),
         }
         Ok(())
@@ -96,11 +96,11 @@ impl Settings {
     pub fn number_next(&mut self, line: &str) -> Result<(), Trouble> {
         let (kind, value) = line.split_once(' ').unwrap_or((line, ""));
         let value = number(value)?;
-        match kind.as_bytes() {
-            b"object" => self.next.object = value,
-            b"file" => self.next.file = value,
-            b"upload" => self.next.upload = value,
-            b"change" => self.next.change = value,
+        match kind {
+            "object" => self.next.object = value,
+            "file" => self.next.file = value,
+            "upload" => self.next.upload = value,
+            "change" => self.next.change = value,
             _ => return Err(Trouble::Line("no kind of numbers has that name")),
         }
         Ok(())
@@ -116,9 +116,9 @@ pub fn number(text: &str) -> Result<u64, Trouble> {
 }
 
 fn truth(text: &str) -> Result<bool, Trouble> {
-    match text.as_bytes() {
-        b"true" => Ok(true),
-        b"false" => Ok(false),
+    match text {
+        "true" => Ok(true),
+        "false" => Ok(false),
         _ => Err(Trouble::Line("true or false is wanted")),
     }
 }

@@ -4,16 +4,19 @@ use crate::exchange::Exchange;
 use crate::intake::takes;
 use crate::leaf::Leaf;
 use crate::page::Page;
-use crate::server::Server;
+use crate::server::{Server, refused};
 use crate::settings::Settings;
 use crate::trouble::Trouble;
 use dep_message::Intake;
 use dep_server::Store;
 use std::alloc::Global;
+use std::mem;
 
 /// What an example is played against.
 #[derive(Drop)]
 pub enum Side {
+    /// Nothing was played yet, and the archive is to be a new one.
+    New,
     /// An archive that no hub has.
     Archive(Store),
     Server(Server),
@@ -22,6 +25,10 @@ pub enum Side {
 }
 
 impl Side {
+    pub fn is_new(&self) -> bool {
+        matches!(self, Side::New)
+    }
+
     /// Plays an exchange, and tells in a word what it came to.
     pub fn plays(
         &mut self,
@@ -31,33 +38,70 @@ impl Side {
         page: &mut Page,
     ) -> Result<&'static str, Trouble> {
         match self {
-            Side::Archive(_) => Err(Trouble::Line("no hub is there")),
+            Side::New | Side::Archive(_) => Err(Trouble::Line("no hub is there")),
             Side::Intake(intake) => takes(intake, exchange, page),
             Side::Leaf(leaf) => {
                 leaf.reads(alloc, exchange, page)?;
                 Ok("told")
             }
-            Side::Server(server) => match answer.as_bytes() {
-                b"open" | b"closed" | b"cut" | b"gone" => Ok(server.arrives(exchange, page)),
+            Side::Server(server) => match answer {
+                "open" | "closed" | "cut" | "gone" => Ok(server.arrives(exchange, page)),
                 _ => server.serves(alloc, exchange, answer, page),
             },
         }
     }
 
-    /// A hub over its archive, where none is there yet.
-    pub fn opened(self, alloc: Global, settings: &Settings) -> Result<Side, Trouble> {
+    /// Opens a hub over the archive, where none is there yet.
+    pub fn open(&mut self, alloc: Global, settings: &Settings) -> Result<(), Trouble> {
+        if let Side::New | Side::Archive(_) = self {
+            let store = self.take_store(alloc, settings)?;
+            self.change_to(Side::Server(Server::open(alloc, settings, store)?));
+        }
+        Ok(())
+    }
+
+    /// Its hub, which is opened where none is there yet.
+    pub fn server(&mut self, alloc: Global, settings: &Settings) -> Result<&mut Server, Trouble> {
+        self.open(alloc, settings)?;
         match self {
-            Side::Archive(store) => {
-                let config = settings.config(alloc)?;
-                Ok(Side::Server(Server::open(alloc, config, store)?))
-            }
-            other => Ok(other),
+            Side::Server(server) => Ok(server),
+            _ => Err(Trouble::Line("no connections are there")),
         }
     }
 
-    /// Its archive, without a hub.
-    pub fn into_store(self) -> Result<Store, Trouble> {
+    /// The archive goes on without a hub.
+    pub fn leave(&mut self, alloc: Global, settings: &Settings) -> Result<(), Trouble> {
+        let store = self.take_store(alloc, settings)?;
+        self.change_to(Side::Archive(store));
+        Ok(())
+    }
+
+    /// No hub takes the archive by this configuration.
+    pub fn refuse(&mut self, alloc: Global, settings: &Settings) -> Result<(), Trouble> {
+        let store = self.take_store(alloc, settings)?;
+        self.change_to(Side::Archive(refused(alloc, settings, store)?));
+        Ok(())
+    }
+
+    /// It goes on with another.
+    pub fn change_to(&mut self, other: Side) {
+        *self = other;
+    }
+
+    /// Shuts the intake.
+    pub fn shut(&mut self) -> Result<(), Trouble> {
         match self {
+            Side::Intake(intake) => {
+                intake.shut();
+                Ok(())
+            }
+            _ => Err(Trouble::Line("no intake is there")),
+        }
+    }
+
+    fn take_store(&mut self, alloc: Global, settings: &Settings) -> Result<Store, Trouble> {
+        match mem::replace(self, Side::New) {
+            Side::New => Ok(settings.store(alloc)),
             Side::Archive(store) => Ok(store),
             Side::Server(server) => Ok(server.into_store()),
             _ => Err(Trouble::Line("no archive is there")),

@@ -11,8 +11,16 @@ use std::alloc::{AllocError, Global};
 
 /// What the field lines of a request tell: a line for each field that is there.
 pub fn tell_fields(alloc: Global, lines: &[u8], page: &mut Page) -> Result<(), Trouble> {
+    let fields = fields_of(alloc, lines)?;
+    Ok(tell_each(alloc, &fields, page)?)
+}
+
+fn fields_of(alloc: Global, lines: &[u8]) -> Result<SwordFields, Trouble> {
     let head = head_with(alloc, lines)?;
-    let fields = SwordFields::read(alloc, &head)?;
+    Ok(SwordFields::read(alloc, &head)?)
+}
+
+fn tell_each(alloc: Global, fields: &SwordFields, page: &mut Page) -> Result<(), AllocError> {
     tell_text(b"On-Behalf-Of", &fields.on_behalf_of, page)?;
     tell_disposition(alloc, &fields.disposition, page)?;
     tell_progress(&fields.in_progress, page)?;
@@ -20,7 +28,7 @@ pub fn tell_fields(alloc: Global, lines: &[u8], page: &mut Page) -> Result<(), T
     tell_octets(b"Metadata-Format", &fields.metadata_format, page)?;
     tell_text(b"Content-Type", &fields.content_type, page)?;
     tell_octets(b"Content-Encoding", &fields.content_encoding, page)?;
-    Ok(tell_digest(&fields.digest, page)?)
+    tell_digest(&fields.digest, page)
 }
 
 /// Whether the If-Match lines of a request hold of this tag.
@@ -31,15 +39,15 @@ pub fn tell_if_match(
     page: &mut Page,
 ) -> Result<(), Trouble> {
     let head = head_with(alloc, lines)?;
-    let Some(tags) = IfMatch::read(&head) else {
-        return Ok(page.tell(&[b"absent"])?);
-    };
-    let told: &[u8] = if tags.holds(tag) {
-        b"holds"
-    } else {
-        b"does not hold"
-    };
-    Ok(page.tell(&[told])?)
+    Ok(page.tell(&[told_of(&head, tag)])?)
+}
+
+fn told_of(head: &Head, tag: u64) -> &'static [u8] {
+    match IfMatch::read(head) {
+        None => b"absent",
+        Some(tags) if tags.holds(tag) => b"holds",
+        Some(_) => b"does not hold",
+    }
 }
 
 // The head of a request with these field lines.
@@ -65,8 +73,12 @@ fn tell_text(name: &[u8], field: &Field<Text>, page: &mut Page) -> Result<(), Al
     match field {
         Field::Absent => Ok(()),
         Field::Bad => tell(name, Field::Bad, page),
-        Field::Value(text) => tell(name, Field::Value(text.as_str().as_bytes()), page),
+        Field::Value(text) => tell(name, Field::Value(octets_of(text)), page),
     }
+}
+
+fn octets_of(text: &Text) -> &[u8] {
+    text.as_str().as_bytes()
 }
 
 fn tell_octets(name: &[u8], field: &Field<Octets>, page: &mut Page) -> Result<(), AllocError> {
@@ -108,7 +120,7 @@ fn tell_disposition(alloc: Global, field: &Field<Kind>, page: &mut Page) -> Resu
 
 fn tell_kind(alloc: Global, kind: &Kind, page: &mut Page) -> Result<(), AllocError> {
     match kind {
-        Kind::File(name) => page.tell(&[b"file ", name.as_str().as_bytes()]),
+        Kind::File(name) => page.tell(&[b"file ", octets_of(name)]),
         Kind::Metadata => page.tell(&[b"metadata"]),
         Kind::References => page.tell(&[b"references"]),
         Kind::Segment(number) => {
