@@ -1,1 +1,1 @@
-mod AskedIs
+pub mod AskedIs

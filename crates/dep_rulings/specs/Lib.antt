@@ -1,2 +1,6 @@
-pub mod Views
+pub mod Checks
+pub mod Rows
 pub mod Rulings
+pub mod Seen
+pub mod Views
+pub mod Walks

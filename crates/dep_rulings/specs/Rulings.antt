@@ -1,8 +1,10 @@
 -- What a ruling says of a request in a state.
-use Rattle.std.specs.Prelude.{◌≡◌, Some, None}
+use Rattle.std.specs.Prelude.{◌≡◌, Some, None, IsTrue}
 use Rattle.dep_types.specs.State.{State}
+use Rattle.dep_types.specs.Numbers.{room_for}
 use Rattle.dep_types.specs.declared.config.Config.{Config}
-use Rattle.dep_decisions.specs.Decisions.{decision}
+use Rattle.dep_types.specs.declared.counters.Counters.{Counters}
+use Rattle.dep_decisions.specs.Decisions.{decision, numbers_for}
 use Rattle.dep_decisions.specs.Rules.{refusal}
 use Rattle.dep_decisions.specs.declared.operation.Operation.{Operation}
 use Rattle.dep_rulings.specs.Views.{view_of}
@@ -19,3 +21,8 @@ IsRuling config s op (Do d) = (refusal config s op ≡ None) × (d ≡ decision 
 abbrev pub RulesBy : Config → View → Operation → Ruling → Type 0
 RulesBy config view op ruling =
     (s : State) → view ≡ view_of config s op → IsRuling config s op ruling
+
+-- what is let through can be given its numbers
+abbrev pub HasRoomFor : Counters → Ruling → Type 0
+HasRoomFor next (Do d) = IsTrue (room_for next (numbers_for d))
+HasRoomFor next (Refuse r) = Unit {0}

@@ -2,8 +2,14 @@
 //! refused, or what it asks for.
 #![tactic(auto)]
 
+mod order;
+mod references;
+mod rows;
 mod ruling;
+mod touched;
 mod view;
 
+pub use order::decide;
 pub use ruling::Ruling;
+pub use touched::touches;
 pub use view::{LiveUpload, Numbers, Touched, UploadState, UploadView, UploadViews, View};

@@ -1,0 +1,71 @@
+-- What is known after the rules on a content.
+use Rattle.std.proofs.Common.{◌≡◌, ◌∙◌, ℕ, ◌<◌, ◌+◌, true, false, List, [], ◌∷◌, ◌++◌, take, length, get_or, Option, Some, None, is_some, option_map, if◌then◌else◌, refl, sym, ap}
+use Rattle.std.proofs.lemmas.List.{take_more}
+use Rattle.std.proofs.lemmas.List.Elements.{filter_map-append}
+use Rattle.std.specs.Prelude.{IfSome}
+use Rattle.std.specs.List.{cons_option}
+use Rattle.dep_types.specs.declared.config.Config.{Config}
+use Rattle.dep_fixity.specs.Fixity.{digests_of}
+use Rattle.dep_fixity.specs.declared.field.DigestList.{DigestList}
+use Rattle.dep_fields.specs.declared.field.Field.{Field}
+use Rattle.dep_fields.specs.declared.field.Field.TheVariants.{Absent, Bad, Value}
+use Rattle.dep_fields.specs.declared.kind.Kind.{Kind}
+use Rattle.dep_fields.specs.declared.kind.Kind.TheVariants as of
+use Rattle.dep_docs_in.specs.declared.reference.Reference.{Reference}
+use Rattle.dep_decisions.specs.Decisions.{references_by, references_in, upload_number}
+use Rattle.dep_decisions.specs.Kinds.{kind_of}
+use Rattle.dep_decisions.specs.Purposes.{purpose_of}
+use Rattle.dep_decisions.specs.declared.operation.Operation.{Operation}
+use Rattle.dep_rulings.specs.Checks.{IsChecked, IsCheckedBy}
+use Rattle.dep_rulings.specs.Rows.{content_by, content_refusal, digests_if_promised, has_content, purpose_in, references_for}
+use Rattle.dep_rulings.specs.Views.{uploads_named}
+use Rattle.dep_rulings.specs.declared.order.Checked.{Checked}
+use Rattle.dep_rulings.specs.declared.order.Checked.TheVariants.{Refused, Passed}
+use Rattle.dep_rulings.specs.declared.view.View.{View}
+use Rattle.dep_rulings.proofs.Staged.{no_kind}
+
+of_content : (op : Operation) (o : Option (List ℕ)) → IfSome (if is_some o then Some (digests_of op.content) else None) (λ d. d ≡ digests_of op.content)
+of_content op None = tt
+of_content op (Some digest) = refl
+
+-- the digests that are promised are those of the content
+pub promised_are : (op : Operation) (f : Field DigestList) → IfSome (digests_if_promised op f) (λ d. d ≡ digests_of op.content)
+promised_are op Absent = tt
+promised_are op Bad = tt
+promised_are op (Value list) = of_content op list.sha256
+
+read_for_is : (config : Config) (op : Operation) (o : Option Kind) → references_for config op (option_map purpose_of o) ≡ references_by config op o
+unfolding references_for
+read_for_is config op None = refl
+read_for_is config op (Some (of.File name)) = refl
+read_for_is config op (Some of.Metadata) = refl
+read_for_is config op (Some of.References) = refl
+read_for_is config op (Some (of.Opening o)) = refl
+read_for_is config op (Some (of.Segment k)) = refl
+
+pub references_read_for : (config : Config) (op : Operation) → references_for config op (purpose_in op) ≡ references_in config op
+unfolding references_in
+references_read_for config op = read_for_is config op (kind_of op)
+
+-- a method with a content is checked by its rules
+pub checked_by : (config : Config) (view : View) (op : Operation) (checked : Checked) → has_content op.target.method ≡ true → IsCheckedBy config view op checked → IsChecked config view op checked
+unfolding content_refusal
+checked_by config view op (Refused r) has is = ap (λ b. if b then content_by config view op (purpose_in op) else None) has ∙ is
+checked_by config view op (Passed read) has is = (ap (λ b. if b then content_by config view op (purpose_in op) else None) has ∙ is.0, is.1)
+
+-- the others have none
+pub unchecked : (config : Config) (view : View) (op : Operation) → has_content op.target.method ≡ false
+    → IsChecked config view op (Passed (record { metadata = None; digests = None }))
+unfolding content_refusal
+unchecked config view op none = (
+  ap (λ b. if b then content_by config view op (purpose_in op) else None) none,
+  record { metadata = λ is. let kind = no_kind op none in absurd (cc (kind, is)); digests = tt },
+)
+
+-- the uploads named up to one more entry
+pub named_more : (refs : List Reference) (i : ℕ) (r : Reference) → i < length refs → r ≡ get_or refs i r
+    → uploads_named (take (i + 1) refs) ≡ uploads_named (take i refs) ++ cons_option (upload_number r.target) []
+named_more refs i r h is =
+    ap uploads_named (take_more refs i r h)
+    ∙ filter_map-append (λ (r : Reference). upload_number r.target) (take i refs) (get_or refs i r ∷ [])
+    ∙ ap (λ (x : Reference). uploads_named (take i refs) ++ cons_option (upload_number x.target) []) (sym is)

@@ -1,0 +1,133 @@
+-- The rules by the purpose of a content and by what a view tells, in their order.
+use Rattle.std.specs.Prelude.{◌≡◌, Bool, true, false, List, [], ◌∷◌, is_some, Option, Some, None, option_map, bytes_eq, if◌then◌else◌}
+use Rattle.dep_types.specs.Maps.{first_of}
+use Rattle.dep_types.specs.Names.{binary, metadata_format}
+use Rattle.dep_types.specs.Numbers.{room_for}
+use Rattle.dep_types.specs.declared.config.Config.{Config}
+use Rattle.dep_types.specs.declared.refusal.Refusal.{Refusal}
+use Rattle.dep_types.specs.declared.refusal.Refusal.TheVariants.{BadRequest, ContentMalformed, ContentTypeNotAcceptable, MetadataFormatNotAcceptable, PackagingFormatNotAcceptable, StoreFull}
+use Rattle.dep_types.specs.declared.target.Resource.{Resource}
+use Rattle.dep_types.specs.declared.target.Resource.TheVariants.{Upload}
+use Rattle.dep_types.specs.declared.target.Method.{Method}
+use Rattle.dep_types.specs.declared.target.Method.TheVariants.{Get, Head, Post, Put, Delete}
+use Rattle.dep_fixity.specs.Fixity.{digests_of}
+use Rattle.dep_fixity.specs.declared.field.DigestList.{DigestList}
+use Rattle.dep_fixity.specs.declared.hasher.Digests.{Digests}
+use Rattle.dep_fields.specs.declared.field.Field.{Field}
+use Rattle.dep_fields.specs.declared.field.Field.TheVariants.{Absent, Bad, Value}
+use Rattle.dep_docs_in.specs.Documents.{metadata_read, references_read}
+use Rattle.dep_docs_in.specs.declared.reference.Reference.{Reference}
+use Rattle.dep_decisions.specs.Decisions.{decision_with, numbers_for}
+use Rattle.dep_decisions.specs.Kinds.{kind_of}
+use Rattle.dep_decisions.specs.Purposes.{purpose_of}
+use Rattle.dep_decisions.specs.Rules.{is_json, of_behalf, of_digest, of_encoding, of_in_progress, of_kind, opening_refusal, tag_refusal, unless, value_refusal}
+use Rattle.dep_decisions.specs.declared.operation.Operation.{Operation}
+use Rattle.dep_decisions.specs.declared.purpose.Purpose.{Purpose}
+use Rattle.dep_decisions.specs.declared.purpose.Purpose.TheVariants.{File, Metadata, References, Opening, Segment}
+use Rattle.dep_rulings.specs.Seen.{presence_seen, received_seen, tag_seen}
+use Rattle.dep_rulings.specs.Walks.{references_seen}
+use Rattle.dep_rulings.specs.declared.ruling.Ruling.{Ruling}
+use Rattle.dep_rulings.specs.declared.ruling.Ruling.TheVariants.{Do, Refuse}
+use Rattle.dep_rulings.specs.declared.view.View.{View}
+
+-- what the content is for
+abbrev pub purpose_in : Operation → Option Purpose
+purpose_in op = option_map purpose_of (kind_of op)
+
+-- the references that a content of this purpose tells
+unfoldable pub references_for : Config → Operation → Option Purpose → Option (List Reference)
+references_for config op (Some References) = references_read config op.content
+references_for config op _ = None
+
+-- ---- the rules on a content
+
+unfoldable pub format_by : Operation → Option Purpose → Option Refusal
+format_by op (Some File) =
+    value_refusal (bytes_eq binary) PackagingFormatNotAcceptable op.fields.packaging
+format_by op (Some Metadata) =
+    value_refusal (bytes_eq metadata_format) MetadataFormatNotAcceptable op.fields.metadata_format
+format_by op _ = None
+
+unfoldable pub type_by : Operation → Option Purpose → Option Refusal
+type_by op (Some File) = value_refusal (λ text. true) BadRequest op.fields.content_type
+type_by op (Some Metadata) =
+    value_refusal is_json ContentTypeNotAcceptable op.fields.content_type
+type_by op (Some References) =
+    value_refusal is_json ContentTypeNotAcceptable op.fields.content_type
+type_by op _ = None
+
+-- the digests of the content, where one is promised
+abbrev pub digests_if_promised : Operation → Field DigestList → Option Digests
+digests_if_promised op (Value list) =
+    if is_some list.sha256 then Some (digests_of op.content) else None
+digests_if_promised op Bad = None
+digests_if_promised op Absent = None
+
+unfoldable pub document_by : View → Operation → Option Purpose → Option Refusal
+document_by view op (Some Metadata) = unless (is_some (metadata_read op.content)) ContentMalformed
+document_by view op (Some References) = references_seen view.uploads view.references
+document_by view op _ = None
+
+unfoldable pub size_by : Config → View → Operation → Option Purpose → Option Refusal
+size_by config view op (Some (Opening o)) = opening_refusal config o
+size_by config view op (Some (Segment k)) =
+    received_seen view op.target.resource k op.content
+size_by config view op _ = None
+
+-- ---- the order
+
+-- no tag guards what is only read, or an upload that is dropped
+abbrev pub reads_alone : Resource → Method → Bool
+reads_alone resource Get = true
+reads_alone resource Head = true
+reads_alone (Upload u) Delete = true
+reads_alone resource method = false
+
+abbrev pub tag_row : Config → View → Operation → Option Refusal
+tag_row config view op =
+    tag_refusal config.require_if_match op.if_match (tag_seen view op.target.resource)
+
+-- 5 to 7
+unfoldable pub access_refusal : Config → View → Operation → Option Refusal
+access_refusal config view op = first_of
+    (of_behalf config op
+    ∷ presence_seen view op.target.resource
+    ∷ (if reads_alone op.target.resource op.target.method then None else tag_row config view op)
+    ∷ [])
+
+-- 8 to 11
+unfoldable pub fields_refusal : Operation → Option Purpose → Option Refusal
+fields_refusal op purpose = first_of
+    (of_encoding op ∷ of_kind op ∷ of_in_progress op ∷ format_by op purpose ∷ type_by op purpose
+    ∷ [])
+
+-- 8 to 14
+unfoldable pub content_by : Config → View → Operation → Option Purpose → Option Refusal
+content_by config view op purpose = first_of
+    (fields_refusal op purpose ∷ of_digest op ∷ document_by view op purpose
+    ∷ size_by config view op purpose ∷ [])
+
+abbrev pub has_content : Method → Bool
+has_content Post = true
+has_content Put = true
+has_content _ = false
+
+unfoldable pub content_refusal : Config → View → Operation → Option Refusal
+content_refusal config view op =
+    if has_content op.target.method then content_by config view op (purpose_in op) else None
+
+-- 15
+unfoldable pub room_refusal : View → Operation → Option Refusal
+room_refusal view op =
+    unless (room_for view.next (numbers_for (decision_with view.references op))) StoreFull
+
+-- the first rule that applies, by what the view tells
+unfoldable pub refusal_seen : Config → View → Operation → Option Refusal
+refusal_seen config view op = first_of
+    (access_refusal config view op ∷ content_refusal config view op ∷ room_refusal view op ∷ [])
+
+-- the ruling by what the view tells
+abbrev pub IsSeen : Config → View → Operation → Ruling → Type 0
+IsSeen config view op (Refuse r) = refusal_seen config view op ≡ Some r
+IsSeen config view op (Do d) =
+    (refusal_seen config view op ≡ None) × (d ≡ decision_with view.references op)

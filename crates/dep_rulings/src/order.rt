@@ -1,0 +1,220 @@
+//! The ruling on a request, from a view of the archive.
+ghost use Rattle.std.specs.Prelude.{◌≡◌, IfOk, Some, is_some};
+ghost use Rattle.dep_decisions.specs.Asked.{IsRead};
+ghost use Rattle.dep_decisions.specs.declared.purpose.Purpose.TheVariants as of;
+ghost use Rattle.dep_docs_in.specs.Documents.{metadata_read};
+ghost use Rattle.dep_rulings.specs.Checks.{IsChecked, IsCheckedBy, IsRoomRuling};
+ghost use Rattle.dep_rulings.specs.Rows.{access_refusal, document_by, fields_refusal, purpose_in, reads_alone, has_content};
+ghost use Rattle.dep_rulings.specs.Rulings.{HasRoomFor, RulesBy};
+
+use crate::references::references_row;
+use crate::rows::{
+    behalf_row, digest_row, digests_if_promised, encoding_row, format_row, kind_row, presence_row,
+    progress_row, seen_tag, size_row, tag_row, type_row,
+};
+use crate::ruling::Ruling;
+use crate::view::View;
+use dep_decisions::{Operation, Purpose, ReadContent, content_purpose, decision_on, numbers_for};
+use dep_docs_in::{DocFault, read_metadata};
+use dep_types::{Config, Metadata, Method, Refusal, Resource, Target};
+use std::alloc::{AllocError, Global};
+
+/// The ruling on a request, where the archive is seen so at the numbers that it touches: the first rule
+/// that applies, from rule 5 of the order of refusals in docs/PROFILE.md on, or what the request asks for. An
+/// `Err` is want of memory.
+pub fn decide(
+    alloc: Global,
+    config: &Config,
+    view: &View,
+    operation: &Operation<'_>,
+) -> Result<Ruling, AllocError>
+    ensures ruling { IfOk result (RulesBy config.now view.now operation.now) }
+    // What is let through can be given its numbers.
+    ensures room { IfOk result (HasRoomFor view.now.next) }
+{
+    if let Some(refusal) = access_row(config, view, operation) {
+        return Ok(Ruling::Refuse(refusal));
+    }
+    match check_content(alloc, config, view, operation)? {
+        Checked::Refused(refusal) => Ok(Ruling::Refuse(refusal)),
+        Checked::Passed(read) => rule_by_room(alloc, view, operation, read),
+    }
+}
+
+/// What the rules on a content come to.
+#[derive(Drop)]
+pub(crate) enum Checked {
+    Refused(Refusal),
+    /// None applies, and this was read of the content.
+    Passed(ReadContent),
+}
+
+// Rules 5 to 7: who asks, for what, and of which state of it.
+#[tactic(auto, unfolding(crate::specs::Rows::access_refusal))]
+fn access_row(config: &Config, view: &View, operation: &Operation<'_>) -> Option<Refusal>
+    ensures { result ≡ access_refusal config.now view.now operation.now }
+{
+    if let Some(refusal) = behalf_row(config, operation) {
+        return Some(refusal);
+    }
+    if let Some(refusal) = presence_row(view, &operation.target.resource) {
+        return Some(refusal);
+    }
+    if reads_alone(&operation.target) {
+        return None;
+    }
+    let tag = seen_tag(view, &operation.target.resource);
+    tag_row(config, &operation.if_match, tag)
+}
+
+fn reads_alone(target: &Target) -> bool
+    ensures { result ≡ reads_alone target.now.resource target.now.method }
+{
+    match (&target.resource, target.method) {
+        (_, Method::Get) => true,
+        (_, Method::Head) => true,
+        (Resource::Upload(_), Method::Delete) => true,
+        _ => false,
+    }
+}
+
+// Rules 8 to 14, for the methods that have a content.
+fn check_content(
+    alloc: Global,
+    config: &Config,
+    view: &View,
+    operation: &Operation<'_>,
+) -> Result<Checked, AllocError>
+    ensures { IfOk result (IsChecked config.now view.now operation.now) }
+{
+    if has_content(operation.target.method) {
+        check_rows(alloc, config, view, operation)
+    } else {
+        Ok(Checked::Passed(ReadContent {
+            metadata: None,
+            digests: None,
+        }))
+    }
+}
+
+// Rules 8 to 14. Nothing is hashed or read before the rules that don't need it have passed.
+#[tactic(auto, unfolding(crate::specs::Rows::content_by))]
+fn check_rows(
+    alloc: Global,
+    config: &Config,
+    view: &View,
+    operation: &Operation<'_>,
+) -> Result<Checked, AllocError>
+    ensures { IfOk result (IsCheckedBy config.now view.now operation.now) }
+{
+    let purpose = content_purpose(operation);
+    if let Some(refusal) = fields_row(operation, purpose) {
+        return Ok(Checked::Refused(refusal));
+    }
+    let digests = digests_if_promised(operation);
+    if let Some(refusal) = digest_row(operation, digests) {
+        return Ok(Checked::Refused(refusal));
+    }
+    let metadata = metadata_of(alloc, operation, purpose)?;
+    if let Some(refusal) = document_row(alloc, view, operation, purpose, metadata.is_some())? {
+        return Ok(Checked::Refused(refusal));
+    }
+    if let Some(refusal) = size_row(config, view, operation, purpose) {
+        return Ok(Checked::Refused(refusal));
+    }
+    Ok(Checked::Passed(ReadContent { metadata, digests }))
+}
+
+fn has_content(method: Method) -> bool
+    ensures { result ≡ has_content method }
+{
+    match method {
+        Method::Post | Method::Put => true,
+        Method::Get | Method::Head | Method::Delete => false,
+    }
+}
+
+// Rules 8 to 11: what the fields say of the content.
+#[tactic(auto, unfolding(crate::specs::Rows::fields_refusal))]
+fn fields_row(operation: &Operation<'_>, purpose: Option<Purpose>) -> Option<Refusal>
+    requires { purpose ≡ purpose_in operation.now }
+    ensures { result ≡ fields_refusal operation.now purpose }
+{
+    if let Some(refusal) = encoding_row(operation) {
+        return Some(refusal);
+    }
+    if let Some(refusal) = kind_row(operation, purpose) {
+        return Some(refusal);
+    }
+    if let Some(refusal) = progress_row(operation) {
+        return Some(refusal);
+    }
+    if let Some(refusal) = format_row(operation, purpose) {
+        return Some(refusal);
+    }
+    type_row(operation, purpose)
+}
+
+// The metadata that the content is, read for this purpose alone.
+fn metadata_of(
+    alloc: Global,
+    operation: &Operation<'_>,
+    purpose: Option<Purpose>,
+) -> Result<Option<Metadata>, AllocError>
+    ensures { IfOk result (λ metadata. purpose ≡ Some of.Metadata → metadata ≡ metadata_read operation.now.content) }
+{
+    match purpose {
+        Some(Purpose::Metadata) => read(alloc, operation.content.as_slice()),
+        _ => Ok(None),
+    }
+}
+
+fn read(alloc: Global, content: &[u8]) -> Result<Option<Metadata>, AllocError>
+    ensures { IfOk result (λ metadata. metadata ≡ metadata_read content.now) }
+{
+    match read_metadata(alloc, content) {
+        Ok(metadata) => Ok(Some(metadata)),
+        Err(DocFault::Malformed) => Ok(None),
+        Err(DocFault::Memory) => Err(AllocError),
+    }
+}
+
+// Rule 13: the document, where it is known whether metadata can be read.
+#[tactic(auto, unfolding(crate::specs::Rows::document_by))]
+fn document_row(
+    alloc: Global,
+    view: &View,
+    _operation: &Operation<'_>,
+    purpose: Option<Purpose>,
+    is_readable: bool,
+) -> Result<Option<Refusal>, AllocError>
+    requires { purpose ≡ Some of.Metadata → is_readable ≡ is_some (metadata_read _operation.now.content) }
+    ensures { IfOk result (λ refusal. refusal ≡ document_by view.now _operation.now purpose) }
+{
+    match purpose {
+        Some(Purpose::Metadata) if is_readable => Ok(None),
+        Some(Purpose::Metadata) => Ok(Some(Refusal::ContentMalformed)),
+        Some(Purpose::References) => {
+            references_row(alloc, view.uploads.as_slice(), view.references.as_ref())
+        }
+        _ => Ok(None),
+    }
+}
+
+// Rule 15: whether the numbers that are asked for can be given.
+fn rule_by_room(
+    alloc: Global,
+    view: &View,
+    operation: &Operation<'_>,
+    read: ReadContent,
+) -> Result<Ruling, AllocError>
+    requires { IsRead operation.now read }
+    ensures { IfOk result (IsRoomRuling view.now operation.now) }
+{
+    let decision = decision_on(alloc, operation, view.references.as_ref(), read)?;
+    if view.next.has_room(&numbers_for(&decision)) {
+        Ok(Ruling::Do(decision))
+    } else {
+        Ok(Ruling::Refuse(Refusal::StoreFull))
+    }
+}

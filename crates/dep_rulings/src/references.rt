@@ -1,0 +1,258 @@
+//! The rules on references (SWORD 3.0, by-reference deposit), one after another, each over all entries.
+ghost use Rattle.std.specs.Prelude.{◌≡◌, IfOk, bytes_eq, map};
+ghost use Rattle.std.specs.List.{list_any};
+ghost use Rattle.std.specs.Option.{option_copied};
+ghost use Rattle.dep_types.specs.Names.{binary};
+ghost use Rattle.dep_fixity.specs.Fixity.{is_kept};
+ghost use Rattle.dep_decisions.specs.Rules.{stands_twice};
+ghost use Rattle.dep_rulings.specs.Seen.{state_refusal};
+ghost use Rattle.dep_rulings.specs.Walks.{digest_rule, entries_seen, is_other_packaging, length_rule, packaging_refusal, points_elsewhere, references_seen, repeat_refusal, rule_of, target_refusal, walk, whole_rule};
+
+use crate::view::{UploadState, UploadView};
+use dep_docs_in::{Pointed, Reference, References};
+use dep_fixity::check;
+use dep_types::{BINARY_PACKAGING, Refusal, UploadRow};
+use std::alloc::{AllocError, Global};
+use std::collections::BTreeSet;
+
+/// A rule on an entry and the upload that it points at.
+#[derive(Clone, Copy, Debug, PartialEq, Eq)]
+pub(crate) enum UploadRule {
+    IsThere,
+    /// No segment is missing.
+    IsWhole,
+    /// It has the length that the entry tells.
+    HasLength,
+    /// It has the digests that were promised at its opening, and those that the entry promises.
+    HasDigests,
+}
+
+/// The first rule on references that is broken. There is a view for each entry that points at an upload, in
+/// their order.
+pub(crate) fn references_row(
+    alloc: Global,
+    views: &[UploadView],
+    references: Option<&References>,
+) -> Result<Option<Refusal>, AllocError>
+    ensures { IfOk result (λ refusal. refusal ≡ references_seen views.now (option_copied references.entry)) }
+{
+    match references {
+        Some(references) => entries_row(alloc, views, references.as_slice()),
+        None => Ok(Some(Refusal::ContentMalformed)),
+    }
+}
+
+#[tactic(auto, unfolding(crate::specs::Walks::entries_seen))]
+fn entries_row(
+    alloc: Global,
+    views: &[UploadView],
+    references: &[Reference],
+) -> Result<Option<Refusal>, AllocError>
+    ensures { IfOk result (λ refusal. refusal ≡ entries_seen views.now references.now) }
+{
+    if let Some(refusal) = target_row(references) {
+        return Ok(Some(refusal));
+    }
+    if let Some(refusal) = packaging_row(references) {
+        return Ok(Some(refusal));
+    }
+    if let Some(refusal) = repeat_row(alloc, views)? {
+        return Ok(Some(refusal));
+    }
+    if let Some(refusal) = first_refused(UploadRule::IsThere, references, views) {
+        return Ok(Some(refusal));
+    }
+    if let Some(refusal) = first_refused(UploadRule::IsWhole, references, views) {
+        return Ok(Some(refusal));
+    }
+    if let Some(refusal) = first_refused(UploadRule::HasLength, references, views) {
+        return Ok(Some(refusal));
+    }
+    Ok(first_refused(UploadRule::HasDigests, references, views))
+}
+
+#[tactic(auto, unfolding(crate::specs::Walks::target_refusal))]
+fn target_row(references: &[Reference]) -> Option<Refusal>
+    ensures { result ≡ target_refusal references.now }
+{
+    if some_points_elsewhere(references) {
+        Some(Refusal::ByReferenceNotAllowed)
+    } else {
+        None
+    }
+}
+
+fn some_points_elsewhere(references: &[Reference]) -> bool
+    ensures { result ≡ list_any points_elsewhere references.now }
+{
+    references
+        .iter()
+        .any(|reference| points_elsewhere(reference))
+}
+
+fn points_elsewhere(reference: &Reference) -> bool
+    ensures { result ≡ points_elsewhere reference.now }
+{
+    match reference.target {
+        Pointed::Upload(_) => false,
+        Pointed::Elsewhere => true,
+    }
+}
+
+#[tactic(auto, unfolding(crate::specs::Walks::packaging_refusal))]
+fn packaging_row(references: &[Reference]) -> Option<Refusal>
+    ensures { result ≡ packaging_refusal references.now }
+{
+    if some_is_other_packaging(references) {
+        Some(Refusal::PackagingFormatNotAcceptable)
+    } else {
+        None
+    }
+}
+
+fn some_is_other_packaging(references: &[Reference]) -> bool
+    ensures { result ≡ list_any is_other_packaging references.now }
+{
+    references
+        .iter()
+        .any(|reference| is_other_packaging(reference))
+}
+
+fn is_other_packaging(reference: &Reference) -> bool
+    ensures { result ≡ is_other_packaging reference.now }
+{
+    match &reference.packaging {
+        Some(packaging) => !is_binary(packaging.as_str().as_bytes()),
+        None => false,
+    }
+}
+
+/// Whether the text is the one packaging that is taken.
+pub(crate) fn is_binary(packaging: &[u8]) -> bool
+    ensures { result ≡ bytes_eq binary packaging.now }
+{
+    BINARY_PACKAGING.as_bytes() == packaging
+}
+
+#[tactic(auto, unfolding(crate::specs::Walks::repeat_refusal))]
+fn repeat_row(alloc: Global, views: &[UploadView]) -> Result<Option<Refusal>, AllocError>
+    ensures { IfOk result (λ refusal. refusal ≡ repeat_refusal views.now) }
+{
+    if stands_twice(alloc, views)? {
+        Ok(Some(Refusal::BadRequest))
+    } else {
+        Ok(None)
+    }
+}
+
+// Whether an upload is named twice.
+fn stands_twice(alloc: Global, views: &[UploadView]) -> Result<bool, AllocError>
+    ensures { IfOk result (λ twice. twice ≡ stands_twice (map (λ v. v.upload) views.now)) }
+{
+    let mut named: BTreeSet<u64> = BTreeSet::new(alloc);
+    let mut rest = views;
+    while let Some((view, behind)) = rest.split_first() {
+        if !named.insert(view.upload)? {
+            return Ok(true);
+        }
+        rest = behind;
+    }
+    Ok(false)
+}
+
+// What the first entry is refused for that breaks the rule.
+#[tactic(auto, unfolding(crate::specs::Walks::walk))]
+fn first_refused(
+    rule: UploadRule,
+    references: &[Reference],
+    views: &[UploadView],
+) -> Option<Refusal>
+    ensures { result ≡ walk (rule_of rule) references.now views.now }
+{
+    let mut rest = references;
+    let mut left = views;
+    while let Some((reference, behind)) = rest.split_first() {
+        rest = behind;
+        if let Pointed::Upload(_) = reference.target {
+            if let Some((view, others)) = left.split_first() {
+                if let Some(refusal) = upload_row(rule, reference, &view.state) {
+                    return Some(refusal);
+                }
+                left = others;
+            }
+        }
+    }
+    None
+}
+
+#[tactic(auto, unfolding(crate::specs::Walks::rule_of))]
+fn upload_row(rule: UploadRule, reference: &Reference, state: &UploadState) -> Option<Refusal>
+    ensures { result ≡ rule_of rule reference.now state.now }
+{
+    match rule {
+        UploadRule::IsThere => state_row(state),
+        UploadRule::IsWhole => whole_row(state),
+        UploadRule::HasLength => length_row(reference, state),
+        UploadRule::HasDigests => digest_row(reference, state),
+    }
+}
+
+/// An upload that isn't there, or that timed out.
+pub(crate) fn state_row(state: &UploadState) -> Option<Refusal>
+    ensures { result ≡ state_refusal state.now }
+{
+    match state {
+        UploadState::Unknown => Some(Refusal::NotFound),
+        UploadState::TimedOut => Some(Refusal::SegmentedUploadTimedOut),
+        UploadState::Live(_) => None,
+    }
+}
+
+fn whole_row(state: &UploadState) -> Option<Refusal>
+    ensures { result ≡ whole_rule state.now }
+{
+    match state {
+        UploadState::Live(upload) if upload.digests.is_none() => Some(Refusal::BadRequest),
+        _ => None,
+    }
+}
+
+fn length_row(reference: &Reference, state: &UploadState) -> Option<Refusal>
+    ensures { result ≡ length_rule reference.now state.now }
+{
+    let UploadState::Live(upload) = state else {
+        return None;
+    };
+    match reference.length {
+        Some(length) if length != upload.row.size => Some(Refusal::BadRequest),
+        _ => None,
+    }
+}
+
+fn digest_row(reference: &Reference, state: &UploadState) -> Option<Refusal>
+    ensures { result ≡ digest_rule reference.now state.now }
+{
+    let UploadState::Live(upload) = state else {
+        return None;
+    };
+    match upload.digests {
+        None => None,
+        Some(digests) => {
+            if is_promised(&upload.row, digests.sha256) && check(&reference.digest, &digests) {
+                None
+            } else {
+                Some(Refusal::DigestMismatch)
+            }
+        }
+    }
+}
+
+// Whether the digest is the one that was promised at the opening, if one was.
+fn is_promised(row: &UploadRow, sha256: [u8; 32]) -> bool
+    ensures { result ≡ is_kept row.now.sha256 sha256 }
+{
+    match row.sha256 {
+        Some(promised) => promised == sha256,
+        None => true,
+    }
+}

@@ -1,0 +1,386 @@
+//! The rules in docs/PROFILE.md, from 5 on, one function each, by what a view tells. None takes memory.
+ghost use Rattle.std.specs.Prelude.{◌≡◌, ◌==◌, bytes_eq, codes, position};
+ghost use Rattle.std.specs.List.{before_first};
+ghost use Rattle.std.specs.Str.{str_eq_ignore_ascii_case};
+ghost use Rattle.dep_types.specs.Names.{metadata_format};
+ghost use Rattle.dep_types.specs.Uploads.{sizes_agree};
+ghost use Rattle.dep_types.specs.declared.refusal.Refusal.TheVariants as why;
+ghost use Rattle.dep_decisions.specs.Rules.{is_json, media_name, of_behalf, of_digest, of_encoding, of_in_progress, of_kind, opening_refusal, reads_in_progress, tag_refusal, unless};
+ghost use Rattle.dep_rulings.specs.Rows.{digests_if_promised, format_by, purpose_in, size_by, type_by};
+ghost use Rattle.dep_rulings.specs.Seen.{is_received, live_refusal, presence_seen, row_length, segment_seen, tag_seen, views_refusal};
+
+use crate::references::{is_binary, state_row};
+use crate::view::{LiveUpload, UploadState, UploadViews, View};
+use dep_decisions::{Operation, Purpose, content_digests, is_completion};
+use dep_fields::{Field, IfMatch, Opening};
+use dep_fixity::{Digests, check};
+use dep_octets::trim_ows;
+use dep_types::{
+    Config, METADATA_FORMAT, Method, Octets, Refusal, Resource, Target, Text, UploadRow,
+};
+
+/// Rule 5: On-Behalf-Of.
+#[tactic(auto, unfolding(dep_decisions::specs::Rules::of_behalf))]
+pub(crate) fn behalf_row(config: &Config, operation: &Operation<'_>) -> Option<Refusal>
+    ensures { result ≡ of_behalf config.now operation.now }
+{
+    match &operation.fields.on_behalf_of {
+        Field::Absent => None,
+        _ if !config.on_behalf_of => Some(Refusal::OnBehalfOfNotAllowed),
+        Field::Bad => Some(Refusal::BadRequest),
+        Field::Value(_) => None,
+    }
+}
+
+/// Rule 6: whether the resource is there.
+pub(crate) fn presence_row(view: &View, resource: &Resource) -> Option<Refusal>
+    ensures { result ≡ presence_seen view.now resource.now }
+{
+    match *resource {
+        Resource::Service | Resource::Staging => None,
+        Resource::Object(_) | Resource::Metadata(_) | Resource::FileSet(_) | Resource::BagList(_) =>
+            not_found_unless(view.object.is_some()),
+        Resource::File(_, _) => not_found_unless(view.file.is_some()),
+        Resource::Upload(_) => upload_row(&view.uploads),
+        Resource::BagFile(_, _) => not_found_unless(view.has_path),
+    }
+}
+
+fn not_found_unless(is_there: bool) -> Option<Refusal>
+    ensures { result ≡ unless is_there why.NotFound }
+{
+    if is_there {
+        None
+    } else {
+        Some(Refusal::NotFound)
+    }
+}
+
+// Of the one upload that a Temporary-URL names.
+fn upload_row(views: &UploadViews) -> Option<Refusal>
+    ensures { result ≡ views_refusal views.now }
+{
+    match views.as_slice() {
+        [view] => state_row(&view.state),
+        _ => Some(Refusal::NotFound),
+    }
+}
+
+/// Rule 7: If-Match against a tag.
+pub(crate) fn tag_row(
+    config: &Config,
+    if_match: &Option<IfMatch<'_>>,
+    tag: Option<u64>,
+) -> Option<Refusal>
+    ensures { result ≡ tag_refusal config.now.require_if_match if_match.now tag }
+{
+    let tag = tag?;
+    match if_match {
+        None if config.require_if_match => Some(Refusal::ETagRequired),
+        None => None,
+        Some(members) if members.holds(tag) => None,
+        Some(_) => Some(Refusal::ETagNotMatched),
+    }
+}
+
+/// The tag that If-Match is held against, where the resource has one.
+pub(crate) fn seen_tag(view: &View, resource: &Resource) -> Option<u64>
+    ensures { result ≡ tag_seen view.now resource.now }
+{
+    match *resource {
+        Resource::Object(_) => Some(view.object?.object_tag),
+        Resource::Metadata(_) => Some(view.object?.metadata_tag),
+        Resource::FileSet(_) => Some(view.object?.files_tag),
+        Resource::File(_, _) => match &view.file {
+            Some(file) => Some(file.tag),
+            None => None,
+        },
+        _ => None,
+    }
+}
+
+/// Rule 8: Content-Encoding.
+#[tactic(auto, unfolding(dep_decisions::specs::Rules::of_encoding))]
+pub(crate) fn encoding_row(operation: &Operation<'_>) -> Option<Refusal>
+    ensures { result ≡ of_encoding operation.now }
+{
+    match &operation.fields.content_encoding {
+        Field::Absent => None,
+        Field::Bad => Some(Refusal::BadRequest),
+        Field::Value(coding) => {
+            if is_identity(coding) {
+                None
+            } else {
+                Some(Refusal::ContentTypeNotAcceptable)
+            }
+        }
+    }
+}
+
+fn is_identity(coding: &Octets) -> bool
+    ensures { result ≡ str_eq_ignore_ascii_case coding.now (codes "identity") }
+{
+    coding.as_slice().eq_ignore_ascii_case(b"identity")
+}
+
+/// Rule 9: what the content is for.
+#[tactic(auto, unfolding(dep_decisions::specs::Rules::of_kind))]
+pub(crate) fn kind_row(operation: &Operation<'_>, purpose: Option<Purpose>) -> Option<Refusal>
+    requires { purpose ≡ purpose_in operation.now }
+    ensures { result ≡ of_kind operation.now }
+{
+    if purpose.is_some() || is_completion(operation) {
+        None
+    } else {
+        Some(Refusal::BadRequest)
+    }
+}
+
+/// Rule 9: In-Progress.
+#[tactic(auto, unfolding(dep_decisions::specs::Rules::of_in_progress))]
+pub(crate) fn progress_row(operation: &Operation<'_>) -> Option<Refusal>
+    ensures { result ≡ of_in_progress operation.now }
+{
+    if !reads_in_progress(&operation.target) {
+        return None;
+    }
+    match operation.fields.in_progress {
+        Field::Bad => Some(Refusal::BadRequest),
+        _ => None,
+    }
+}
+
+fn reads_in_progress(target: &Target) -> bool
+    ensures { result ≡ reads_in_progress target.now.resource target.now.method }
+{
+    match (&target.resource, target.method) {
+        (Resource::Service, Method::Post) => true,
+        (Resource::Object(_), Method::Post) => true,
+        (Resource::Object(_), Method::Put) => true,
+        _ => false,
+    }
+}
+
+/// Rule 10: Packaging and Metadata-Format.
+#[tactic(auto, unfolding(crate::specs::Rows::format_by))]
+pub(crate) fn format_row(operation: &Operation<'_>, purpose: Option<Purpose>) -> Option<Refusal>
+    ensures { result ≡ format_by operation.now purpose }
+{
+    match purpose {
+        Some(Purpose::File) => match &operation.fields.packaging {
+            Field::Absent => None,
+            Field::Bad => Some(Refusal::BadRequest),
+            Field::Value(text) => {
+                if is_binary(text.as_slice()) {
+                    None
+                } else {
+                    Some(Refusal::PackagingFormatNotAcceptable)
+                }
+            }
+        },
+        Some(Purpose::Metadata) => match &operation.fields.metadata_format {
+            Field::Absent => None,
+            Field::Bad => Some(Refusal::BadRequest),
+            Field::Value(text) => {
+                if is_metadata_format(text) {
+                    None
+                } else {
+                    Some(Refusal::MetadataFormatNotAcceptable)
+                }
+            }
+        },
+        _ => None,
+    }
+}
+
+fn is_metadata_format(text: &Octets) -> bool
+    ensures { result ≡ bytes_eq metadata_format text.now }
+{
+    METADATA_FORMAT.as_bytes() == text.as_slice()
+}
+
+/// Rule 11: Content-Type.
+#[tactic(auto, unfolding(crate::specs::Rows::type_by))]
+pub(crate) fn type_row(operation: &Operation<'_>, purpose: Option<Purpose>) -> Option<Refusal>
+    ensures { result ≡ type_by operation.now purpose }
+{
+    match purpose {
+        Some(Purpose::File) => match &operation.fields.content_type {
+            Field::Bad => Some(Refusal::BadRequest),
+            _ => None,
+        },
+        Some(Purpose::Metadata | Purpose::References) => match &operation.fields.content_type {
+            Field::Absent => None,
+            Field::Bad => Some(Refusal::BadRequest),
+            Field::Value(text) => {
+                if is_json(text) {
+                    None
+                } else {
+                    Some(Refusal::ContentTypeNotAcceptable)
+                }
+            }
+        },
+        _ => None,
+    }
+}
+
+fn is_json(text: &Text) -> bool
+    ensures { result ≡ is_json text.now }
+{
+    let name = media_name(text.as_str().as_bytes());
+    name.eq_ignore_ascii_case(b"application/json")
+        || name.eq_ignore_ascii_case(b"application/ld+json")
+}
+
+// What stands before the first semicolon, without the blanks about it.
+fn media_name(text: &[u8]) -> &[u8]
+    ensures { result.now ≡ media_name text.now }
+{
+    trim_ows(before_semicolon(text))
+}
+
+fn before_semicolon(text: &[u8]) -> &[u8]
+    ensures { result.now ≡ before_first (λ b. b == 59) text.now }
+{
+    match first_semicolon(text) {
+        Some(semicolon) => &text[..semicolon],
+        None => text,
+    }
+}
+
+fn first_semicolon(text: &[u8]) -> Option<usize>
+    ensures { result ≡ position (λ b. b == 59) text.now }
+{
+    text.iter().position(|b| *b == b';')
+}
+
+/// The digests of the content, where one is promised: else they aren't computed.
+pub(crate) fn digests_if_promised(operation: &Operation<'_>) -> Option<Digests>
+    ensures { result ≡ digests_if_promised operation.now operation.now.fields.digest }
+{
+    match &operation.fields.digest {
+        Field::Value(list) if list.sha256.is_some() => {
+            Some(content_digests(operation.content.as_slice()))
+        }
+        _ => None,
+    }
+}
+
+/// Rule 12: Digest.
+#[tactic(auto, unfolding(dep_decisions::specs::Rules::of_digest))]
+pub(crate) fn digest_row(operation: &Operation<'_>, digests: Option<Digests>) -> Option<Refusal>
+    requires { digests ≡ digests_if_promised operation.now operation.now.fields.digest }
+    ensures { result ≡ of_digest operation.now }
+{
+    match (&operation.fields.digest, digests) {
+        (Field::Bad, _) => Some(Refusal::BadRequest),
+        (Field::Value(list), Some(digests)) => mismatch_unless(check(list, &digests)),
+        _ => None,
+    }
+}
+
+fn mismatch_unless(is_kept: bool) -> Option<Refusal>
+    ensures { result ≡ unless is_kept why.DigestMismatch }
+{
+    if is_kept {
+        None
+    } else {
+        Some(Refusal::DigestMismatch)
+    }
+}
+
+/// Rule 14: sizes and segments.
+#[tactic(auto, unfolding(crate::specs::Rows::size_by))]
+pub(crate) fn size_row(
+    config: &Config,
+    view: &View,
+    operation: &Operation<'_>,
+    purpose: Option<Purpose>,
+) -> Option<Refusal>
+    ensures { result ≡ size_by config.now view.now operation.now purpose }
+{
+    match purpose {
+        Some(Purpose::Opening(opening)) => opening_row(config, opening),
+        Some(Purpose::Segment(segment)) => match operation.target.resource {
+            Resource::Upload(_) => segment_row(&view.uploads, segment, &operation.content),
+            _ => None,
+        },
+        _ => None,
+    }
+}
+
+fn opening_row(config: &Config, opening: Opening) -> Option<Refusal>
+    ensures { result ≡ opening_refusal config.now opening }
+{
+    if opening.size > config.max_assembled {
+        return Some(Refusal::MaxAssembledSizeExceeded);
+    }
+    if opening.count > config.max_segments {
+        return Some(Refusal::SegmentLimitExceeded);
+    }
+    if opening.segment_size > config.max_upload
+        || !sizes_agree(opening.size, opening.count, opening.segment_size)
+    {
+        return Some(Refusal::InvalidSegmentSize);
+    }
+    None
+}
+
+// Whether so many segments of this size hold just so many bytes. Nothing wraps in 128 bits.
+fn sizes_agree(size: u64, count: u64, segment_size: u64) -> bool
+    ensures { result ≡ sizes_agree size count segment_size }
+{
+    let before_last = u128::from(count.saturating_sub(1)) * u128::from(segment_size);
+    let most = u128::from(count) * u128::from(segment_size);
+    before_last < u128::from(size) && u128::from(size) <= most
+}
+
+// Whether a segment is expected, and has its length.
+fn segment_row(views: &UploadViews, segment: u64, content: &Octets) -> Option<Refusal>
+    ensures { result ≡ segment_seen views.now segment content.now }
+{
+    match views.as_slice() {
+        [view] => match &view.state {
+            UploadState::Live(upload) => live_row(upload, segment, content),
+            _ => None,
+        },
+        _ => None,
+    }
+}
+
+#[tactic(auto, unfolding(crate::specs::Seen::live_refusal))]
+fn live_row(upload: &LiveUpload, segment: u64, content: &Octets) -> Option<Refusal>
+    ensures { result ≡ live_refusal upload.now segment content.now }
+{
+    let row = upload.row;
+    if segment < 1 || segment > row.count || is_received(upload, segment) {
+        return Some(Refusal::UnexpectedSegment);
+    }
+    if content.as_slice().len() as u64 != row_length(row, segment) {
+        return Some(Refusal::InvalidSegmentSize);
+    }
+    None
+}
+
+fn is_received(upload: &LiveUpload, segment: u64) -> bool
+    ensures { result ≡ is_received upload.now segment }
+{
+    upload
+        .received
+        .as_slice()
+        .iter()
+        .any(|received| *received == segment)
+}
+
+// The length of a segment: the last one has the rest. A product past 64 bits is above the size, so
+// that nothing is left.
+fn row_length(row: UploadRow, segment: u64) -> u64
+    ensures { result ≡ row_length row segment }
+{
+    if segment == row.count {
+        let before_last = row.count.saturating_sub(1).saturating_mul(row.segment_size);
+        row.size.saturating_sub(before_last)
+    } else {
+        row.segment_size
+    }
+}
