@@ -210,3 +210,13 @@ grouped-listed m some = finmap.same_map nat_list_cmp_total bytes_same _ _ (λ q.
     go None h = refl
     go (Some []) h = absurd (h refl)
     go (Some (t ∷ ts)) h = refl
+
+-- a name has the same texts in what is made again, also where it has none
+pub texts_in-grouped : (m : Texts) (q : List ℕ) → texts_in (grouped (listed m)) q ≡ texts_in m q
+texts_in-grouped m q =
+    ap (λ o. unwrap_or o []) (get-fold (listed m) finmap.empty q ∙ ap (λ o. grow o (under q (listed m))) (finmap.get-empty by_bytes q))
+    ∙ ap (λ xs. unwrap_or (grow None xs) []) (under_listed q (finmap.entries m) (finmap.entries_sorted m) ∙ ap (λ o. unwrap_or o []) (sym (finmap.get-entries m q))) ∙ go (texts_in m q)
+  where
+    go : (xs : List (List ℕ)) → unwrap_or (grow None xs) [] ≡ xs
+    go [] = refl
+    go (x ∷ xs) = refl

@@ -66,7 +66,7 @@ module _ (objects : Numbered Object) (n : ℕ) (o : Object) where
   same_files : o.files ≡ files_at objects n → (q : ℕ) → files_at (finmap.insert objects n o) q ≡ files_at objects q
   same_files = under_same files_in finmap.empty same_number objects n o
 
-  texts_there : finmap.get objects n ≡ Some o → metadata_at objects n ≡ o.metadata
+  pub texts_there : finmap.get objects n ≡ Some o → metadata_at objects n ≡ o.metadata
   texts_there there = ap (λ x. option_map_or texts_in_object x finmap.empty) there
 
   pub files_there : finmap.get objects n ≡ Some o → files_at objects n ≡ o.files
@@ -159,7 +159,7 @@ object_deleted t s h n files = record {
 -- ---- metadata
 
 -- an object's texts are others, and its row and files are as they were
-texts_changed : (t : Tables) (s : State) → TablesAre t s → (n : ℕ) (o : Object) → finmap.get s.objects n ≡ Some o → (rows : List Row) (m : Texts)
+pub texts_changed : (t : Tables) (s : State) → TablesAre t s → (n : ℕ) (o : Object) → finmap.get s.objects n ≡ Some o → (rows : List Row) (m : Texts)
     → MetadataAre rows (metadata_at (finmap.insert s.objects n (record o { metadata = m }))) → TablesAre (record t { metadata = rows }) (with_object s n (record o { metadata = m }))
 texts_changed t s h n o there rows m are =
     let new : Object = record o { metadata = m } in
@@ -179,10 +179,10 @@ texts_changed t s h n o there rows m are =
     }
 
 module _ (objects : Numbered Object) (n : ℕ) (o : Object) (m : Texts) where
-  texts_now : metadata_at (finmap.insert objects n (record o { metadata = m })) n ≡ m
+  pub texts_now : metadata_at (finmap.insert objects n (record o { metadata = m })) n ≡ m
   texts_now = under_here texts_in_object finmap.empty same_number objects n (record o { metadata = m })
 
-  texts_else : (q : ℕ) → q ≢ n → metadata_at (finmap.insert objects n (record o { metadata = m })) q ≡ metadata_at objects q
+  pub texts_else : (q : ℕ) → q ≢ n → metadata_at (finmap.insert objects n (record o { metadata = m })) q ≡ metadata_at objects q
   texts_else = under_there texts_in_object finmap.empty same_number objects n (record o { metadata = m })
 
 pub text_added : TextAdded

@@ -25,6 +25,10 @@ module _ {A E : Type 0} (old new : db.State) (result : Result A E) where
   abbrev pub FailsUncommitted : Type 0
   FailsUncommitted = HasCleanDisk new → IsTrue old.in_transaction → IsTrue new.is_open → OnErr result ((new.committed ≡ old.committed) × (IsTrue new.in_transaction ⊎ (new.now ≡ old.committed)))
 
+  -- the same of a function that reads our tables
+  abbrev pub FailsReadingUncommitted : Type 0
+  FailsReadingUncommitted = IsOurs old → FailsUncommitted
+
   -- after an Ok they are our tables still
   abbrev pub KeepsOurs : Type 0
   KeepsOurs = HasCleanDisk new → IsTrue old.in_transaction → IsOurs old → OnOk result (IsOurs new)

@@ -1,0 +1,4 @@
+pub mod Chains
+pub mod Puts
+pub mod Named
+pub mod Appending

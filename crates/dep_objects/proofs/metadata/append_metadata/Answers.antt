@@ -1,0 +1,23 @@
+use Rattle.std.proofs.Common.{sym, subst, map, arith}
+use Rattle.sqlite.specs.State.{HasCleanDisk}
+use Rattle.sqlite.specs.Held.{state}
+use Rattle.dep_types.specs.MetadataEntries.{name_and_texts}
+use Rattle.dep_tables.proofs.Results.{ok_then}
+use Rattle.dep_tables.specs.Tables.{tables_of}
+use Rattle.dep_row_maps.specs.TablesAre.{TablesAre}
+use Rattle.dep_objects.proofs.Chains.{still_ours, tables_same}
+use Rattle.dep_objects.proofs.Appending.{metadata_appended}
+use Rattle.dep_objects.proofs.metadata.append_metadata.Goals as goal
+
+pub returns-clause-map : goal.returns-clause-map
+returns-clause-map g c clean inside ours s are o there =
+    let old = state g.S.Store c.args.tx.now.conn.now in
+    let mid = state g.S.Store c.load_metadata.new.tx.conn.now in
+    let new = state g.S.Store c.put_entries.new.tx.conn.now in
+    let before : HasCleanDisk mid = omega (arith, clean, c.put_entries.ensures.survives.clean) in
+    let same = c.in_ok-have.ensures.same before ours in
+    let here = subst (λ t. TablesAre t s) (sym (tables_same old mid same)) are in
+    let ours_mid = still_ours old mid same ours in
+    ok_then c.put_entries.result (c.put_entries.ensures.ok clean (c.in_ok-have.ensures.inside before inside) ours_mid)
+    (λ sees. metadata_appended (tables_of mid) (tables_of new) s c.args.object o c.in_ok-have.have c.args.more.now (map name_and_texts c.entries.result.now) here ours_mid.trees.ordered.1.1.1.0 there c.entries.ensures
+    (c.in_ok-have.ensures.map before inside ours s are) sees.rows)

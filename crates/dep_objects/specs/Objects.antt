@@ -1,0 +1,22 @@
+-- An object from its row, its metadata and its files.
+use Rattle.std.specs.Prelude.{ℕ}
+use Rattle.dep_types.specs.Maps.{Numbered}
+use Rattle.dep_types.specs.State.{Object, File, Texts}
+use Rattle.dep_types.specs.Rows.{object_row}
+use Rattle.dep_types.specs.declared.rows.ObjectRow.{ObjectRow}
+use Rattle.dep_objects.specs.declared.objects.DescribedObject.{DescribedObject}
+
+abbrev pub object_of : ObjectRow → Texts → Numbered File → Object
+object_of row texts files = record {
+  ingested = row.ingested;
+  metadata = texts;
+  files = files;
+  tag = row.object_tag;
+  metadata_tag = row.metadata_tag;
+  files_tag = row.files_tag;
+  changed = row.changed;
+}
+
+-- the object of this number, without its files
+abbrev pub described_object : ℕ → Object → DescribedObject
+described_object n o = record { row = object_row n o; metadata = o.metadata }

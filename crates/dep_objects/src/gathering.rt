@@ -1,0 +1,102 @@
+//! The rows of an object's metadata, gathered by name.
+
+ghost use Rattle.std.specs.Prelude.{◌≡◌, Some, IfOk, map as each};
+ghost use Rattle.std.specs.FinMap as map;
+ghost use Rattle.sqlite.specs.Held.{state};
+ghost use Rattle.dep_tables.specs.Clauses.{ReadsOnly, FailsReading, GoesOn, StaysInside, CommitsNothing};
+ghost use Rattle.dep_row_maps.specs.Stored.{added, listed, grouped};
+ghost use Rattle.dep_row_maps.specs.Laws.{pair_of};
+ghost use Rattle.dep_row_maps.specs.TablesAre.{metadata_at};
+ghost use Rattle.dep_row_maps.specs.Clauses.{FromMaps, KeepsOurs};
+ghost use Rattle.dep_objects.specs.Texts.{closed};
+
+use dep_tables::{MetadataRow, metadata_of};
+use dep_types::{Metadata, StoreFault, Text, TextList};
+use sqlite::{Alter, Transaction};
+use std::alloc::Global;
+
+// A name with the texts that were read of it.
+#[derive(Drop)]
+struct NamedTexts {
+    name: Text,
+    texts: Vec<Text>,
+}
+
+fn keep(metadata: &mut Metadata, last: NamedTexts) -> Result<(), StoreFault>
+    ensures { IfOk result (λ _. metadata.new ≡ closed metadata.old (Some last)) }
+{
+    match metadata.insert(last.name, TextList::from_vec(last.texts)) {
+        Ok(()) => Ok(()),
+        Err(_) => Err(StoreFault::Memory),
+    }
+}
+
+// Begins another name. It is a fault of the store where the name was there before, as rows of a name stand together.
+fn begin(alloc: Global, metadata: &Metadata, row: MetadataRow) -> Result<NamedTexts, StoreFault>
+    ensures { IfOk result (λ now. closed metadata.now (Some now) ≡ added metadata.now (pair_of row)) }
+{
+    if metadata.get(row.name.as_str()).is_some() {
+        return Err(StoreFault::Store);
+    }
+    let mut texts = Vec::new(alloc);
+    if texts.push(row.value).is_err() {
+        return Err(StoreFault::Memory);
+    }
+    Ok(NamedTexts {
+        name: row.name,
+        texts,
+    })
+}
+
+// Puts the row's text behind those of its name.
+fn gather(
+    alloc: Global,
+    metadata: &mut Metadata,
+    last: Option<NamedTexts>,
+    row: MetadataRow,
+) -> Result<NamedTexts, StoreFault>
+    ensures { IfOk result (λ now. closed metadata.new (Some now) ≡ added (closed metadata.old last) (pair_of row)) }
+{
+    if let Some(mut last) = last {
+        if last.name.as_str() == row.name.as_str() {
+            if last.texts.push(row.value).is_err() {
+                return Err(StoreFault::Memory);
+            }
+            return Ok(last);
+        }
+        keep(metadata, last)?;
+    }
+    begin(alloc, metadata, row)
+}
+
+fn gathered(alloc: Global, rows: Vec<MetadataRow>) -> Result<Metadata, StoreFault>
+    ensures { IfOk result (λ metadata. metadata ≡ grouped (each pair_of rows.items)) }
+{
+    let mut metadata = Metadata::new(alloc);
+    let mut last = None;
+    'rows: for row in rows {
+        last = Some(gather(alloc, &mut metadata, last, row)?);
+    }
+    if let Some(last) = last {
+        keep(&mut metadata, last)?;
+    }
+    Ok(metadata)
+}
+
+/// The metadata of an object; none where there is no such object. A number of 2^63 or more is a fault of the store.
+pub(crate) fn load_metadata<S: Alter>(
+    tx: &mut Transaction<'_, S>,
+    alloc: Global,
+    object: u64,
+) -> Result<Metadata, StoreFault>
+    ensures map { FromMaps (state S.Store tx.old.conn.now) (state S.Store tx.new.conn.now) (λ s. IfOk result (λ metadata. metadata ≡ grouped (listed (metadata_at s.objects object)))) }
+    ensures same { ReadsOnly (state S.Store tx.old.conn.now) (state S.Store tx.new.conn.now) result }
+    ensures ours { KeepsOurs (state S.Store tx.old.conn.now) (state S.Store tx.new.conn.now) result }
+    ensures err { FailsReading (state S.Store tx.old.conn.now) (state S.Store tx.new.conn.now) result }
+    ensures inside { GoesOn (state S.Store tx.old.conn.now) (state S.Store tx.new.conn.now) result }
+    ensures kept { StaysInside (state S.Store tx.old.conn.now) (state S.Store tx.new.conn.now) }
+    ensures same_reference { tx.new.conn.ghost_name ≡ tx.old.conn.ghost_name }
+    ensures survives { CommitsNothing (state S.Store tx.old.conn.now) (state S.Store tx.new.conn.now) }
+{
+    gathered(alloc, metadata_of(tx, alloc, object)?)
+}

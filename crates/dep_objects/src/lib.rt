@@ -1,0 +1,12 @@
+//! The objects of the store as a map: calls inside a transaction that each read or change one map of the state. The
+//! owner of the transaction gives it back where a call fails.
+#![tactic(auto)]
+
+mod clock;
+mod gathering;
+mod metadata;
+mod objects;
+
+pub use clock::{counters, set_counters};
+pub use metadata::{append_metadata, set_metadata};
+pub use objects::{DescribedObject, delete_object, load_object, next_object, put_object};

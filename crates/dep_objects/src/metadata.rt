@@ -1,0 +1,138 @@
+//! The metadata of an object.
+
+ghost use Rattle.std.specs.Prelude.{◌≡◌, Some, IfOk, OnOk, length, map as each};
+ghost use Rattle.std.specs.FinMap as map;
+ghost use Rattle.sqlite.specs.Held.{state};
+ghost use Rattle.dep_types.specs.State.{Object};
+ghost use Rattle.dep_types.specs.MetadataEntries.{name_and_texts};
+ghost use Rattle.dep_decisions.specs.Effects.{joined};
+ghost use Rattle.dep_tables.specs.Tables.{tables_of};
+ghost use Rattle.dep_tables.specs.Clauses.{GoesOn, StaysInside, CommitsNothing};
+ghost use Rattle.dep_row_maps.specs.Owned.{placed, put_each};
+ghost use Rattle.dep_row_maps.specs.Stored.{is_of, text_row, text_values, texts_in};
+ghost use Rattle.dep_row_maps.specs.TablesAre.{TablesAre, with_object};
+ghost use Rattle.dep_row_maps.specs.Clauses.{FromMaps, Becomes, KeepsOurs, FailsUncommitted, FailsReadingUncommitted};
+ghost use Rattle.dep_objects.specs.Texts.{rows_beside};
+
+use crate::gathering::load_metadata;
+use dep_tables::{LIMIT, MetadataRow, delete_metadata, insert_metadata};
+use dep_types::{Metadata, MetadataEntry, StoreFault, Text};
+use sqlite::{Alter, Transaction};
+use std::alloc::Global;
+
+fn text_row(
+    alloc: Global,
+    object: u64,
+    name: &Text,
+    place: u64,
+    value: &Text,
+) -> Result<MetadataRow, StoreFault>
+    ensures { IfOk result (λ row. row ≡ text_row object name.now place value.now) }
+{
+    let Ok(name) = Text::copied(alloc, name.as_str()) else {
+        return Err(StoreFault::Memory);
+    };
+    let Ok(value) = Text::copied(alloc, value.as_str()) else {
+        return Err(StoreFault::Memory);
+    };
+    Ok(MetadataRow {
+        object,
+        name,
+        place,
+        value,
+    })
+}
+
+// Puts in the texts of a name, from this place on.
+fn put_texts<S: Alter>(
+    tx: &mut Transaction<'_, S>,
+    alloc: Global,
+    object: u64,
+    entry: &MetadataEntry,
+    start: u64,
+) -> Result<(), StoreFault>
+    ensures ok { Becomes (state S.Store tx.old.conn.now) (state S.Store tx.new.conn.now) result (λ t. record t { metadata = put_each (placed (text_values object entry.now.name) start entry.now.texts) t.metadata }) }
+    ensures err { FailsUncommitted (state S.Store tx.old.conn.now) (state S.Store tx.new.conn.now) result }
+    ensures inside { GoesOn (state S.Store tx.old.conn.now) (state S.Store tx.new.conn.now) result }
+    ensures kept { StaysInside (state S.Store tx.old.conn.now) (state S.Store tx.new.conn.now) }
+    ensures same_reference { tx.new.conn.ghost_name ≡ tx.old.conn.ghost_name }
+    ensures survives { CommitsNothing (state S.Store tx.old.conn.now) (state S.Store tx.new.conn.now) }
+{
+    let mut place = start;
+    'texts: for text in entry.texts.as_slice() {
+        if place >= LIMIT {
+            return Err(StoreFault::Store);
+        }
+        insert_metadata(tx, &text_row(alloc, object, &entry.name, place, text)?)?;
+        place += 1;
+    }
+    Ok(())
+}
+
+fn count_of(metadata: &Metadata, name: &Text) -> u64
+    ensures { result ≡ length (texts_in metadata.now name.now) }
+{
+    match metadata.get(name.as_str()) {
+        Some(texts) => texts.as_slice().len() as u64,
+        None => 0,
+    }
+}
+
+// Puts in texts behind those that the object has.
+fn put_entries<S: Alter>(
+    tx: &mut Transaction<'_, S>,
+    alloc: Global,
+    object: u64,
+    have: &Metadata,
+    entries: &[MetadataEntry],
+) -> Result<(), StoreFault>
+    ensures ok { Becomes (state S.Store tx.old.conn.now) (state S.Store tx.new.conn.now) result (λ t. record t { metadata = put_each (rows_beside object have.now (each name_and_texts entries.now)) t.metadata }) }
+    ensures err { FailsUncommitted (state S.Store tx.old.conn.now) (state S.Store tx.new.conn.now) result }
+    ensures inside { GoesOn (state S.Store tx.old.conn.now) (state S.Store tx.new.conn.now) result }
+    ensures kept { StaysInside (state S.Store tx.old.conn.now) (state S.Store tx.new.conn.now) }
+    ensures same_reference { tx.new.conn.ghost_name ≡ tx.old.conn.ghost_name }
+    ensures survives { CommitsNothing (state S.Store tx.old.conn.now) (state S.Store tx.new.conn.now) }
+{
+    'entries: for entry in entries {
+        put_texts(tx, alloc, object, entry, count_of(have, &entry.name))?;
+    }
+    Ok(())
+}
+
+/// Gives an object that is there this metadata in place of its own. A number of 2^63 or more is a fault of the store.
+pub fn set_metadata<S: Alter>(
+    tx: &mut Transaction<'_, S>,
+    alloc: Global,
+    object: u64,
+    metadata: &Metadata,
+) -> Result<(), StoreFault>
+    ensures map { FromMaps (state S.Store tx.old.conn.now) (state S.Store tx.new.conn.now) (λ s. (o : Object) → map.get s.objects object ≡ Some o → OnOk result (TablesAre (tables_of (state S.Store tx.new.conn.now)) (with_object s object (record o { metadata = metadata.now })))) }
+    ensures ours { KeepsOurs (state S.Store tx.old.conn.now) (state S.Store tx.new.conn.now) result }
+    ensures err { FailsUncommitted (state S.Store tx.old.conn.now) (state S.Store tx.new.conn.now) result }
+    ensures inside { GoesOn (state S.Store tx.old.conn.now) (state S.Store tx.new.conn.now) result }
+    ensures kept { StaysInside (state S.Store tx.old.conn.now) (state S.Store tx.new.conn.now) }
+    ensures same_reference { tx.new.conn.ghost_name ≡ tx.old.conn.ghost_name }
+    ensures survives { CommitsNothing (state S.Store tx.old.conn.now) (state S.Store tx.new.conn.now) }
+{
+    delete_metadata(tx, object)?;
+    put_entries(tx, alloc, object, &Metadata::new(alloc), metadata.entries())
+}
+
+/// Puts the texts of each name behind those that an object that is there has. A number of 2^63 or more is a fault of the store.
+pub fn append_metadata<S: Alter>(
+    tx: &mut Transaction<'_, S>,
+    alloc: Global,
+    object: u64,
+    more: &Metadata,
+) -> Result<(), StoreFault>
+    ensures map { FromMaps (state S.Store tx.old.conn.now) (state S.Store tx.new.conn.now) (λ s. (o : Object) → map.get s.objects object ≡ Some o → OnOk result (TablesAre (tables_of (state S.Store tx.new.conn.now)) (with_object s object (record o { metadata = joined (map.entries more.now) o.metadata })))) }
+    ensures ours { KeepsOurs (state S.Store tx.old.conn.now) (state S.Store tx.new.conn.now) result }
+    ensures err { FailsReadingUncommitted (state S.Store tx.old.conn.now) (state S.Store tx.new.conn.now) result }
+    ensures inside { GoesOn (state S.Store tx.old.conn.now) (state S.Store tx.new.conn.now) result }
+    ensures kept { StaysInside (state S.Store tx.old.conn.now) (state S.Store tx.new.conn.now) }
+    ensures same_reference { tx.new.conn.ghost_name ≡ tx.old.conn.ghost_name }
+    ensures survives { CommitsNothing (state S.Store tx.old.conn.now) (state S.Store tx.new.conn.now) }
+{
+    let have = load_metadata(tx, alloc, object)?;
+    put_entries(tx, alloc, object, &have, more.entries())
+}
