@@ -23,23 +23,30 @@ fn main(rt: HostRuntime) -> io::Result<()> {
     let alloc = rt.alloc();
     time(&rt, alloc, "head byte by byte", &longest_head(alloc)?, 1)?;
     for kibibytes in [256, 1_024, 4_096] {
-        let stream = chunked_body(alloc, kibibytes)?;
-        time(&rt, alloc, "chunks of 16 bytes", &stream, 16)?;
-        time(&rt, alloc, "chunks of 16 bytes", &stream, LARGE_PIECE)?;
-        let stream = sized_body(alloc, kibibytes)?;
-        time(&rt, alloc, "body by length", &stream, 16)?;
-        time(&rt, alloc, "body by length", &stream, LARGE_PIECE)?;
-    }
-    for count in [1_000, 10_000] {
-        time(
+        time_pieces(
             &rt,
             alloc,
-            "requests in one piece",
-            &many_requests(alloc, count)?,
-            ONE_PIECE,
+            "chunks of 16 bytes",
+            &chunked_body(alloc, kibibytes)?,
         )?;
+        time_pieces(&rt, alloc, "body by length", &sized_body(alloc, kibibytes)?)?;
+    }
+    for count in [1_000, 10_000] {
+        let stream = many_requests(alloc, count)?;
+        time(&rt, alloc, "requests in one piece", &stream, ONE_PIECE)?;
     }
     Ok(())
+}
+
+// In small and in large pieces.
+fn time_pieces(
+    rt: &(impl Print + Eprint + Clock),
+    alloc: Global,
+    name: &str,
+    stream: &[u8],
+) -> io::Result<()> {
+    time(rt, alloc, name, stream, 16)?;
+    time(rt, alloc, name, stream, LARGE_PIECE)
 }
 
 fn time(

@@ -19,13 +19,19 @@ pub fn read_stream(alloc: Global, stream: &[u8], piece: usize) -> Result<Read, A
     requires { 0 < piece }
 {
     let mut intake = Intake::new(alloc, MAX_UPLOAD);
+    read_pieces(&mut intake, stream, piece)
+}
+
+fn read_pieces(intake: &mut Intake, stream: &[u8], piece: usize) -> Result<Read, AllocError>
+    requires { 0 < piece }
+{
     let mut read = Read {
         requests: 0,
         content: 0,
     };
     for next in stream.chunks(piece) {
         intake.feed(next)?;
-        take_requests(&mut intake, &mut read)?;
+        take_requests(intake, &mut read)?;
     }
     Ok(read)
 }
