@@ -23,24 +23,44 @@ fn main(rt: HostRuntime) -> io::Result<()> {
             count = number;
         }
     }
-    let alloc = rt.alloc();
-    let config = config(alloc)?;
-    let view = view(alloc)?;
-    let document = status_doc(alloc, &config, &view)?;
-    let mut length = document.len();
-    if by_value {
-        if let Ok(value) = Value::from_slice(alloc, &document) {
-            for _ in 0..count {
-                length = value.to_vec(alloc)?.len();
-            }
-        }
-    } else {
-        for _ in 0..count {
-            length = status_doc(alloc, &config, &view)?.len();
-        }
-    }
+    let length = length_after(rt.alloc(), count, by_value)?;
     println!(rt; "{length} bytes")?;
     Ok(())
+}
+
+// How long the document is that was made so often.
+fn length_after(alloc: Global, count: u64, by_value: bool) -> Result<usize, AllocError> {
+    let config = config(alloc)?;
+    let view = view(alloc)?;
+    if by_value {
+        let document = status_doc(alloc, &config, &view)?;
+        from_value(alloc, &document, count)
+    } else {
+        from_rows(alloc, &config, &view, count)
+    }
+}
+
+fn from_rows(
+    alloc: Global,
+    config: &Config,
+    view: &ObjectView,
+    count: u64,
+) -> Result<usize, AllocError> {
+    let mut length = status_doc(alloc, config, view)?.len();
+    for _ in 0..count {
+        length = status_doc(alloc, config, view)?.len();
+    }
+    Ok(length)
+}
+
+fn from_value(alloc: Global, document: &[u8], count: u64) -> Result<usize, AllocError> {
+    let mut length = document.len();
+    if let Ok(value) = Value::from_slice(alloc, document) {
+        for _ in 0..count {
+            length = value.to_vec(alloc)?.len();
+        }
+    }
+    Ok(length)
 }
 
 fn config(alloc: Global) -> Result<Config, AllocError> {
