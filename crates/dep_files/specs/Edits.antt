@@ -1,5 +1,8 @@
--- What is made of the rows of blocks.
+-- What is made of the files of an object, and of the rows of blocks.
 use Rattle.std.specs.Prelude.{ℕ, not, List, [], ◌∷◌, filter}
+use Rattle.std.specs.FinMap as map
+use Rattle.dep_types.specs.State.{State, Object, File}
+use Rattle.dep_row_maps.specs.TablesAre.{with_object}
 use Rattle.sqlite_value.specs.Order.{Row}
 use Rattle.dep_tables.specs.Rows.{is_block_of}
 use Rattle.dep_tables.specs.declared.owner.BlockOwner.TheVariants as owner
@@ -8,3 +11,13 @@ use Rattle.dep_tables.specs.declared.owner.BlockOwner.TheVariants as owner
 abbrev pub without_contents : List ℕ → List Row → List Row
 without_contents [] rows = rows
 without_contents (f ∷ files) rows = without_contents files (filter (λ r. not (is_block_of (owner.File f) r)) rows)
+
+-- the object with a file, without one, and without any
+abbrev pub with_file : State → (n : ℕ) → Object → (f : ℕ) → File → State
+with_file s n o f file = with_object s n (record o { files = map.insert o.files f file })
+
+abbrev pub without_file : State → (n : ℕ) → Object → (f : ℕ) → State
+without_file s n o f = with_object s n (record o { files = map.remove o.files f })
+
+abbrev pub without_files : State → (n : ℕ) → Object → State
+without_files s n o = with_object s n (record o { files = map.empty })

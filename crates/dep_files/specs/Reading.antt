@@ -8,8 +8,14 @@ use Rattle.dep_row_maps.specs.TablesAre.{TablesAre}
 
 -- an Ok tells this of the state
 abbrev pub Tells : {A E : Type 0} (old new : db.State) (result : Result A E) → (State → A → Type 0) → Type 0
-Tells old new result told = HasCleanDisk new → IsOurs old → (s : State) → TablesAre (tables_of old) s → IfOk result (told s)
+Tells old new result told =
+    HasCleanDisk new → IsOurs old → (s : State) → TablesAre (tables_of old) s → IfOk result (told s)
 
--- Outside a transaction, where the store is open, all is as it was. Inside one a failure may have ended it as it began.
+-- Outside a transaction, where the store is open, all is as it was. Inside one a failure may have
+-- ended it as it began.
 abbrev pub IsKept : (old new : db.State) → Type 0
-IsKept old new = IsTrue new.is_open → (IsTrue old.is_open × (new.committed ≡ old.committed)) × (((new.now ≡ old.now) × (new.in_transaction ≡ old.in_transaction)) ⊎ ((new.now ≡ old.committed) × (new.in_transaction ≡ false)))
+IsKept old new =
+    IsTrue new.is_open
+    → (IsTrue old.is_open × (new.committed ≡ old.committed))
+    × (((new.now ≡ old.now) × (new.in_transaction ≡ old.in_transaction))
+    ⊎ ((new.now ≡ old.committed) × (new.in_transaction ≡ false)))

@@ -11,14 +11,16 @@ use dep_tables::{BlockKey, BlockOwner, BlockPlace, insert_block};
 use dep_types::StoreFault;
 use sqlite::{Alter, Transaction};
 
-/// Writes a content as a part of an owner, each byte once. It is a fault of the store where the owner has a block of this part at one of its places, and where a number is 2^63 or more.
+/// Writes a content as a part of an owner, each byte once. It is a fault of the store where the
+/// owner has a block of this part at one of its places, and where a number is 2^63 or more.
 pub fn put_blocks<S: Alter, C: Content>(
     tx: &mut Transaction<'_, S>,
     owner: BlockOwner,
     part: u64,
     content: &C,
 ) -> Result<(), StoreFault>
-    ensures ok { Becomes (state S.Store tx.old.conn.now) (state S.Store tx.new.conn.now) result (λ t. record t { blocks = put_blocks owner part 0 (blocks_of (C.bytes content.now)) t.blocks }) }
+    ensures ok { Becomes (state S.Store tx.old.conn.now) (state S.Store tx.new.conn.now) result
+        (λ t. record t { blocks = put_blocks owner part 0 (blocks_of (C.bytes content.now)) t.blocks }) }
     ensures err { FailsUncommitted (state S.Store tx.old.conn.now) (state S.Store tx.new.conn.now) result }
     ensures inside { GoesOn (state S.Store tx.old.conn.now) (state S.Store tx.new.conn.now) result }
     ensures kept { StaysInside (state S.Store tx.old.conn.now) (state S.Store tx.new.conn.now) }

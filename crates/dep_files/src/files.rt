@@ -7,9 +7,9 @@ ghost use Rattle.dep_types.specs.State.{Object, File, file_at};
 ghost use Rattle.dep_types.specs.Rows.{file_row};
 ghost use Rattle.dep_tables.specs.Tables.{tables_of, IsOurs};
 ghost use Rattle.dep_tables.specs.Clauses.{GoesOn, StaysInside, CommitsNothing};
-ghost use Rattle.dep_row_maps.specs.TablesAre.{TablesAre, with_object};
+ghost use Rattle.dep_row_maps.specs.TablesAre.{TablesAre};
 ghost use Rattle.dep_row_maps.specs.Clauses.{Becomes, FromMaps, KeepsOurs, FailsUncommitted};
-ghost use Rattle.dep_files.specs.Edits.{without_contents};
+ghost use Rattle.dep_files.specs.Edits.{with_file, without_file, without_files, without_contents};
 
 use crate::blocks::put_blocks;
 use crate::content::Content;
@@ -21,16 +21,23 @@ use std::alloc::Global;
 /// The part that a content has that came whole.
 const ONLY_PART: u64 = 1;
 
-/// Adds a file to an object that is there: its row and its content, each byte of which is written once. It is a fault of the store where the number of the file is taken, and where a number is 2^63 or more.
+/// Adds a file to an object that is there: its row and its content, each byte of which is written
+/// once. It is a fault of the store where the number of the file is taken, and where a number is
+/// 2^63 or more.
 pub fn put_file<S: Alter, C: Content>(
     tx: &mut Transaction<'_, S>,
     row: &FileRow,
     content: &C,
 ) -> Result<(), StoreFault>
-    ensures map { FromMaps (state S.Store tx.old.conn.now) (state S.Store tx.new.conn.now) (λ s. (o : Object) (file : File) → finmap.get s.objects row.now.object ≡ Some o
-        → row.now ≡ file_row row.now.object row.now.file file → C.bytes content.now ≡ file.content
-        → OnOk result (TablesAre (tables_of (state S.Store tx.new.conn.now)) (with_object s row.now.object (record o { files = finmap.insert o.files row.now.file file })))) }
-    ensures free { FromMaps (state S.Store tx.old.conn.now) (state S.Store tx.new.conn.now) (λ s. OnOk result ((n : ℕ) → file_at s n row.now.file ≡ None)) }
+    ensures map { FromMaps (state S.Store tx.old.conn.now) (state S.Store tx.new.conn.now)
+        (λ s. (o : Object) (file : File)
+        → finmap.get s.objects row.now.object ≡ Some o
+        → row.now ≡ file_row row.now.object row.now.file file
+        → C.bytes content.now ≡ file.content
+        → OnOk result (TablesAre (tables_of (state S.Store tx.new.conn.now))
+        (with_file s row.now.object o row.now.file file))) }
+    ensures free { FromMaps (state S.Store tx.old.conn.now) (state S.Store tx.new.conn.now)
+        (λ s. OnOk result ((n : ℕ) → file_at s n row.now.file ≡ None)) }
     ensures ours { KeepsOurs (state S.Store tx.old.conn.now) (state S.Store tx.new.conn.now) result }
     ensures err { FailsUncommitted (state S.Store tx.old.conn.now) (state S.Store tx.new.conn.now) result }
     ensures inside { GoesOn (state S.Store tx.old.conn.now) (state S.Store tx.new.conn.now) result }
@@ -42,11 +49,17 @@ pub fn put_file<S: Alter, C: Content>(
     insert_file(tx, row)
 }
 
-/// Deletes a file with its content, if there is one of this number. A number of 2^63 or more is a fault of the store.
+/// Deletes a file with its content, if there is one of this number. A number of 2^63 or more is a
+/// fault of the store.
 pub fn delete_file<S: Alter>(tx: &mut Transaction<'_, S>, file: u64) -> Result<(), StoreFault>
-    ensures map { FromMaps (state S.Store tx.old.conn.now) (state S.Store tx.new.conn.now) (λ s. (n : ℕ) (o : Object) (it : File) → finmap.get s.objects n ≡ Some o → finmap.get o.files file ≡ Some it
-        → OnOk result (TablesAre (tables_of (state S.Store tx.new.conn.now)) (with_object s n (record o { files = finmap.remove o.files file })))) }
-    ensures absent { FromMaps (state S.Store tx.old.conn.now) (state S.Store tx.new.conn.now) (λ s. ((n : ℕ) → file_at s n file ≡ None) → OnOk result (TablesAre (tables_of (state S.Store tx.new.conn.now)) s)) }
+    ensures map { FromMaps (state S.Store tx.old.conn.now) (state S.Store tx.new.conn.now)
+        (λ s. (n : ℕ) (o : Object) (it : File)
+        → finmap.get s.objects n ≡ Some o → finmap.get o.files file ≡ Some it
+        → OnOk result (TablesAre (tables_of (state S.Store tx.new.conn.now))
+        (without_file s n o file))) }
+    ensures absent { FromMaps (state S.Store tx.old.conn.now) (state S.Store tx.new.conn.now)
+        (λ s. ((n : ℕ) → file_at s n file ≡ None)
+        → OnOk result (TablesAre (tables_of (state S.Store tx.new.conn.now)) s)) }
     ensures ours { KeepsOurs (state S.Store tx.old.conn.now) (state S.Store tx.new.conn.now) result }
     ensures err { FailsUncommitted (state S.Store tx.old.conn.now) (state S.Store tx.new.conn.now) result }
     ensures inside { GoesOn (state S.Store tx.old.conn.now) (state S.Store tx.new.conn.now) result }
@@ -62,7 +75,8 @@ fn delete_contents<S: Alter>(
     tx: &mut Transaction<'_, S>,
     rows: &[FileRow],
 ) -> Result<(), StoreFault>
-    ensures ok { Becomes (state S.Store tx.old.conn.now) (state S.Store tx.new.conn.now) result (λ t. record t { blocks = without_contents (map (λ row. row.file) rows.now) t.blocks }) }
+    ensures ok { Becomes (state S.Store tx.old.conn.now) (state S.Store tx.new.conn.now) result
+        (λ t. record t { blocks = without_contents (map (λ row. row.file) rows.now) t.blocks }) }
     ensures err { FailsUncommitted (state S.Store tx.old.conn.now) (state S.Store tx.new.conn.now) result }
     ensures inside { GoesOn (state S.Store tx.old.conn.now) (state S.Store tx.new.conn.now) result }
     ensures kept { StaysInside (state S.Store tx.old.conn.now) (state S.Store tx.new.conn.now) }
@@ -75,16 +89,20 @@ fn delete_contents<S: Alter>(
     Ok(())
 }
 
-/// Deletes all files of an object with their contents. It holds the rows of the files. A number of 2^63 or more is a fault of the store.
+/// Deletes all files of an object with their contents. It holds the rows of the files. A number of
+/// 2^63 or more is a fault of the store.
 pub fn delete_files<S: Alter>(
     tx: &mut Transaction<'_, S>,
     alloc: Global,
     object: u64,
 ) -> Result<(), StoreFault>
-    ensures map { FromMaps (state S.Store tx.old.conn.now) (state S.Store tx.new.conn.now) (λ s. (o : Object) → finmap.get s.objects object ≡ Some o
-        → OnOk result (TablesAre (tables_of (state S.Store tx.new.conn.now)) (with_object s object (record o { files = finmap.empty })))) }
+    ensures map { FromMaps (state S.Store tx.old.conn.now) (state S.Store tx.new.conn.now)
+        (λ s. (o : Object) → finmap.get s.objects object ≡ Some o
+        → OnOk result (TablesAre (tables_of (state S.Store tx.new.conn.now))
+        (without_files s object o))) }
     ensures ours { KeepsOurs (state S.Store tx.old.conn.now) (state S.Store tx.new.conn.now) result }
-    ensures err { IsOurs (state S.Store tx.old.conn.now) → FailsUncommitted (state S.Store tx.old.conn.now) (state S.Store tx.new.conn.now) result }
+    ensures err { IsOurs (state S.Store tx.old.conn.now)
+        → FailsUncommitted (state S.Store tx.old.conn.now) (state S.Store tx.new.conn.now) result }
     ensures inside { GoesOn (state S.Store tx.old.conn.now) (state S.Store tx.new.conn.now) result }
     ensures kept { StaysInside (state S.Store tx.old.conn.now) (state S.Store tx.new.conn.now) }
     ensures same_reference { tx.new.conn.ghost_name ≡ tx.old.conn.ghost_name }

@@ -15,13 +15,15 @@ use dep_types::{FileRow, FileRows, StoreFault};
 use sqlite::{Alter, Transaction};
 use std::alloc::Global;
 
-/// The files of an object, by ascending number; none where there is no such object. A number of 2^63 or more is a fault of the store.
+/// The files of an object, by ascending number; none where there is no such object. A number of 2^63
+/// or more is a fault of the store.
 pub fn load_files<S: Alter>(
     tx: &mut Transaction<'_, S>,
     alloc: Global,
     object: u64,
 ) -> Result<FileRows, StoreFault>
-    ensures map { Tells (state S.Store tx.old.conn.now) (state S.Store tx.new.conn.now) result (λ s found. found ≡ map (λ e. file_row object e.0 e.1) (finmap.entries (files_at s.objects object))) }
+    ensures map { Tells (state S.Store tx.old.conn.now) (state S.Store tx.new.conn.now) result
+        (λ s found. found ≡ map (λ e. file_row object e.0 e.1) (finmap.entries (files_at s.objects object))) }
     ensures same { ReadsOnly (state S.Store tx.old.conn.now) (state S.Store tx.new.conn.now) result }
     ensures err { FailsReading (state S.Store tx.old.conn.now) (state S.Store tx.new.conn.now) result }
     ensures inside { GoesOn (state S.Store tx.old.conn.now) (state S.Store tx.new.conn.now) result }
@@ -32,7 +34,7 @@ pub fn load_files<S: Alter>(
     Ok(FileRows::new(files_of(tx, alloc, object)?))
 }
 
-fn if_of(found: Option<FileRow>, object: u64) -> Option<FileRow>
+fn of_object(found: Option<FileRow>, object: u64) -> Option<FileRow>
     ensures { result ≡ option_and_then (if_passes (λ row. nat_eq row.object object)) found }
 {
     match found {
@@ -41,13 +43,15 @@ fn if_of(found: Option<FileRow>, object: u64) -> Option<FileRow>
     }
 }
 
-/// The file of an object and a number, if the object has it. A number of a file of 2^63 or more is a fault of the store.
+/// The file of an object and a number, if the object has it. A number of a file of 2^63 or more is a
+/// fault of the store.
 pub fn find_file<S: Alter>(
     tx: &mut Transaction<'_, S>,
     object: u64,
     file: u64,
 ) -> Result<Option<FileRow>, StoreFault>
-    ensures map { Tells (state S.Store tx.old.conn.now) (state S.Store tx.new.conn.now) result (λ s found. found ≡ option_map (file_row object file) (file_at s object file)) }
+    ensures map { Tells (state S.Store tx.old.conn.now) (state S.Store tx.new.conn.now) result
+        (λ s found. found ≡ option_map (file_row object file) (file_at s object file)) }
     ensures same { ReadsOnly (state S.Store tx.old.conn.now) (state S.Store tx.new.conn.now) result }
     ensures err { FailsReading (state S.Store tx.old.conn.now) (state S.Store tx.new.conn.now) result }
     ensures inside { GoesOn (state S.Store tx.old.conn.now) (state S.Store tx.new.conn.now) result }
@@ -55,5 +59,5 @@ pub fn find_file<S: Alter>(
     ensures same_reference { tx.new.conn.ghost_name ≡ tx.old.conn.ghost_name }
     ensures survives { CommitsNothing (state S.Store tx.old.conn.now) (state S.Store tx.new.conn.now) }
 {
-    Ok(if_of(dep_tables::find_file(tx, file)?, object))
+    Ok(of_object(dep_tables::find_file(tx, file)?, object))
 }

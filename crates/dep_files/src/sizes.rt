@@ -53,16 +53,24 @@ fn only(rows: &[Row]) -> Result<Option<FileSize>, StoreFault>
     }
 }
 
-/// The object and the size of the file of this number, if there is one. A number of 2^63 or more is a fault of the store.
+/// The object and the size of the file of this number, if there is one. A number of 2^63 or more is
+/// a fault of the store.
 pub(crate) fn find_size<S: Alter>(
     connection: &mut Connection<S>,
     file: u64,
 ) -> Result<Option<FileSize>, StoreFault>
-    ensures ok { HasCleanDisk (state S.Store connection.new) → IsOurs (state S.Store connection.old) → IfOk result (λ found. option_map size_values found ≡ option_map shown_size (row_at (tables_of (state S.Store connection.old)).files file)) }
-    ensures same { HasCleanDisk (state S.Store connection.new) → IsOurs (state S.Store connection.old) → OnOk result (IsUnchanged (state S.Store connection.old) (state S.Store connection.new)) }
-    ensures err { HasCleanDisk (state S.Store connection.new) → IsOurs (state S.Store connection.old) → OnErr result ((connection.new ≡ connection.old) ⊎ (IsUnchanged (state S.Store connection.old) (state S.Store connection.new) ⊎ IsRolledBack (state S.Store connection.old) (state S.Store connection.new))) }
+    ensures ok { HasCleanDisk (state S.Store connection.new) → IsOurs (state S.Store connection.old)
+        → IfOk result (λ found. option_map size_values found
+        ≡ option_map shown_size (row_at (tables_of (state S.Store connection.old)).files file)) }
+    ensures same { HasCleanDisk (state S.Store connection.new) → IsOurs (state S.Store connection.old)
+        → OnOk result (IsUnchanged (state S.Store connection.old) (state S.Store connection.new)) }
+    ensures err { HasCleanDisk (state S.Store connection.new) → IsOurs (state S.Store connection.old)
+        → OnErr result ((connection.new ≡ connection.old)
+        ⊎ (IsUnchanged (state S.Store connection.old) (state S.Store connection.new)
+        ⊎ IsRolledBack (state S.Store connection.old) (state S.Store connection.new))) }
     ensures clean { HasCleanDisk (state S.Store connection.new) → HasCleanDisk (state S.Store connection.old) }
-    ensures survives { IsOurs (state S.Store connection.old) → Survives (state S.Store connection.old) (state S.Store connection.new) (λ _. ⊥) }
+    ensures survives { IsOurs (state S.Store connection.old)
+        → Survives (state S.Store connection.old) (state S.Store connection.new) (λ _. ⊥) }
 {
     if file >= LIMIT {
         return Err(StoreFault::Store);

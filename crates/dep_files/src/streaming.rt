@@ -38,16 +38,23 @@ fn fault_of_blocks(fault: dep_streams::StreamFault) -> StreamFault
     }
 }
 
-/// Sends the content of a file. It holds one block at a time, and asks for no more of them than the file has bytes. A number of 2^63 or more is a fault of the store.
+/// Sends the content of a file. It holds one block at a time, and asks for no more of them than the
+/// file has bytes. A number of 2^63 or more is a fault of the store.
 pub fn stream_content<S: Alter, O: Outlet>(
     connection: &mut Connection<S>,
     file: u64,
     out: &mut O,
 ) -> Result<(), StreamFault>
-    ensures streams { (sent : List ℕ) × Appends (O.taken out.old) (O.taken out.new) sent × (HasCleanDisk (state S.Store connection.new) → IsOurs (state S.Store connection.old) → (s : State) → TablesAre (tables_of (state S.Store connection.old)) s → IsStreamed s file sent result) }
-    ensures same { HasCleanDisk (state S.Store connection.new) → IsOurs (state S.Store connection.old) → IsKept (state S.Store connection.old) (state S.Store connection.new) }
-    ensures clean { HasCleanDisk (state S.Store connection.new) → HasCleanDisk (state S.Store connection.old) }
-    ensures survives { HasCleanDisk (state S.Store connection.new) → IsOurs (state S.Store connection.old) → Survives (state S.Store connection.old) (state S.Store connection.new) (λ _. ⊥) }
+    ensures streams { (sent : List ℕ) × Appends (O.taken out.old) (O.taken out.new) sent
+        × (HasCleanDisk (state S.Store connection.new) → IsOurs (state S.Store connection.old)
+        → (s : State) → TablesAre (tables_of (state S.Store connection.old)) s
+        → IsStreamed s file sent result) }
+    ensures same { HasCleanDisk (state S.Store connection.new) → IsOurs (state S.Store connection.old)
+        → IsKept (state S.Store connection.old) (state S.Store connection.new) }
+    ensures clean { HasCleanDisk (state S.Store connection.new)
+        → HasCleanDisk (state S.Store connection.old) }
+    ensures survives { HasCleanDisk (state S.Store connection.new) → IsOurs (state S.Store connection.old)
+        → Survives (state S.Store connection.old) (state S.Store connection.new) (λ _. ⊥) }
     ensures kept { OnOk result (O.failures out.new ≡ O.failures out.old) }
     ensures cause { result ≡ Err StreamFault.Writer → HasRisen (O.failures out.old) (O.failures out.new) }
 {
@@ -73,16 +80,21 @@ fn load_fault(fault: StreamFault) -> StoreFault
     }
 }
 
-/// The content of a file as a whole, if there is one of this number. A number of 2^63 or more is a fault of the store.
+/// The content of a file as a whole, if there is one of this number. A number of 2^63 or more is a
+/// fault of the store.
 pub fn load_content<S: Alter>(
     connection: &mut Connection<S>,
     alloc: Global,
     file: u64,
 ) -> Result<Option<Octets>, StoreFault>
-    ensures map { Tells (state S.Store connection.old) (state S.Store connection.new) result (λ s found. IsLoaded s file found) }
-    ensures same { HasCleanDisk (state S.Store connection.new) → IsOurs (state S.Store connection.old) → IsKept (state S.Store connection.old) (state S.Store connection.new) }
-    ensures clean { HasCleanDisk (state S.Store connection.new) → HasCleanDisk (state S.Store connection.old) }
-    ensures survives { HasCleanDisk (state S.Store connection.new) → IsOurs (state S.Store connection.old) → Survives (state S.Store connection.old) (state S.Store connection.new) (λ _. ⊥) }
+    ensures map { Tells (state S.Store connection.old) (state S.Store connection.new) result
+        (λ s found. IsLoaded s file found) }
+    ensures same { HasCleanDisk (state S.Store connection.new) → IsOurs (state S.Store connection.old)
+        → IsKept (state S.Store connection.old) (state S.Store connection.new) }
+    ensures clean { HasCleanDisk (state S.Store connection.new)
+        → HasCleanDisk (state S.Store connection.old) }
+    ensures survives { HasCleanDisk (state S.Store connection.new) → IsOurs (state S.Store connection.old)
+        → Survives (state S.Store connection.old) (state S.Store connection.new) (λ _. ⊥) }
 {
     let mut out = Through::new(Vec::new(alloc));
     match stream_content(connection, file, &mut out) {

@@ -1,0 +1,6 @@
+pub mod UploadCalls
+pub mod Loaded
+pub mod Next
+pub mod Expired
+pub mod Chains
+pub mod Moved

@@ -1,0 +1,25 @@
+use Rattle.std.proofs.Common.{arith, sym, subst}
+use Rattle.std.specs.FinMap as finmap
+use Rattle.sqlite.specs.State.{HasCleanDisk}
+use Rattle.sqlite.specs.Held.{state}
+use Rattle.sqlite.proofs.InsideLemmas.{keeps_then}
+use Rattle.dep_tables.specs.Tables.{Tables, tables_of}
+use Rattle.dep_tables.proofs.Results.{ok_then}
+use Rattle.dep_row_maps.specs.TablesAre.{TablesAre}
+use Rattle.dep_row_maps.proofs.Whole.{timed_out_put}
+use Rattle.dep_staging.specs.Expiring.{timed_out}
+use Rattle.dep_staging.proofs.ticking.expire.Goals as goal
+
+pub returns-clause-map : goal.returns-clause-map
+returns-clause-map g c clean inside ours s are =
+    let mid = state g.S.Store c.drop_upload.new.tx.conn.now in
+    let before : HasCleanDisk mid = omega (arith, clean, c.insert_timed_out.ensures.survives.clean) in
+    let gone = c.in_ok-drop_upload.ensures.map before inside ours s are in
+    ok_then c.insert_timed_out.result (c.insert_timed_out.ensures.ok clean (c.in_ok-drop_upload.ensures.inside before inside) (c.in_ok-drop_upload.ensures.ours before inside ours))
+    (λ leads. subst (λ (t : Tables). TablesAre t (timed_out c.args.upload s)) (sym leads.rows) (timed_out_put (tables_of mid) (record s { uploads = finmap.remove s.uploads c.args.upload }) gone c.args.upload))
+
+pub returns-clause-kept : goal.returns-clause-kept
+returns-clause-kept g c clean inside =
+    let mid = state g.S.Store c.drop_upload.new.tx.conn.now in
+    let before : HasCleanDisk mid = omega (arith, clean, c.insert_timed_out.ensures.survives.clean) in
+    keeps_then (state g.S.Store c.args.tx.now.conn.now) mid (state g.S.Store c.insert_timed_out.new.tx.conn.now) (c.drop_upload.ensures.kept before inside) (c.insert_timed_out.ensures.kept clean (c.in_ok-drop_upload.ensures.inside before inside))

@@ -1,0 +1,71 @@
+use Rattle.std.proofs.Common.{refl, sym, subst, ◌∙◌, rules}
+use Rattle.sqlite.specs.Held.{state}
+use Rattle.sqlite.proofs.StateLemmas.{survives_then}
+use Rattle.sqlite.proofs.InsideLemmas.{keeps_then}
+use Rattle.dep_types.specs.State.{State}
+use Rattle.dep_tables.specs.Tables.{Tables, tables_of}
+use Rattle.dep_row_maps.specs.TablesAre.{TablesAre}
+use Rattle.dep_row_maps.proofs.Readings.{next_upload_read}
+use Rattle.dep_files.proofs.Results.{still_ours, same_tables}
+use Rattle.dep_staging.specs.Expiring.{expired_all}
+use Rattle.dep_staging.proofs.Next.{next_of, none_after}
+use Rattle.dep_staging.proofs.Expired.{none_expired, one_more, all_expired}
+use Rattle.dep_staging.proofs.Chains.{was_clean}
+use Rattle.dep_staging.proofs.ticking.expire_idle.Goals as goal
+
+pub uploads-preserved : goal.uploads-preserved
+uploads-preserved g c =
+    let old = state g.S.Store c.args.tx.now.conn.now in
+    let mid = state g.S.Store c.uploads.tx.conn.now in
+    let seen = state g.S.Store c.next_upload.new.tx.conn.now in
+    let new = state g.S.Store c.expire_if_idle.new.tx.conn.now in
+    let inv = c.uploads.invariant in
+    let clean_seen = was_clean seen new c.expire_if_idle.ensures.survives in
+    let clean_mid = was_clean mid seen c.next_upload.ensures.survives in
+    let survived = survives_then old mid seen _ _ (λ _. ⊥) (λ _ db none. none) (λ _ db none. none) inv.1 c.next_upload.ensures.survives in (
+      c.expire_if_idle.ensures.same_reference ∙ c.next_upload.ensures.same_reference ∙ inv.0,
+      survives_then old seen new _ _ (λ _. ⊥) (λ _ db none. none) (λ _ db none. none) survived c.expire_if_idle.ensures.survives,
+      λ clean inside. c.in_ok-expire_if_idle.ensures.inside clean (c.in_ok-upload.ensures.inside (clean_seen clean) (inv.2 (clean_mid (clean_seen clean)) inside)),
+      λ clean inside.
+          let within = inv.2 (clean_mid (clean_seen clean)) inside in
+          keeps_then old seen new (keeps_then old mid seen (inv.3 (clean_mid (clean_seen clean)) inside) (c.next_upload.ensures.kept (clean_seen clean) within))
+          (c.expire_if_idle.ensures.kept clean (c.in_ok-upload.ensures.inside (clean_seen clean) within)),
+      λ clean inside ours.
+          let before = clean_seen clean in
+          let within = inv.2 (clean_mid before) inside in
+          let ours_mid = inv.4 (clean_mid before) inside ours in
+          c.in_ok-expire_if_idle.ensures.ours clean (c.in_ok-upload.ensures.inside before within) (still_ours mid seen (c.in_ok-upload.ensures.same before ours_mid) ours_mid),
+      λ clean inside ours s are zero_free.
+          let before = clean_seen clean in
+          let within = inv.2 (clean_mid before) inside in
+          let ours_mid = inv.4 (clean_mid before) inside ours in
+          let z = inv.5 (clean_mid before) inside ours s are zero_free in
+          let same = c.in_ok-upload.ensures.same before ours_mid in
+          let was : State = record s { uploads = z.uploads; timed_out = z.numbers } in
+          let next = next_of z.uploads c.uploads.last c.in-Some.upload (sym c.in-Some.is ∙ next_upload_read (tables_of mid) was z.are c.uploads.last c.in_ok-upload.field-0 (c.in_ok-upload.ensures.ok before ours_mid)) in
+          one_more c.args.config.now c.args.clock c.uploads.last c.in-Some.upload s (tables_of mid) z next (tables_of new)
+          (c.in_ok-expire_if_idle.ensures.map clean (c.in_ok-upload.ensures.inside before within) (still_ours mid seen same ours_mid) was (subst (λ (t : Tables). TablesAre t was) (sym (same_tables mid seen same)) z.are)),
+    )
+
+pub returns-in_default-clause-map : goal.returns-in_default-clause-map
+returns-in_default-clause-map g c clean inside ours s are zero_free =
+    let mid = state g.S.Store c.uploads.tx.conn.now in
+    let seen = state g.S.Store c.next_upload.new.tx.conn.now in
+    let inv = c.uploads.invariant in
+    let before = was_clean mid seen c.next_upload.ensures.survives clean in
+    let ours_mid = inv.4 before inside ours in
+    let z = inv.5 before inside ours s are zero_free in
+    let was : State = record s { uploads = z.uploads; timed_out = z.numbers } in
+    let same = c.in_ok-upload.ensures.same clean ours_mid in
+    let none = none_after z.uploads c.uploads.last (sym c.in_default.is ∙ next_upload_read (tables_of mid) was z.are c.uploads.last c.in_ok-upload.field-0 (c.in_ok-upload.ensures.ok clean ours_mid)) in
+    subst (λ (t : Tables). TablesAre t (expired_all c.args.config.now c.args.clock s)) (sym (same_tables mid seen same)) (all_expired c.args.config.now c.args.clock c.uploads.last s (tables_of mid) z none)
+
+pub uploads-init : goal.uploads-init
+uploads-init g c = (
+  refl,
+  search rules,
+  λ clean inside. inside,
+  search rules,
+  λ clean inside ours. ours,
+  λ clean inside ours s are zero_free. none_expired c.args.config.now c.args.clock s (tables_of (state g.S.Store c.args.tx.now.conn.now)) are zero_free,
+)

@@ -1,0 +1,33 @@
+use Rattle.std.proofs.Common.{◌≡◌, ◌∙◌, true, false, arith, sym, subst}
+use Rattle.std.specs.Prelude.{if◌then◌else◌}
+use Rattle.sqlite.specs.State.{HasCleanDisk}
+use Rattle.sqlite.specs.Held.{state}
+use Rattle.dep_types.specs.State.{expires}
+use Rattle.dep_tables.specs.Tables.{Tables, tables_of}
+use Rattle.dep_tables.proofs.Results.{ok_then}
+use Rattle.dep_row_maps.specs.TablesAre.{TablesAre}
+use Rattle.dep_files.proofs.Results.{still_ours, same_tables}
+use Rattle.dep_staging.specs.Expiring.{timed_out}
+use Rattle.dep_staging.proofs.Loaded.{idle_is}
+use Rattle.dep_staging.proofs.ticking.expire_if_idle.Goals as goal
+
+pub returns-then-is_idle-clause-map : goal.returns-then-is_idle-clause-map
+returns-then-is_idle-clause-map g c clean inside ours s are =
+    let old = state g.S.Store c.args.tx.now.conn.now in
+    let mid = state g.S.Store c.find_upload.new.tx.conn.now in
+    let new = state g.S.Store c.expire.new.tx.conn.now in
+    let u = c.args.upload in
+    let before : HasCleanDisk mid = omega (arith, clean, c.expire.ensures.survives.clean) in
+    let same = c.in_ok-found.ensures.same before ours in
+    let yes : expires c.args.config.now c.args.clock s.uploads u ≡ true = sym (idle_is (tables_of old) s c.args.config.now c.args.clock u c.in_ok-found.found are (c.in_ok-found.ensures.ok before ours)) ∙ sym c.is_idle.ensures ∙ c.if-is_idle.true in
+    ok_then c.expire.result (c.expire.ensures.map clean (c.in_ok-found.ensures.inside before inside) (still_ours old mid same ours) s (subst (λ (t : Tables). TablesAre t s) (sym (same_tables old mid same)) are))
+    (λ gone. subst (λ b. TablesAre (tables_of new) (if b then timed_out u s else s)) (sym yes) gone)
+
+pub returns-else-is_idle-clause-map : goal.returns-else-is_idle-clause-map
+returns-else-is_idle-clause-map g c clean inside ours s are =
+    let old = state g.S.Store c.args.tx.now.conn.now in
+    let mid = state g.S.Store c.find_upload.new.tx.conn.now in
+    let u = c.args.upload in
+    let same = c.in_ok-found.ensures.same clean ours in
+    let no : expires c.args.config.now c.args.clock s.uploads u ≡ false = sym (idle_is (tables_of old) s c.args.config.now c.args.clock u c.in_ok-found.found are (c.in_ok-found.ensures.ok clean ours)) ∙ sym c.is_idle.ensures ∙ c.if-is_idle.false in
+    subst (λ b. TablesAre (tables_of mid) (if b then timed_out u s else s)) (sym no) (subst (λ (t : Tables). TablesAre t s) (sym (same_tables old mid same)) are)

@@ -1,0 +1,3 @@
+pub mod Expiring
+pub mod Found
+pub mod Assembling
