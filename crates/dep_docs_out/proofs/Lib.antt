@@ -6,3 +6,4 @@ pub mod Utf8
 pub mod PartsReadBack
 pub mod LinksReadBack
 pub mod MetadataReadBack
+pub mod StatusRows

@@ -1,7 +1,9 @@
 //! Whole documents, computed.
-ghost use Rattle.std.specs.Prelude.{◌≡◌, ◌≤◌, ℕ, List, ◌∷◌, []};
+ghost use Rattle.std.specs.Prelude.{◌≡◌, ◌≤◌, ℕ, List, ◌∷◌, [], Some};
 ghost use Rattle.dep_types.specs.Limits.{greatest_moment};
-ghost use Rattle.dep_docs_out.specs.ReadBack.{ReadsAs, HasTexts, FileHasTexts, HasKeptNames, MetadataHasTexts, HasNumbers};
+ghost use Rattle.dep_docs_out.specs.ReadBack.{ReadsAs, HasTexts, FileHasTexts, HasKeptNames, MetadataHasTexts, HasNumbers, TellsObject};
+ghost use Rattle.serde_json.specs.Data.{Data};
+ghost use Rattle.serde_json.specs.Read.{read};
 ghost use Rattle.dep_types.specs.Config.{HasLimits};
 ghost use Rattle.dep_types.specs.State.{Texts};
 ghost use Rattle.dep_types.specs.declared.refusal.Refusal.{Refusal as ARefusal};
@@ -68,6 +70,12 @@ pub fn error_document_is_read_back()
 /// The status document is read back as the value that it spells.
 pub fn status_document_is_read_back()
     ensures { (config : AConfig) (view : AnObjectView) → HasTexts config → AllByRecursion FileHasTexts view.files → ReadsAs (spec.status_document config view) (spec.status_data config view) }
+{}
+
+/// Whatever a status document is read as, each number, tag and date in it is that of its row.
+pub fn status_document_tells_its_rows()
+    ensures { (config : AConfig) (view : AnObjectView) (d : Data)
+        → read (spec.status_document config view) ≡ Some d → TellsObject config view d }
 {}
 
 /// The metadata document is read back as the value that it spells.

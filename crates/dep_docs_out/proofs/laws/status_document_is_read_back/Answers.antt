@@ -1,17 +1,10 @@
-use Rattle.std.proofs.Common.{◌≡◌, ℕ, Bool, true, false, decimal, refl, arith}
-use Rattle.dep_types.specs.declared.config.Config.{Config}
-use Rattle.dep_types.specs.declared.rows.ObjectView.{ObjectView}
+use Rattle.std.proofs.Common.{ℕ, Bool, true, false, codes, decimal, refl, arith}
 use Rattle.dep_docs_out.specs.Documents.{object_url, files_url, metadata_url, url, status_data, object_members, links_data, state_members, actions_data, part_data, states_data, state_id}
-use Rattle.std.proofs.Common.{codes}
-use Rattle.dep_docs_out.proofs.ReadingBack.{is_plain}
 use Rattle.dep_docs_out.proofs.Utf8.{HasUtf8, IsText, decimal_utf8, is_text}
 use Rattle.dep_docs_out.proofs.PartsReadBack.{ascii, reads, object_url_utf8, files_url_utf8, metadata_url_utf8, url_utf8}
-use Rattle.dep_docs_out.proofs.LinksReadBack.{links_plain, links_utf8}
+use Rattle.dep_docs_out.proofs.LinksReadBack.{links_utf8}
+use Rattle.dep_docs_out.proofs.StatusRows.{status_plain}
 use Rattle.dep_docs_out.proofs.laws.status_document_is_read_back.Goals as goal
-
-plain : (config : Config) (view : ObjectView) → is_plain (status_data config view) 4 ≡ true
-unfolding status_data object_members links_data state_members actions_data part_data states_data
-plain config view = rw (links_plain config view.object.object view.files) refl
 
 state_text : (ingested : Bool) → IsText (state_id ingested)
 state_text true = tt
@@ -29,7 +22,7 @@ returns c = λ config view texts files.
     let actions : HasUtf8 actions_data = (tt, tt, (tt, tt, (tt, tt, (tt, tt, (tt, tt, (tt, tt, (tt, tt, (tt, tt, (tt, tt, tt))))))))) in
     let links = links_utf8 config n view.files texts.base texts.depositor files in
     let state : HasUtf8 (states_data view.object.ingested) = ((tt, state_text view.object.ingested, tt), tt) in
-    reads (status_data config view) 4 (omega arith) (plain config view) (
+    reads (status_data config view) 4 (omega arith) (status_plain config view) (
       tt,
       tt,
       (
