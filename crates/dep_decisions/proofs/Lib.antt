@@ -1,1 +1,2 @@
 pub mod AskedIs
+mod FieldRows

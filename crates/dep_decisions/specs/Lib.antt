@@ -1,4 +1,5 @@
 pub mod Asked
+pub mod ContentRows
 pub mod Decisions
 pub mod Effects
 pub mod Kinds

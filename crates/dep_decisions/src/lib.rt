@@ -3,12 +3,14 @@
 #![tactic(auto)]
 
 mod asked;
+mod content_rows;
 mod decision;
 mod numbers;
 mod operation;
 mod purpose;
 
 pub use asked::{ReadContent, content_digests, decision_on};
+pub use content_rows::{digest_row, digests_if_promised, fields_row, is_binary};
 pub use decision::{Decision, Deposit, NewFile, NewFiles, Source};
 pub use numbers::numbers_for;
 pub use operation::Operation;

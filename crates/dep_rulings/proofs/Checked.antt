@@ -17,7 +17,8 @@ use Rattle.dep_decisions.specs.Kinds.{kind_of}
 use Rattle.dep_decisions.specs.Purposes.{purpose_of}
 use Rattle.dep_decisions.specs.declared.operation.Operation.{Operation}
 use Rattle.dep_rulings.specs.Checks.{IsChecked, IsCheckedBy}
-use Rattle.dep_rulings.specs.Rows.{content_by, content_refusal, digests_if_promised, has_content, purpose_in, references_for}
+use Rattle.dep_decisions.specs.ContentRows.{digests_if_promised, purpose_in}
+use Rattle.dep_rulings.specs.Rows.{content_by, content_refusal, has_content, references_for}
 use Rattle.dep_rulings.specs.Views.{uploads_named}
 use Rattle.dep_rulings.specs.declared.order.Checked.{Checked}
 use Rattle.dep_rulings.specs.declared.order.Checked.TheVariants.{Refused, Passed}

@@ -18,13 +18,14 @@ use Rattle.dep_decisions.specs.Asked.{asked_at}
 use Rattle.dep_decisions.specs.Decisions.{decision, decision_with, numbers_for, references_in}
 use Rattle.dep_decisions.specs.Kinds.{kind_of}
 use Rattle.dep_decisions.specs.Purposes.{purpose_of}
-use Rattle.dep_decisions.specs.Rules.{document_refusal, format_refusal, of_behalf, of_digest, of_document, of_encoding, of_format, of_in_progress, of_kind, of_presence, of_room, of_sizes, of_tag, of_type, references_refusal, refusal, rows_met, size_refusal, type_refusal, unless}
+use Rattle.dep_decisions.specs.Rules.{document_refusal, of_behalf, of_digest, of_document, of_encoding, of_format, of_in_progress, of_kind, of_presence, of_room, of_sizes, of_tag, of_type, references_refusal, refusal, rows_met, size_refusal, unless}
 use Rattle.dep_decisions.specs.declared.operation.Operation.{Operation}
 use Rattle.dep_decisions.specs.declared.decision.Decision.{Decision}
 use Rattle.dep_decisions.specs.declared.decision.Decision.TheVariants.{Show, DropUpload}
 use Rattle.dep_decisions.proofs.AskedIs.{asked_by, shown_by_get, shown_by_head}
 use Rattle.dep_rulings.specs.Checks.{IsRoomRuling}
-use Rattle.dep_rulings.specs.Rows.{IsSeen, access_refusal, content_by, content_refusal, document_by, fields_refusal, format_by, has_content, purpose_in, reads_alone, refusal_seen, room_refusal, size_by, tag_row, type_by}
+use Rattle.dep_decisions.specs.ContentRows.{fields_refusal, purpose_in}
+use Rattle.dep_rulings.specs.Rows.{IsSeen, access_refusal, content_by, content_refusal, document_by, has_content, reads_alone, refusal_seen, room_refusal, size_by, tag_row}
 use Rattle.dep_rulings.specs.Rulings.{HasRoomFor, IsRuling, RulesBy}
 use Rattle.dep_rulings.specs.Views.{uploads_in, upload_view, view_of}
 use Rattle.dep_rulings.specs.Walks.{references_seen}
@@ -38,32 +39,6 @@ use Rattle.dep_rulings.proofs.Walked.{references_are}
 -- ---- the rules by purpose are those by kind
 
 module _ (config : Config) (s : State) (op : Operation) where
-  format_of : (o : Option Kind) → format_by op (option_map purpose_of o) ≡ option_and_then (format_refusal op) o
-  unfolding format_by
-  format_of None = refl
-  format_of (Some (of.File name)) = refl
-  format_of (Some of.Metadata) = refl
-  format_of (Some of.References) = refl
-  format_of (Some (of.Opening o)) = refl
-  format_of (Some (of.Segment k)) = refl
-
-  format_is : format_by op (purpose_in op) ≡ of_format op
-  unfolding of_format
-  format_is = format_of (kind_of op)
-
-  type_for : (o : Option Kind) → type_by op (option_map purpose_of o) ≡ option_and_then (type_refusal op) o
-  unfolding type_by
-  type_for None = refl
-  type_for (Some (of.File name)) = refl
-  type_for (Some of.Metadata) = refl
-  type_for (Some of.References) = refl
-  type_for (Some (of.Opening o)) = refl
-  type_for (Some (of.Segment k)) = refl
-
-  type_is : type_by op (purpose_in op) ≡ of_type op
-  unfolding of_type
-  type_is = type_for (kind_of op)
-
   references_by_views : (refs : Option (List Reference)) → references_seen (map (upload_view (is_some refs) s) (uploads_in Service refs)) refs ≡ references_refusal s refs
   references_by_views None = refl
   references_by_views (Some refs) = references_are s refs
@@ -108,19 +83,17 @@ module _ (config : Config) (s : State) (op : Operation) where
       ap (λ p. first_of (of_behalf config op ∷ p ∷ (if reads_alone op.target.resource op.target.method then None else tag_row config (view_of config s op) op) ∷ [])) (presence_row_is config s op)
       ∙ ap (λ t. first_of (of_behalf config op ∷ of_presence s op ∷ (if reads_alone op.target.resource op.target.method then None else t) ∷ [])) (tag_row_is config s op)
 
-  abbrev content_of : (format type document size : Option Refusal) → Option Refusal
-  content_of f t d z = first_of (first_of (of_encoding op ∷ of_kind op ∷ of_in_progress op ∷ f ∷ t ∷ []) ∷ of_digest op ∷ d ∷ z ∷ [])
+  abbrev content_of : (document size : Option Refusal) → Option Refusal
+  content_of d z = first_of (fields_refusal op ∷ of_digest op ∷ d ∷ z ∷ [])
 
   abbrev content_at : Method → Option Refusal
-  content_at method = if has_content method then content_of (of_format op) (of_type op) (of_document config s op) (of_sizes config s op) else None
+  content_at method = if has_content method then content_of (of_document config s op) (of_sizes config s op) else None
 
-  content_rows_are : content_by config (view_of config s op) op (purpose_in op) ≡ content_of (of_format op) (of_type op) (of_document config s op) (of_sizes config s op)
-  unfolding content_by fields_refusal
+  content_rows_are : content_by config (view_of config s op) op (purpose_in op) ≡ content_of (of_document config s op) (of_sizes config s op)
+  unfolding content_by
   content_rows_are =
-      ap (λ f. content_of f (type_by op (purpose_in op)) (document_by (view_of config s op) op (purpose_in op)) (size_by config (view_of config s op) op (purpose_in op))) format_is
-      ∙ ap (λ t. content_of (of_format op) t (document_by (view_of config s op) op (purpose_in op)) (size_by config (view_of config s op) op (purpose_in op))) type_is
-      ∙ ap (λ d. content_of (of_format op) (of_type op) d (size_by config (view_of config s op) op (purpose_in op))) document_is
-      ∙ ap (λ z. content_of (of_format op) (of_type op) (of_document config s op) z) size_is
+      ap (λ d. content_of d (size_by config (view_of config s op) op (purpose_in op))) document_is
+      ∙ ap (λ z. content_of (of_document config s op) z) size_is
 
   content_is : content_refusal config (view_of config s op) op ≡ content_at op.target.method
   unfolding content_refusal
@@ -194,7 +167,8 @@ module _ (config : Config) (s : State) (op : Operation) where
   written : first_of (of_behalf config op ∷ of_presence s op ∷ of_tag config s op ∷ of_encoding op ∷ of_kind op ∷ of_in_progress op ∷ of_format op ∷ of_type op
       ∷ of_digest op ∷ of_document config s op ∷ of_sizes config s op ∷ of_room config s op ∷ [])
       ≡ first_of (first_of (of_behalf config op ∷ of_presence s op ∷ of_tag config s op ∷ [])
-      ∷ content_of (of_format op) (of_type op) (of_document config s op) (of_sizes config s op) ∷ of_room config s op ∷ [])
+      ∷ content_of (of_document config s op) (of_sizes config s op) ∷ of_room config s op ∷ [])
+  unfolding fields_refusal
   written = written_is (of_behalf config op) (of_presence s op) (of_tag config s op) (of_encoding op) (of_kind op) (of_in_progress op) (of_format op) (of_type op)
       (of_digest op) (of_document config s op) (of_sizes config s op) (of_room config s op)
 

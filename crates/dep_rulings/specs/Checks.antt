@@ -2,9 +2,10 @@
 use Rattle.std.specs.Prelude.{◌≡◌, Some, None}
 use Rattle.dep_types.specs.declared.config.Config.{Config}
 use Rattle.dep_decisions.specs.Asked.{IsRead}
+use Rattle.dep_decisions.specs.ContentRows.{purpose_in}
 use Rattle.dep_decisions.specs.Decisions.{decision_with}
 use Rattle.dep_decisions.specs.declared.operation.Operation.{Operation}
-use Rattle.dep_rulings.specs.Rows.{content_by, content_refusal, purpose_in, room_refusal}
+use Rattle.dep_rulings.specs.Rows.{content_by, content_refusal, room_refusal}
 use Rattle.dep_rulings.specs.declared.order.Checked.{Checked}
 use Rattle.dep_rulings.specs.declared.order.Checked.TheVariants.{Refused, Passed}
 use Rattle.dep_rulings.specs.declared.ruling.Ruling.{Ruling}

@@ -1,38 +1,27 @@
 -- The rules by the purpose of a content and by what a view tells, in their order.
-use Rattle.std.specs.Prelude.{◌≡◌, Bool, true, false, List, [], ◌∷◌, is_some, Option, Some, None, option_map, bytes_eq, if◌then◌else◌}
+use Rattle.std.specs.Prelude.{◌≡◌, Bool, true, false, List, [], ◌∷◌, is_some, Option, Some, None, if◌then◌else◌}
 use Rattle.dep_types.specs.Maps.{first_of}
-use Rattle.dep_types.specs.Names.{binary, metadata_format}
 use Rattle.dep_types.specs.Numbers.{room_for}
 use Rattle.dep_types.specs.declared.config.Config.{Config}
 use Rattle.dep_types.specs.declared.refusal.Refusal.{Refusal}
-use Rattle.dep_types.specs.declared.refusal.Refusal.TheVariants.{BadRequest, ContentMalformed, ContentTypeNotAcceptable, MetadataFormatNotAcceptable, PackagingFormatNotAcceptable, StoreFull}
+use Rattle.dep_types.specs.declared.refusal.Refusal.TheVariants.{ContentMalformed, StoreFull}
 use Rattle.dep_types.specs.declared.target.Resource.{Resource}
 use Rattle.dep_types.specs.declared.target.Resource.TheVariants.{Upload}
 use Rattle.dep_types.specs.declared.target.Method.{Method}
 use Rattle.dep_types.specs.declared.target.Method.TheVariants.{Get, Head, Post, Put, Delete}
-use Rattle.dep_fixity.specs.Fixity.{digests_of}
-use Rattle.dep_fixity.specs.declared.field.DigestList.{DigestList}
-use Rattle.dep_fixity.specs.declared.hasher.Digests.{Digests}
-use Rattle.dep_fields.specs.declared.field.Field.{Field}
-use Rattle.dep_fields.specs.declared.field.Field.TheVariants.{Absent, Bad, Value}
 use Rattle.dep_docs_in.specs.Documents.{metadata_read, references_read}
 use Rattle.dep_docs_in.specs.declared.reference.Reference.{Reference}
+use Rattle.dep_decisions.specs.ContentRows.{fields_refusal, purpose_in}
 use Rattle.dep_decisions.specs.Decisions.{decision_with, numbers_for}
-use Rattle.dep_decisions.specs.Kinds.{kind_of}
-use Rattle.dep_decisions.specs.Purposes.{purpose_of}
-use Rattle.dep_decisions.specs.Rules.{is_json, of_behalf, of_digest, of_encoding, of_in_progress, of_kind, opening_refusal, tag_refusal, unless, value_refusal}
+use Rattle.dep_decisions.specs.Rules.{of_behalf, of_digest, opening_refusal, tag_refusal, unless}
 use Rattle.dep_decisions.specs.declared.operation.Operation.{Operation}
 use Rattle.dep_decisions.specs.declared.purpose.Purpose.{Purpose}
-use Rattle.dep_decisions.specs.declared.purpose.Purpose.TheVariants.{File, Metadata, References, Opening, Segment}
+use Rattle.dep_decisions.specs.declared.purpose.Purpose.TheVariants.{Metadata, References, Opening, Segment}
 use Rattle.dep_rulings.specs.Seen.{presence_seen, received_seen, tag_seen}
 use Rattle.dep_rulings.specs.Walks.{references_seen}
 use Rattle.dep_rulings.specs.declared.ruling.Ruling.{Ruling}
 use Rattle.dep_rulings.specs.declared.ruling.Ruling.TheVariants.{Do, Refuse}
 use Rattle.dep_rulings.specs.declared.view.View.{View}
-
--- what the content is for
-abbrev pub purpose_in : Operation → Option Purpose
-purpose_in op = option_map purpose_of (kind_of op)
 
 -- the references that a content of this purpose tells
 unfoldable pub references_for : Config → Operation → Option Purpose → Option (List Reference)
@@ -40,28 +29,6 @@ references_for config op (Some References) = references_read config op.content
 references_for config op _ = None
 
 -- ---- the rules on a content
-
-unfoldable pub format_by : Operation → Option Purpose → Option Refusal
-format_by op (Some File) =
-    value_refusal (bytes_eq binary) PackagingFormatNotAcceptable op.fields.packaging
-format_by op (Some Metadata) =
-    value_refusal (bytes_eq metadata_format) MetadataFormatNotAcceptable op.fields.metadata_format
-format_by op _ = None
-
-unfoldable pub type_by : Operation → Option Purpose → Option Refusal
-type_by op (Some File) = value_refusal (λ text. true) BadRequest op.fields.content_type
-type_by op (Some Metadata) =
-    value_refusal is_json ContentTypeNotAcceptable op.fields.content_type
-type_by op (Some References) =
-    value_refusal is_json ContentTypeNotAcceptable op.fields.content_type
-type_by op _ = None
-
--- the digests of the content, where one is promised
-abbrev pub digests_if_promised : Operation → Field DigestList → Option Digests
-digests_if_promised op (Value list) =
-    if is_some list.sha256 then Some (digests_of op.content) else None
-digests_if_promised op Bad = None
-digests_if_promised op Absent = None
 
 unfoldable pub document_by : View → Operation → Option Purpose → Option Refusal
 document_by view op (Some Metadata) = unless (is_some (metadata_read op.content)) ContentMalformed
@@ -95,16 +62,10 @@ access_refusal config view op = first_of
     ∷ (if reads_alone op.target.resource op.target.method then None else tag_row config view op)
     ∷ [])
 
--- 8 to 11
-unfoldable pub fields_refusal : Operation → Option Purpose → Option Refusal
-fields_refusal op purpose = first_of
-    (of_encoding op ∷ of_kind op ∷ of_in_progress op ∷ format_by op purpose ∷ type_by op purpose
-    ∷ [])
-
 -- 8 to 14
 unfoldable pub content_by : Config → View → Operation → Option Purpose → Option Refusal
 content_by config view op purpose = first_of
-    (fields_refusal op purpose ∷ of_digest op ∷ document_by view op purpose
+    (fields_refusal op ∷ of_digest op ∷ document_by view op purpose
     ∷ size_by config view op purpose ∷ [])
 
 abbrev pub has_content : Method → Bool

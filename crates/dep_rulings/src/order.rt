@@ -4,17 +4,17 @@ ghost use Rattle.dep_decisions.specs.Asked.{IsRead};
 ghost use Rattle.dep_decisions.specs.declared.purpose.Purpose.TheVariants as of;
 ghost use Rattle.dep_docs_in.specs.Documents.{metadata_read};
 ghost use Rattle.dep_rulings.specs.Checks.{IsChecked, IsCheckedBy, IsRoomRuling};
-ghost use Rattle.dep_rulings.specs.Rows.{access_refusal, document_by, fields_refusal, purpose_in, reads_alone, has_content};
+ghost use Rattle.dep_rulings.specs.Rows.{access_refusal, document_by, has_content, reads_alone};
 ghost use Rattle.dep_rulings.specs.Rulings.{HasRoomFor, RulesBy};
 
 use crate::references::references_row;
-use crate::rows::{
-    behalf_row, digest_row, digests_if_promised, encoding_row, format_row, kind_row, presence_row,
-    progress_row, seen_tag, size_row, tag_row, type_row,
-};
+use crate::rows::{behalf_row, presence_row, seen_tag, size_row, tag_row};
 use crate::ruling::Ruling;
 use crate::view::View;
-use dep_decisions::{Operation, Purpose, ReadContent, content_purpose, decision_on, numbers_for};
+use dep_decisions::{
+    Operation, Purpose, ReadContent, content_purpose, decision_on, digest_row, digests_if_promised,
+    fields_row, numbers_for,
+};
 use dep_docs_in::{DocFault, read_metadata};
 use dep_types::{Config, Metadata, Method, Refusal, Resource, Target};
 use std::alloc::{AllocError, Global};
@@ -108,7 +108,7 @@ fn check_rows(
     ensures { IfOk result (IsCheckedBy config.now view.now operation.now) }
 {
     let purpose = content_purpose(operation);
-    if let Some(refusal) = fields_row(operation, purpose) {
+    if let Some(refusal) = fields_row(operation) {
         return Ok(Checked::Refused(refusal));
     }
     let digests = digests_if_promised(operation);
@@ -132,27 +132,6 @@ fn has_content(method: Method) -> bool
         Method::Post | Method::Put => true,
         Method::Get | Method::Head | Method::Delete => false,
     }
-}
-
-// Rules 8 to 11: what the fields say of the content.
-#[tactic(auto, unfolding(crate::specs::Rows::fields_refusal))]
-fn fields_row(operation: &Operation<'_>, purpose: Option<Purpose>) -> Option<Refusal>
-    requires { purpose ≡ purpose_in operation.now }
-    ensures { result ≡ fields_refusal operation.now purpose }
-{
-    if let Some(refusal) = encoding_row(operation) {
-        return Some(refusal);
-    }
-    if let Some(refusal) = kind_row(operation, purpose) {
-        return Some(refusal);
-    }
-    if let Some(refusal) = progress_row(operation) {
-        return Some(refusal);
-    }
-    if let Some(refusal) = format_row(operation, purpose) {
-        return Some(refusal);
-    }
-    type_row(operation, purpose)
 }
 
 // The metadata that the content is, read for this purpose alone.

@@ -1,17 +1,17 @@
 //! The rules on references (SWORD 3.0, by-reference deposit), one after another, each over all entries.
-ghost use Rattle.std.specs.Prelude.{◌≡◌, IfOk, bytes_eq, map};
+ghost use Rattle.std.specs.Prelude.{◌≡◌, IfOk, map};
 ghost use Rattle.std.specs.List.{list_any};
 ghost use Rattle.std.specs.Option.{option_copied};
-ghost use Rattle.dep_types.specs.Names.{binary};
 ghost use Rattle.dep_fixity.specs.Fixity.{is_kept};
 ghost use Rattle.dep_decisions.specs.Rules.{stands_twice};
 ghost use Rattle.dep_rulings.specs.Seen.{state_refusal};
 ghost use Rattle.dep_rulings.specs.Walks.{digest_rule, entries_seen, is_other_packaging, length_rule, packaging_refusal, points_elsewhere, references_seen, repeat_refusal, rule_of, target_refusal, walk, whole_rule};
 
 use crate::view::{UploadState, UploadView};
+use dep_decisions::is_binary;
 use dep_docs_in::{Pointed, Reference, References};
 use dep_fixity::check;
-use dep_types::{BINARY_PACKAGING, Refusal, UploadRow};
+use dep_types::{Refusal, UploadRow};
 use std::alloc::{AllocError, Global};
 use std::collections::BTreeSet;
 
@@ -125,13 +125,6 @@ fn is_other_packaging(reference: &Reference) -> bool
         Some(packaging) => !is_binary(packaging.as_str().as_bytes()),
         None => false,
     }
-}
-
-/// Whether the text is the one packaging that is taken.
-pub(crate) fn is_binary(packaging: &[u8]) -> bool
-    ensures { result ≡ bytes_eq binary packaging.now }
-{
-    BINARY_PACKAGING.as_bytes() == packaging
 }
 
 #[tactic(auto, unfolding(crate::specs::Walks::repeat_refusal))]

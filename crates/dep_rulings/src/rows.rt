@@ -1,23 +1,16 @@
-//! The rules in docs/PROFILE.md, from 5 on, one function each, by what a view tells. None takes memory.
-ghost use Rattle.std.specs.Prelude.{◌≡◌, ◌==◌, bytes_eq, codes, position};
-ghost use Rattle.std.specs.List.{before_first};
-ghost use Rattle.std.specs.Str.{str_eq_ignore_ascii_case};
-ghost use Rattle.dep_types.specs.Names.{metadata_format};
+//! The rules that look at a view, one function each. None takes memory.
+ghost use Rattle.std.specs.Prelude.{◌≡◌};
 ghost use Rattle.dep_types.specs.Uploads.{sizes_agree};
 ghost use Rattle.dep_types.specs.declared.refusal.Refusal.TheVariants as why;
-ghost use Rattle.dep_decisions.specs.Rules.{is_json, media_name, of_behalf, of_digest, of_encoding, of_in_progress, of_kind, opening_refusal, reads_in_progress, tag_refusal, unless};
-ghost use Rattle.dep_rulings.specs.Rows.{digests_if_promised, format_by, purpose_in, size_by, type_by};
+ghost use Rattle.dep_decisions.specs.Rules.{of_behalf, opening_refusal, tag_refusal, unless};
+ghost use Rattle.dep_rulings.specs.Rows.{size_by};
 ghost use Rattle.dep_rulings.specs.Seen.{is_received, live_refusal, presence_seen, row_length, segment_seen, tag_seen, views_refusal};
 
-use crate::references::{is_binary, state_row};
+use crate::references::state_row;
 use crate::view::{LiveUpload, UploadState, UploadViews, View};
-use dep_decisions::{Operation, Purpose, content_digests, is_completion};
+use dep_decisions::{Operation, Purpose};
 use dep_fields::{Field, IfMatch, Opening};
-use dep_fixity::{Digests, check};
-use dep_octets::trim_ows;
-use dep_types::{
-    Config, METADATA_FORMAT, Method, Octets, Refusal, Resource, Target, Text, UploadRow,
-};
+use dep_types::{Config, Octets, Refusal, Resource, UploadRow};
 
 /// Rule 5: On-Behalf-Of.
 #[tactic(auto, unfolding(dep_decisions::specs::Rules::of_behalf))]
@@ -96,196 +89,6 @@ pub(crate) fn seen_tag(view: &View, resource: &Resource) -> Option<u64>
             None => None,
         },
         _ => None,
-    }
-}
-
-/// Rule 8: Content-Encoding.
-#[tactic(auto, unfolding(dep_decisions::specs::Rules::of_encoding))]
-pub(crate) fn encoding_row(operation: &Operation<'_>) -> Option<Refusal>
-    ensures { result ≡ of_encoding operation.now }
-{
-    match &operation.fields.content_encoding {
-        Field::Absent => None,
-        Field::Bad => Some(Refusal::BadRequest),
-        Field::Value(coding) => {
-            if is_identity(coding) {
-                None
-            } else {
-                Some(Refusal::ContentTypeNotAcceptable)
-            }
-        }
-    }
-}
-
-fn is_identity(coding: &Octets) -> bool
-    ensures { result ≡ str_eq_ignore_ascii_case coding.now (codes "identity") }
-{
-    coding.as_slice().eq_ignore_ascii_case(b"identity")
-}
-
-/// Rule 9: what the content is for.
-#[tactic(auto, unfolding(dep_decisions::specs::Rules::of_kind))]
-pub(crate) fn kind_row(operation: &Operation<'_>, purpose: Option<Purpose>) -> Option<Refusal>
-    requires { purpose ≡ purpose_in operation.now }
-    ensures { result ≡ of_kind operation.now }
-{
-    if purpose.is_some() || is_completion(operation) {
-        None
-    } else {
-        Some(Refusal::BadRequest)
-    }
-}
-
-/// Rule 9: In-Progress.
-#[tactic(auto, unfolding(dep_decisions::specs::Rules::of_in_progress))]
-pub(crate) fn progress_row(operation: &Operation<'_>) -> Option<Refusal>
-    ensures { result ≡ of_in_progress operation.now }
-{
-    if !reads_in_progress(&operation.target) {
-        return None;
-    }
-    match operation.fields.in_progress {
-        Field::Bad => Some(Refusal::BadRequest),
-        _ => None,
-    }
-}
-
-fn reads_in_progress(target: &Target) -> bool
-    ensures { result ≡ reads_in_progress target.now.resource target.now.method }
-{
-    match (&target.resource, target.method) {
-        (Resource::Service, Method::Post) => true,
-        (Resource::Object(_), Method::Post) => true,
-        (Resource::Object(_), Method::Put) => true,
-        _ => false,
-    }
-}
-
-/// Rule 10: Packaging and Metadata-Format.
-#[tactic(auto, unfolding(crate::specs::Rows::format_by))]
-pub(crate) fn format_row(operation: &Operation<'_>, purpose: Option<Purpose>) -> Option<Refusal>
-    ensures { result ≡ format_by operation.now purpose }
-{
-    match purpose {
-        Some(Purpose::File) => match &operation.fields.packaging {
-            Field::Absent => None,
-            Field::Bad => Some(Refusal::BadRequest),
-            Field::Value(text) => {
-                if is_binary(text.as_slice()) {
-                    None
-                } else {
-                    Some(Refusal::PackagingFormatNotAcceptable)
-                }
-            }
-        },
-        Some(Purpose::Metadata) => match &operation.fields.metadata_format {
-            Field::Absent => None,
-            Field::Bad => Some(Refusal::BadRequest),
-            Field::Value(text) => {
-                if is_metadata_format(text) {
-                    None
-                } else {
-                    Some(Refusal::MetadataFormatNotAcceptable)
-                }
-            }
-        },
-        _ => None,
-    }
-}
-
-fn is_metadata_format(text: &Octets) -> bool
-    ensures { result ≡ bytes_eq metadata_format text.now }
-{
-    METADATA_FORMAT.as_bytes() == text.as_slice()
-}
-
-/// Rule 11: Content-Type.
-#[tactic(auto, unfolding(crate::specs::Rows::type_by))]
-pub(crate) fn type_row(operation: &Operation<'_>, purpose: Option<Purpose>) -> Option<Refusal>
-    ensures { result ≡ type_by operation.now purpose }
-{
-    match purpose {
-        Some(Purpose::File) => match &operation.fields.content_type {
-            Field::Bad => Some(Refusal::BadRequest),
-            _ => None,
-        },
-        Some(Purpose::Metadata | Purpose::References) => match &operation.fields.content_type {
-            Field::Absent => None,
-            Field::Bad => Some(Refusal::BadRequest),
-            Field::Value(text) => {
-                if is_json(text) {
-                    None
-                } else {
-                    Some(Refusal::ContentTypeNotAcceptable)
-                }
-            }
-        },
-        _ => None,
-    }
-}
-
-fn is_json(text: &Text) -> bool
-    ensures { result ≡ is_json text.now }
-{
-    let name = media_name(text.as_str().as_bytes());
-    name.eq_ignore_ascii_case(b"application/json")
-        || name.eq_ignore_ascii_case(b"application/ld+json")
-}
-
-// What stands before the first semicolon, without the blanks about it.
-fn media_name(text: &[u8]) -> &[u8]
-    ensures { result.now ≡ media_name text.now }
-{
-    trim_ows(before_semicolon(text))
-}
-
-fn before_semicolon(text: &[u8]) -> &[u8]
-    ensures { result.now ≡ before_first (λ b. b == 59) text.now }
-{
-    match first_semicolon(text) {
-        Some(semicolon) => &text[..semicolon],
-        None => text,
-    }
-}
-
-fn first_semicolon(text: &[u8]) -> Option<usize>
-    ensures { result ≡ position (λ b. b == 59) text.now }
-{
-    text.iter().position(|b| *b == b';')
-}
-
-/// The digests of the content, where one is promised: else they aren't computed.
-pub(crate) fn digests_if_promised(operation: &Operation<'_>) -> Option<Digests>
-    ensures { result ≡ digests_if_promised operation.now operation.now.fields.digest }
-{
-    match &operation.fields.digest {
-        Field::Value(list) if list.sha256.is_some() => {
-            Some(content_digests(operation.content.as_slice()))
-        }
-        _ => None,
-    }
-}
-
-/// Rule 12: Digest.
-#[tactic(auto, unfolding(dep_decisions::specs::Rules::of_digest))]
-pub(crate) fn digest_row(operation: &Operation<'_>, digests: Option<Digests>) -> Option<Refusal>
-    requires { digests ≡ digests_if_promised operation.now operation.now.fields.digest }
-    ensures { result ≡ of_digest operation.now }
-{
-    match (&operation.fields.digest, digests) {
-        (Field::Bad, _) => Some(Refusal::BadRequest),
-        (Field::Value(list), Some(digests)) => mismatch_unless(check(list, &digests)),
-        _ => None,
-    }
-}
-
-fn mismatch_unless(is_kept: bool) -> Option<Refusal>
-    ensures { result ≡ unless is_kept why.DigestMismatch }
-{
-    if is_kept {
-        None
-    } else {
-        Some(Refusal::DigestMismatch)
     }
 }
 

@@ -1,0 +1,245 @@
+//! The rules on the fields of a content, which look at no more than the request: of the order of refusals in
+//! docs/PROFILE.md those from 8 to 12. None takes memory.
+ghost use Rattle.std.specs.Prelude.{◌≡◌, ◌==◌, bytes_eq, codes, position};
+ghost use Rattle.std.specs.List.{before_first};
+ghost use Rattle.std.specs.Str.{str_eq_ignore_ascii_case};
+ghost use Rattle.dep_types.specs.Names.{binary, metadata_format};
+ghost use Rattle.dep_types.specs.declared.refusal.Refusal.TheVariants as why;
+ghost use Rattle.dep_decisions.specs.ContentRows.{digests_if_promised, fields_by, fields_refusal, format_by, purpose_in, type_by};
+ghost use Rattle.dep_decisions.specs.Rules.{is_json, media_name, of_digest, of_encoding, of_in_progress, of_kind, reads_in_progress, unless};
+
+use crate::asked::content_digests;
+use crate::operation::Operation;
+use crate::purpose::{Purpose, content_purpose, is_completion};
+use dep_fields::Field;
+use dep_fixity::{Digests, check};
+use dep_octets::trim_ows;
+use dep_types::{
+    BINARY_PACKAGING, METADATA_FORMAT, Method, Octets, Refusal, Resource, Target, Text,
+};
+
+/// The first of rules 8 to 11 that applies: what Content-Encoding, Content-Disposition, In-Progress, Packaging,
+/// Metadata-Format and Content-Type say of the content.
+pub fn fields_row(operation: &Operation<'_>) -> Option<Refusal>
+    ensures { result ≡ fields_refusal operation.now }
+{
+    rows_by(operation, content_purpose(operation))
+}
+
+// By what the content is for.
+#[tactic(auto, unfolding(crate::specs::ContentRows::fields_by))]
+fn rows_by(operation: &Operation<'_>, purpose: Option<Purpose>) -> Option<Refusal>
+    requires { purpose ≡ purpose_in operation.now }
+    ensures { result ≡ fields_by operation.now purpose }
+{
+    if let Some(refusal) = encoding_row(operation) {
+        return Some(refusal);
+    }
+    if let Some(refusal) = kind_row(operation, purpose) {
+        return Some(refusal);
+    }
+    if let Some(refusal) = progress_row(operation) {
+        return Some(refusal);
+    }
+    if let Some(refusal) = format_row(operation, purpose) {
+        return Some(refusal);
+    }
+    type_row(operation, purpose)
+}
+
+/// Rule 8: Content-Encoding.
+#[tactic(auto, unfolding(crate::specs::Rules::of_encoding))]
+fn encoding_row(operation: &Operation<'_>) -> Option<Refusal>
+    ensures { result ≡ of_encoding operation.now }
+{
+    match &operation.fields.content_encoding {
+        Field::Absent => None,
+        Field::Bad => Some(Refusal::BadRequest),
+        Field::Value(coding) => {
+            if is_identity(coding) {
+                None
+            } else {
+                Some(Refusal::ContentTypeNotAcceptable)
+            }
+        }
+    }
+}
+
+fn is_identity(coding: &Octets) -> bool
+    ensures { result ≡ str_eq_ignore_ascii_case coding.now (codes "identity") }
+{
+    coding.as_slice().eq_ignore_ascii_case(b"identity")
+}
+
+/// Rule 9: what the content is for.
+#[tactic(auto, unfolding(crate::specs::Rules::of_kind))]
+fn kind_row(operation: &Operation<'_>, purpose: Option<Purpose>) -> Option<Refusal>
+    requires { purpose ≡ purpose_in operation.now }
+    ensures { result ≡ of_kind operation.now }
+{
+    if purpose.is_some() || is_completion(operation) {
+        None
+    } else {
+        Some(Refusal::BadRequest)
+    }
+}
+
+/// Rule 9: In-Progress.
+#[tactic(auto, unfolding(crate::specs::Rules::of_in_progress))]
+fn progress_row(operation: &Operation<'_>) -> Option<Refusal>
+    ensures { result ≡ of_in_progress operation.now }
+{
+    if !reads_in_progress(&operation.target) {
+        return None;
+    }
+    match operation.fields.in_progress {
+        Field::Bad => Some(Refusal::BadRequest),
+        _ => None,
+    }
+}
+
+fn reads_in_progress(target: &Target) -> bool
+    ensures { result ≡ reads_in_progress target.now.resource target.now.method }
+{
+    match (&target.resource, target.method) {
+        (Resource::Service, Method::Post) => true,
+        (Resource::Object(_), Method::Post) => true,
+        (Resource::Object(_), Method::Put) => true,
+        _ => false,
+    }
+}
+
+/// Rule 10: Packaging and Metadata-Format.
+#[tactic(auto, unfolding(crate::specs::ContentRows::format_by))]
+fn format_row(operation: &Operation<'_>, purpose: Option<Purpose>) -> Option<Refusal>
+    ensures { result ≡ format_by operation.now purpose }
+{
+    match purpose {
+        Some(Purpose::File) => match &operation.fields.packaging {
+            Field::Absent => None,
+            Field::Bad => Some(Refusal::BadRequest),
+            Field::Value(text) => {
+                if is_binary(text.as_slice()) {
+                    None
+                } else {
+                    Some(Refusal::PackagingFormatNotAcceptable)
+                }
+            }
+        },
+        Some(Purpose::Metadata) => match &operation.fields.metadata_format {
+            Field::Absent => None,
+            Field::Bad => Some(Refusal::BadRequest),
+            Field::Value(text) => {
+                if is_metadata_format(text) {
+                    None
+                } else {
+                    Some(Refusal::MetadataFormatNotAcceptable)
+                }
+            }
+        },
+        _ => None,
+    }
+}
+
+fn is_metadata_format(text: &Octets) -> bool
+    ensures { result ≡ bytes_eq metadata_format text.now }
+{
+    METADATA_FORMAT.as_bytes() == text.as_slice()
+}
+
+/// Rule 11: Content-Type.
+#[tactic(auto, unfolding(crate::specs::ContentRows::type_by))]
+fn type_row(operation: &Operation<'_>, purpose: Option<Purpose>) -> Option<Refusal>
+    ensures { result ≡ type_by operation.now purpose }
+{
+    match purpose {
+        Some(Purpose::File) => match &operation.fields.content_type {
+            Field::Bad => Some(Refusal::BadRequest),
+            _ => None,
+        },
+        Some(Purpose::Metadata | Purpose::References) => match &operation.fields.content_type {
+            Field::Absent => None,
+            Field::Bad => Some(Refusal::BadRequest),
+            Field::Value(text) => {
+                if is_json(text) {
+                    None
+                } else {
+                    Some(Refusal::ContentTypeNotAcceptable)
+                }
+            }
+        },
+        _ => None,
+    }
+}
+
+fn is_json(text: &Text) -> bool
+    ensures { result ≡ is_json text.now }
+{
+    let name = media_name(text.as_str().as_bytes());
+    name.eq_ignore_ascii_case(b"application/json")
+        || name.eq_ignore_ascii_case(b"application/ld+json")
+}
+
+// What stands before the first semicolon, without the blanks about it.
+fn media_name(text: &[u8]) -> &[u8]
+    ensures { result.now ≡ media_name text.now }
+{
+    trim_ows(before_semicolon(text))
+}
+
+fn before_semicolon(text: &[u8]) -> &[u8]
+    ensures { result.now ≡ before_first (λ b. b == 59) text.now }
+{
+    match first_semicolon(text) {
+        Some(semicolon) => &text[..semicolon],
+        None => text,
+    }
+}
+
+fn first_semicolon(text: &[u8]) -> Option<usize>
+    ensures { result ≡ position (λ b. b == 59) text.now }
+{
+    text.iter().position(|b| *b == b';')
+}
+
+/// The digests of the content, where one is promised: else they aren't computed.
+pub fn digests_if_promised(operation: &Operation<'_>) -> Option<Digests>
+    ensures { result ≡ digests_if_promised operation.now operation.now.fields.digest }
+{
+    match &operation.fields.digest {
+        Field::Value(list) if list.sha256.is_some() => {
+            Some(content_digests(operation.content.as_slice()))
+        }
+        _ => None,
+    }
+}
+
+/// Rule 12: Digest.
+#[tactic(auto, unfolding(crate::specs::Rules::of_digest))]
+pub fn digest_row(operation: &Operation<'_>, digests: Option<Digests>) -> Option<Refusal>
+    requires { digests ≡ digests_if_promised operation.now operation.now.fields.digest }
+    ensures { result ≡ of_digest operation.now }
+{
+    match (&operation.fields.digest, digests) {
+        (Field::Bad, _) => Some(Refusal::BadRequest),
+        (Field::Value(list), Some(digests)) => mismatch_unless(check(list, &digests)),
+        _ => None,
+    }
+}
+
+fn mismatch_unless(is_kept: bool) -> Option<Refusal>
+    ensures { result ≡ unless is_kept why.DigestMismatch }
+{
+    if is_kept {
+        None
+    } else {
+        Some(Refusal::DigestMismatch)
+    }
+}
+
+/// Whether the text is the one packaging that is taken.
+pub fn is_binary(packaging: &[u8]) -> bool
+    ensures { result ≡ bytes_eq binary packaging.now }
+{
+    BINARY_PACKAGING.as_bytes() == packaging
+}
