@@ -3,11 +3,13 @@
 mod digests;
 mod disposition;
 mod fields;
+mod routes;
 
 use crate::exchange::Exchange;
 use crate::leaf::digests::{tell_digest, tell_hash};
 use crate::leaf::disposition::tell_disposition;
 use crate::leaf::fields::{tell_fields, tell_if_match};
+use crate::leaf::routes::tell_route;
 use crate::page::Page;
 use crate::settings::number;
 use crate::trouble::Trouble;
@@ -26,6 +28,8 @@ pub enum Leaf {
     Digest,
     /// The SHA-256 of a content that comes in pieces.
     Hash,
+    /// What a method and a path name.
+    Route,
 }
 
 impl Leaf {
@@ -37,6 +41,7 @@ impl Leaf {
             "disposition" => Ok(Leaf::Disposition),
             "digest" => Ok(Leaf::Digest),
             "hash" => Ok(Leaf::Hash),
+            "route" => Ok(Leaf::Route),
             _ => Err(Trouble::Line("no line of an example begins so")),
         }
     }
@@ -50,6 +55,7 @@ impl Leaf {
             Leaf::Disposition => tell_disposition(alloc, text, page),
             Leaf::Digest => Ok(tell_digest(text, page)?),
             Leaf::Hash => Ok(tell_hash(exchange, page)?),
+            Leaf::Route => tell_route(alloc, text, page),
         }
     }
 }

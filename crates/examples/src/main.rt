@@ -3,6 +3,7 @@
 #![tactic(auto)]
 
 mod cut;
+mod documents;
 mod escapes;
 mod example;
 mod exchange;

@@ -1,5 +1,6 @@
 //! A writer in memory.
 
+use itoa::Buffer;
 use std::alloc::{AllocError, Global};
 use std::io;
 use std::io::Write;
@@ -27,6 +28,12 @@ impl Page {
     /// What it took.
     pub fn as_slice(&self) -> &[u8] {
         self.bytes.as_slice()
+    }
+
+    /// Adds a line of a name and a number.
+    pub fn tell_number(&mut self, name: &[u8], number: u64) -> Result<(), AllocError> {
+        let mut digits = Buffer::new();
+        self.tell(&[name, digits.format(number).as_bytes()])
     }
 
     /// Adds a line of these parts.

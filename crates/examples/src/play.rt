@@ -1,6 +1,7 @@
 //! An example is played line by line.
 
 use crate::cut::Cut;
+use crate::documents::{Call, Documents};
 use crate::escapes::{expand, fill};
 use crate::exchange::{Exchange, blank};
 use crate::leaf::Leaf;
@@ -148,8 +149,11 @@ impl Play {
 
     // It goes on with a call by itself.
     fn alone(&mut self, word: &str, rest: &str) -> Result<(), Trouble> {
-        let leaf = Leaf::named(word, rest)?;
-        self.side.change_to(Side::Leaf(leaf));
+        let side = match Call::named(word) {
+            Some(call) => Side::Documents(Documents::new(self.settings.config(self.alloc)?, call)),
+            None => Side::Leaf(Leaf::named(word, rest)?),
+        };
+        self.side.change_to(side);
         Ok(())
     }
 }

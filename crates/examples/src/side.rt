@@ -1,5 +1,6 @@
 //! What an example is played against.
 
+use crate::documents::Documents;
 use crate::exchange::Exchange;
 use crate::intake::takes;
 use crate::leaf::Leaf;
@@ -22,6 +23,7 @@ pub enum Side {
     Server(Server),
     Intake(Intake),
     Leaf(Leaf),
+    Documents(Documents),
 }
 
 impl Side {
@@ -42,6 +44,10 @@ impl Side {
             Side::Intake(intake) => takes(intake, exchange, page),
             Side::Leaf(leaf) => {
                 leaf.reads(alloc, exchange, page)?;
+                Ok("told")
+            }
+            Side::Documents(documents) => {
+                documents.reads(alloc, exchange.stream.as_slice(), page)?;
                 Ok("told")
             }
             Side::Server(server) => match answer {

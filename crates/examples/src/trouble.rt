@@ -1,6 +1,6 @@
 //! Why an example is not as it is written.
 
-use std::alloc::{AllocError, Global};
+use std::alloc::{AllocError, AllocFailed, Global};
 use std::fmt;
 
 /// Why an example is not as it is written.
@@ -16,6 +16,12 @@ pub enum Trouble {
 
 impl From<AllocError> for Trouble {
     fn from(_error: AllocError) -> Trouble {
+        Trouble::Memory
+    }
+}
+
+impl<T: Drop> From<AllocFailed<T>> for Trouble {
+    fn from(_failed: AllocFailed<T>) -> Trouble {
         Trouble::Memory
     }
 }

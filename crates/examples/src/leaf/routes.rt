@@ -1,0 +1,67 @@
+//! Routes.
+
+use crate::page::Page;
+use crate::trouble::Trouble;
+use dep_router::{Routed, Routes};
+use dep_types::{Method, Resource, Target};
+use itoa::Buffer;
+use std::alloc::{AllocError, Global};
+
+/// What a method and a path name: `METHOD PATH`.
+pub fn tell_route(alloc: Global, text: &[u8], page: &mut Page) -> Result<(), Trouble> {
+    let Some(place) = text.iter().position(|byte| *byte == b' ') else {
+        return Err(Trouble::Line("a method and a path are wanted"));
+    };
+    match Routes::new(alloc).route(&text[..place], &text[place + 1..])? {
+        Routed::To(target) => Ok(tell_target(&target, page)?),
+        Routed::NotFound => Ok(page.tell(&[b"not found"])?),
+        Routed::NotAllowed(allow) => {
+            Ok(page.tell(&[b"not allowed: ", allow.as_str().as_bytes()])?)
+        }
+    }
+}
+
+fn tell_target(target: &Target, page: &mut Page) -> Result<(), AllocError> {
+    let method = method_name(target.method);
+    match &target.resource {
+        Resource::Service => tell_named(method, b" service", page),
+        Resource::Staging => tell_named(method, b" staging", page),
+        Resource::Object(object) => tell_numbered(method, b" object ", *object, page),
+        Resource::Metadata(object) => tell_numbered(method, b" metadata ", *object, page),
+        Resource::FileSet(object) => tell_numbered(method, b" files ", *object, page),
+        Resource::Upload(upload) => tell_numbered(method, b" upload ", *upload, page),
+        Resource::BagList(object) => tell_numbered(method, b" bag ", *object, page),
+        Resource::BagFile(object, path) => {
+            tell_numbered(method, b" bag ", *object, page)?;
+            page.tell(&[b"path ", path.as_slice()])
+        }
+        Resource::File(object, file) => {
+            tell_numbered(method, b" object ", *object, page)?;
+            page.tell_number(b"file ", *file)
+        }
+    }
+}
+
+fn tell_named(method: &str, name: &[u8], page: &mut Page) -> Result<(), AllocError> {
+    page.tell(&[method.as_bytes(), name])
+}
+
+fn tell_numbered(
+    method: &str,
+    name: &[u8],
+    number: u64,
+    page: &mut Page,
+) -> Result<(), AllocError> {
+    let mut digits = Buffer::new();
+    page.tell(&[method.as_bytes(), name, digits.format(number).as_bytes()])
+}
+
+fn method_name(method: Method) -> &'static str {
+    match method {
+        Method::Get => "GET",
+        Method::Head => "HEAD",
+        Method::Post => "POST",
+        Method::Put => "PUT",
+        Method::Delete => "DELETE",
+    }
+}
