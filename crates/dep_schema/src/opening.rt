@@ -17,6 +17,7 @@ use dep_types::StoreFault;
 use sqlite::types::ValueRef;
 use sqlite::{Alter, Connection, Error, Row, Transaction};
 use sqlite_resolve::CompileError;
+use std::fmt;
 
 /// Why a database was not opened.
 #[derive(Clone, Copy, Debug, PartialEq, Eq)]
@@ -42,6 +43,18 @@ impl From<StoreFault> for OpenFault {
         }
     }
 }
+
+impl fmt::Display for OpenFault {
+    fn fmt<W: fmt::Write>(&self, f: &mut fmt::Formatter<W>) -> fmt::Result {
+        match self {
+            OpenFault::UnknownVersion => write!(f, "the version of the tables is not known"),
+            OpenFault::Store => write!(f, "the store failed"),
+            OpenFault::Memory => write!(f, "out of memory"),
+        }
+    }
+}
+
+impl std::error::Error for OpenFault {}
 
 /// A connection over the tables of the store.
 #[derive(Drop)]
