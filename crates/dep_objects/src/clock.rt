@@ -2,11 +2,10 @@
 
 ghost use Rattle.std.specs.Prelude.{◌≡◌, IfOk, OnOk};
 ghost use Rattle.sqlite.specs.Held.{state};
-ghost use Rattle.dep_tables.specs.Tables.{tables_of};
 ghost use Rattle.dep_tables.specs.Clauses.{ReadsOnly, FailsWhole, FailsReading, GoesOn, StaysInside, CommitsNothing};
 ghost use Rattle.dep_row_maps.specs.Stored.{state_row};
-ghost use Rattle.dep_row_maps.specs.TablesAre.{TablesAre};
-ghost use Rattle.dep_row_maps.specs.Clauses.{FromMaps, KeepsOurs};
+ghost use Rattle.dep_row_maps.specs.TablesAre.{with_counters};
+ghost use Rattle.dep_row_maps.specs.Clauses.{FromMaps, KeepsOurs, SeesState};
 
 use dep_tables::{StateRow, read_state, write_state};
 use dep_types::StoreFault;
@@ -14,7 +13,8 @@ use sqlite::{Alter, Transaction};
 
 /// The clock and the counters.
 pub fn counters<S: Alter>(tx: &mut Transaction<'_, S>) -> Result<StateRow, StoreFault>
-    ensures map { FromMaps (state S.Store tx.old.conn.now) (state S.Store tx.new.conn.now) (λ s. IfOk result (λ row. row ≡ state_row s)) }
+    ensures map { FromMaps (state S.Store tx.old.conn.now) (state S.Store tx.new.conn.now)
+        (λ s. IfOk result (λ row. row ≡ state_row s)) }
     ensures same { ReadsOnly (state S.Store tx.old.conn.now) (state S.Store tx.new.conn.now) result }
     ensures ours { KeepsOurs (state S.Store tx.old.conn.now) (state S.Store tx.new.conn.now) result }
     ensures err { FailsReading (state S.Store tx.old.conn.now) (state S.Store tx.new.conn.now) result }
@@ -28,7 +28,9 @@ pub fn counters<S: Alter>(tx: &mut Transaction<'_, S>) -> Result<StateRow, Store
 
 /// Sets the clock and the counters. A number of 2^63 or more is a fault of the store.
 pub fn set_counters<S: Alter>(tx: &mut Transaction<'_, S>, row: &StateRow) -> Result<(), StoreFault>
-    ensures map { FromMaps (state S.Store tx.old.conn.now) (state S.Store tx.new.conn.now) (λ s. OnOk result (TablesAre (tables_of (state S.Store tx.new.conn.now)) (record s { clock = row.now.clock; next = row.now.next }))) }
+    ensures map { FromMaps (state S.Store tx.old.conn.now) (state S.Store tx.new.conn.now)
+        (λ s. OnOk result
+            (SeesState (state S.Store tx.new.conn.now) (with_counters s row.now.clock row.now.next))) }
     ensures ours { KeepsOurs (state S.Store tx.old.conn.now) (state S.Store tx.new.conn.now) result }
     ensures err { FailsWhole (state S.Store tx.old.conn.now) (state S.Store tx.new.conn.now) result }
     ensures inside { GoesOn (state S.Store tx.old.conn.now) (state S.Store tx.new.conn.now) result }

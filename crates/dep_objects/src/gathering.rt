@@ -31,7 +31,8 @@ fn keep(metadata: &mut Metadata, last: NamedTexts) -> Result<(), StoreFault>
     }
 }
 
-// Begins another name. It is a fault of the store where the name was there before, as rows of a name stand together.
+// Begins another name. It is a fault of the store where the name was there before, as rows of a name
+// stand together.
 fn begin(alloc: Global, metadata: &Metadata, row: MetadataRow) -> Result<NamedTexts, StoreFault>
     ensures { IfOk result (λ now. closed metadata.now (Some now) ≡ added metadata.now (pair_of row)) }
 {
@@ -55,7 +56,8 @@ fn gather(
     last: Option<NamedTexts>,
     row: MetadataRow,
 ) -> Result<NamedTexts, StoreFault>
-    ensures { IfOk result (λ now. closed metadata.new (Some now) ≡ added (closed metadata.old last) (pair_of row)) }
+    ensures { IfOk result (λ now.
+        closed metadata.new (Some now) ≡ added (closed metadata.old last) (pair_of row)) }
 {
     if let Some(mut last) = last {
         if last.name.as_str() == row.name.as_str() {
@@ -89,7 +91,9 @@ pub(crate) fn load_metadata<S: Alter>(
     alloc: Global,
     object: u64,
 ) -> Result<Metadata, StoreFault>
-    ensures map { FromMaps (state S.Store tx.old.conn.now) (state S.Store tx.new.conn.now) (λ s. IfOk result (λ metadata. metadata ≡ grouped (listed (metadata_at s.objects object)))) }
+    ensures map { FromMaps (state S.Store tx.old.conn.now) (state S.Store tx.new.conn.now)
+        (λ s. IfOk result (λ metadata.
+            metadata ≡ grouped (listed (metadata_at s.objects object)))) }
     ensures same { ReadsOnly (state S.Store tx.old.conn.now) (state S.Store tx.new.conn.now) result }
     ensures ours { KeepsOurs (state S.Store tx.old.conn.now) (state S.Store tx.new.conn.now) result }
     ensures err { FailsReading (state S.Store tx.old.conn.now) (state S.Store tx.new.conn.now) result }

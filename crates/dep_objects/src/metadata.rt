@@ -6,12 +6,11 @@ ghost use Rattle.sqlite.specs.Held.{state};
 ghost use Rattle.dep_types.specs.State.{Object};
 ghost use Rattle.dep_types.specs.MetadataEntries.{name_and_texts};
 ghost use Rattle.dep_decisions.specs.Effects.{joined};
-ghost use Rattle.dep_tables.specs.Tables.{tables_of};
 ghost use Rattle.dep_tables.specs.Clauses.{GoesOn, StaysInside, CommitsNothing};
 ghost use Rattle.dep_row_maps.specs.Owned.{placed, put_each};
 ghost use Rattle.dep_row_maps.specs.Stored.{is_of, text_row, text_values, texts_in};
-ghost use Rattle.dep_row_maps.specs.TablesAre.{TablesAre, with_object};
-ghost use Rattle.dep_row_maps.specs.Clauses.{FromMaps, Becomes, KeepsOurs, FailsUncommitted, FailsReadingUncommitted};
+ghost use Rattle.dep_row_maps.specs.TablesAre.{with_object, with_metadata};
+ghost use Rattle.dep_row_maps.specs.Clauses.{FromMaps, Becomes, KeepsOurs, SeesState, FailsUncommitted, FailsReadingUncommitted};
 ghost use Rattle.dep_objects.specs.Texts.{rows_beside};
 
 use crate::gathering::load_metadata;
@@ -51,7 +50,9 @@ fn put_texts<S: Alter>(
     entry: &MetadataEntry,
     start: u64,
 ) -> Result<(), StoreFault>
-    ensures ok { Becomes (state S.Store tx.old.conn.now) (state S.Store tx.new.conn.now) result (λ t. record t { metadata = put_each (placed (text_values object entry.now.name) start entry.now.texts) t.metadata }) }
+    ensures ok { Becomes (state S.Store tx.old.conn.now) (state S.Store tx.new.conn.now) result
+        (λ t. record t { metadata = put_each
+            (placed (text_values object entry.now.name) start entry.now.texts) t.metadata }) }
     ensures err { FailsUncommitted (state S.Store tx.old.conn.now) (state S.Store tx.new.conn.now) result }
     ensures inside { GoesOn (state S.Store tx.old.conn.now) (state S.Store tx.new.conn.now) result }
     ensures kept { StaysInside (state S.Store tx.old.conn.now) (state S.Store tx.new.conn.now) }
@@ -86,7 +87,9 @@ fn put_entries<S: Alter>(
     have: &Metadata,
     entries: &[MetadataEntry],
 ) -> Result<(), StoreFault>
-    ensures ok { Becomes (state S.Store tx.old.conn.now) (state S.Store tx.new.conn.now) result (λ t. record t { metadata = put_each (rows_beside object have.now (each name_and_texts entries.now)) t.metadata }) }
+    ensures ok { Becomes (state S.Store tx.old.conn.now) (state S.Store tx.new.conn.now) result
+        (λ t. record t { metadata = put_each
+            (rows_beside object have.now (each name_and_texts entries.now)) t.metadata }) }
     ensures err { FailsUncommitted (state S.Store tx.old.conn.now) (state S.Store tx.new.conn.now) result }
     ensures inside { GoesOn (state S.Store tx.old.conn.now) (state S.Store tx.new.conn.now) result }
     ensures kept { StaysInside (state S.Store tx.old.conn.now) (state S.Store tx.new.conn.now) }
@@ -106,7 +109,9 @@ pub fn set_metadata<S: Alter>(
     object: u64,
     metadata: &Metadata,
 ) -> Result<(), StoreFault>
-    ensures map { FromMaps (state S.Store tx.old.conn.now) (state S.Store tx.new.conn.now) (λ s. (o : Object) → map.get s.objects object ≡ Some o → OnOk result (TablesAre (tables_of (state S.Store tx.new.conn.now)) (with_object s object (record o { metadata = metadata.now })))) }
+    ensures map { FromMaps (state S.Store tx.old.conn.now) (state S.Store tx.new.conn.now)
+        (λ s. (o : Object) → map.get s.objects object ≡ Some o → OnOk result (SeesState (state S.Store tx.new.conn.now)
+            (with_object s object (with_metadata o metadata.now)))) }
     ensures ours { KeepsOurs (state S.Store tx.old.conn.now) (state S.Store tx.new.conn.now) result }
     ensures err { FailsUncommitted (state S.Store tx.old.conn.now) (state S.Store tx.new.conn.now) result }
     ensures inside { GoesOn (state S.Store tx.old.conn.now) (state S.Store tx.new.conn.now) result }
@@ -125,7 +130,10 @@ pub fn append_metadata<S: Alter>(
     object: u64,
     more: &Metadata,
 ) -> Result<(), StoreFault>
-    ensures map { FromMaps (state S.Store tx.old.conn.now) (state S.Store tx.new.conn.now) (λ s. (o : Object) → map.get s.objects object ≡ Some o → OnOk result (TablesAre (tables_of (state S.Store tx.new.conn.now)) (with_object s object (record o { metadata = joined (map.entries more.now) o.metadata })))) }
+    ensures map { FromMaps (state S.Store tx.old.conn.now) (state S.Store tx.new.conn.now)
+        (λ s. (o : Object) → map.get s.objects object ≡ Some o → OnOk result (SeesState (state S.Store tx.new.conn.now)
+            (with_object s object (with_metadata o
+                (joined (map.entries more.now) o.metadata))))) }
     ensures ours { KeepsOurs (state S.Store tx.old.conn.now) (state S.Store tx.new.conn.now) result }
     ensures err { FailsReadingUncommitted (state S.Store tx.old.conn.now) (state S.Store tx.new.conn.now) result }
     ensures inside { GoesOn (state S.Store tx.old.conn.now) (state S.Store tx.new.conn.now) result }

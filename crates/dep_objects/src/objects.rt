@@ -4,11 +4,10 @@ ghost use Rattle.std.specs.Prelude.{◌≡◌, IfOk, OnOk, option_map};
 ghost use Rattle.std.specs.FinMap as map;
 ghost use Rattle.sqlite.specs.Held.{state};
 ghost use Rattle.dep_types.specs.Sound.{IsSound};
-ghost use Rattle.dep_tables.specs.Tables.{tables_of};
 ghost use Rattle.dep_tables.specs.Clauses.{ReadsOnly, FailsReading, GoesOn, StaysInside, CommitsNothing};
 ghost use Rattle.dep_row_maps.specs.Keyed.{next_entry};
-ghost use Rattle.dep_row_maps.specs.TablesAre.{TablesAre, metadata_at, files_at, with_object};
-ghost use Rattle.dep_row_maps.specs.Clauses.{FromMaps, KeepsOurs, FailsUncommitted};
+ghost use Rattle.dep_row_maps.specs.TablesAre.{metadata_at, files_at, with_object, without_object};
+ghost use Rattle.dep_row_maps.specs.Clauses.{FromMaps, KeepsOurs, SeesState, FailsUncommitted};
 ghost use Rattle.dep_objects.specs.Objects.{object_of, described_object};
 
 use crate::gathering::load_metadata;
@@ -30,7 +29,9 @@ pub fn load_object<S: Alter>(
     alloc: Global,
     object: u64,
 ) -> Result<Option<DescribedObject>, StoreFault>
-    ensures map { FromMaps (state S.Store tx.old.conn.now) (state S.Store tx.new.conn.now) (λ s. IsSound s → IfOk result (λ found. found ≡ option_map (described_object object) (map.get s.objects object))) }
+    ensures map { FromMaps (state S.Store tx.old.conn.now) (state S.Store tx.new.conn.now)
+        (λ s. IsSound s → IfOk result (λ found.
+            found ≡ option_map (described_object object) (map.get s.objects object))) }
     ensures same { ReadsOnly (state S.Store tx.old.conn.now) (state S.Store tx.new.conn.now) result }
     ensures ours { KeepsOurs (state S.Store tx.old.conn.now) (state S.Store tx.new.conn.now) result }
     ensures err { FailsReading (state S.Store tx.old.conn.now) (state S.Store tx.new.conn.now) result }
@@ -51,7 +52,8 @@ pub fn next_object<S: Alter>(
     tx: &mut Transaction<'_, S>,
     after: u64,
 ) -> Result<Option<u64>, StoreFault>
-    ensures map { FromMaps (state S.Store tx.old.conn.now) (state S.Store tx.new.conn.now) (λ s. IfOk result (λ found. found ≡ option_map (λ e. e.0) (next_entry s.objects after))) }
+    ensures map { FromMaps (state S.Store tx.old.conn.now) (state S.Store tx.new.conn.now)
+        (λ s. IfOk result (λ found. found ≡ option_map (λ e. e.0) (next_entry s.objects after))) }
     ensures same { ReadsOnly (state S.Store tx.old.conn.now) (state S.Store tx.new.conn.now) result }
     ensures ours { KeepsOurs (state S.Store tx.old.conn.now) (state S.Store tx.new.conn.now) result }
     ensures err { FailsReading (state S.Store tx.old.conn.now) (state S.Store tx.new.conn.now) result }
@@ -65,7 +67,10 @@ pub fn next_object<S: Alter>(
 
 /// Puts an object in, or writes it in the place of the one that is there, which keeps its metadata and files. A number of 2^63 or more is a fault of the store.
 pub fn put_object<S: Alter>(tx: &mut Transaction<'_, S>, row: &ObjectRow) -> Result<(), StoreFault>
-    ensures map { FromMaps (state S.Store tx.old.conn.now) (state S.Store tx.new.conn.now) (λ s. OnOk result (TablesAre (tables_of (state S.Store tx.new.conn.now)) (with_object s row.now.object (object_of row.now (metadata_at s.objects row.now.object) (files_at s.objects row.now.object))))) }
+    ensures map { FromMaps (state S.Store tx.old.conn.now) (state S.Store tx.new.conn.now)
+        (λ s. OnOk result (SeesState (state S.Store tx.new.conn.now)
+            (with_object s row.now.object (object_of row.now
+                (metadata_at s.objects row.now.object) (files_at s.objects row.now.object))))) }
     ensures ours { KeepsOurs (state S.Store tx.old.conn.now) (state S.Store tx.new.conn.now) result }
     ensures err { FailsReading (state S.Store tx.old.conn.now) (state S.Store tx.new.conn.now) result }
     ensures inside { GoesOn (state S.Store tx.old.conn.now) (state S.Store tx.new.conn.now) result }
@@ -81,7 +86,9 @@ pub fn put_object<S: Alter>(tx: &mut Transaction<'_, S>, row: &ObjectRow) -> Res
 
 /// Deletes an object that has no files, with its metadata, if there is one. A number of 2^63 or more is a fault of the store.
 pub fn delete_object<S: Alter>(tx: &mut Transaction<'_, S>, object: u64) -> Result<(), StoreFault>
-    ensures map { FromMaps (state S.Store tx.old.conn.now) (state S.Store tx.new.conn.now) (λ s. files_at s.objects object ≡ map.empty → OnOk result (TablesAre (tables_of (state S.Store tx.new.conn.now)) (record s { objects = map.remove s.objects object }))) }
+    ensures map { FromMaps (state S.Store tx.old.conn.now) (state S.Store tx.new.conn.now)
+        (λ s. files_at s.objects object ≡ map.empty
+            → OnOk result (SeesState (state S.Store tx.new.conn.now) (without_object s object))) }
     ensures ours { KeepsOurs (state S.Store tx.old.conn.now) (state S.Store tx.new.conn.now) result }
     ensures err { FailsUncommitted (state S.Store tx.old.conn.now) (state S.Store tx.new.conn.now) result }
     ensures inside { GoesOn (state S.Store tx.old.conn.now) (state S.Store tx.new.conn.now) result }

@@ -11,19 +11,28 @@ pub record Sees (now : db.State) (tables : Tables) : Type 0 where
   pub ours : IsOurs now
   pub rows : tables_of now ≡ tables
 
+-- the tables that it sees are the state's
+abbrev pub SeesState : db.State → State → Type 0
+SeesState now s = TablesAre (tables_of now) s
+
 module _ (old new : db.State) where
   -- inside a transaction over tables that are a state's
   abbrev pub FromMaps : (State → Type 0) → Type 0
-  FromMaps told = HasCleanDisk new → IsTrue old.in_transaction → IsOurs old → (s : State) → TablesAre (tables_of old) s → told s
+  FromMaps told = HasCleanDisk new → IsTrue old.in_transaction → IsOurs old
+      → (s : State) → SeesState old s → told s
 
 module _ {A E : Type 0} (old new : db.State) (result : Result A E) where
   -- inside a transaction over our tables, an Ok makes this of them, were it by no statement
   abbrev pub Becomes : (Tables → Tables) → Type 0
-  Becomes change = HasCleanDisk new → IsTrue old.in_transaction → IsOurs old → OnOk result (Sees new (change (tables_of old)))
+  Becomes change = HasCleanDisk new → IsTrue old.in_transaction → IsOurs old
+      → OnOk result (Sees new (change (tables_of old)))
 
-  -- a failure has committed nothing: the transaction goes on, for its owner to give back, or has ended as it began
+  -- a failure has committed nothing: the transaction goes on, for its owner to give back, or has
+  -- ended as it began
   abbrev pub FailsUncommitted : Type 0
-  FailsUncommitted = HasCleanDisk new → IsTrue old.in_transaction → IsTrue new.is_open → OnErr result ((new.committed ≡ old.committed) × (IsTrue new.in_transaction ⊎ (new.now ≡ old.committed)))
+  FailsUncommitted = HasCleanDisk new → IsTrue old.in_transaction → IsTrue new.is_open
+      → OnErr result ((new.committed ≡ old.committed)
+      × (IsTrue new.in_transaction ⊎ (new.now ≡ old.committed)))
 
   -- the same of a function that reads our tables
   abbrev pub FailsReadingUncommitted : Type 0

@@ -78,7 +78,8 @@ pair_seen row = (bytes (column row 1), bytes (column row 3))
 -- the rows of these texts are put in, each at the end of what its name has
 abbrev pub put_texts : ℕ → Texts → List (List ℕ × List ℕ) → List Row → List Row
 put_texts n m [] rows = rows
-put_texts n m (p ∷ ps) rows = put_texts n (added m p) ps (put_next (text_values n p.0 (length (texts_in m p.0)) p.1) rows)
+put_texts n m (p ∷ ps) rows =
+    put_texts n (added m p) ps (put_next (text_values n p.0 (length (texts_in m p.0)) p.1) rows)
 
 -- ---- segments
 
@@ -123,9 +124,13 @@ bytes_seen row = bytes (column row 2)
 -- these blocks are put in, one after another, from this place on
 abbrev pub put_blocks : BlockOwner → (part place : ℕ) → List (List ℕ) → List Row → List Row
 put_blocks o part place [] rows = rows
-put_blocks o part place (b ∷ bs) rows = put_blocks o part (place + 1) bs (put_next (block_values (block_key o part place) b) rows)
+put_blocks o part place (b ∷ bs) rows =
+    put_blocks o part (place + 1) bs (put_next (block_values (block_key o part place) b) rows)
 
--- the blocks of these parts are given to another owner, part by part
+-- the blocks of a part are given to another owner; those of these parts, part by part
+abbrev pub move_part : (o to : BlockOwner) → ℕ → List Row → List Row
+move_part o to part = each (λ r. if is_part_of o part r then moved_to to r else r)
+
 abbrev pub move_parts : (o to : BlockOwner) → List ℕ → List Row → List Row
 move_parts o to [] rows = rows
-move_parts o to (part ∷ parts) rows = move_parts o to parts (each (λ r. if is_part_of o part r then moved_to to r else r) rows)
+move_parts o to (part ∷ parts) rows = move_parts o to parts (move_part o to part rows)

@@ -5,6 +5,7 @@ use Rattle.std.specs.FinMap as map
 use Rattle.std.specs.FinSet as set
 use Rattle.dep_types.specs.Maps.{Numbered, Numbers}
 use Rattle.dep_types.specs.State.{State, Object, File, Upload, Texts}
+use Rattle.dep_types.specs.declared.counters.Counters.{Counters}
 use Rattle.sqlite_value.specs.Order.{Row}
 use Rattle.dep_statements.specs.Rows.{row_at}
 use Rattle.dep_tables.specs.Tables.{Tables}
@@ -29,7 +30,8 @@ segments_at uploads u = option_map_or (λ it. it.segments) (map.get uploads u) m
 abbrev pub Parts : Type 0
 Parts = BlockOwner → Numbered (List ℕ)
 
--- One relation for each table whose rows are below a number of another table. It takes what each number has, as a function.
+-- One relation for each table whose rows are below a number of another table. It takes what each
+-- number has, as a function.
 abbrev pub MetadataAre : List Row → (ℕ → Texts) → Type 0
 MetadataAre rows texts = OwnedAre shown_metadata is_of rows (λ n. metadata_rows n (texts n))
 
@@ -52,8 +54,10 @@ joined = spread (λ _ bytes. bytes)
 
 -- A file's parts are its content; how a content is cut into parts is not told.
 pub record AreFilesParts (objects : Numbered Object) (parts : Parts) : Type 0 where
-  pub of_files : (n f : ℕ) (file : File) → map.get (files_at objects n) f ≡ Some file → joined (parts (owner.File f)) ≡ file.content
-  pub of_none : (f : ℕ) → ((n : ℕ) → map.get (files_at objects n) f ≡ None) → parts (owner.File f) ≡ map.empty
+  pub of_files : (n f : ℕ) (file : File) → map.get (files_at objects n) f ≡ Some file
+      → joined (parts (owner.File f)) ≡ file.content
+  pub of_none : (f : ℕ) → ((n : ℕ) → map.get (files_at objects n) f ≡ None)
+      → parts (owner.File f) ≡ map.empty
 
 -- an upload's parts are its segments
 abbrev pub AreUploadsParts : Numbered Upload → Parts → Type 0
@@ -72,9 +76,29 @@ pub record TablesAre (tables : Tables) (s : State) : Type 0 where
   pub files_parts : AreFilesParts s.objects parts
   pub uploads_parts : AreUploadsParts s.uploads parts
 
--- the state with an object, or an upload, at its number
+-- the state with other counters and another clock
+abbrev pub with_counters : State → ℕ → Counters → State
+with_counters s clock next = record s { clock = clock; next = next }
+
+-- the state with an object, or an upload, at its number, or without it
 abbrev pub with_object : State → ℕ → Object → State
 with_object s n o = record s { objects = map.insert s.objects n o }
 
+abbrev pub without_object : State → ℕ → State
+without_object s n = record s { objects = map.remove s.objects n }
+
 abbrev pub with_upload : State → ℕ → Upload → State
 with_upload s u it = record s { uploads = map.insert s.uploads u it }
+
+abbrev pub without_upload : State → ℕ → State
+without_upload s u = record s { uploads = map.remove s.uploads u }
+
+-- the object with other metadata, or other files; the upload with other segments
+abbrev pub with_metadata : Object → Texts → Object
+with_metadata o m = record o { metadata = m }
+
+abbrev pub with_files : Object → Numbered File → Object
+with_files o files = record o { files = files }
+
+abbrev pub with_segments : Upload → Numbered (List ℕ) → Upload
+with_segments it segments = record it { segments = segments }
