@@ -2,6 +2,4 @@
 #![tactic(auto)]
 
 #[cfg(test)]
-mod schema;
-#[cfg(test)]
 mod stops;
