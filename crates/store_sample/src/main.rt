@@ -6,7 +6,8 @@ mod writing;
 use dep_schema::{OpenFault, Schema};
 use dep_tables::{BlockOwner, MetadataRow, StateRow};
 use dep_types::{Counters, FileRow, ObjectRow, StoreFault, Text};
-use sqlite::{Alter, Connection, Transaction};
+use sqlite::{Alter, Connection, FileStore, Transaction};
+use sqlite_disk::Disk;
 use std::alloc::Global;
 use std::env;
 use writing::deposit;
@@ -110,21 +111,28 @@ fn fill<S: Alter>(alloc: Global, connection: &mut Connection<S>) -> anyhow::Resu
     Ok(made.is_ok())
 }
 
+/// Whether the sample was written and the files closed.
+fn is_written<D: Disk + Drop>(alloc: Global, mut connection: Connection<FileStore<D>>) -> bool {
+    let filled = matches!(fill(alloc, &mut connection), Ok(true));
+    connection.close().is_ok() && filled
+}
+
+fn is_filled<D: Disk + Drop>(alloc: Global, connection: Connection<FileStore<D>>) -> bool {
+    match made(connection) {
+        Ok(schema) => is_written(alloc, schema.connection),
+        Err(_) => false,
+    }
+}
+
 fn main(rt: HostRuntime) -> anyhow::Result<()> {
     let Some(path) = env::args(&rt)?.nth(1) else {
         println!(rt; "usage: store_sample PATH")?;
         return Ok(());
     };
-    let Ok(connection) = Connection::open(&rt, path.as_str()) else {
-        println!(rt; "not opened")?;
-        return Ok(());
+    let written = match Connection::open(&rt, path.as_str()) {
+        Ok(connection) => is_filled(rt.alloc(), connection),
+        Err(_) => false,
     };
-    let Ok(mut schema) = made(connection) else {
-        println!(rt; "no store")?;
-        return Ok(());
-    };
-    let filled = fill(rt.alloc(), &mut schema.connection)?;
-    let closed = schema.connection.close().is_ok();
-    println!(rt; "written: {}", filled && closed)?;
+    println!(rt; "written: {}", written)?;
     Ok(())
 }
