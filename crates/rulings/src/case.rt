@@ -1,0 +1,140 @@
+//! What is set: of the archive, the configuration and the request.
+
+use crate::trouble::Trouble;
+
+/// What may be set.
+const KEYS: [&str; 45] = [
+    "request",
+    "On-Behalf-Of",
+    "Content-Disposition",
+    "In-Progress",
+    "Packaging",
+    "Metadata-Format",
+    "Content-Type",
+    "Content-Encoding",
+    "Digest",
+    "If-Match",
+    "content",
+    "entry 1",
+    "entry 2",
+    "entry 3",
+    "entry 4",
+    "entry 5",
+    "entry 6",
+    "entry 7",
+    "entry 8",
+    "entry 9",
+    "entry 10",
+    "entry 11",
+    "entry 12",
+    "object",
+    "file",
+    "path",
+    "upload 1",
+    "upload 2",
+    "upload 3",
+    "upload 4",
+    "upload 5",
+    "upload 6",
+    "upload 7",
+    "upload 8",
+    "upload 9",
+    "next object",
+    "next file",
+    "next upload",
+    "next change",
+    "base",
+    "on-behalf-of",
+    "require-if-match",
+    "max-upload",
+    "max-assembled",
+    "max-segments",
+];
+
+/// What is set, by its place among the keys.
+#[derive(Clone, Copy)]
+pub struct Case<'a> {
+    values: [Option<&'a str>; 45],
+}
+
+impl<'a> Case<'a> {
+    /// Nothing.
+    pub fn new() -> Case<'a> {
+        Case { values: [None; 45] }
+    }
+
+    /// What is set under a key, without blanks about it.
+    pub fn get(&self, key: &str) -> Option<&'a str> {
+        let place = KEYS.iter().position(|each| *each == key)?;
+        self.values[place]
+    }
+
+    /// Whether it is set to `true`.
+    pub fn is_set(&self, key: &str) -> bool {
+        self.get(key) == Some("true")
+    }
+
+    /// The number under a key, 0 where there is none.
+    pub fn number(&self, key: &str) -> u64 {
+        number(self.get(key).unwrap_or(""))
+    }
+
+    /// Sets what stands between ` & `, in place of what was set so before.
+    pub fn with(&self, settings: &'a str) -> Result<Case<'a>, Trouble> {
+        let mut case = *self;
+        if settings.is_empty() {
+            return Ok(case);
+        }
+        for setting in settings.split(" & ") {
+            case.set(setting)?;
+        }
+        Ok(case)
+    }
+
+    fn set(&mut self, setting: &'a str) -> Result<(), Trouble> {
+        for (key, value) in KEYS.iter().zip(self.values.iter_mut()) {
+            if is_about(setting, key) {
+                *value = value_of(setting, key);
+                return Ok(());
+            }
+        }
+        Err(Trouble::Setting("nothing has that name"))
+    }
+}
+
+/// Whether two lines set the same thing.
+pub fn overlap(one: &str, other: &str) -> bool {
+    for left in one.split(" & ") {
+        for right in other.split(" & ") {
+            if place_of(left) == place_of(right) {
+                return true;
+            }
+        }
+    }
+    false
+}
+
+/// A number in decimal digits; 0 where it is none.
+pub fn number(text: &str) -> u64 {
+    text.parse::<u64>().unwrap_or(0)
+}
+
+// Which key a setting is about.
+fn place_of(setting: &str) -> Option<usize> {
+    KEYS.iter().position(|key| is_about(setting, key))
+}
+
+// It is the key, or the key and a value behind a blank or a colon; or the key is taken away.
+fn is_about(setting: &str, key: &str) -> bool {
+    let setting = setting.strip_prefix("no ").unwrap_or(setting);
+    match setting.strip_prefix(key) {
+        Some(rest) => rest.is_empty() || rest.starts_with(' ') || rest.starts_with(':'),
+        None => false,
+    }
+}
+
+// What stands behind the key.
+fn value_of<'a>(setting: &'a str, key: &str) -> Option<&'a str> {
+    let rest = setting.strip_prefix(key)?;
+    Some(rest.strip_prefix(':').unwrap_or(rest).trim_matches(' '))
+}
