@@ -30,7 +30,7 @@ pub fn counters<S: Alter>(tx: &mut Transaction<'_, S>) -> Result<StateRow, Store
 pub fn set_counters<S: Alter>(tx: &mut Transaction<'_, S>, row: &StateRow) -> Result<(), StoreFault>
     ensures map { FromMaps (state S.Store tx.old.conn.now) (state S.Store tx.new.conn.now)
         (λ s. OnOk result
-            (SeesState (state S.Store tx.new.conn.now) (with_counters s row.now.clock row.now.next))) }
+        (SeesState (state S.Store tx.new.conn.now) (with_counters s row.now.clock row.now.next))) }
     ensures ours { KeepsOurs (state S.Store tx.old.conn.now) (state S.Store tx.new.conn.now) result }
     ensures err { FailsWhole (state S.Store tx.old.conn.now) (state S.Store tx.new.conn.now) result }
     ensures inside { GoesOn (state S.Store tx.old.conn.now) (state S.Store tx.new.conn.now) result }

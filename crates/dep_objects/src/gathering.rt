@@ -93,7 +93,7 @@ pub(crate) fn load_metadata<S: Alter>(
 ) -> Result<Metadata, StoreFault>
     ensures map { FromMaps (state S.Store tx.old.conn.now) (state S.Store tx.new.conn.now)
         (λ s. IfOk result (λ metadata.
-            metadata ≡ grouped (listed (metadata_at s.objects object)))) }
+        metadata ≡ grouped (listed (metadata_at s.objects object)))) }
     ensures same { ReadsOnly (state S.Store tx.old.conn.now) (state S.Store tx.new.conn.now) result }
     ensures ours { KeepsOurs (state S.Store tx.old.conn.now) (state S.Store tx.new.conn.now) result }
     ensures err { FailsReading (state S.Store tx.old.conn.now) (state S.Store tx.new.conn.now) result }

@@ -51,8 +51,10 @@ fn put_texts<S: Alter>(
     start: u64,
 ) -> Result<(), StoreFault>
     ensures ok { Becomes (state S.Store tx.old.conn.now) (state S.Store tx.new.conn.now) result
-        (λ t. record t { metadata = put_each
-            (placed (text_values object entry.now.name) start entry.now.texts) t.metadata }) }
+        (λ t. record t {
+          metadata = put_each
+              (placed (text_values object entry.now.name) start entry.now.texts) t.metadata;
+        }) }
     ensures err { FailsUncommitted (state S.Store tx.old.conn.now) (state S.Store tx.new.conn.now) result }
     ensures inside { GoesOn (state S.Store tx.old.conn.now) (state S.Store tx.new.conn.now) result }
     ensures kept { StaysInside (state S.Store tx.old.conn.now) (state S.Store tx.new.conn.now) }
@@ -88,8 +90,10 @@ fn put_entries<S: Alter>(
     entries: &[MetadataEntry],
 ) -> Result<(), StoreFault>
     ensures ok { Becomes (state S.Store tx.old.conn.now) (state S.Store tx.new.conn.now) result
-        (λ t. record t { metadata = put_each
-            (rows_beside object have.now (each name_and_texts entries.now)) t.metadata }) }
+        (λ t. record t {
+          metadata = put_each
+              (rows_beside object have.now (each name_and_texts entries.now)) t.metadata;
+        }) }
     ensures err { FailsUncommitted (state S.Store tx.old.conn.now) (state S.Store tx.new.conn.now) result }
     ensures inside { GoesOn (state S.Store tx.old.conn.now) (state S.Store tx.new.conn.now) result }
     ensures kept { StaysInside (state S.Store tx.old.conn.now) (state S.Store tx.new.conn.now) }
@@ -111,7 +115,7 @@ pub fn set_metadata<S: Alter>(
 ) -> Result<(), StoreFault>
     ensures map { FromMaps (state S.Store tx.old.conn.now) (state S.Store tx.new.conn.now)
         (λ s. (o : Object) → map.get s.objects object ≡ Some o → OnOk result (SeesState (state S.Store tx.new.conn.now)
-            (with_object s object (with_metadata o metadata.now)))) }
+        (with_object s object (with_metadata o metadata.now)))) }
     ensures ours { KeepsOurs (state S.Store tx.old.conn.now) (state S.Store tx.new.conn.now) result }
     ensures err { FailsUncommitted (state S.Store tx.old.conn.now) (state S.Store tx.new.conn.now) result }
     ensures inside { GoesOn (state S.Store tx.old.conn.now) (state S.Store tx.new.conn.now) result }
@@ -132,8 +136,8 @@ pub fn append_metadata<S: Alter>(
 ) -> Result<(), StoreFault>
     ensures map { FromMaps (state S.Store tx.old.conn.now) (state S.Store tx.new.conn.now)
         (λ s. (o : Object) → map.get s.objects object ≡ Some o → OnOk result (SeesState (state S.Store tx.new.conn.now)
-            (with_object s object (with_metadata o
-                (joined (map.entries more.now) o.metadata))))) }
+        (with_object s object (with_metadata o
+        (joined (map.entries more.now) o.metadata))))) }
     ensures ours { KeepsOurs (state S.Store tx.old.conn.now) (state S.Store tx.new.conn.now) result }
     ensures err { FailsReadingUncommitted (state S.Store tx.old.conn.now) (state S.Store tx.new.conn.now) result }
     ensures inside { GoesOn (state S.Store tx.old.conn.now) (state S.Store tx.new.conn.now) result }

@@ -31,7 +31,7 @@ pub fn load_object<S: Alter>(
 ) -> Result<Option<DescribedObject>, StoreFault>
     ensures map { FromMaps (state S.Store tx.old.conn.now) (state S.Store tx.new.conn.now)
         (λ s. IsSound s → IfOk result (λ found.
-            found ≡ option_map (described_object object) (map.get s.objects object))) }
+        found ≡ option_map (described_object object) (map.get s.objects object))) }
     ensures same { ReadsOnly (state S.Store tx.old.conn.now) (state S.Store tx.new.conn.now) result }
     ensures ours { KeepsOurs (state S.Store tx.old.conn.now) (state S.Store tx.new.conn.now) result }
     ensures err { FailsReading (state S.Store tx.old.conn.now) (state S.Store tx.new.conn.now) result }
@@ -69,8 +69,8 @@ pub fn next_object<S: Alter>(
 pub fn put_object<S: Alter>(tx: &mut Transaction<'_, S>, row: &ObjectRow) -> Result<(), StoreFault>
     ensures map { FromMaps (state S.Store tx.old.conn.now) (state S.Store tx.new.conn.now)
         (λ s. OnOk result (SeesState (state S.Store tx.new.conn.now)
-            (with_object s row.now.object (object_of row.now
-                (metadata_at s.objects row.now.object) (files_at s.objects row.now.object))))) }
+        (with_object s row.now.object (object_of row.now
+        (metadata_at s.objects row.now.object) (files_at s.objects row.now.object))))) }
     ensures ours { KeepsOurs (state S.Store tx.old.conn.now) (state S.Store tx.new.conn.now) result }
     ensures err { FailsReading (state S.Store tx.old.conn.now) (state S.Store tx.new.conn.now) result }
     ensures inside { GoesOn (state S.Store tx.old.conn.now) (state S.Store tx.new.conn.now) result }
@@ -88,7 +88,7 @@ pub fn put_object<S: Alter>(tx: &mut Transaction<'_, S>, row: &ObjectRow) -> Res
 pub fn delete_object<S: Alter>(tx: &mut Transaction<'_, S>, object: u64) -> Result<(), StoreFault>
     ensures map { FromMaps (state S.Store tx.old.conn.now) (state S.Store tx.new.conn.now)
         (λ s. files_at s.objects object ≡ map.empty
-            → OnOk result (SeesState (state S.Store tx.new.conn.now) (without_object s object))) }
+        → OnOk result (SeesState (state S.Store tx.new.conn.now) (without_object s object))) }
     ensures ours { KeepsOurs (state S.Store tx.old.conn.now) (state S.Store tx.new.conn.now) result }
     ensures err { FailsUncommitted (state S.Store tx.old.conn.now) (state S.Store tx.new.conn.now) result }
     ensures inside { GoesOn (state S.Store tx.old.conn.now) (state S.Store tx.new.conn.now) result }
