@@ -4,3 +4,4 @@ pub mod Next
 pub mod Expired
 pub mod Chains
 pub mod Moved
+pub mod Hashed

@@ -10,7 +10,7 @@ use Rattle.dep_row_maps.specs.Keyed.{next_entry}
 use Rattle.dep_row_maps.proofs.Lens.{tied_not}
 use Rattle.dep_row_maps.proofs.Blocks.{number_order}
 
-both : (a b : Bool) → T (a && b) → T a × T b
+pub both : (a b : Bool) → T (a && b) → T a × T b
 both true b h = (tt, h)
 both false b h = absurd h
 
@@ -26,10 +26,10 @@ not_above : (a b : ℕ) → nat_lt a b ≡ false → b ≤ a
 not_above a b h = grind (arith, nat_tests)
 
 module _ {X : Type 0} where
-  passed : (q x : ℕ) (v : X) (es : List (ℕ × X)) → q ≢ x → entries.find nat_cmp q ((x, v) ∷ es) ≡ entries.find nat_cmp q es
+  pub passed : (q x : ℕ) (v : X) (es : List (ℕ × X)) → q ≢ x → entries.find nat_cmp q ((x, v) ∷ es) ≡ entries.find nat_cmp q es
   passed q x v es apart = ap (λ b. cond b (Some v) (entries.find nat_cmp q es)) (tied_not q x apart)
 
-  none_below : (x q : ℕ) (es : List (ℕ × X)) → T (entries.below_all nat_cmp x es) → q ≤ x → entries.find nat_cmp q es ≡ None
+  pub none_below : (x q : ℕ) (es : List (ℕ × X)) → T (entries.below_all nat_cmp x es) → q ≤ x → entries.find nat_cmp q es ≡ None
   none_below x q [] h low = refl
   none_below x q (e ∷ es) h low =
       let parts = both (is_lt (nat_cmp x e.0)) (entries.below_all nat_cmp x es) h in

@@ -1,3 +1,4 @@
 pub mod Expiring
 pub mod Found
 pub mod Assembling
+pub mod Hashing

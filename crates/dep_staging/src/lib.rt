@@ -2,12 +2,14 @@
 #![tactic(auto)]
 
 mod assembling;
+mod hashing;
 mod loading;
 mod segments;
 mod ticking;
 mod uploads;
 
 pub use assembling::assemble;
+pub use hashing::hash_upload;
 pub use loading::{FoundUpload, StagedUpload, load_upload};
 pub use segments::put_segment;
 pub use ticking::tick;
