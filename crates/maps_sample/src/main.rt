@@ -1,5 +1,5 @@
 //! Plays changes of objects, metadata and files on a store, in the file that its first argument names, as the lines
-//! of its second argument's file tell them. Each change is one transaction.
+//! of its second argument's file tell them. Each change is one transaction. Without arguments it does nothing.
 #![tactic(auto)]
 
 mod change;
@@ -14,13 +14,13 @@ use std::{env, fs, io};
 fn main(rt: HostRuntime) -> io::Result<()> {
     let mut words = env::args(&rt)?.skip(1);
     let (Some(path), Some(plan)) = (words.next(), words.next()) else {
-        return println!(rt; "usage: maps_sample PATH PLAN");
+        return Ok(());
     };
     let text = fs::read_to_string(&rt, plan.as_str())?;
-    let mut played = 0;
+    let mut played: u32 = 0;
     for part in text.as_str().split("stop\n") {
         match play_part(&rt, path.as_str(), part) {
-            Some(count) => played += count,
+            Some(count) => played = played.saturating_add(count),
             None => return println!(rt; "failed after {played} changes"),
         }
     }
