@@ -1,5 +1,5 @@
 -- What an accepted request asks for, and how many numbers it takes.
-use Rattle.std.specs.Prelude.{ℕ, not, Bool, List, [], ◌∷◌, length, Option, Some, None, option_map, option_and_then, unwrap_or, codes, if◌then◌else◌}
+use Rattle.std.specs.Prelude.{ℕ, not, Bool, List, [], ◌∷◌, length, Option, Some, None, option_map, option_and_then, unwrap_or, if◌then◌else◌}
 use Rattle.std.specs.List.{filter_map}
 use Rattle.std.specs.FinMap as finmap
 use Rattle.dep_types.specs.State.{Texts}
@@ -15,7 +15,7 @@ use Rattle.dep_fields.specs.declared.field.Field.{Field}
 use Rattle.dep_fields.specs.declared.field.Field.TheVariants.{Absent, Bad, Value}
 use Rattle.dep_fields.specs.declared.kind.Kind.{Kind}
 use Rattle.dep_fields.specs.declared.kind.Kind.TheVariants as of
-use Rattle.dep_docs_in.specs.Documents.{metadata_read, references_read}
+use Rattle.dep_docs_in.specs.Documents.{default_media, metadata_read, references_read}
 use Rattle.dep_docs_in.specs.declared.reference.Reference.{Reference}
 use Rattle.dep_docs_in.specs.declared.reference.Pointed.{Pointed}
 use Rattle.dep_docs_in.specs.declared.reference.Pointed.TheVariants.{Upload as AnUpload, Elsewhere}
@@ -52,7 +52,7 @@ behalf_of op = value_of op.fields.on_behalf_of
 abbrev pub posted_file : Operation → (name : List ℕ) → NewFile
 posted_file op name = record {
   name = name;
-  media = unwrap_or (value_of op.fields.content_type) (codes "application/octet-stream");
+  media = unwrap_or (value_of op.fields.content_type) default_media;
   source = Posted (digests_of op.content);
   behalf = behalf_of op;
 }

@@ -12,7 +12,7 @@ ghost use Rattle.dep_types.specs.declared.target.Method.TheVariants.{Post, Put, 
 use crate::decision::{Decision, Deposit, NewFile, NewFiles, Source};
 use crate::operation::Operation;
 use crate::purpose::{Purpose, content_purpose, is_completion, is_true, takes_kind};
-use dep_docs_in::{Pointed, Reference, References};
+use dep_docs_in::{DEFAULT_MEDIA, Pointed, Reference, References};
 use dep_fields::{Field, Kind};
 use dep_fixity::{Digests, Hasher};
 use dep_types::{Metadata, Method, Resource, Text};
@@ -218,7 +218,7 @@ fn posted_file(
 {
     let media = match &operation.fields.content_type {
         Field::Value(media) => media.as_str(),
-        _ => "application/octet-stream",
+        _ => DEFAULT_MEDIA,
     };
     let digests = match digests {
         Some(digests) => digests,

@@ -15,7 +15,7 @@ use Rattle.dep_params.specs.Grammar.{Reading, names_of}
 use Rattle.dep_params.specs.Told.{file_name_of, is_each_once, reading_of}
 use Rattle.dep_params.proofs.Runs.{chosen}
 use Rattle.dep_params.proofs.ToldNames.{file_name-sound}
-use Rattle.dep_docs_in.specs.Documents.{attachment_name, digest_of, document, each_read, form_name, has_type, keep, kept_texts, length_of, media_in, media_of, metadata_read, name_of, not_empty, packaging_of, reference_in, references_read, target_of, text_under, texts_in}
+use Rattle.dep_docs_in.specs.Documents.{attachment_name, default_media, digest_of, document, each_read, form_name, has_type, keep, kept_texts, length_of, media_in, media_of, metadata_read, name_of, not_empty, packaging_of, reference_in, references_read, target_of, text_under, texts_in}
 use Rattle.dep_docs_in.specs.Fit.{IsKept, AreKept, IsFitMetadata, IsFitReference}
 use Rattle.dep_docs_in.specs.declared.reference.Reference.{Reference}
 
@@ -105,8 +105,8 @@ media_in-fit d media h =
       | inr bad ↦ cc (bad.1)
     ]
 
-told-media : (o : Option Data) (media : List ℕ) → option_map_or media_in o (Some (codes "application/octet-stream")) ≡ Some media → IsTrue (is_media media)
-told-media None media h = subst (λ (t : List ℕ). IsTrue (is_media t)) (same_some (codes "application/octet-stream") media h) refl
+told-media : (o : Option Data) (media : List ℕ) → option_map_or media_in o (Some default_media) ≡ Some media → IsTrue (is_media media)
+told-media None media h = subst (λ (t : List ℕ). IsTrue (is_media t)) (same_some default_media media h) refl
 told-media (Some d) media h = media_in-fit d media h
 
 media_of-fit : (d : Data) (media : List ℕ) → media_of d ≡ Some media → IsTrue (is_media media)

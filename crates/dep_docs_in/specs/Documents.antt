@@ -111,8 +111,12 @@ name_of d = text_under (codes "contentDisposition") d >>= reading_of >>= attachm
 abbrev pub media_in : Data → Option (List ℕ)
 media_in d = as_str d >>= if_passes is_media
 
+-- the media type where none is told
+abbrev pub default_media : List ℕ
+default_media = codes "application/octet-stream"
+
 unfoldable pub media_of : Data → Option (List ℕ)
-media_of d = option_map_or media_in (get (codes "contentType") d) (Some (codes "application/octet-stream"))
+media_of d = option_map_or media_in (get (codes "contentType") d) (Some default_media)
 
 unfoldable pub length_of : Data → Option (Option ℕ)
 length_of d = optional (λ n. as_number n >>= as_u64) (get (codes "contentLength") d)

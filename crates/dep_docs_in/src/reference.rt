@@ -5,6 +5,9 @@ use dep_fixity::DigestList;
 use dep_types::Text;
 use std::marker::Model;
 
+/// The media type of bytes of which none is told (RFC 9110, section 8.3).
+pub const DEFAULT_MEDIA: &str = "application/octet-stream";
+
 /// What a reference points at.
 #[derive(Clone, Copy, Debug, PartialEq, Eq)]
 pub enum Pointed {
@@ -21,7 +24,7 @@ pub struct Reference {
     pub target: Pointed,
     /// The name of the file.
     pub name: Text,
-    /// Its media type: `application/octet-stream` where none is told.
+    /// Its media type: `DEFAULT_MEDIA` where none is told.
     pub media: Text,
     /// How many bytes it is said to have.
     pub length: Option<u64>,

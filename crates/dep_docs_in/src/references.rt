@@ -9,7 +9,7 @@ ghost use Rattle.dep_docs_in.specs.Faults.{Gives, GivesBy};
 
 use crate::document::{document, has_type, text_of};
 use crate::fault::DocFault;
-use crate::reference::{Pointed, Reference, References};
+use crate::reference::{DEFAULT_MEDIA, Pointed, Reference, References};
 use dep_fixity::{DigestList, read_digest_field};
 use dep_octets::positive_decimal;
 use dep_params::{Disposition, ParamFault, read_disposition};
@@ -155,7 +155,7 @@ fn media_of(alloc: Global, entry: &Value) -> Result<Text, DocFault>
 {
     match entry.get("contentType") {
         Some(value) => media_in(alloc, value),
-        None => Ok(Text::copied(alloc, "application/octet-stream")?),
+        None => Ok(Text::copied(alloc, DEFAULT_MEDIA)?),
     }
 }
 

@@ -1,5 +1,5 @@
 -- What an accepted request asks for may be carried out, so that it keeps a sound state sound.
-use Rattle.std.proofs.Common.{◌≡◌, ◌∙◌, ℕ, ◌&&◌, nat_le, nat_lt, Bool, true, false, List, [], ◌∷◌, Option, Some, None, is_some, option_map, option_and_then, unwrap_or, IsTrue, codes, refl, sym, ap, subst, if◌then◌else◌}
+use Rattle.std.proofs.Common.{◌≡◌, ◌∙◌, ℕ, ◌&&◌, nat_le, nat_lt, Bool, true, false, List, [], ◌∷◌, Option, Some, None, is_some, option_map, option_and_then, unwrap_or, IsTrue, refl, sym, ap, subst, if◌then◌else◌}
 use Rattle.std.specs.List.{AllByRecursion, cons_option}
 use Rattle.dep_types.specs.Maps.{first_of}
 use Rattle.dep_types.specs.State.{State, Texts, file_at}
@@ -19,7 +19,7 @@ use Rattle.dep_fields.specs.declared.field.Field.TheVariants.{Absent, Bad, Value
 use Rattle.dep_fields.specs.declared.kind.Kind.{Kind}
 use Rattle.dep_fields.specs.declared.kind.Kind.TheVariants as of
 use Rattle.dep_fields.specs.declared.kind.Opening.{Opening}
-use Rattle.dep_docs_in.specs.Documents.{metadata_read, references_read}
+use Rattle.dep_docs_in.specs.Documents.{default_media, metadata_read, references_read}
 use Rattle.dep_docs_in.specs.Fit.{IsFitReference}
 use Rattle.dep_docs_in.specs.declared.reference.Reference.{Reference}
 use Rattle.dep_docs_in.proofs.FitDocuments.{metadata-fit, references-fit, nothing-kept}
@@ -70,7 +70,7 @@ kind_fit op kind fit h = by_fit op op.fields.disposition kind fit.kind h
 
 -- ---- deposits
 
-media_fit : (field : Field (List ℕ)) → IfValue field (λ text. IsTrue (is_media text)) → IsTrue (is_media (unwrap_or (value_of field) (codes "application/octet-stream")))
+media_fit : (field : Field (List ℕ)) → IfValue field (λ text. IsTrue (is_media text)) → IsTrue (is_media (unwrap_or (value_of field) default_media))
 media_fit (Value text) fit = fit
 media_fit Bad fit = refl
 media_fit Absent fit = refl
