@@ -1,0 +1,59 @@
+-- What replies say.
+use Rattle.std.specs.Prelude.{ℕ, Bool, List, [], Option, Some, None, option_map, length, codes}
+use Rattle.dep_reply.specs.Head.{ReplyHead}
+
+-- what a reply shows: a document, a text of a bag, or the content of a file, as the archive keeps it
+pub data ReplyContent : Type 0 where
+  Document : (bytes : List ℕ) → ReplyContent
+  PlainText : (bytes : List ℕ) → ReplyContent
+  StoredContent : (media bytes : List ℕ) → ReplyContent
+
+-- its media type (RFC 9110, section 8.3)
+abbrev pub media_of : ReplyContent → List ℕ
+media_of (Document bytes) = codes "application/json"
+media_of (PlainText bytes) = codes "text/plain; charset=utf-8"
+media_of (StoredContent media bytes) = media
+
+abbrev pub bytes_of : ReplyContent → List ℕ
+bytes_of (Document bytes) = bytes
+bytes_of (PlainText bytes) = bytes
+bytes_of (StoredContent media bytes) = bytes
+
+-- what of it is no content of a file
+abbrev pub document_of : Option ReplyContent → List ℕ
+document_of None = []
+document_of (Some (Document bytes)) = bytes
+document_of (Some (PlainText bytes)) = bytes
+document_of (Some (StoredContent media bytes)) = []
+
+-- what of it is the content of a file
+abbrev pub stored_of : Option ReplyContent → List ℕ
+stored_of None = []
+stored_of (Some (Document bytes)) = []
+stored_of (Some (PlainText bytes)) = []
+stored_of (Some (StoredContent media bytes)) = bytes
+
+-- what a reply says, apart from the clock, from who asked and from whether the connection is closed
+pub record Answer : Type 0 where
+  pub status : ℕ
+  pub content : Option ReplyContent
+  pub tag : Option ℕ
+  pub location : Option (List ℕ)
+  pub allow : Option (List ℕ)
+
+-- the head of the reply at a clock
+abbrev pub head_of : Answer → (clock : ℕ) (closes : Bool) → ReplyHead
+head_of a clock closes = record {
+  status = a.status;
+  date = clock;
+  content_type = option_map media_of a.content;
+  content_length = option_map (λ c. length (bytes_of c)) a.content;
+  tag = a.tag;
+  location = a.location;
+  allow = a.allow;
+  closes = closes;
+}
+
+abbrev pub answer : ℕ → Option ReplyContent → (tag : Option ℕ) → (location : Option (List ℕ)) → Answer
+answer status content tag location =
+    record { status = status; content = content; tag = tag; location = location; allow = None }

@@ -1,0 +1,35 @@
+-- What is shown at the paths of an object's bag (RFC 8493).
+use Rattle.std.specs.Prelude.{ℕ, List, [], ◌∷◌, ◌++◌, map, find, codes, bytes_eq, Option, option_map}
+use Rattle.std.specs.FinMap as finmap
+use Rattle.dep_types.specs.BagPaths.{payload_path}
+use Rattle.dep_types.specs.State.{Object, File}
+use Rattle.dep_docs_out.specs.Documents.{bag_metadata_document}
+use Rattle.dep_bag.specs.Bag.{bagit_text, info_text, oxum, payload, listed_files}
+use Rattle.dep_bag.specs.Manifest.{sha256_digest, manifest_of}
+use Rattle.dep_answers.specs.Answers.{ReplyContent, Document, PlainText, StoredContent}
+
+-- a path, and what is shown there
+abbrev pub Place : Type 0
+Place = List ℕ × ReplyContent
+
+-- the tag files: texts, and the metadata as a document
+abbrev pub tag_places : Object → List Place
+tag_places o =
+    (codes "bagit.txt", PlainText bagit_text)
+    ∷ (codes "bag-info.txt", PlainText (info_text o.changed (oxum (payload o))))
+    ∷ (codes "manifest-sha256.txt", PlainText (manifest_of sha256_digest (payload o)))
+    ∷ (codes "metadata/sword.json", Document (bag_metadata_document o.metadata))
+    ∷ (codes "tagmanifest-sha256.txt", PlainText (manifest_of sha256_digest (listed_files o)))
+    ∷ []
+
+-- a file of the object, under its own media type
+abbrev pub payload_place : ℕ × File → Place
+payload_place e = (payload_path e.0 e.1.name, StoredContent e.1.media e.1.content)
+
+-- the files of the bag, in the order of its list
+abbrev pub places : Object → List Place
+places o = tag_places o ++ map payload_place (finmap.entries o.files)
+
+-- what stands at a path, which is compared whole
+abbrev pub shown_in_bag : Object → (path : List ℕ) → Option ReplyContent
+shown_in_bag o path = option_map (λ place. place.1) (find (λ place. bytes_eq path place.0) (places o))

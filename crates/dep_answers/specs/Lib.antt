@@ -1,0 +1,6 @@
+pub mod Answers
+pub mod Bags
+pub mod Replies
+pub mod Steps
+pub mod Subjects
+pub mod Performing

@@ -1,0 +1,55 @@
+-- What has to be read of the archive for a reply, and what is read.
+use Rattle.std.specs.Prelude.{◌-◌}
+use Rattle.std.specs.Option.{option_map_or}
+use Rattle.std.specs.FinMap as finmap
+use Rattle.dep_types.specs.State.{State, file_at}
+use Rattle.dep_types.specs.Rows.{object_row, object_view, file_row, upload_row}
+use Rattle.dep_types.specs.declared.counters.Counters.{Counters}
+use Rattle.dep_types.specs.declared.target.Resource.{Resource}
+use Rattle.dep_types.specs.declared.target.Resource.TheVariants.{Service, Object, Metadata, FileSet, File, Staging, Upload, BagList, BagFile}
+use Rattle.dep_types.specs.declared.target.Method.{Method}
+use Rattle.dep_types.specs.declared.target.Method.TheVariants.{Get, Head, Post, Put}
+use Rattle.dep_answers.specs.declared.subject.Subject.{Subject}
+use Rattle.dep_answers.specs.declared.subject.Subject.TheVariants as subject
+use Rattle.dep_answers.specs.declared.subject.Shown.{Shown}
+use Rattle.dep_answers.specs.declared.subject.Shown.TheVariants as shown
+
+-- what is read to show a resource
+abbrev pub subject_at : Resource → Subject
+subject_at (Object n) = subject.Object n
+subject_at (Metadata n) = subject.Metadata n
+subject_at (File n f) = subject.File (record { object = n; file = f })
+subject_at (Upload u) = subject.Upload u
+subject_at (BagList n) = subject.Object n
+subject_at (BagFile n path) = subject.Object n
+subject_at resource = subject.Nothing
+
+-- what is read for the reply to a request that was accepted, by the counters that it left
+abbrev pub subject_of : (next : Counters) → Resource → Method → Subject
+subject_of next resource Get = subject_at resource
+subject_of next resource Head = subject_at resource
+subject_of next Service Post = subject.Object (next.object - 1)
+subject_of next (Object n) Post = subject.Object n
+subject_of next (Object n) Put = subject.Object n
+subject_of next (Metadata n) Put = subject.ObjectRow n
+subject_of next (FileSet n) Put = subject.ObjectRow n
+subject_of next (File n f) Put = subject.File (record { object = n; file = f })
+subject_of next Staging Post = subject.Upload (next.upload - 1)
+subject_of next resource method = subject.Nothing
+
+-- what a state shows there
+abbrev pub shown_at : State → Subject → Shown
+shown_at s subject.Nothing = shown.Nothing
+shown_at s (subject.Object n) =
+    option_map_or (λ o. shown.Object (object_view n o)) (finmap.get s.objects n) shown.Nothing
+shown_at s (subject.ObjectRow n) =
+    option_map_or (λ o. shown.ObjectRow (object_row n o)) (finmap.get s.objects n) shown.Nothing
+shown_at s (subject.Metadata n) =
+    option_map_or (λ o. shown.Metadata (object_row n o) o.metadata) (finmap.get s.objects n)
+    shown.Nothing
+shown_at s (subject.File id) =
+    option_map_or (λ file. shown.File (file_row id.object id.file file))
+    (file_at s id.object id.file) shown.Nothing
+shown_at s (subject.Upload u) =
+    option_map_or (λ upload. shown.Upload (upload_row u upload) (finmap.keys upload.segments))
+    (finmap.get s.uploads u) shown.Nothing

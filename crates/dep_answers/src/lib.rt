@@ -1,0 +1,10 @@
+//! What replies say: the answers to all requests, and their bytes.
+#![tactic(auto)]
+
+mod performed;
+mod service;
+mod subject;
+
+pub use performed::{Body, Delivery, FileId, Performed};
+pub use service::Service;
+pub use subject::{Shown, Subject};

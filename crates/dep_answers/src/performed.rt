@@ -1,0 +1,40 @@
+//! Replies that are ready to be sent.
+
+use dep_moment::Moment;
+
+/// Which file: the number of its object, and its own.
+#[derive(Clone, Copy, Debug, PartialEq, Eq)]
+pub struct FileId {
+    pub object: u64,
+    pub file: u64,
+}
+
+/// A reply that is ready to be sent.
+#[derive(Drop)]
+pub struct Performed {
+    /// The bytes of its head.
+    pub head: Vec<u8>,
+    pub body: Body,
+}
+
+/// What follows the head of a reply.
+#[derive(Drop)]
+pub enum Body {
+    /// Nothing.
+    None,
+    /// A document, or a text of a bag.
+    Bytes(Vec<u8>),
+    /// The content of a file, as the archive keeps it. It isn't empty.
+    Stored(FileId),
+}
+
+/// How a reply goes out.
+#[derive(Clone, Copy)]
+pub struct Delivery {
+    /// The clock of the server.
+    pub clock: Moment,
+    /// The reply has no body, as that to a HEAD (RFC 9110, section 9.3.2).
+    pub is_bare: bool,
+    /// The connection is closed after it.
+    pub closes: bool,
+}

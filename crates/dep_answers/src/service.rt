@@ -1,0 +1,52 @@
+//! What the server is set up with, and the document that tells it.
+ghost use Rattle.std.specs.Prelude.{◌≡◌, IfOk};
+ghost use Rattle.dep_docs_out.specs.Documents.{service_document};
+
+use dep_docs_out::service_doc;
+use dep_types::{Config, Octets};
+use std::alloc::{AllocError, Global};
+use std::marker::Model;
+
+/// A configuration, with the service document that it makes, which is spelled once. Contracts see it
+/// as the configuration.
+#[derive(Drop)]
+pub struct Service {
+    config: Config,
+    document: Octets,
+}
+
+impl Model for Service {
+    ghost use Rattle.std.specs.Prelude.{◌≡◌};
+    ghost use Rattle.dep_types.specs.declared.config.Config.{Config};
+    ghost use Rattle.dep_docs_out.specs.Documents.{service_document};
+
+    ghost Value = { Config };
+
+    ghost view = { λ s. s.config };
+
+    ghost invariant = { λ s. s.document ≡ service_document s.config };
+}
+
+impl Service {
+    /// Spells the service document.
+    pub fn new(alloc: Global, config: Config) -> Result<Service, AllocError>
+        ensures { IfOk result (λ service. service ≡ config) }
+    {
+        let document = Octets::from_vec(service_doc(alloc, &config)?);
+        Ok(Service { config, document })
+    }
+
+    /// The configuration.
+    pub fn config(&self) -> &Config
+        ensures { result.now ≡ self.now }
+    {
+        &self.config
+    }
+
+    /// The bytes of the service document (SWORD 3.0).
+    pub fn document(&self) -> &[u8]
+        ensures { result.now ≡ service_document self.now }
+    {
+        self.document.as_slice()
+    }
+}

@@ -1,0 +1,104 @@
+//! What has to be read of the archive for a reply, and what is read.
+ghost use Rattle.std.specs.Prelude.{◌≡◌};
+ghost use Rattle.dep_types.specs.declared.counters.Counters.{Counters as ACounters};
+ghost use Rattle.dep_types.specs.declared.target.Method.TheVariants.{Post, Put};
+ghost use Rattle.dep_answers.specs.Subjects.{subject_at, subject_of};
+
+use crate::performed::FileId;
+use dep_rulings::Numbers;
+use dep_types::{
+    Counters, FileRow, Metadata, Method, ObjectRow, ObjectView, Resource, Target, UploadRow,
+};
+
+/// What has to be read of the archive for a reply.
+#[derive(Clone, Copy, Debug, PartialEq, Eq)]
+pub enum Subject {
+    Nothing,
+    /// All that is told of the object with this number.
+    Object(u64),
+    /// An object without its metadata and files.
+    ObjectRow(u64),
+    /// An object without its files.
+    Metadata(u64),
+    /// A file without its bytes.
+    File(FileId),
+    /// An upload with the numbers of the segments that were received.
+    Upload(u64),
+}
+
+/// What was read of the archive for a reply.
+#[derive(Drop)]
+pub enum Shown {
+    /// Nothing had to be read, or nothing is there.
+    Nothing,
+    Object(ObjectView),
+    ObjectRow(ObjectRow),
+    Metadata {
+        object: ObjectRow,
+        metadata: Metadata,
+    },
+    File(FileRow),
+    Upload {
+        upload: UploadRow,
+        /// The numbers of the segments that were received, ascending.
+        received: Numbers,
+    },
+}
+
+impl Subject {
+    ghost use Rattle.std.specs.Prelude.{◌≡◌};
+    ghost use Rattle.dep_answers.specs.Subjects.{subject_of};
+
+    /// What has to be read for the reply to a request that was accepted and carried out, where the next
+    /// numbers are now these: an object or an upload that it made has the last number before them. It
+    /// takes no memory.
+    pub fn of(target: &Target, next: &Counters) -> Subject
+        ensures { result ≡ subject_of next.now target.now.resource target.now.method }
+    {
+        match target.method {
+            Method::Get | Method::Head => shown_by(&target.resource),
+            Method::Post => posted(&target.resource, next),
+            Method::Put => put(&target.resource),
+            Method::Delete => Subject::Nothing,
+        }
+    }
+}
+
+// What is read to show a resource.
+fn shown_by(resource: &Resource) -> Subject
+    ensures { result ≡ subject_at resource.now }
+{
+    match *resource {
+        Resource::Object(object) | Resource::BagList(object) | Resource::BagFile(object, _) => {
+            Subject::Object(object)
+        }
+        Resource::Metadata(object) => Subject::Metadata(object),
+        Resource::File(object, file) => Subject::File(FileId { object, file }),
+        Resource::Upload(upload) => Subject::Upload(upload),
+        Resource::Service | Resource::FileSet(_) | Resource::Staging => Subject::Nothing,
+    }
+}
+
+// What is read once something was posted.
+fn posted(resource: &Resource, next: &Counters) -> Subject
+    ensures { result ≡ subject_of next.now resource.now Post }
+{
+    match *resource {
+        Resource::Service => Subject::Object(next.object.saturating_sub(1)),
+        Resource::Object(object) => Subject::Object(object),
+        Resource::Staging => Subject::Upload(next.upload.saturating_sub(1)),
+        _ => Subject::Nothing,
+    }
+}
+
+// What is read once something was put in its place.
+fn put(resource: &Resource) -> Subject
+    ensures { (next : ACounters) → result ≡ subject_of next resource.now Put }
+{
+    match *resource {
+        Resource::Object(object) => Subject::Object(object),
+        Resource::Metadata(object) | Resource::FileSet(object) => Subject::ObjectRow(object),
+        Resource::File(object, file) => Subject::File(FileId { object, file }),
+        _ => Subject::Nothing,
+    }
+}
