@@ -5,6 +5,6 @@ mod performed;
 mod service;
 mod subject;
 
-pub use performed::{Body, Delivery, FileId, Performed};
+pub use performed::{Delivery, FileId, Performed};
 pub use service::Service;
 pub use subject::{Shown, Subject};

@@ -9,23 +9,13 @@ pub struct FileId {
     pub file: u64,
 }
 
-/// A reply that is ready to be sent.
+/// A reply that is ready to be sent: no memory is needed any more, but to read a stored content.
 #[derive(Drop)]
 pub struct Performed {
-    /// The bytes of its head.
-    pub head: Vec<u8>,
-    pub body: Body,
-}
-
-/// What follows the head of a reply.
-#[derive(Drop)]
-pub enum Body {
-    /// Nothing.
-    None,
-    /// A document, or a text of a bag.
-    Bytes(Vec<u8>),
-    /// The content of a file, as the archive keeps it. It isn't empty.
-    Stored(FileId),
+    /// The bytes of its head, and of a document or text behind it.
+    pub front: Vec<u8>,
+    /// The file whose content follows, as the archive keeps it. It isn't empty.
+    pub stored: Option<FileId>,
 }
 
 /// How a reply goes out.
