@@ -74,6 +74,7 @@ none_gone t s f h up none =
       uploads = h.uploads;
       segments = h.segments;
       timed_out = h.timed_out;
+      format = h.format;
       parts = h.parts;
       blocks = blocks-delete t.blocks h.parts h.parts h.blocks (owner.File f) (h.files_parts.of_none f nowhere) (λ q apart. refl);
       files_parts = h.files_parts;

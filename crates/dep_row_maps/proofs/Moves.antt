@@ -111,6 +111,7 @@ file_assembled_by_parts t s h up n o there f file free u it at bounds complete c
       uploads = ap (without_rowid (pos u)) h.uploads ∙ without_remove upload_stored (λ k x. refl) u s.uploads;
       segments = segments-delete t.segments (segments_at s.uploads) (segments_at (finmap.remove s.uploads u)) h.segments u (segments_gone s.uploads u) (segments_left s.uploads u);
       timed_out = h.timed_out;
+      format = h.format;
       parts = done.0;
       blocks = done.1;
       files_parts = added_parts s.objects n o there f file nowhere h.parts done.0 joins (λ g apart. done.2.others (owner.File g) (no_file g u) (other_file g f apart)) h.files_parts;

@@ -19,6 +19,7 @@ use Rattle.dep_statements.specs.Rows.{IsOrdered, row_at, is_after, put_next, InO
 use Rattle.dep_tables.specs.Tables.{Tables}
 use Rattle.dep_tables.specs.Edits.{with_state_row, HasStateRow, with_new_object_row, with_object_row, without_object_row, IsObjectRowAt, IsObjectAfter, with_new_metadata_row, without_metadata_rows, AreMetadataRowsOf, with_new_file_row, without_file_row, without_file_rows, LacksFileRow, IsFileRowAt, AreFileRowsOf, with_new_upload_row, with_upload_row, without_upload_row, IsUploadRowAt, IsUploadAfter, with_new_segment_row, without_segment_rows, AreSegmentRowsOf, with_timed_out, without_blocks_of, AreBytesAt}
 use Rattle.dep_tables.specs.Rows.{metadata_values, block_values, is_block_of, moved_to, shown_block, by_part_and_place}
+use Rattle.dep_tables.specs.Versions.{our_version, HasVersion}
 use Rattle.dep_tables.specs.declared.state.StateRow.{StateRow}
 use Rattle.dep_tables.specs.declared.metadata.MetadataRow.{MetadataRow}
 use Rattle.dep_tables.specs.declared.segments.SegmentRow.{SegmentRow}
@@ -416,4 +417,5 @@ first_tables format = record {
 }
 
 abbrev pub FirstTables : Type 0
-FirstTables = (format : List Row) → TablesAre (first_tables format) empty_state
+FirstTables = (format : List Row) → HasVersion our_version (first_tables format)
+    → TablesAre (first_tables format) empty_state

@@ -1,4 +1,4 @@
--- The rows of all tables are the state's, key by key. Nothing is said of whether the state is sound.
+-- The rows of all tables are the state's, key by key, and the version is ours. Nothing is said of whether the state is sound.
 use Rattle.std.specs.Prelude.{◌≡◌, ℕ, List, [], ◌∷◌, filter, Some, None, is_some}
 use Rattle.std.specs.Option.{option_map_or}
 use Rattle.std.specs.FinMap as map
@@ -9,6 +9,7 @@ use Rattle.dep_types.specs.declared.counters.Counters.{Counters}
 use Rattle.sqlite_value.specs.Order.{Row}
 use Rattle.dep_statements.specs.Rows.{row_at}
 use Rattle.dep_tables.specs.Tables.{Tables}
+use Rattle.dep_tables.specs.Versions.{our_version, HasVersion}
 use Rattle.dep_tables.specs.Rows.{shown_metadata, shown_segment, shown_block, is_block_of}
 use Rattle.dep_tables.specs.declared.owner.BlockOwner.{BlockOwner}
 use Rattle.dep_tables.specs.declared.owner.BlockOwner.TheVariants as owner
@@ -64,6 +65,7 @@ abbrev pub AreUploadsParts : Numbered Upload → Parts → Type 0
 AreUploadsParts uploads parts = (u : ℕ) → parts (owner.Upload u) ≡ segments_at uploads u
 
 pub record TablesAre (tables : Tables) (s : State) : Type 0 where
+  pub format : HasVersion our_version tables
   pub state : tables.state ≡ state_stored s ∷ []
   pub objects : tables.objects ≡ rows_of object_stored s.objects
   pub metadata : MetadataAre tables.metadata (metadata_at s.objects)

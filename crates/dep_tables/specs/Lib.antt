@@ -5,3 +5,4 @@ pub mod Tables
 pub mod Edits
 pub mod Clauses
 pub mod Faults
+pub mod Versions
