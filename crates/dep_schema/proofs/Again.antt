@@ -8,7 +8,8 @@ use Rattle.sqlite_trees.specs.Objects.{catalog_tree}
 use Rattle.sqlite_catalog.proofs.ReadLemmas.{lists_once}
 use Rattle.dep_tables.specs.Schema.{our_schema}
 use Rattle.dep_tables.specs.Tables.{Tables, tables_of, IsOurs}
-use Rattle.dep_schema.specs.Standing.{Holds, HoldsNone, no_schema, our_version, HasVersion, Sees, Stands, CommitsBySchema, CommitsOpen}
+use Rattle.dep_tables.specs.Versions.{our_version, HasVersion}
+use Rattle.dep_schema.specs.Standing.{Holds, HoldsNone, no_schema, Sees, Stands, CommitsBySchema, CommitsOpen}
 
 pub sees_trees : (s : State) → IsDatabase s.now → (tables : Tables) → Holds s.now.trees tables → Sees s tables
 sees_trees s live tables held = record {

@@ -43,7 +43,8 @@ use Rattle.dep_schema.specs.Texts.{add_format_text, add_state_text}
 use Rattle.dep_tables.specs.Rows.{stored_format, stored_state}
 use Rattle.dep_schema.specs.Beside.{AreFree, with_ours}
 use Rattle.dep_tables.specs.Tables.{Tables, tables_of, tables_from}
-use Rattle.dep_schema.specs.Standing.{Sees, no_schema, first_state, first_tables, our_version, IsBeside, GainsOurs}
+use Rattle.dep_tables.specs.Versions.{our_version}
+use Rattle.dep_schema.specs.Standing.{Sees, no_schema, first_state, first_tables, IsBeside, GainsOurs}
 
 -- ---- how an INSERT is understood, by the table that its name finds
 

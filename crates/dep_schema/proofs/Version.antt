@@ -30,7 +30,8 @@ use Rattle.dep_statements.specs.Adding.{HasCounters}
 use Rattle.dep_schema.specs.Beside.{LacksFormat}
 use Rattle.dep_schema.proofs.Missing.{find_missing}
 use Rattle.dep_tables.specs.Tables.{tables_of, IsOurs}
-use Rattle.dep_schema.specs.Standing.{no_schema, our_version, HasVersion, Sees, Holds, IsBeside, GainsOurs, StandsBeside, CommitsBySchema, first_tables}
+use Rattle.dep_tables.specs.Versions.{our_version, HasVersion}
+use Rattle.dep_schema.specs.Standing.{no_schema, Sees, Holds, IsBeside, GainsOurs, StandsBeside, CommitsBySchema, first_tables}
 use Rattle.dep_schema.specs.OpenFaults.{open_fault_for}
 use Rattle.dep_types.specs.declared.store_fault.StoreFault.{StoreFault}
 use Rattle.dep_types.specs.declared.store_fault.StoreFault.TheVariants.{Store, Memory}

@@ -1,7 +1,5 @@
 -- What an open, a transaction and a crash leave of the tables.
-use Rattle.std.specs.Prelude.{◌≡◌, ◌⊎◌, ℕ, pos, true, false, IsTrue, Result, OnOk, [], ◌∷◌, map}
-use Rattle.sqlite.specs.declared.types.Value.TheVariants.{Int}
-use Rattle.sqlite.specs.Order.{column}
+use Rattle.std.specs.Prelude.{◌≡◌, ◌⊎◌, true, false, IsTrue, Result, OnOk, [], ◌∷◌}
 use Rattle.sqlite.specs.Schema.{Schema}
 use Rattle.sqlite.specs.Tree.{Trees}
 use Rattle.sqlite.specs.Effect.{Database}
@@ -17,6 +15,7 @@ use Rattle.dep_tables.specs.declared.state.StateRow.{StateRow}
 use Rattle.dep_tables.specs.Rows.{stored_format, stored_state}
 use Rattle.dep_tables.specs.Tables.{Tables, tables_from, tables_in, tables_of, AreOurs, IsOurs}
 use Rattle.dep_tables.specs.Clauses.{StaysInside}
+use Rattle.dep_tables.specs.Versions.{our_version, HasVersion}
 use Rattle.dep_schema.specs.Beside.{LacksFormat, AreFree, with_ours}
 
 -- what a crash may leave, and the next `open` find
@@ -48,9 +47,6 @@ pub record Stands (s : State) (tables : Tables) : Type 0 where
 abbrev pub first_state : StateRow
 first_state = record { clock = 0; next = record { object = 1; file = 1; upload = 1; change = 1 } }
 
-abbrev pub our_version : ℕ
-our_version = 1
-
 -- the tables of a new store
 abbrev pub first_tables : Tables
 first_tables = record {
@@ -64,10 +60,6 @@ first_tables = record {
   timed_out = [];
   blocks = [];
 }
-
--- `format` has one row, of id 1, and this version
-abbrev pub HasVersion : ℕ → Tables → Type 0
-HasVersion version tables = map (λ r. column r 0 ∷ column r 2 ∷ []) tables.format ≡ (Int (pos 1) ∷ Int (pos version) ∷ []) ∷ []
 
 -- what a database becomes in which our first tables are made
 pub record IsBeside (old : Database) (trees : Trees) : Type 0 where

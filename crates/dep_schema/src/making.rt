@@ -11,7 +11,8 @@ ghost use Rattle.dep_tables.specs.Schema.{format_table, state_table, objects_tab
 ghost use Rattle.dep_tables.specs.Rows.{stored_format, stored_state};
 ghost use Rattle.dep_tables.specs.Clauses.{GoesOn, StaysInside, CommitsNothing};
 ghost use Rattle.dep_schema.specs.Beside.{AreFree, with_ours};
-ghost use Rattle.dep_schema.specs.Standing.{Turns, Sees, GainsOurs, no_schema, first_tables, first_state, our_version};
+ghost use Rattle.dep_tables.specs.Versions.{our_version};
+ghost use Rattle.dep_schema.specs.Standing.{Turns, Sees, GainsOurs, no_schema, first_tables, first_state};
 
 use dep_tables::run;
 use dep_types::StoreFault;

@@ -7,7 +7,8 @@ ghost use Rattle.sqlite.specs.State.{HasCleanDisk, IsUnchanged, Survives};
 ghost use Rattle.sqlite.specs.Held.{state};
 ghost use Rattle.dep_tables.specs.Tables.{Tables, tables_of, IsOurs};
 ghost use Rattle.dep_tables.specs.Clauses.{GoesOn, StaysInside, CommitsNothing};
-ghost use Rattle.dep_schema.specs.Standing.{no_schema, our_version, Holds, HoldsNone, Sees, Stands, HasVersion, IsOpenable, CommitsBySchema, CommitsOpen, IsBack, HasOtherVersion, GainsOurs, StandsBeside, first_tables};
+ghost use Rattle.dep_tables.specs.Versions.{our_version, HasVersion};
+ghost use Rattle.dep_schema.specs.Standing.{no_schema, Holds, HoldsNone, Sees, Stands, IsOpenable, CommitsBySchema, CommitsOpen, IsBack, HasOtherVersion, GainsOurs, StandsBeside, first_tables};
 ghost use Rattle.dep_statements.specs.Adding.{HasCounters};
 ghost use Rattle.dep_schema.specs.Beside.{LacksFormat, AreFree};
 
@@ -170,6 +171,8 @@ fn prepare<S: Alter>(connection: &mut Connection<S>) -> Result<(), OpenFault>
         → OnErr result (IsBack (state S.Store connection.old) (state S.Store connection.new)) }
     ensures opened { HasCleanDisk (state S.Store connection.new)
         → OnOk result (IsTrue (state S.Store connection.old).is_open) }
+    ensures refused { IsTrue (state S.Store connection.new).is_open
+        → OnErr result (IsTrue (state S.Store connection.old).is_open) }
     ensures mode { (state S.Store connection.new).in_transaction ≡ false }
     ensures crash { Survives (state S.Store connection.old) (state S.Store connection.new)
         (CommitsBySchema (state S.Store connection.old)) }
@@ -203,6 +206,10 @@ pub fn open<S: Alter>(
         → e.0 ≡ OpenFault.UnknownVersion → IsOpenable (state S.Store connection) → ⊥) }
     ensures left { IfErr result (λ e. HasCleanDisk (state S.Store e.1)
         → IsTrue (state S.Store e.1).is_open → IsBack (state S.Store connection) (state S.Store e.1)) }
+    // No open opens a store that was shut.
+    ensures opened { MatchResult result
+        (λ schema. IsTrue (state S.Store schema.connection).is_open → IsTrue (state S.Store connection).is_open)
+        (λ e. IsTrue (state S.Store e.1).is_open → IsTrue (state S.Store connection).is_open) }
     ensures mode { MatchResult result
         (λ schema. (state S.Store schema.connection).in_transaction ≡ false)
         (λ e. (state S.Store e.1).in_transaction ≡ false) }

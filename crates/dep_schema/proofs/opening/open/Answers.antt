@@ -1,5 +1,6 @@
 use Rattle.std.proofs.Common.{inl, inr, rules}
 use Rattle.sqlite.specs.Held.{state}
+use Rattle.sqlite.proofs.StateLemmas.{clean_if_open}
 use Rattle.dep_schema.proofs.Again.{sees_none, finds_tables, survives_live}
 use Rattle.dep_schema.proofs.opening.open.Goals as goal
 
@@ -25,3 +26,8 @@ returns-in-Ok-clause-crash g c = survives_live (state g.S.Store c.args.connectio
 
 pub returns-in-Err-clause-crash : goal.returns-in-Err-clause-crash
 returns-in-Err-clause-crash g c = survives_live (state g.S.Store c.args.connection) (state g.S.Store c.prepare.new.connection) c.schema-schema.ensures.live c.prepare.ensures.crash
+
+pub returns-in-Ok-clause-opened : goal.returns-in-Ok-clause-opened
+returns-in-Ok-clause-opened g c is_open =
+    let store = c.prepare.new.connection.store in
+    c.in-Ok.ensures.opened (clean_if_open (g.S.Store.view store) (g.met.S.Store.shut_if_dirty store) is_open)

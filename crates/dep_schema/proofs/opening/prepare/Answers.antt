@@ -1,8 +1,10 @@
-use Rattle.std.proofs.Common.{◌≡◌, subst, rules}
+use Rattle.std.proofs.Common.{◌≡◌, subst, rules, inl, inr, IsTrue, refl, arith}
 use Rattle.sqlite.specs.Held.{state}
 use Rattle.sqlite.specs.State.{Survives}
 use Rattle.sqlite.proofs.Callers.{survives_begin}
-use Rattle.dep_schema.specs.Standing.{CommitsBySchema}
+use Rattle.sqlite.proofs.StateLemmas.{clean_if_open}
+use Rattle.dep_schema.specs.Standing.{CommitsBySchema, WholeTransaction}
+use Rattle.dep_schema.proofs.Transactions.{begins_open}
 use Rattle.dep_schema.proofs.Version.{survives_open}
 use Rattle.dep_schema.proofs.opening.prepare.Goals as goal
 
@@ -25,3 +27,26 @@ returns-in-Ok-clause-crash g c =
     (λ clean. search rules) (λ clean. search rules) (λ clean. search rules) in
     let same : c.commit.new.self.0 ≡ c.connection-2-1.given.0 = search rules in
     subst (λ h. Survives (state g.S.Store old) (state g.S.Store h) (CommitsBySchema (state g.S.Store old))) same whole
+
+pub returns-in_err-find_or_make-clause-refused : goal.returns-in_err-find_or_make-clause-refused
+returns-in_err-find_or_make-clause-refused g c =
+    let old = c.args.connection.now in
+    let inside = c.find_or_make.new.tx.conn.now in
+    let new = c.drop-tx.new.self.0 in
+    let worked = rw c.transaction-tx.ensures.begun at c.in_err-find_or_make.ensures in
+    let known = λ (is_open : IsTrue (state g.S.Store new).is_open).
+    let clean = clean_if_open (g.S.Store.view new.store) (g.met.S.Store.shut_if_dirty new.store) is_open in
+    (worked.kept (omega (arith, clean, c.drop-tx.ensures.survives.clean)) refl).was_open ((c.drop-tx.ensures.undone clean).was_open is_open) in
+    search rules
+
+pub returns-in-Err-clause-refused : goal.returns-in-Err-clause-refused
+returns-in-Err-clause-refused g c =
+    let old = c.args.connection.now in
+    let inside = c.find_or_make.new.tx.conn.now in
+    let new = c.commit.new.self.0 in
+    let worked = rw c.transaction-tx.ensures.begun at c.in_ok-find_or_make.ensures in
+    let known = λ (is_open : IsTrue (state g.S.Store new).is_open).
+    let clean = clean_if_open (g.S.Store.view new.store) (g.met.S.Store.shut_if_dirty new.store) is_open in
+    let whole : WholeTransaction g.S.Store old inside new = record { kept = worked.kept; survives = c.commit.ensures.survives; ends = λ h. inr (inl (c.in-Err.error, c.in-Err.ensures.err h)) } in
+    begins_open g.S.Store old inside new whole clean is_open in
+    search rules
