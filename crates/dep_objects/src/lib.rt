@@ -9,4 +9,6 @@ mod objects;
 
 pub use clock::{counters, set_counters};
 pub use metadata::{append_metadata, set_metadata};
-pub use objects::{DescribedObject, delete_object, load_object, next_object, put_object};
+pub use objects::{
+    DescribedObject, delete_object, find_object, load_object, next_object, put_object,
+};

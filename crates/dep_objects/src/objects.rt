@@ -3,6 +3,7 @@
 ghost use Rattle.std.specs.Prelude.{◌≡◌, IfOk, OnOk, option_map};
 ghost use Rattle.std.specs.FinMap as map;
 ghost use Rattle.sqlite.specs.Held.{state};
+ghost use Rattle.dep_types.specs.Rows.{object_row};
 ghost use Rattle.dep_types.specs.Sound.{IsSound};
 ghost use Rattle.dep_tables.specs.Clauses.{ReadsOnly, FailsReading, GoesOn, StaysInside, CommitsNothing};
 ghost use Rattle.dep_row_maps.specs.Keyed.{next_entry};
@@ -11,7 +12,7 @@ ghost use Rattle.dep_row_maps.specs.Clauses.{FromMaps, KeepsOurs, SeesState, Fai
 ghost use Rattle.dep_objects.specs.Objects.{object_of, described_object};
 
 use crate::gathering::load_metadata;
-use dep_tables::{delete_metadata, find_object, insert_object, write_object};
+use dep_tables::{delete_metadata, insert_object, write_object};
 use dep_types::{Metadata, ObjectRow, StoreFault};
 use sqlite::{Alter, Transaction};
 use std::alloc::Global;
@@ -40,11 +41,29 @@ pub fn load_object<S: Alter>(
     ensures same_reference { tx.new.conn.ghost_name ≡ tx.old.conn.ghost_name }
     ensures survives { CommitsNothing (state S.Store tx.old.conn.now) (state S.Store tx.new.conn.now) }
 {
-    let Some(row) = find_object(tx, object)? else {
+    let Some(row) = dep_tables::find_object(tx, object)? else {
         return Ok(None);
     };
     let metadata = load_metadata(tx, alloc, object)?;
     Ok(Some(DescribedObject { row, metadata }))
+}
+
+/// The row of an object, without its metadata and files, if there is one. A number of 2^63 or more is a fault of the store.
+pub fn find_object<S: Alter>(
+    tx: &mut Transaction<'_, S>,
+    object: u64,
+) -> Result<Option<ObjectRow>, StoreFault>
+    ensures map { FromMaps (state S.Store tx.old.conn.now) (state S.Store tx.new.conn.now)
+        (λ s. IfOk result (λ found. found ≡ option_map (object_row object) (map.get s.objects object))) }
+    ensures same { ReadsOnly (state S.Store tx.old.conn.now) (state S.Store tx.new.conn.now) result }
+    ensures ours { KeepsOurs (state S.Store tx.old.conn.now) (state S.Store tx.new.conn.now) result }
+    ensures err { FailsReading (state S.Store tx.old.conn.now) (state S.Store tx.new.conn.now) result }
+    ensures inside { GoesOn (state S.Store tx.old.conn.now) (state S.Store tx.new.conn.now) result }
+    ensures kept { StaysInside (state S.Store tx.old.conn.now) (state S.Store tx.new.conn.now) }
+    ensures same_reference { tx.new.conn.ghost_name ≡ tx.old.conn.ghost_name }
+    ensures survives { CommitsNothing (state S.Store tx.old.conn.now) (state S.Store tx.new.conn.now) }
+{
+    dep_tables::find_object(tx, object)
 }
 
 /// The least number of an object above this one. A number of 2^63 or more is a fault of the store.
@@ -78,7 +97,7 @@ pub fn put_object<S: Alter>(tx: &mut Transaction<'_, S>, row: &ObjectRow) -> Res
     ensures same_reference { tx.new.conn.ghost_name ≡ tx.old.conn.ghost_name }
     ensures survives { CommitsNothing (state S.Store tx.old.conn.now) (state S.Store tx.new.conn.now) }
 {
-    match find_object(tx, row.object)? {
+    match dep_tables::find_object(tx, row.object)? {
         Some(_) => write_object(tx, row),
         None => insert_object(tx, row),
     }
