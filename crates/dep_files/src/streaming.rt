@@ -2,7 +2,7 @@
 
 ghost use Rattle.std.specs.Prelude.{◌≡◌, ◌⊎◌, ℕ, List, IsTrue, IfOk, OnOk, OnErr, Err};
 ghost use Rattle.std.specs.Io.KnownBytes.{Appends};
-ghost use Rattle.sqlite.specs.State.{HasCleanDisk, Survives};
+ghost use Rattle.sqlite.specs.State.{HasCleanDisk, IsUnchanged, Survives};
 ghost use Rattle.sqlite.specs.Held.{state};
 ghost use Rattle.dep_types.specs.State.{State};
 ghost use Rattle.dep_types.specs.Writing.{HasRisen};
@@ -49,6 +49,8 @@ pub fn stream_content<S: Alter, O: Outlet>(
         × (HasCleanDisk (state S.Store connection.new) → IsOurs (state S.Store connection.old)
         → (s : State) → TablesAre (tables_of (state S.Store connection.old)) s
         → IsStreamed s file sent result) }
+    ensures ok { HasCleanDisk (state S.Store connection.new) → IsOurs (state S.Store connection.old)
+        → OnOk result (IsUnchanged (state S.Store connection.old) (state S.Store connection.new)) }
     ensures same { HasCleanDisk (state S.Store connection.new) → IsOurs (state S.Store connection.old)
         → IsKept (state S.Store connection.old) (state S.Store connection.new) }
     ensures clean { HasCleanDisk (state S.Store connection.new)
