@@ -14,5 +14,5 @@ mod tag_files;
 pub use export_fault::ExportFault;
 pub use exporting::export;
 pub use part::{BagPart, bag_file};
-pub use paths::bag_paths;
+pub use paths::{bag_paths, has_bag_path};
 pub use source::BagSource;

@@ -1,5 +1,6 @@
 //! The paths of a bag.
-ghost use Rattle.std.specs.Prelude.{◌≡◌, ◌≢◌, ◌++◌, ℕ, List, IfOk, MatchOption, bytes_eq};
+ghost use Rattle.std.specs.Prelude.{◌≡◌, ◌≢◌, ◌++◌, ℕ, List, IfOk, MatchOption, bytes_eq, map};
+ghost use Rattle.std.specs.List.{list_any};
 ghost use Rattle.dep_types.specs.BagPaths.{tag_paths};
 ghost use Rattle.dep_bag.specs.Parts.{in_folder, row_path, told_paths};
 
@@ -63,6 +64,29 @@ pub(crate) fn is_payload_path(path: &[u8], row: &FileRow) -> bool
         Some(name) => name == row.name.as_str().as_bytes(),
         None => false,
     }
+}
+
+/// Whether the bag of an object with these files has a path. Paths are compared byte by byte.
+pub fn has_bag_path(files: &[FileRow], path: &[u8]) -> bool
+    ensures { result ≡ list_any (bytes_eq path.now) (tag_paths ++ map row_path files.now) }
+{
+    is_tag_path(path) || has_payload_path(files, path)
+}
+
+fn is_tag_path(path: &[u8]) -> bool
+    ensures { result ≡ list_any (bytes_eq path.now) tag_paths }
+{
+    path == BAGIT.as_bytes()
+        || path == BAG_INFO.as_bytes()
+        || path == MANIFEST.as_bytes()
+        || path == METADATA.as_bytes()
+        || path == TAG_MANIFEST.as_bytes()
+}
+
+fn has_payload_path(files: &[FileRow], path: &[u8]) -> bool
+    ensures { result ≡ list_any (λ row. bytes_eq path.now (row_path row)) files.now }
+{
+    files.iter().any(|row| is_payload_path(path, row))
 }
 
 // What stands behind the folder of this number.

@@ -1,0 +1,11 @@
+//! What the tables tell, read inside a transaction: the view that a ruling looks at, and the view of
+//! an object. Nothing here changes a table; after an `Err` the owner of the transaction gives it back.
+#![tactic(auto)]
+
+mod objects;
+mod touched;
+mod uploads;
+mod view;
+
+pub use objects::load_object_view;
+pub use view::load_view;
