@@ -1,8 +1,10 @@
-//! What the tables tell, read inside a transaction: the view that a ruling looks at, and the view of
-//! an object. Nothing here changes a table; after an `Err` the owner of the transaction gives it back.
+//! What the tables tell, read inside a transaction: the view that a ruling looks at, and that of an
+//! object. Nothing here changes a table; after an `Err` the owner of the transaction gives it back.
 #![tactic(auto)]
 
 mod objects;
+mod referred;
+mod segments;
 mod touched;
 mod uploads;
 mod view;

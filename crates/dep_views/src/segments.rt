@@ -1,7 +1,6 @@
-//! The numbers of segments, and whether one is missing.
+//! The segments of an upload, by their rows.
 
-ghost use Rattle.std.specs.Prelude.{◌≡◌, ℕ, List, IfOk, length, map};
-ghost use Rattle.std.specs.FinMap as finmap;
+ghost use Rattle.std.specs.Prelude.{◌≡◌, IfOk, map};
 ghost use Rattle.dep_types.specs.State.{Upload};
 ghost use Rattle.dep_types.specs.Uploads.{is_complete};
 ghost use Rattle.dep_row_maps.specs.Laws.{HasSegmentsWithin};
@@ -25,7 +24,7 @@ pub(crate) fn numbers_of(alloc: Global, segments: &[SegmentRow]) -> Result<Numbe
     Ok(Numbers::from_vec(numbers))
 }
 
-/// Whether none of an upload's segments is missing, by their rows.
+/// Whether none of an upload's segments is missing.
 pub(crate) fn is_complete(row: &UploadRow, segments: &[SegmentRow]) -> bool
     ensures { (it : Upload) → HasSegmentsWithin it → row.now.count ≡ it.count
         → segments.now ≡ segment_rows_of row.now.upload it → result ≡ is_complete it }

@@ -1,69 +1,110 @@
-//! Uploads, as a ruling looks at them.
+//! The uploads that are touched.
 
-ghost use Rattle.std.specs.Prelude.{◌≡◌, ℕ, List, Some, IfOk, map};
-ghost use Rattle.std.specs.FinMap as finmap;
+ghost use Rattle.std.specs.Prelude.{◌≡◌, false, IfOk, IsTrue, map};
 ghost use Rattle.sqlite.specs.Held.{state};
 ghost use Rattle.dep_types.specs.Sound.{IsSound};
-ghost use Rattle.dep_types.specs.State.{Upload};
-ghost use Rattle.dep_rulings.specs.Views.{assembled_digests, live_upload, upload_state, upload_view};
-ghost use Rattle.dep_staging.specs.Found.{IsFound};
-ghost use Rattle.dep_tables.specs.Clauses.{ReadsOnly, FailsReading, GoesOn, StaysInside, CommitsNothing};
-ghost use Rattle.dep_row_maps.specs.Clauses.{FromMaps, KeepsOurs};
-ghost use Rattle.dep_views.specs.Segments.{IsLiveAs};
+ghost use Rattle.dep_rulings.specs.Views.{upload_state, upload_view};
+ghost use Rattle.dep_rulings.specs.declared.view.UploadState.TheVariants.{Live};
+ghost use Rattle.dep_tables.specs.Clauses.{ReadsOnly, GoesOn, StaysInside, CommitsNothing};
+ghost use Rattle.dep_row_maps.specs.Clauses.{FromMaps};
+ghost use Rattle.dep_views.specs.Segments.{live_received};
+ghost use Rattle.dep_views.specs.Referred.{AreKnown};
 
-use crate::segments::{is_complete, numbers_of};
-use dep_fixity::Digests;
-use dep_rulings::{LiveUpload, Numbers, UploadState, UploadView, UploadViews};
-use dep_staging::{FoundUpload, StagedUpload, hash_upload, load_upload};
+use crate::referred::{Referred, recall, state_of};
+use crate::segments::numbers_of;
+use dep_rulings::{LiveUpload, UploadState, UploadView, UploadViews};
+use dep_staging::{FoundUpload, StagedUpload, load_upload};
 use dep_types::StoreFault;
 use sqlite::{Alter, Transaction};
 use std::alloc::Global;
+use std::collections::BTreeMap;
 
-// The digests of an upload's bytes, where none is missing.
-fn load_digests<S: Alter>(
+fn live_state(alloc: Global, staged: &StagedUpload) -> Result<UploadState, StoreFault>
+    ensures { IfOk result (λ state. state ≡ Live (live_received staged.now)) }
+{
+    Ok(UploadState::Live(LiveUpload {
+        row: staged.row,
+        received: numbers_of(alloc, staged.received.as_slice())?,
+        digests: None,
+    }))
+}
+
+// What became of the number of an upload, with the segments that were received.
+fn load_received<S: Alter>(
     tx: &mut Transaction<'_, S>,
     alloc: Global,
-    staged: &StagedUpload,
-) -> Result<Option<Digests>, StoreFault>
+    upload: u64,
+) -> Result<UploadState, StoreFault>
     ensures map { FromMaps (state S.Store tx.old.conn.now) (state S.Store tx.new.conn.now)
-        (λ s. IsSound s → (it : Upload) → IsLiveAs s staged.now it
-        → IfOk result (λ digests. digests ≡ assembled_digests it)) }
+        (λ s. IfOk result (λ state. state ≡ upload_state false s upload)) }
     ensures same { ReadsOnly (state S.Store tx.old.conn.now) (state S.Store tx.new.conn.now) result }
-    ensures ours { KeepsOurs (state S.Store tx.old.conn.now) (state S.Store tx.new.conn.now) result }
-    ensures err { FailsReading (state S.Store tx.old.conn.now) (state S.Store tx.new.conn.now) result }
     ensures inside { GoesOn (state S.Store tx.old.conn.now) (state S.Store tx.new.conn.now) result }
     ensures kept { StaysInside (state S.Store tx.old.conn.now) (state S.Store tx.new.conn.now) }
     ensures same_reference { tx.new.conn.ghost_name ≡ tx.old.conn.ghost_name }
     ensures survives { CommitsNothing (state S.Store tx.old.conn.now) (state S.Store tx.new.conn.now) }
 {
-    if is_complete(&staged.row, staged.received.as_slice()) {
-        let sha256 = hash_upload(tx, alloc, staged.row.upload)?;
-        Ok(Some(Digests { sha256 }))
-    } else {
-        Ok(None)
+    match load_upload(tx, alloc, upload)? {
+        FoundUpload::Live(staged) => live_state(alloc, &staged),
+        FoundUpload::TimedOut => Ok(UploadState::TimedOut),
+        FoundUpload::Unknown => Ok(UploadState::Unknown),
     }
 }
 
-// What a deposit by reference looks at.
-fn load_referred<S: Alter>(
+fn load_state<S: Alter>(
     tx: &mut Transaction<'_, S>,
     alloc: Global,
-    staged: &StagedUpload,
-) -> Result<LiveUpload, StoreFault>
+    known: &mut BTreeMap<u64, Referred>,
+    by_reference: bool,
+    upload: u64,
+) -> Result<UploadState, StoreFault>
     ensures map { FromMaps (state S.Store tx.old.conn.now) (state S.Store tx.new.conn.now)
-        (λ s. IsSound s → (it : Upload) → IsLiveAs s staged.now it
-        → IfOk result (λ live. live ≡ live_upload true staged.now.row.upload it)) }
-    ensures same { ReadsOnly (state S.Store tx.old.conn.now) (state S.Store tx.new.conn.now) result }
-    ensures ours { KeepsOurs (state S.Store tx.old.conn.now) (state S.Store tx.new.conn.now) result }
-    ensures err { FailsReading (state S.Store tx.old.conn.now) (state S.Store tx.new.conn.now) result }
+        (λ s. IsSound s → AreKnown s known.old → IfOk result (λ state.
+        (state ≡ upload_state by_reference s upload) × AreKnown s known.new)) }
+    ensures same { IsTrue (state S.Store tx.old.conn.now).is_open
+        → ReadsOnly (state S.Store tx.old.conn.now) (state S.Store tx.new.conn.now) result }
     ensures inside { GoesOn (state S.Store tx.old.conn.now) (state S.Store tx.new.conn.now) result }
     ensures kept { StaysInside (state S.Store tx.old.conn.now) (state S.Store tx.new.conn.now) }
     ensures same_reference { tx.new.conn.ghost_name ≡ tx.old.conn.ghost_name }
     ensures survives { CommitsNothing (state S.Store tx.old.conn.now) (state S.Store tx.new.conn.now) }
 {
-    Ok(LiveUpload {
-        row: staged.row,
-        received: Numbers::from_vec(Vec::new(alloc)),
-        digests: load_digests(tx, alloc, staged)?,
-    })
+    if by_reference {
+        let found = recall(tx, alloc, known, upload)?;
+        Ok(state_of(alloc, found))
+    } else {
+        load_received(tx, alloc, upload)
+    }
+}
+
+/// What is known at the numbers of uploads: for a deposit by reference their digests, else the numbers
+/// of their segments.
+pub(crate) fn load_uploads<S: Alter>(
+    tx: &mut Transaction<'_, S>,
+    alloc: Global,
+    by_reference: bool,
+    uploads: &[u64],
+) -> Result<UploadViews, StoreFault>
+    ensures map { IsTrue (state S.Store tx.old.conn.now).is_open
+        → FromMaps (state S.Store tx.old.conn.now) (state S.Store tx.new.conn.now)
+        (λ s. IsSound s → IfOk result (λ views.
+        views ≡ map (upload_view by_reference s) uploads.now)) }
+    ensures same { IsTrue (state S.Store tx.old.conn.now).is_open
+        → ReadsOnly (state S.Store tx.old.conn.now) (state S.Store tx.new.conn.now) result }
+    ensures inside { GoesOn (state S.Store tx.old.conn.now) (state S.Store tx.new.conn.now) result }
+    ensures kept { StaysInside (state S.Store tx.old.conn.now) (state S.Store tx.new.conn.now) }
+    ensures same_reference { tx.new.conn.ghost_name ≡ tx.old.conn.ghost_name }
+    ensures survives { CommitsNothing (state S.Store tx.old.conn.now) (state S.Store tx.new.conn.now) }
+{
+    let mut known = BTreeMap::new(alloc);
+    let mut views = Vec::new(alloc);
+    'uploads: for upload in uploads {
+        let state = load_state(tx, alloc, &mut known, by_reference, *upload)?;
+        let view = UploadView {
+            upload: *upload,
+            state,
+        };
+        if views.push(view).is_err() {
+            return Err(StoreFault::Memory);
+        }
+    }
+    Ok(UploadViews::from_vec(views))
 }

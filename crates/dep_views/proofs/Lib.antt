@@ -1,0 +1,5 @@
+pub mod Counted
+pub mod Chains
+pub mod Told
+pub mod Found
+pub mod Paths

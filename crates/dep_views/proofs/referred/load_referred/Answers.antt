@@ -1,0 +1,31 @@
+use Rattle.std.proofs.Common.{subst}
+use Rattle.sqlite.specs.Held.{state}
+use Rattle.dep_staging.proofs.Chains.{was_clean}
+use Rattle.dep_staging.specs.Found.{IsFound}
+use Rattle.dep_files.proofs.Results.{still_ours}
+use Rattle.dep_views.proofs.Chains.{still_seen}
+use Rattle.dep_views.proofs.Found.{live_as, told_referred, told_timed_out, told_unknown}
+use Rattle.dep_views.specs.Referred.{live_referred}
+use Rattle.dep_views.specs.declared.referred.Referred.TheVariants.{Unknown, TimedOut, Live}
+use Rattle.dep_views.proofs.referred.load_referred.Goals as goal
+
+pub returns-in_ok-digests-in-Live-clause-map : goal.returns-in_ok-digests-in-Live-clause-map
+returns-in_ok-digests-in-Live-clause-map g c clean inside ours s are sound =
+    let old = state g.S.Store c.args.tx.now.conn.now in
+    let mid = state g.S.Store c.load_upload.new.tx.conn.now in
+    let new = state g.S.Store c.load_digests.new.tx.conn.now in
+    let u = c.args.upload in
+    let before = was_clean mid new c.load_digests.ensures.survives clean in
+    let same = c.in_ok-staged.ensures.same before ours in
+    let it = subst (IsFound s u) c.in-Live.is (c.in_ok-staged.ensures.map before ours s are) in
+    let digests = c.in_ok-digests-in-Live.ensures.map clean (c.in_ok-staged.ensures.inside before inside) (still_ours old mid same ours) s (still_seen old mid s same are) sound it.0
+    (live_as s u c.in-Live.staged it) in
+    told_referred s u c.in-Live.staged it c.in_ok-digests-in-Live.digests digests
+
+pub returns-in-TimedOut-clause-map : goal.returns-in-TimedOut-clause-map
+returns-in-TimedOut-clause-map g c clean inside ours s are sound =
+    told_timed_out (λ it. Live (live_referred c.args.upload it)) TimedOut Unknown s c.args.upload (subst (IsFound s c.args.upload) c.in-TimedOut.is (c.in_ok-staged.ensures.map clean ours s are))
+
+pub returns-in-Unknown-clause-map : goal.returns-in-Unknown-clause-map
+returns-in-Unknown-clause-map g c clean inside ours s are sound =
+    told_unknown (λ it. Live (live_referred c.args.upload it)) TimedOut Unknown s c.args.upload (subst (IsFound s c.args.upload) c.in-Unknown.is (c.in_ok-staged.ensures.map clean ours s are))
