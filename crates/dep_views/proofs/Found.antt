@@ -52,6 +52,10 @@ module _ {X : Type 0} (live : Staged → X) (timed_out unknown : X) (s : State) 
 
 -- ---- an upload that is there
 
+pub numbers_are : (u : ℕ) (es : List (ℕ × List ℕ)) → map (λ segment. segment.number) (map (λ e. segment_row u e.0 (length e.1)) es) ≡ map (λ e. e.0) es
+numbers_are u [] = refl
+numbers_are u (e ∷ es) = ap (λ l. e.0 ∷ l) (numbers_are u es)
+
 module _ (s : State) (u : ℕ) (staged : StagedUpload) (h : IsFound s u (found.Live staged)) where
   number : staged.row.upload ≡ u
   number = ap (λ (r : UploadRow). r.upload) h.2
@@ -69,14 +73,10 @@ module _ (s : State) (u : ℕ) (staged : StagedUpload) (h : IsFound s u (found.L
       (λ i. known.Live (record { row = row i; digests = is i }))
       ∙ sym (ap (λ o. option_map_or (λ (it : Staged). known.Live (live_referred u it)) o (if set.contains s.timed_out u then known.TimedOut else known.Unknown)) h.1)
 
-  numbers_are : (es : List (ℕ × List ℕ)) → map (λ segment. segment.number) (map (λ e. segment_row u e.0 (length e.1)) es) ≡ map (λ e. e.0) es
-  numbers_are [] = refl
-  numbers_are (e ∷ es) = ap (λ l. e.0 ∷ l) (numbers_are es)
-
   pub told_received : seen.Live (live_received staged) ≡ upload_state false s u
   told_received =
       let row = h.2 in
-      let numbers : map (λ segment. segment.number) staged.received.items ≡ finmap.keys (h.0).segments = ap (map (λ segment. segment.number)) h.3 ∙ numbers_are (finmap.entries (h.0).segments) in
+      let numbers : map (λ segment. segment.number) staged.received.items ≡ finmap.keys (h.0).segments = ap (map (λ segment. segment.number)) h.3 ∙ numbers_are u (finmap.entries (h.0).segments) in
       let none : Option Digests = None in
       let live : live_received staged ≡ live_upload false u h.0 = λ i. record { row = row i; received = numbers i; digests = none } in
       ap seen.Live live

@@ -3,3 +3,4 @@ pub mod Chains
 pub mod Told
 pub mod Found
 pub mod Paths
+pub mod Shows

@@ -1,13 +1,15 @@
-//! What the tables tell, read inside a transaction: the view that a ruling looks at, and that of an
-//! object. Nothing here changes a table; after an `Err` the owner of the transaction gives it back.
+//! What the tables tell, read inside a transaction: the view that a ruling looks at, and what a
+//! reply shows. Nothing here changes a table; after an `Err` the owner of the transaction gives it back.
 #![tactic(auto)]
 
 mod objects;
 mod referred;
 mod segments;
+mod shown;
 mod touched;
 mod uploads;
 mod view;
 
 pub use objects::load_object_view;
+pub use shown::load_shown;
 pub use view::load_view;

@@ -4,34 +4,15 @@ ghost use Rattle.std.specs.Prelude.{◌≡◌, IfOk, option_map};
 ghost use Rattle.std.specs.FinMap as finmap;
 ghost use Rattle.sqlite.specs.Held.{state};
 ghost use Rattle.dep_types.specs.Sound.{IsSound};
-ghost use Rattle.dep_types.specs.Rows.{object_row, object_view};
+ghost use Rattle.dep_types.specs.Rows.{object_view};
 ghost use Rattle.dep_tables.specs.Clauses.{ReadsOnly, FailsReading, GoesOn, StaysInside, CommitsNothing};
 ghost use Rattle.dep_row_maps.specs.Clauses.{FromMaps, KeepsOurs};
 
 use dep_files::load_files;
 use dep_objects::load_object;
-use dep_types::{ObjectRow, ObjectView, StoreFault};
+use dep_types::{ObjectView, StoreFault};
 use sqlite::{Alter, Transaction};
 use std::alloc::Global;
-
-/// The row of an object, without its metadata and files, if there is one. A number of 2^63 or more is a
-/// fault of the store.
-pub(crate) fn find_row<S: Alter>(
-    tx: &mut Transaction<'_, S>,
-    object: u64,
-) -> Result<Option<ObjectRow>, StoreFault>
-    ensures map { FromMaps (state S.Store tx.old.conn.now) (state S.Store tx.new.conn.now)
-        (λ s. IfOk result (λ found. found ≡ option_map (object_row object) (finmap.get s.objects object))) }
-    ensures same { ReadsOnly (state S.Store tx.old.conn.now) (state S.Store tx.new.conn.now) result }
-    ensures ours { KeepsOurs (state S.Store tx.old.conn.now) (state S.Store tx.new.conn.now) result }
-    ensures err { FailsReading (state S.Store tx.old.conn.now) (state S.Store tx.new.conn.now) result }
-    ensures inside { GoesOn (state S.Store tx.old.conn.now) (state S.Store tx.new.conn.now) result }
-    ensures kept { StaysInside (state S.Store tx.old.conn.now) (state S.Store tx.new.conn.now) }
-    ensures same_reference { tx.new.conn.ghost_name ≡ tx.old.conn.ghost_name }
-    ensures survives { CommitsNothing (state S.Store tx.old.conn.now) (state S.Store tx.new.conn.now) }
-{
-    dep_tables::find_object(tx, object)
-}
 
 /// What is told of an object, if there is one: its row, its metadata, and its files by ascending number.
 /// No content is read. A number of 2^63 or more is a fault of the store.

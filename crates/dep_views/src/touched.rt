@@ -7,9 +7,9 @@ ghost use Rattle.dep_rulings.specs.Views.{has_path, touched_file, touched_object
 ghost use Rattle.dep_tables.specs.Clauses.{ReadsOnly, GoesOn, StaysInside, CommitsNothing};
 ghost use Rattle.dep_row_maps.specs.Clauses.{FromMaps};
 
-use crate::objects::find_row;
 use dep_bag::has_bag_path;
 use dep_files::{find_file, load_files};
+use dep_objects::find_object;
 use dep_rulings::Touched;
 use dep_types::{FileRow, ObjectRow, StoreFault};
 use sqlite::{Alter, Transaction};
@@ -30,7 +30,7 @@ pub(crate) fn find_touched_object<S: Alter>(
     ensures survives { CommitsNothing (state S.Store tx.old.conn.now) (state S.Store tx.new.conn.now) }
 {
     match touched.object {
-        Some(object) => find_row(tx, object),
+        Some(object) => find_object(tx, object),
         None => Ok(None),
     }
 }

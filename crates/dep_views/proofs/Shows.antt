@@ -1,0 +1,37 @@
+-- What a reply shows, from what was found.
+use Rattle.std.proofs.Common.{◌≡◌, ℕ, List, length, map, Option, Some, None, refl, sym, ap, ◌∙◌}
+use Rattle.std.specs.Prelude.{option_map}
+use Rattle.std.specs.Option.{option_map_or}
+use Rattle.std.specs.FinMap as finmap
+use Rattle.dep_types.specs.State.{State, Upload as Staged}
+use Rattle.dep_types.specs.Rows.{upload_row}
+use Rattle.dep_answers.specs.Subjects.{shown_at}
+use Rattle.dep_answers.specs.declared.subject.Subject.TheVariants as subject
+use Rattle.dep_answers.specs.declared.subject.Shown.TheVariants as shown
+use Rattle.dep_staging.specs.Found.{IsFound}
+use Rattle.dep_staging.specs.declared.loading.FoundUpload.TheVariants as found
+use Rattle.dep_staging.specs.declared.loading.StagedUpload.{StagedUpload}
+use Rattle.dep_views.proofs.Found.{numbers_are}
+
+module _ {X Y Z : Type 0} (f : X → Y) (g : Y → Z) (z : Z) where
+  pub some_shown : (o : Option X) (v : Y) → Some v ≡ option_map f o → g v ≡ option_map_or (λ x. g (f x)) o z
+  some_shown None v e = absurd (cc)
+  some_shown (Some x) v e = let same : v ≡ f x = cc in ap g same
+
+  pub none_shown : (o : Option X) → ◌≡◌ {A = Option Y} None (option_map f o) → z ≡ option_map_or (λ x. g (f x)) o z
+  none_shown None e = refl
+  none_shown (Some x) e = absurd (cc)
+
+module _ (s : State) (u : ℕ) where
+  at : (o : Option Staged) → finmap.get s.uploads u ≡ o → shown_at s (subject.Upload u) ≡ option_map_or (λ it. shown.Upload (upload_row u it) (finmap.keys it.segments)) o shown.Nothing
+  at o is = ap (λ x. option_map_or (λ (it : Staged). shown.Upload (upload_row u it) (finmap.keys it.segments)) x shown.Nothing) is
+
+  pub no_upload_shown : finmap.get s.uploads u ≡ None → shown.Nothing ≡ shown_at s (subject.Upload u)
+  no_upload_shown is = sym (at None is)
+
+  pub upload_shown : (staged : StagedUpload) (numbers : List ℕ) → IsFound s u (found.Live staged) → numbers ≡ map (λ segment. segment.number) staged.received.items
+      → shown.Upload staged.row numbers ≡ shown_at s (subject.Upload u)
+  upload_shown staged numbers h are =
+      let row = h.2 in
+      let keys = are ∙ ap (map (λ segment. segment.number)) h.3 ∙ numbers_are u (finmap.entries (h.0).segments) in
+      (λ i. shown.Upload (row i) (keys i)) ∙ sym (at (Some h.0) h.1)

@@ -1,0 +1,146 @@
+//! What a reply shows of the archive.
+
+ghost use Rattle.std.specs.Prelude.{◌≡◌, IfOk, IsTrue};
+ghost use Rattle.sqlite.specs.Held.{state};
+ghost use Rattle.dep_types.specs.Sound.{IsSound};
+ghost use Rattle.dep_answers.specs.Subjects.{shown_at};
+ghost use Rattle.dep_answers.specs.declared.subject.Subject.TheVariants as subject;
+ghost use Rattle.dep_tables.specs.Clauses.{ReadsOnly, GoesOn, StaysInside, CommitsNothing};
+ghost use Rattle.dep_row_maps.specs.Clauses.{FromMaps, KeepsOurs};
+
+use crate::objects::load_object_view;
+use crate::segments::numbers_of;
+use dep_answers::{FileId, Shown, Subject};
+use dep_files::find_file;
+use dep_objects::{find_object, load_object};
+use dep_staging::{FoundUpload, load_upload};
+use dep_types::StoreFault;
+use sqlite::{Alter, Transaction};
+use std::alloc::Global;
+
+fn show_object<S: Alter>(
+    tx: &mut Transaction<'_, S>,
+    alloc: Global,
+    object: u64,
+) -> Result<Shown, StoreFault>
+    ensures map { FromMaps (state S.Store tx.old.conn.now) (state S.Store tx.new.conn.now)
+        (λ s. IsSound s → IfOk result (λ shown. shown ≡ shown_at s (subject.Object object))) }
+    ensures same { ReadsOnly (state S.Store tx.old.conn.now) (state S.Store tx.new.conn.now) result }
+    ensures inside { GoesOn (state S.Store tx.old.conn.now) (state S.Store tx.new.conn.now) result }
+    ensures kept { StaysInside (state S.Store tx.old.conn.now) (state S.Store tx.new.conn.now) }
+    ensures same_reference { tx.new.conn.ghost_name ≡ tx.old.conn.ghost_name }
+    ensures survives { CommitsNothing (state S.Store tx.old.conn.now) (state S.Store tx.new.conn.now) }
+{
+    match load_object_view(tx, alloc, object)? {
+        Some(view) => Ok(Shown::Object(view)),
+        None => Ok(Shown::Nothing),
+    }
+}
+
+fn show_row<S: Alter>(
+    tx: &mut Transaction<'_, S>,
+    object: u64,
+) -> Result<Shown, StoreFault>
+    ensures map { FromMaps (state S.Store tx.old.conn.now) (state S.Store tx.new.conn.now)
+        (λ s. IfOk result (λ shown. shown ≡ shown_at s (subject.ObjectRow object))) }
+    ensures same { ReadsOnly (state S.Store tx.old.conn.now) (state S.Store tx.new.conn.now) result }
+    ensures inside { GoesOn (state S.Store tx.old.conn.now) (state S.Store tx.new.conn.now) result }
+    ensures kept { StaysInside (state S.Store tx.old.conn.now) (state S.Store tx.new.conn.now) }
+    ensures same_reference { tx.new.conn.ghost_name ≡ tx.old.conn.ghost_name }
+    ensures survives { CommitsNothing (state S.Store tx.old.conn.now) (state S.Store tx.new.conn.now) }
+{
+    match find_object(tx, object)? {
+        Some(row) => Ok(Shown::ObjectRow(row)),
+        None => Ok(Shown::Nothing),
+    }
+}
+
+fn show_metadata<S: Alter>(
+    tx: &mut Transaction<'_, S>,
+    alloc: Global,
+    object: u64,
+) -> Result<Shown, StoreFault>
+    ensures map { FromMaps (state S.Store tx.old.conn.now) (state S.Store tx.new.conn.now)
+        (λ s. IsSound s → IfOk result (λ shown. shown ≡ shown_at s (subject.Metadata object))) }
+    ensures same { ReadsOnly (state S.Store tx.old.conn.now) (state S.Store tx.new.conn.now) result }
+    ensures inside { GoesOn (state S.Store tx.old.conn.now) (state S.Store tx.new.conn.now) result }
+    ensures kept { StaysInside (state S.Store tx.old.conn.now) (state S.Store tx.new.conn.now) }
+    ensures same_reference { tx.new.conn.ghost_name ≡ tx.old.conn.ghost_name }
+    ensures survives { CommitsNothing (state S.Store tx.old.conn.now) (state S.Store tx.new.conn.now) }
+{
+    match load_object(tx, alloc, object)? {
+        Some(described) => Ok(Shown::Metadata {
+            object: described.row,
+            metadata: described.metadata,
+        }),
+        None => Ok(Shown::Nothing),
+    }
+}
+
+fn show_file<S: Alter>(
+    tx: &mut Transaction<'_, S>,
+    id: FileId,
+) -> Result<Shown, StoreFault>
+    ensures map { FromMaps (state S.Store tx.old.conn.now) (state S.Store tx.new.conn.now)
+        (λ s. IfOk result (λ shown. shown ≡ shown_at s (subject.File id))) }
+    ensures same { ReadsOnly (state S.Store tx.old.conn.now) (state S.Store tx.new.conn.now) result }
+    ensures inside { GoesOn (state S.Store tx.old.conn.now) (state S.Store tx.new.conn.now) result }
+    ensures kept { StaysInside (state S.Store tx.old.conn.now) (state S.Store tx.new.conn.now) }
+    ensures same_reference { tx.new.conn.ghost_name ≡ tx.old.conn.ghost_name }
+    ensures survives { CommitsNothing (state S.Store tx.old.conn.now) (state S.Store tx.new.conn.now) }
+{
+    match find_file(tx, id.object, id.file)? {
+        Some(row) => Ok(Shown::File(row)),
+        None => Ok(Shown::Nothing),
+    }
+}
+
+fn show_upload<S: Alter>(
+    tx: &mut Transaction<'_, S>,
+    alloc: Global,
+    upload: u64,
+) -> Result<Shown, StoreFault>
+    ensures map { FromMaps (state S.Store tx.old.conn.now) (state S.Store tx.new.conn.now)
+        (λ s. IfOk result (λ shown. shown ≡ shown_at s (subject.Upload upload))) }
+    ensures same { ReadsOnly (state S.Store tx.old.conn.now) (state S.Store tx.new.conn.now) result }
+    ensures inside { GoesOn (state S.Store tx.old.conn.now) (state S.Store tx.new.conn.now) result }
+    ensures kept { StaysInside (state S.Store tx.old.conn.now) (state S.Store tx.new.conn.now) }
+    ensures same_reference { tx.new.conn.ghost_name ≡ tx.old.conn.ghost_name }
+    ensures survives { CommitsNothing (state S.Store tx.old.conn.now) (state S.Store tx.new.conn.now) }
+{
+    match load_upload(tx, alloc, upload)? {
+        FoundUpload::Live(staged) => Ok(Shown::Upload {
+            upload: staged.row,
+            received: numbers_of(alloc, staged.received.as_slice())?,
+        }),
+        FoundUpload::TimedOut => Ok(Shown::Nothing),
+        FoundUpload::Unknown => Ok(Shown::Nothing),
+    }
+}
+
+/// What a reply shows, read of the archive; nothing where nothing is there. No content is read. A number of
+/// 2^63 or more is a fault of the store.
+pub fn load_shown<S: Alter>(
+    tx: &mut Transaction<'_, S>,
+    alloc: Global,
+    subject: &Subject,
+) -> Result<Shown, StoreFault>
+    ensures map { FromMaps (state S.Store tx.old.conn.now) (state S.Store tx.new.conn.now)
+        (λ s. IsSound s → IfOk result (λ shown. shown ≡ shown_at s subject.now)) }
+    ensures same { IsTrue (state S.Store tx.old.conn.now).is_open
+        → ReadsOnly (state S.Store tx.old.conn.now) (state S.Store tx.new.conn.now) result }
+    ensures ours { KeepsOurs (state S.Store tx.old.conn.now) (state S.Store tx.new.conn.now) result }
+    ensures inside { GoesOn (state S.Store tx.old.conn.now) (state S.Store tx.new.conn.now) result }
+    ensures kept { StaysInside (state S.Store tx.old.conn.now) (state S.Store tx.new.conn.now) }
+    ensures same_reference { tx.new.conn.ghost_name ≡ tx.old.conn.ghost_name }
+    ensures survives { CommitsNothing (state S.Store tx.old.conn.now) (state S.Store tx.new.conn.now) }
+{
+    match *subject {
+        Subject::Nothing => Ok(Shown::Nothing),
+        Subject::Object(object) => show_object(tx, alloc, object),
+        Subject::ObjectRow(object) => show_row(tx, object),
+        Subject::Metadata(object) => show_metadata(tx, alloc, object),
+        Subject::File(id) => show_file(tx, id),
+        Subject::Upload(upload) => show_upload(tx, alloc, upload),
+    }
+}
