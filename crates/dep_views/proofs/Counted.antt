@@ -1,5 +1,5 @@
 -- An upload misses no segment where it has as many as it comes in.
-use Rattle.std.proofs.Common.{◌≡◌, ◌⊎◌, inl, inr, ℕ, Ordering, Less, Equal, Greater, is_lt, zero, suc, ◌+◌, ◌<◌, ◌≤◌, Bool, true, false, T, ◌&&◌, cond, List, [], ◌∷◌, length, map, nat_eq, nat_cmp, is_eq, is_some, Some, None, refl, sym, ap, subst, ◌∙◌, arith}
+use Rattle.std.proofs.Common.{◌≡◌, ◌⊎◌, inl, inr, ℕ, Ordering, Less, Equal, Greater, is_lt, zero, suc, ◌+◌, ◌<◌, ◌≤◌, Bool, true, false, T, ◌&&◌, cond, List, [], ◌∷◌, length, nat_eq, nat_cmp, is_eq, is_some, Some, refl, sym, ap, subst, ◌∙◌, arith}
 use Rattle.std.specs.List.{AllByRecursion, list_all, range_with_len}
 use Rattle.std.specs.FinMap as finmap
 use Rattle.std.specs.FinMap.Entries as entries
@@ -8,7 +8,7 @@ use Rattle.std.proofs.lemmas.Cmp.{nat_cmp_total, tied_itself}
 use Rattle.std.proofs.lemmas.Bool.{cases_lt}
 use Rattle.std.proofs.lemmas.Bool.Decides.{nat_tests}
 use Rattle.dep_types.specs.State.{Upload}
-use Rattle.dep_types.specs.Uploads.{has_segment, is_complete, segment_numbers}
+use Rattle.dep_types.specs.Uploads.{has_segment, is_complete}
 use Rattle.dep_row_maps.specs.Laws.{HasSegmentsWithin}
 use Rattle.dep_row_maps.specs.Stored.{segment_row}
 use Rattle.dep_row_maps.proofs.Blocks.{number_order}

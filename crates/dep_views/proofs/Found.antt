@@ -13,11 +13,8 @@ use Rattle.dep_row_maps.specs.Laws.{HasSegmentsWithin}
 use Rattle.dep_row_maps.specs.Stored.{segment_row}
 use Rattle.dep_fixity.specs.declared.hasher.Digests.{Digests}
 use Rattle.dep_rulings.specs.Views.{assembled_digests, live_upload, upload_state}
-use Rattle.dep_rulings.specs.declared.view.LiveUpload.{LiveUpload}
-use Rattle.dep_rulings.specs.declared.view.UploadState.{UploadState}
 use Rattle.dep_rulings.specs.declared.view.UploadState.TheVariants as seen
-use Rattle.dep_staging.specs.Found.{IsFound, gone_upload}
-use Rattle.dep_staging.specs.declared.loading.FoundUpload.{FoundUpload}
+use Rattle.dep_staging.specs.Found.{IsFound}
 use Rattle.dep_staging.specs.declared.loading.FoundUpload.TheVariants as found
 use Rattle.dep_staging.specs.declared.loading.StagedUpload.{StagedUpload}
 use Rattle.dep_views.specs.Segments.{IsLiveAs, live_received, segment_rows_of}

@@ -37,10 +37,7 @@ fn show_object<S: Alter>(
     }
 }
 
-fn show_row<S: Alter>(
-    tx: &mut Transaction<'_, S>,
-    object: u64,
-) -> Result<Shown, StoreFault>
+fn show_row<S: Alter>(tx: &mut Transaction<'_, S>, object: u64) -> Result<Shown, StoreFault>
     ensures map { FromMaps (state S.Store tx.old.conn.now) (state S.Store tx.new.conn.now)
         (λ s. IfOk result (λ shown. shown ≡ shown_at s (subject.ObjectRow object))) }
     ensures same { ReadsOnly (state S.Store tx.old.conn.now) (state S.Store tx.new.conn.now) result }
@@ -77,10 +74,7 @@ fn show_metadata<S: Alter>(
     }
 }
 
-fn show_file<S: Alter>(
-    tx: &mut Transaction<'_, S>,
-    id: FileId,
-) -> Result<Shown, StoreFault>
+fn show_file<S: Alter>(tx: &mut Transaction<'_, S>, id: FileId) -> Result<Shown, StoreFault>
     ensures map { FromMaps (state S.Store tx.old.conn.now) (state S.Store tx.new.conn.now)
         (λ s. IfOk result (λ shown. shown ≡ shown_at s (subject.File id))) }
     ensures same { ReadsOnly (state S.Store tx.old.conn.now) (state S.Store tx.new.conn.now) result }

@@ -1,8 +1,6 @@
 use Rattle.std.proofs.Common.{ap, sym, ◌∙◌}
 use Rattle.dep_tables.proofs.Results.{if_then}
 use Rattle.dep_rulings.specs.Views.{upload_state}
-use Rattle.dep_views.specs.Referred.{state_referred}
-use Rattle.dep_views.proofs.Found.{state_known}
 use Rattle.dep_views.proofs.uploads.load_state.Goals as goal
 
 pub returns-else-by_reference-clause-map : goal.returns-else-by_reference-clause-map
