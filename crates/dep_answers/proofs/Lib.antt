@@ -1,0 +1,5 @@
+pub mod ReplyLemmas
+pub mod Rising
+pub mod ToldLemmas
+pub mod BagLemmas
+pub mod ShownReplies

@@ -3,4 +3,5 @@ pub mod Bags
 pub mod Replies
 pub mod Steps
 pub mod Subjects
+pub mod Told
 pub mod Performing

@@ -51,6 +51,20 @@ content_at config s (BagFile n path) =
 content_at config s (FileSet n) = None
 content_at config s Staging = None
 
+-- the entity tag that it shows
+abbrev pub tag_shown : State → Resource → Option ℕ
+tag_shown s (Object n) = tag_at s (Object n)
+tag_shown s (Metadata n) = tag_at s (Metadata n)
+tag_shown s (File n f) = tag_at s (File n f)
+tag_shown s resource = None
+
+-- the URL of an object or an upload that is there
+abbrev pub object_location : Config → State → ℕ → Option (List ℕ)
+object_location config s n = option_map (λ o. object_url config n) (finmap.get s.objects n)
+
+abbrev pub upload_location : Config → State → ℕ → Option (List ℕ)
+upload_location config s u = option_map (λ upload. upload_url config u) (finmap.get s.uploads u)
+
 -- ---- answers
 
 -- the numbers of the object and of the upload that were made last
@@ -63,7 +77,7 @@ last_upload s = s.next.upload - 1
 -- with what it shows, and its entity tag
 abbrev pub shown_answer : Config → State → Resource → Answer
 shown_answer config s resource =
-    answer 200 (content_at config s resource) (tag_at s resource) None
+    answer 200 (content_at config s resource) (tag_shown s resource) None
 
 -- with the object's status document, and its entity tag
 abbrev pub status_answer : Config → State → ℕ → Answer
@@ -72,11 +86,11 @@ status_answer config s n = answer 200 (status_at config s n) (tag_at s (Object n
 -- the same for an object that was made, with its URL
 abbrev pub created_answer : Config → State → ℕ → Answer
 created_answer config s n =
-    answer 201 (status_at config s n) (tag_at s (Object n)) (Some (object_url config n))
+    answer 201 (status_at config s n) (tag_at s (Object n)) (object_location config s n)
 
 -- with the document of an upload that was opened, and its URL
 abbrev pub opened_answer : Config → State → ℕ → Answer
-opened_answer config s u = answer 201 (upload_at config s u) None (Some (upload_url config u))
+opened_answer config s u = answer 201 (upload_at config s u) None (upload_location config s u)
 
 -- with nothing but the entity tag of what was changed
 abbrev pub changed_answer : State → Resource → Answer

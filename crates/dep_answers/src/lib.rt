@@ -1,10 +1,19 @@
 //! What replies say: the answers to all requests, and their bytes.
 #![tactic(auto)]
 
+mod accepting;
+mod answer;
+mod bags;
+mod objects;
 mod performed;
+mod refusing;
 mod service;
+mod stored;
 mod subject;
+mod uploads;
 
+pub use accepting::accepted;
 pub use performed::{Delivery, FileId, Performed};
+pub use refusing::refused;
 pub use service::Service;
 pub use subject::{Shown, Subject};

@@ -15,4 +15,4 @@ pub use metadata::{bag_metadata_doc, metadata_doc};
 pub use service::service_doc;
 pub use status::status_doc;
 pub use upload::upload_doc;
-pub use urls::object_url;
+pub use urls::{object_url, upload_url};

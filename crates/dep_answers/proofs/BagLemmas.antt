@@ -1,0 +1,200 @@
+-- What stands at the paths of a bag.
+use Rattle.std.proofs.Common.{◌≡◌, ℕ, Bool, true, false, cond, List, [], ◌∷◌, ◌++◌, Option, Some, None, refl, sym, ap, ◌∙◌, map as each, codes, nat_cmp, ◌==◌, arith, All}
+use Rattle.std.specs.Prelude.{find, bytes_eq, option_map}
+use Rattle.std.specs.Ordering.{eq_by_cmp}
+use Rattle.std.specs.Cmp.{nat_cmp_total}
+use Rattle.std.specs.FinMap as finmap
+use Rattle.std.specs.FinMap.Entries as entries
+use Rattle.std.proofs.lemmas.List.Elements.{All-head, All-tail}
+use Rattle.std.proofs.lemmas.Bool.Decides.{nat_tests}
+use Rattle.std.proofs.lemmas.Slice.Eq.{bytes_eq-Decides}
+use Rattle.dep_types.specs.State.{Object, File}
+use Rattle.dep_types.specs.Rows.{file_row, object_view}
+use Rattle.dep_types.specs.declared.rows.FileRow.{FileRow}
+use Rattle.dep_types.specs.declared.rows.ObjectView.{ObjectView}
+use Rattle.dep_types.specs.Sinks.{Entry}
+use Rattle.dep_bag.specs.Manifest.{sha256_digest, manifest_of}
+use Rattle.dep_bag.specs.Parts.{told_parts, told_part, text_part, stored_part}
+use Rattle.dep_bag.specs.declared.part.BagPart.{BagPart}
+use Rattle.dep_bag.specs.declared.part.BagPart.TheVariants.{Bytes, Stored}
+use Rattle.dep_bag.proofs.Keys.{entries-held}
+use Rattle.dep_bag.proofs.ToldBag.{same_listed}
+use Rattle.dep_answers.specs.Answers.{ReplyContent, StoredContent}
+use Rattle.dep_answers.specs.Bags.{Place, places, tag_places, payload_place, shown_in_bag}
+use Rattle.dep_answers.specs.Told.{content_of, form_at}
+
+-- a path, and what is shown there, if it is known
+abbrev Known : Type 0
+Known = List ℕ × Option ReplyContent
+
+abbrev shown_file : File → ReplyContent
+shown_file file = StoredContent file.media file.content
+
+abbrev told_place : Object → List ℕ × BagPart → Known
+told_place o (path, Bytes text) = (path, Some (content_of (form_at path) text))
+told_place o (path, Stored f) = (path, option_map shown_file (finmap.get o.files f))
+
+abbrev held_place : Place → Known
+held_place place = (place.0, Some place.1)
+
+-- ---- what a view tells is the bag
+
+payload_told : (n : ℕ) (o : Object) (es : List (ℕ × File)) → All (λ e. finmap.get o.files e.0 ≡ Some e.1) es
+    → each (told_place o) (each stored_part (each (λ e. file_row n e.0 e.1) es)) ≡ each held_place (each payload_place es)
+payload_told n o [] h = refl
+payload_told n o (e ∷ es) h = λ i.
+    ((payload_place e).0, option_map shown_file (All-head (λ e. finmap.get o.files e.0 ≡ Some e.1) e es h i))
+    ∷ payload_told n o es (All-tail (λ e. finmap.get o.files e.0 ≡ Some e.1) e es h) i
+
+-- the parts by the tag files that are listed
+abbrev parts_by : ℕ → Object → List Entry → List (List ℕ × BagPart)
+parts_by n o listed =
+    each text_part listed
+    ++ text_part (codes "tagmanifest-sha256.txt", manifest_of sha256_digest listed)
+    ∷ each stored_part (object_view n o).files
+
+places_told : (n : ℕ) (o : Object) → each (told_place o) (told_parts (object_view n o)) ≡ each held_place (places o)
+places_told n o =
+    let held = entries-held nat_cmp_total finmap.nat_cmp-IsAntisymmetric o.files in
+    ap (λ (listed : List Entry). each (told_place o) (parts_by n o listed)) (same_listed n o)
+    ∙ ap (λ (l : List Known). each held_place (tag_places o) ++ l) (payload_told n o (finmap.entries o.files) held)
+
+-- ---- what is found
+
+either_way : {X Y : Type 0} (g : X → Y) (b : Bool) (x : X) (o : Option Y) (r : Option X) → o ≡ option_map g r
+    → cond b (Some (g x)) o ≡ option_map g (cond b (Some x) r)
+either_way g true x o r e = refl
+either_way g false x o r e = e
+
+-- a function that keeps the paths can be put before or behind a search
+found_through : {X Y : Type 0} (path : List ℕ) (of : X → List ℕ) (to : Y → List ℕ) (g : X → Y) → ((x : X) → to (g x) ≡ of x)
+    → (xs : List X) → find (λ y. bytes_eq path (to y)) (each g xs) ≡ option_map g (find (λ x. bytes_eq path (of x)) xs)
+found_through path of to g same [] = refl
+found_through path of to g same (x ∷ xs) =
+    ap (λ p. cond (bytes_eq path p) (Some (g x)) (find (λ y. bytes_eq path (to y)) (each g xs))) (same x)
+    ∙ either_way g (bytes_eq path (of x)) x _ (find (λ x. bytes_eq path (of x)) xs) (found_through path of to g same xs)
+
+same_some : {X : Type 0} (x y : X) → Some x ≡ Some y → x ≡ y
+same_some x y e = cc
+
+found_there : {X : Type 0} (test : X → Bool) (xs : List X) (x : X) → find test xs ≡ Some x → test x ≡ true
+found_there test [] x e = cc
+found_there test (y ∷ ys) x e = go (test y) refl e (found_there test ys x)
+  where
+    go : (b : Bool) → test y ≡ b → cond b (Some y) (find test ys) ≡ Some x → (find test ys ≡ Some x → test x ≡ true) → test x ≡ true
+    go true is e later = ap test (sym (same_some y x e)) ∙ is
+    go false is e later = later e
+
+-- ---- at one path
+
+module _ (n : ℕ) (o : Object) (path : List ℕ) where
+  abbrev part : Option (List ℕ × BagPart)
+  part = find (λ p. bytes_eq path p.0) (told_parts (object_view n o))
+
+  abbrev place : Option Place
+  place = find (λ p. bytes_eq path p.0) (places o)
+
+  same_path : (p : List ℕ × BagPart) → (told_place o p).0 ≡ p.0
+  same_path (q, Bytes text) = refl
+  same_path (q, Stored f) = refl
+
+  both_found : option_map (told_place o) part ≡ option_map held_place place
+  both_found =
+      sym (found_through path (λ (p : List ℕ × BagPart). p.0) (λ (k : Known). k.0) (told_place o) same_path (told_parts (object_view n o)))
+      ∙ ap (find (λ (k : Known). bytes_eq path k.0)) (places_told n o)
+      ∙ found_through path (λ (p : Place). p.0) (λ (k : Known). k.0) held_place (λ p. refl) (places o)
+
+  right_path : (p : List ℕ × BagPart) → part ≡ Some p → p.0 ≡ path
+  right_path p e =
+      let there : bytes_eq path p.0 ≡ true = found_there (λ (p : List ℕ × BagPart). bytes_eq path p.0) (told_parts (object_view n o)) p e in
+      sym ((bytes_eq-Decides path p.0).0 there)
+
+same_text : (a b : List ℕ) → Some (Bytes a) ≡ Some (Bytes b) → a ≡ b
+same_text a b e = cc
+
+same_stored : (f g : ℕ) → Some (Stored f) ≡ Some (Stored g) → f ≡ g
+same_stored f g e = cc
+
+not_stored : (f : ℕ) (text : List ℕ) → Some (Bytes text) ≡ Some (Stored f) → ⊥
+not_stored f text e = cc
+
+by_bytes : (o : Object) (path : List ℕ) (p : Option (List ℕ × BagPart)) (q : Option Place)
+    → option_map (told_place o) p ≡ option_map held_place q → ((x : List ℕ × BagPart) → p ≡ Some x → x.0 ≡ path)
+    → (text : List ℕ) → Some (Bytes text) ≡ option_map (λ x. x.1) p
+    → option_map (λ x. x.1) q ≡ Some (content_of (form_at path) text)
+by_bytes o path None q e right text is = absurd (cc)
+by_bytes o path (Some (r, Bytes t)) None e right text is = absurd (cc)
+by_bytes o path (Some (r, Bytes t)) (Some place) e right text is =
+    let known : Some (content_of (form_at r) t) ≡ Some place.1 = ap (λ (k : Known). k.1) (same_some (r, Some (content_of (form_at r) t)) (held_place place) e) in
+    sym known ∙ (λ i. Some (content_of (form_at (right (r, Bytes t) refl i)) (same_text t text (sym is) i)))
+by_bytes o path (Some (r, Stored f)) q e right text is = absurd (not_stored f text is)
+
+-- a content that is known is that of a file
+known_file : (m : Option File) (c : ReplyContent) → option_map shown_file m ≡ Some c
+    → (it : File) × ((m ≡ Some it) × (Some c ≡ Some (shown_file it)))
+known_file None c e = absurd (cc)
+known_file (Some it) c e = (it, (refl, sym e))
+
+by_stored : (o : Object) (p : Option (List ℕ × BagPart)) (q : Option Place) → option_map (told_place o) p ≡ option_map held_place q
+    → (f : ℕ) → Some (Stored f) ≡ option_map (λ x. x.1) p
+    → (it : File) × ((finmap.get o.files f ≡ Some it) × (option_map (λ x. x.1) q ≡ Some (shown_file it)))
+by_stored o None q e f is = absurd (cc)
+by_stored o (Some (r, Bytes t)) q e f is = absurd (not_stored f t (sym is))
+by_stored o (Some (r, Stored g)) None e f is = absurd (cc)
+by_stored o (Some (r, Stored g)) (Some place) e f is =
+    let known : option_map shown_file (finmap.get o.files g) ≡ Some place.1 =
+    ap (λ (k : Known). k.1) (same_some (r, option_map shown_file (finmap.get o.files g)) (held_place place) e) in
+    let file = known_file (finmap.get o.files g) place.1 known in
+    (file.0, (ap (finmap.get o.files) (same_stored f g is) ∙ file.1.0, file.1.1))
+
+by_none : (o : Object) (p : Option (List ℕ × BagPart)) (q : Option Place) → option_map (told_place o) p ≡ option_map held_place q
+    → None ≡ option_map (λ x. x.1) p → option_map (λ x. x.1) q ≡ None
+by_none o None None e is = refl
+by_none o None (Some place) e is = absurd (cc)
+by_none o (Some x) q e is = absurd (cc)
+
+-- a text of the bag
+pub text_shown : (n : ℕ) (o : Object) (view : ObjectView) (path text : List ℕ) → view ≡ object_view n o
+    → Some (Bytes text) ≡ told_part view path → shown_in_bag o path ≡ Some (content_of (form_at path) text)
+text_shown n o view path text e is =
+    by_bytes o path (part n o path) (place n o path) (both_found n o path) (right_path n o path) text
+    (is ∙ ap (λ (v : ObjectView). told_part v path) e)
+
+-- the content of a file of the object
+pub file_shown : (n : ℕ) (o : Object) (view : ObjectView) (path : List ℕ) (f : ℕ) → view ≡ object_view n o
+    → Some (Stored f) ≡ told_part view path
+    → (it : File) × ((finmap.get o.files f ≡ Some it) × (shown_in_bag o path ≡ Some (StoredContent it.media it.content)))
+file_shown n o view path f e is =
+    by_stored o (part n o path) (place n o path) (both_found n o path) f (is ∙ ap (λ (v : ObjectView). told_part v path) e)
+
+pub nothing_shown : (n : ℕ) (o : Object) (view : ObjectView) (path : List ℕ) → view ≡ object_view n o
+    → None ≡ told_part view path → shown_in_bag o path ≡ None
+nothing_shown n o view path e is =
+    by_none o (part n o path) (place n o path) (both_found n o path) (is ∙ ap (λ (v : ObjectView). told_part v path) e)
+
+-- ---- rows
+
+same_number : (f k : ℕ) → eq_by_cmp nat_cmp f k ≡ (k == f)
+same_number f k = grind (arith, nat_tests)
+
+same_nat : (a b : ℕ) → (a == b) ≡ true → a ≡ b
+same_nat a b e = grind (arith, nat_tests)
+
+row_among : (n f : ℕ) (es : List (ℕ × File))
+    → find (λ (row : FileRow). row.file == f) (each (λ e. file_row n e.0 e.1) es) ≡ option_map (file_row n f) (entries.find nat_cmp f es)
+row_among n f [] = refl
+row_among n f (e ∷ es) =
+    go (e.0 == f) refl (row_among n f es)
+    ∙ ap (λ (b : Bool). option_map (file_row n f) (cond b (Some e.1) (entries.find nat_cmp f es))) (sym (same_number f e.0))
+  where
+    rest : Option FileRow
+    rest = find (λ (row : FileRow). row.file == f) (each (λ x. file_row n x.0 x.1) es)
+
+    go : (b : Bool) → (e.0 == f) ≡ b → rest ≡ option_map (file_row n f) (entries.find nat_cmp f es)
+        → cond b (Some (file_row n e.0 e.1)) rest ≡ option_map (file_row n f) (cond b (Some e.1) (entries.find nat_cmp f es))
+    go true is later = ap (λ (k : ℕ). Some (file_row n k e.1)) (same_nat e.0 f is)
+    go false is later = later
+
+pub row_found : (n : ℕ) (o : Object) (f : ℕ)
+    → find (λ (row : FileRow). row.file == f) (object_view n o).files ≡ option_map (file_row n f) (finmap.get o.files f)
+row_found n o f = row_among n f (finmap.entries o.files) ∙ ap (option_map (file_row n f)) (sym (finmap.get-entries o.files f))

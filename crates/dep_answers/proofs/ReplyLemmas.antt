@@ -1,0 +1,79 @@
+-- Replies that are ready.
+use Rattle.std.proofs.Common.{◌≡◌, ◌≢◌, ℕ, Bool, true, false, List, [], ◌∷◌, ◌++◌, Option, Some, None, refl, sym, ap, subst, ◌∙◌, append-nil}
+use Rattle.std.specs.Prelude.{IsSome}
+use Rattle.std.specs.Option.{option_map_or}
+use Rattle.dep_types.specs.State.{State, File, file_at}
+use Rattle.dep_types.specs.Rows.{file_row}
+use Rattle.dep_types.specs.declared.rows.FileRow.{FileRow}
+use Rattle.dep_reply.specs.Head.{ReplyHead, head_text}
+use Rattle.dep_answers.specs.Answers.{Answer, StoredContent, document_of, stored_of, answer, head_of}
+use Rattle.dep_answers.specs.Replies.{unless_bare, front_text, stored_text}
+use Rattle.dep_answers.specs.Performing.{IsReply, stored_in, stored_behind}
+use Rattle.dep_answers.specs.declared.performed.Delivery.{Delivery}
+use Rattle.dep_answers.specs.declared.performed.Performed.{Performed}
+use Rattle.dep_answers.specs.declared.performed.FileId.{FileId}
+
+nothing_either_way : (is_bare : Bool) → unless_bare is_bare [] ≡ []
+nothing_either_way true = refl
+nothing_either_way false = refl
+
+none_there : (o : Option FileId) → o ≡ None → IsSome o → ⊥
+none_there None e h = cc
+none_there (Some id) e h = cc
+
+-- a reply without the content of a file
+pub text_reply : (s : State) (a : Answer) (delivery : Delivery) (p : Performed)
+    → p.front.items ≡ head_text (head_of a delivery.clock delivery.closes) ++ unless_bare delivery.is_bare (document_of a.content)
+    → stored_of a.content ≡ [] → p.stored ≡ None → IsReply s a delivery p
+unfolding front_text stored_text
+text_reply s a delivery p front none nothing = record {
+  front = front;
+  stored = ap (stored_in s) nothing ∙ sym (ap (unless_bare delivery.is_bare) none ∙ nothing_either_way delivery.is_bare);
+  not_empty = λ has. absurd (none_there p.stored nothing has);
+}
+
+-- ---- the content of a file
+
+-- the head by the row
+abbrev head_by : FileRow → (tag : Option ℕ) → Delivery → ReplyHead
+head_by row tag delivery = record {
+  status = 200;
+  date = delivery.clock;
+  content_type = Some row.media;
+  content_length = Some row.size;
+  tag = tag;
+  location = None;
+  allow = None;
+  closes = delivery.closes;
+}
+
+content_behind : (s : State) (is_bare : Bool) (content : List ℕ) (id : FileId)
+    → option_map_or (λ (x : File). x.content) (file_at s id.object id.file) [] ≡ content
+    → stored_in s (stored_behind is_bare content id) ≡ unless_bare is_bare content
+content_behind s true content id e = refl
+content_behind s false [] id e = refl
+content_behind s false (b ∷ content) id e = e
+
+not_nothing : (is_bare : Bool) (content : List ℕ) (id : FileId) → IsSome (stored_behind is_bare content id)
+    → unless_bare is_bare content ≢ []
+not_nothing true content id h = absurd (none_there None refl h)
+not_nothing false [] id h = absurd (none_there None refl h)
+not_nothing false (b ∷ content) id h = λ e. cc
+
+-- the head, and the content behind it
+pub stored_ready : (s : State) (file : File) (row : FileRow) (tag : Option ℕ) (delivery : Delivery) (p : Performed)
+    → file_at s row.object row.file ≡ Some file → row ≡ file_row row.object row.file file
+    → p.front.items ≡ head_text (head_by row tag delivery)
+    → p.stored ≡ stored_behind delivery.is_bare file.content (record { object = row.object; file = row.file })
+    → IsReply s (answer 200 (Some (StoredContent file.media file.content)) tag None) delivery p
+unfolding front_text stored_text
+stored_ready s file row tag delivery p there is front stored =
+    let id : FileId = record { object = row.object; file = row.file } in
+    record {
+      front = front ∙ ap (λ (r : FileRow). head_text (head_by r tag delivery)) is
+          ∙ sym (append-nil (head_text (head_by (file_row row.object row.file file) tag delivery)))
+          ∙ ap (λ (l : List ℕ). head_text (head_by (file_row row.object row.file file) tag delivery) ++ l) (sym (nothing_either_way delivery.is_bare));
+      stored = ap (stored_in s) stored
+          ∙ content_behind s delivery.is_bare file.content id (ap (λ (o : Option File). option_map_or (λ (x : File). x.content) o []) there);
+      not_empty = λ has. not_nothing delivery.is_bare file.content id (subst IsSome stored has);
+    }

@@ -1,0 +1,153 @@
+-- Replies that show files, by what was read of them.
+use Rattle.std.proofs.Common.{◌≡◌, ◌⊎◌, inl, inr, ℕ, ◌==◌, List, Option, Some, None, refl, sym, ap, subst, ◌∙◌}
+use Rattle.std.specs.Prelude.{find}
+use Rattle.std.specs.Option.{option_map, option_map_or, option_and_then}
+use Rattle.std.specs.FinMap as finmap
+use Rattle.dep_types.specs.State.{State, Object, File, file_at}
+use Rattle.dep_types.specs.Rows.{file_row, object_view}
+use Rattle.dep_types.specs.declared.rows.FileRow.{FileRow}
+use Rattle.dep_types.specs.declared.rows.ObjectView.{ObjectView}
+use Rattle.dep_types.specs.declared.config.Config.{Config}
+use Rattle.dep_types.specs.declared.target.Method.{Method}
+use Rattle.dep_types.specs.declared.target.Resource.{Resource}
+use Rattle.dep_types.specs.declared.target.Resource.TheVariants as resource
+use Rattle.dep_answers.specs.Answers.{Answer, StoredContent, answer}
+use Rattle.dep_answers.specs.Bags.{shown_in_bag}
+use Rattle.dep_answers.specs.Performing.{IsReply}
+use Rattle.dep_answers.specs.Replies.{shown_answer, answer_to}
+use Rattle.dep_answers.specs.Subjects.{shown_at, subject_at, subject_of}
+use Rattle.dep_answers.specs.Told.{file_answer, bag_answer}
+use Rattle.dep_answers.specs.declared.performed.Delivery.{Delivery}
+use Rattle.dep_answers.specs.declared.performed.FileId.{FileId}
+use Rattle.dep_answers.specs.declared.performed.Performed.{Performed}
+use Rattle.dep_answers.specs.declared.subject.Shown.{Shown}
+use Rattle.dep_answers.specs.declared.subject.Shown.TheVariants as shown
+use Rattle.dep_answers.specs.declared.subject.Subject.TheVariants as subject
+use Rattle.dep_answers.proofs.BagLemmas.{row_found}
+
+-- the same reply, where the answer is another's
+pub says_as : (s : State) (a b : Answer) (delivery : Delivery) (p : Performed) → a ≡ b → IsReply s a delivery p → IsReply s b delivery p
+says_as s a b delivery p e r = subst (λ (x : Answer). IsReply s x delivery p) e r
+
+-- ---- a file
+
+same_row : (x y : FileRow) → shown.File x ≡ shown.File y → x ≡ y
+same_row x y e = cc
+
+file_in : (n f : ℕ) (row : FileRow) (o : Option File)
+    → shown.File row ≡ option_map_or (λ (x : File). shown.File (file_row n f x)) o shown.Nothing
+    → (file : File) × ((o ≡ Some file) × (row ≡ file_row n f file))
+file_in n f row None e = absurd (cc)
+file_in n f row (Some file) e = (file, (refl, same_row row (file_row n f file) e))
+
+-- what the reply with a row's content says
+abbrev pub SaysRow : FileRow → Option ℕ → Delivery → Performed → Type 0
+SaysRow row tag delivery p = (s : State) (file : File) → file_at s row.object row.file ≡ Some file
+    → row ≡ file_row row.object row.file file → IsReply s (answer 200 (Some (StoredContent file.media file.content)) tag None) delivery p
+
+says_row : (row : FileRow) (tag : Option ℕ) (delivery : Delivery) (p : Performed) → SaysRow row tag delivery p
+    → (s : State) (n f : ℕ) (file : File) → file_at s n f ≡ Some file → row ≡ file_row n f file
+    → IsReply s (answer 200 (Some (StoredContent file.media file.content)) tag None) delivery p
+says_row row tag delivery p says s n f file there is =
+    says s file (ap (λ (r : FileRow). file_at s r.object r.file) is ∙ there)
+    (is ∙ ap (λ (r : FileRow). file_row r.object r.file file) (sym is))
+
+pub file_reply_is : (s : State) (id : FileId) (row : FileRow) (sh : Shown) (delivery : Delivery) (p : Performed)
+    → sh ≡ shown.File row → sh ≡ shown_at s (subject.File id) → SaysRow row (Some row.tag) delivery p
+    → IsReply s (file_answer s id) delivery p
+file_reply_is s id row sh delivery p is e says =
+    let found = file_in id.object id.file row (file_at s id.object id.file) (sym is ∙ e) in
+    let file : File = found.0 in
+    let there : file_at s id.object id.file ≡ Some file = found.1.0 in
+    let of : row ≡ file_row id.object id.file file = found.1.1 in
+    says_as s (answer 200 (Some (StoredContent file.media file.content)) (Some row.tag) None) (file_answer s id) delivery p
+    (ap (λ (r : FileRow). answer 200 (Some (StoredContent file.media file.content)) (Some r.tag) None) of
+    ∙ ap (λ (o : Option File). answer 200 (option_map (λ (x : File). StoredContent x.media x.content) o) (option_map (λ (x : File). x.tag) o) None) (sym there))
+    (says_row row (Some row.tag) delivery p says s id.object id.file file there of)
+
+no_file : (n f : ℕ) (sh : Shown) (o : Option File) → ((row : FileRow) → sh ≡ shown.File row → ⊥)
+    → sh ≡ option_map_or (λ (x : File). shown.File (file_row n f x)) o shown.Nothing → o ≡ None
+no_file n f sh None not e = refl
+no_file n f sh (Some file) not e = absurd (not (file_row n f file) e)
+
+pub no_file_answer : (s : State) (id : FileId) (sh : Shown) → ((row : FileRow) → sh ≡ shown.File row → ⊥)
+    → sh ≡ shown_at s (subject.File id) → answer 200 None None None ≡ file_answer s id
+no_file_answer s id sh not e =
+    ap (λ (o : Option File). answer 200 (option_map (λ (x : File). StoredContent x.media x.content) o) (option_map (λ (x : File). x.tag) o) None)
+    (sym (no_file id.object id.file sh (file_at s id.object id.file) not e))
+
+-- ---- a file of a bag
+
+same_one : {X : Type 0} (x y : X) → Some x ≡ Some y → x ≡ y
+same_one x y e = cc
+
+pub payload_reply_is : (s : State) (n : ℕ) (o : Object) (it : File) (view : ObjectView) (f : ℕ) (row : FileRow) (delivery : Delivery) (p : Performed)
+    → finmap.get s.objects n ≡ Some o → view ≡ object_view n o → finmap.get o.files f ≡ Some it
+    → Some row ≡ find (λ (r : FileRow). r.file == f) view.files → SaysRow row None delivery p
+    → IsReply s (answer 200 (Some (StoredContent it.media it.content)) None None) delivery p
+payload_reply_is s n o it view f row delivery p there is has found says =
+    let of : row ≡ file_row n f it = same_one row (file_row n f it)
+    (found ∙ ap (λ (v : ObjectView). find (λ (r : FileRow). r.file == f) v.files) is ∙ row_found n o f ∙ ap (option_map (file_row n f)) has) in
+    says_row row None delivery p says s n f it (ap (option_and_then (λ (x : Object). finmap.get x.files f)) there ∙ has) of
+
+pub payload_there : (n : ℕ) (o : Object) (it : File) (view : ObjectView) (f : ℕ) → view ≡ object_view n o → finmap.get o.files f ≡ Some it
+    → None ≡ find (λ (r : FileRow). r.file == f) view.files → ⊥
+payload_there n o it view f is has found =
+    let none : None ≡ Some (file_row n f it) =
+    found ∙ ap (λ (v : ObjectView). find (λ (r : FileRow). r.file == f) v.files) is ∙ row_found n o f ∙ ap (option_map (file_row n f)) has in
+    cc
+
+-- ---- a bag
+
+same_view : (x y : ObjectView) → shown.Object x ≡ shown.Object y → x ≡ y
+same_view x y e = cc
+
+object_in : (n : ℕ) (view : ObjectView) (o : Option Object)
+    → shown.Object view ≡ option_map_or (λ (x : Object). shown.Object (object_view n x)) o shown.Nothing
+    → (it : Object) × ((o ≡ Some it) × (view ≡ object_view n it))
+object_in n view None e = absurd (cc)
+object_in n view (Some it) e = (it, (refl, same_view view (object_view n it) e))
+
+pub bag_reply_is : (s : State) (n : ℕ) (path : List ℕ) (view : ObjectView) (sh : Shown) (delivery : Delivery) (p : Performed)
+    → sh ≡ shown.Object view → sh ≡ shown_at s (subject.Object n)
+    → ((s : State) (n : ℕ) (o : Object) → finmap.get s.objects n ≡ Some o → view ≡ object_view n o
+    → IsReply s (answer 200 (shown_in_bag o path) None None) delivery p)
+    → IsReply s (bag_answer s n path) delivery p
+bag_reply_is s n path view sh delivery p is e says =
+    let found = object_in n view (finmap.get s.objects n) (sym is ∙ e) in
+    says_as s (answer 200 (shown_in_bag found.0 path) None None) (bag_answer s n path) delivery p
+    (ap (λ (o : Option Object). answer 200 (option_and_then (λ (x : Object). shown_in_bag x path) o) None None) (sym found.1.0))
+    (says s n found.0 found.1.0 found.1.1)
+
+no_object : (n : ℕ) (sh : Shown) (o : Option Object) → ((view : ObjectView) → sh ≡ shown.Object view → ⊥)
+    → sh ≡ option_map_or (λ (x : Object). shown.Object (object_view n x)) o shown.Nothing → o ≡ None
+no_object n sh None not e = refl
+no_object n sh (Some it) not e = absurd (not (object_view n it) e)
+
+pub no_bag_answer : (s : State) (n : ℕ) (path : List ℕ) (sh : Shown) → ((view : ObjectView) → sh ≡ shown.Object view → ⊥)
+    → sh ≡ shown_at s (subject.Object n) → answer 200 None None None ≡ bag_answer s n path
+no_bag_answer s n path sh not e =
+    ap (λ (o : Option Object). answer 200 (option_and_then (λ (x : Object). shown_in_bag x path) o) None None)
+    (sym (no_object n sh (finmap.get s.objects n) not e))
+
+-- ---- by the resource and the method
+
+-- the reply that shows a resource that is this one
+pub shows : (config : Config) (s : State) (sh : Shown) (delivery : Delivery) (p : Performed) (r q : Resource) → r ≡ q
+    → (sh ≡ shown_at s (subject_at q) → IsReply s (shown_answer config s q) delivery p)
+    → sh ≡ shown_at s (subject_at r) → IsReply s (shown_answer config s r) delivery p
+shows config s sh delivery p r q is says =
+    subst (λ (x : Resource). sh ≡ shown_at s (subject_at x) → IsReply s (shown_answer config s x) delivery p) (sym is) says
+
+-- the reply to a method that is this one
+pub answers : (config : Config) (s : State) (sh : Shown) (delivery : Delivery) (p : Performed) (r : Resource) (m n : Method) → m ≡ n
+    → (sh ≡ shown_at s (subject_of s.next r n) → IsReply s (answer_to config s r n) delivery p)
+    → sh ≡ shown_at s (subject_of s.next r m) → IsReply s (answer_to config s r m) delivery p
+answers config s sh delivery p r m n is says =
+    subst (λ (x : Method). sh ≡ shown_at s (subject_of s.next r x) → IsReply s (answer_to config s r x) delivery p) (sym is) says
+
+-- what is never read shows nothing
+pub unread : (config : Config) (s : State) (r : Resource) → ((n : ℕ) × (r ≡ resource.FileSet n)) ⊎ (r ≡ resource.Staging)
+    → answer 200 None None None ≡ shown_answer config s r
+unread config s r (inl h) = ap (λ (x : Resource). shown_answer config s x) (sym h.1)
+unread config s r (inr h) = ap (λ (x : Resource). shown_answer config s x) (sym h)

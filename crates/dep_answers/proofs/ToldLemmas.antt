@@ -1,0 +1,128 @@
+-- What answers tell of what was read is what they tell of the state.
+use Rattle.std.proofs.Common.{◌≡◌, ℕ, Bool, true, List, [], ◌∷◌, ◌++◌, Option, Some, None, refl, ap, ◌∙◌, map as each}
+use Rattle.std.specs.Option.{option_map, option_map_or}
+use Rattle.std.specs.FinMap as finmap
+use Rattle.dep_types.specs.State.{State, Object, File, Upload, file_at}
+use Rattle.dep_types.specs.Sound.{IsSound}
+use Rattle.dep_types.specs.BagPaths.{bag_paths, tag_paths, payload_path}
+use Rattle.dep_types.specs.Rows.{object_row, object_view, file_row, upload_row}
+use Rattle.dep_types.specs.declared.config.Config.{Config}
+use Rattle.dep_types.specs.declared.target.Resource.TheVariants as resource
+use Rattle.dep_docs_out.specs.Documents.{status_document, metadata_document, upload_document, object_url, upload_url}
+use Rattle.dep_bag.specs.Bag.{list_text}
+use Rattle.dep_bag.specs.Parts.{row_path}
+use Rattle.dep_decisions.specs.Rules.{tag_at}
+use Rattle.dep_answers.specs.Answers.{Document, PlainText, answer}
+use Rattle.dep_answers.specs.Replies.{status_answer, created_answer, opened_answer, shown_answer}
+use Rattle.dep_answers.specs.Subjects.{shown_at}
+use Rattle.dep_answers.specs.Told.{told_status, told_created, told_metadata, told_list, told_tag, told_upload, told_opened, document_by, rises_above}
+use Rattle.dep_answers.specs.declared.subject.Shown.{Shown}
+use Rattle.dep_answers.specs.declared.subject.Shown.TheVariants as shown
+use Rattle.dep_answers.specs.declared.subject.Subject.TheVariants as subject
+use Rattle.dep_answers.proofs.Rising.{segments_rise}
+
+-- ---- objects
+
+status_by : (config : Config) (n : ℕ) (o : Option Object)
+    → told_status config (option_map_or (λ (x : Object). shown.Object (object_view n x)) o shown.Nothing)
+    ≡ answer 200 (option_map (λ (x : Object). Document (status_document config (object_view n x))) o) (option_map (λ (x : Object). x.tag) o) None
+status_by config n None = refl
+status_by config n (Some o) = refl
+
+pub status_is : (config : Config) (s : State) (n : ℕ) (sh : Shown) → sh ≡ shown_at s (subject.Object n)
+    → told_status config sh ≡ status_answer config s n
+status_is config s n sh e = ap (told_status config) e ∙ status_by config n (finmap.get s.objects n)
+
+created_by : (config : Config) (n : ℕ) (o : Option Object)
+    → told_created config (option_map_or (λ (x : Object). shown.Object (object_view n x)) o shown.Nothing)
+    ≡ answer 201 (option_map (λ (x : Object). Document (status_document config (object_view n x))) o) (option_map (λ (x : Object). x.tag) o) (option_map (λ (x : Object). object_url config n) o)
+created_by config n None = refl
+created_by config n (Some o) = refl
+
+pub created_is : (config : Config) (s : State) (n : ℕ) (sh : Shown) → sh ≡ shown_at s (subject.Object n)
+    → told_created config sh ≡ created_answer config s n
+created_is config s n sh e = ap (told_created config) e ∙ created_by config n (finmap.get s.objects n)
+
+metadata_by : (config : Config) (n : ℕ) (o : Option Object)
+    → told_metadata config (option_map_or (λ (x : Object). shown.Metadata (object_row n x) x.metadata) o shown.Nothing)
+    ≡ answer 200 (option_map (λ (x : Object). Document (metadata_document config n x.metadata)) o) (option_map (λ (x : Object). x.metadata_tag) o) None
+metadata_by config n None = refl
+metadata_by config n (Some o) = refl
+
+pub metadata_is : (config : Config) (s : State) (n : ℕ) (sh : Shown) → sh ≡ shown_at s (subject.Metadata n)
+    → told_metadata config sh ≡ shown_answer config s (resource.Metadata n)
+metadata_is config s n sh e = ap (told_metadata config) e ∙ metadata_by config n (finmap.get s.objects n)
+
+-- ---- tags
+
+metadata_tag_by : (n : ℕ) (o : Option Object)
+    → told_tag (resource.Metadata n) (option_map_or (λ (x : Object). shown.ObjectRow (object_row n x)) o shown.Nothing) ≡ option_map (λ (x : Object). x.metadata_tag) o
+metadata_tag_by n None = refl
+metadata_tag_by n (Some o) = refl
+
+pub metadata_tag_is : (s : State) (n : ℕ) (sh : Shown) → sh ≡ shown_at s (subject.ObjectRow n)
+    → told_tag (resource.Metadata n) sh ≡ tag_at s (resource.Metadata n)
+metadata_tag_is s n sh e = ap (told_tag (resource.Metadata n)) e ∙ metadata_tag_by n (finmap.get s.objects n)
+
+files_tag_by : (n : ℕ) (o : Option Object)
+    → told_tag (resource.FileSet n) (option_map_or (λ (x : Object). shown.ObjectRow (object_row n x)) o shown.Nothing) ≡ option_map (λ (x : Object). x.files_tag) o
+files_tag_by n None = refl
+files_tag_by n (Some o) = refl
+
+pub files_tag_is : (s : State) (n : ℕ) (sh : Shown) → sh ≡ shown_at s (subject.ObjectRow n)
+    → told_tag (resource.FileSet n) sh ≡ tag_at s (resource.FileSet n)
+files_tag_is s n sh e = ap (told_tag (resource.FileSet n)) e ∙ files_tag_by n (finmap.get s.objects n)
+
+file_tag_by : (n f : ℕ) (o : Option File)
+    → told_tag (resource.File n f) (option_map_or (λ (x : File). shown.File (file_row n f x)) o shown.Nothing) ≡ option_map (λ (x : File). x.tag) o
+file_tag_by n f None = refl
+file_tag_by n f (Some file) = refl
+
+pub file_tag_is : (s : State) (n f : ℕ) (sh : Shown) → sh ≡ shown_at s (subject.File (record { object = n; file = f }))
+    → told_tag (resource.File n f) sh ≡ tag_at s (resource.File n f)
+file_tag_is s n f sh e = ap (told_tag (resource.File n f)) e ∙ file_tag_by n f (file_at s n f)
+
+-- ---- uploads
+
+upload_by : (config : Config) (u : ℕ) (o : Option Upload)
+    → ((it : Upload) → o ≡ Some it → rises_above 0 (finmap.keys it.segments) ≡ true)
+    → told_upload config (option_map_or (λ (x : Upload). shown.Upload (upload_row u x) (finmap.keys x.segments)) o shown.Nothing)
+    ≡ answer 200 (option_map (λ (x : Upload). Document (upload_document config (upload_row u x) (finmap.keys x.segments))) o) None None
+upload_by config u None rise = refl
+upload_by config u (Some it) rise =
+    ap (λ (b : Bool). answer 200 (document_by b (upload_document config (upload_row u it) (finmap.keys it.segments))) None None) (rise it refl)
+
+pub upload_is : (config : Config) (s : State) → IsSound s → (u : ℕ) (sh : Shown) → sh ≡ shown_at s (subject.Upload u)
+    → told_upload config sh ≡ shown_answer config s (resource.Upload u)
+upload_is config s sound u sh e =
+    ap (told_upload config) e ∙ upload_by config u (finmap.get s.uploads u) (segments_rise s sound u)
+
+opened_by : (config : Config) (u : ℕ) (o : Option Upload)
+    → ((it : Upload) → o ≡ Some it → rises_above 0 (finmap.keys it.segments) ≡ true)
+    → told_opened config (option_map_or (λ (x : Upload). shown.Upload (upload_row u x) (finmap.keys x.segments)) o shown.Nothing)
+    ≡ answer 201 (option_map (λ (x : Upload). Document (upload_document config (upload_row u x) (finmap.keys x.segments))) o) None (option_map (λ (x : Upload). upload_url config u) o)
+opened_by config u None rise = refl
+opened_by config u (Some it) rise =
+    ap (λ (b : Bool). answer 201 (document_by b (upload_document config (upload_row u it) (finmap.keys it.segments))) None (Some (upload_url config u))) (rise it refl)
+
+pub opened_is : (config : Config) (s : State) → IsSound s → (u : ℕ) (sh : Shown) → sh ≡ shown_at s (subject.Upload u)
+    → told_opened config sh ≡ opened_answer config s u
+opened_is config s sound u sh e =
+    ap (told_opened config) e ∙ opened_by config u (finmap.get s.uploads u) (segments_rise s sound u)
+
+-- ---- the list of a bag
+
+same_paths : (n : ℕ) (es : List (ℕ × File))
+    → each row_path (each (λ e. file_row n e.0 e.1) es) ≡ each (λ e. payload_path e.0 e.1.name) es
+same_paths n [] = refl
+same_paths n (e ∷ es) = ap (λ (l : List (List ℕ)). payload_path e.0 e.1.name ∷ l) (same_paths n es)
+
+list_by : (n : ℕ) (o : Option Object)
+    → told_list (option_map_or (λ (x : Object). shown.Object (object_view n x)) o shown.Nothing)
+    ≡ answer 200 (option_map (λ (x : Object). PlainText (list_text (bag_paths x))) o) None None
+list_by n None = refl
+list_by n (Some o) = ap (λ (l : List (List ℕ)). answer 200 (Some (PlainText (list_text (tag_paths ++ l)))) None None) (same_paths n (finmap.entries o.files))
+
+pub list_is : (config : Config) (s : State) (n : ℕ) (sh : Shown) → sh ≡ shown_at s (subject.Object n)
+    → told_list sh ≡ shown_answer config s (resource.BagList n)
+list_is config s n sh e = ap told_list e ∙ list_by n (finmap.get s.objects n)

@@ -1,0 +1,42 @@
+use Rattle.std.proofs.Common.{◌∙◌, sym, ap, Option, Some, None}
+use Rattle.std.proofs.lemmas.Result.{IfOk-weaker}
+use Rattle.dep_bag.specs.declared.part.BagPart.{BagPart}
+use Rattle.dep_answers.specs.Answers.{ReplyContent, answer}
+use Rattle.dep_answers.specs.Bags.{shown_in_bag}
+use Rattle.dep_answers.specs.Told.{content_of}
+use Rattle.dep_answers.specs.declared.answer.Form.{Form}
+use Rattle.dep_answers.proofs.BagLemmas.{text_shown, file_shown, nothing_shown}
+use Rattle.dep_answers.proofs.ShownReplies.{says_as}
+use Rattle.dep_answers.proofs.bags.part_reply.Goals as goal
+
+pub returns-in-Some-Bytes : goal.returns-in-Some-Bytes
+returns-in-Some-Bytes c =
+    let told = ap (λ (x : BagPart). Some x) (sym c.in-Some-Bytes.field-0-is) ∙ (sym c.in-Some-Bytes.is ∙ c.in_ok-text.ensures) in
+    IfOk-weaker c.spell.result _ _
+    (λ p says s n o there is. says_as s _ (answer 200 (shown_in_bag o c.args.path.now) None None) c.args.delivery p
+    (c.showing.ensures
+    ∙ ap (λ (x : ReplyContent). answer 200 (Some x) None None) c.new.ensures
+    ∙ ap (λ (f : Form). answer 200 (Some (content_of f c.in-Some-Bytes.text)) None None) c.form_at.ensures
+    ∙ ap (λ (x : Option ReplyContent). answer 200 x None None) (sym (text_shown n o c.args.view.now c.args.path.now c.in-Some-Bytes.text is told)))
+    (says s))
+    c.spell.ensures
+
+pub returns-in-Some-Stored : goal.returns-in-Some-Stored
+returns-in-Some-Stored c =
+    let told = ap (λ (x : BagPart). Some x) (sym c.in-Some-Stored.field-0-is) ∙ (sym c.in-Some-Stored.is ∙ c.in_ok-text.ensures) in
+    IfOk-weaker c.payload_reply.result _ _
+    (λ p says s n o there is.
+    let found = file_shown n o c.args.view.now c.args.path.now c.in-Some-Stored.file is told in
+    says_as s _ (answer 200 (shown_in_bag o c.args.path.now) None None) c.args.delivery p
+    (ap (λ (x : Option ReplyContent). answer 200 x None None) (sym found.1.1)) (says s n o found.0 there is found.1.0))
+    c.payload_reply.ensures
+
+pub returns-in-None : goal.returns-in-None
+returns-in-None c =
+    let told = sym c.in-None.is ∙ c.in_ok-text.ensures in
+    IfOk-weaker c.spell-in-None.result _ _
+    (λ p says s n o there is. says_as s _ (answer 200 (shown_in_bag o c.args.path.now) None None) c.args.delivery p
+    (c.without_content.ensures
+    ∙ ap (λ (x : Option ReplyContent). answer 200 x None None) (sym (nothing_shown n o c.args.view.now c.args.path.now is told)))
+    (says s))
+    c.spell-in-None.ensures

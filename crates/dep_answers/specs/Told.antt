@@ -1,0 +1,94 @@
+-- What private functions make of what was read: answers, and the texts in them.
+use Rattle.std.specs.Prelude.{ℕ, nat_lt, ◌&&◌, Bool, true, List, [], ◌∷◌, Option, Some, None, option_map, option_and_then, codes, bytes_eq, if◌then◌else◌}
+use Rattle.std.specs.FinMap as finmap
+use Rattle.dep_types.specs.State.{State, file_at}
+use Rattle.dep_types.specs.declared.config.Config.{Config}
+use Rattle.dep_types.specs.declared.target.Resource.{Resource}
+use Rattle.dep_types.specs.declared.target.Resource.TheVariants.{Metadata, FileSet, File}
+use Rattle.dep_docs_out.specs.Documents.{status_document, metadata_document, upload_document, object_url, upload_url}
+use Rattle.dep_bag.specs.Bag.{list_text}
+use Rattle.dep_bag.specs.Parts.{told_paths}
+use Rattle.dep_answers.specs.Answers.{Answer, ReplyContent, Document, PlainText, StoredContent, answer}
+use Rattle.dep_answers.specs.Bags.{shown_in_bag}
+use Rattle.dep_answers.specs.declared.answer.Form.{Form}
+use Rattle.dep_answers.specs.declared.answer.Form.TheVariants as form
+use Rattle.dep_answers.specs.declared.performed.FileId.{FileId}
+use Rattle.dep_answers.specs.declared.subject.Shown.{Shown}
+use Rattle.dep_answers.specs.declared.subject.Shown.TheVariants as shown
+
+-- a text of this form
+abbrev pub content_of : Form → (bytes : List ℕ) → ReplyContent
+content_of form.Document bytes = Document bytes
+content_of form.PlainText bytes = PlainText bytes
+
+-- ---- objects
+
+abbrev pub told_status : Config → Shown → Answer
+told_status config (shown.Object view) =
+    answer 200 (Some (Document (status_document config view))) (Some view.object.object_tag) None
+told_status config sh = answer 200 None None None
+
+abbrev pub told_created : Config → Shown → Answer
+told_created config (shown.Object view) =
+    answer 201 (Some (Document (status_document config view))) (Some view.object.object_tag)
+    (Some (object_url config view.object.object))
+told_created config sh = answer 201 None None None
+
+abbrev pub told_metadata : Config → Shown → Answer
+told_metadata config (shown.Metadata row texts) =
+    answer 200 (Some (Document (metadata_document config row.object texts))) (Some row.metadata_tag)
+    None
+told_metadata config sh = answer 200 None None None
+
+abbrev pub told_list : Shown → Answer
+told_list (shown.Object view) = answer 200 (Some (PlainText (list_text (told_paths view)))) None None
+told_list sh = answer 200 None None None
+
+-- the tag of a part that was put in its place
+abbrev pub told_tag : Resource → Shown → Option ℕ
+told_tag (Metadata n) (shown.ObjectRow row) = Some row.metadata_tag
+told_tag (FileSet n) (shown.ObjectRow row) = Some row.files_tag
+told_tag (File n f) (shown.File row) = Some row.tag
+told_tag resource sh = None
+
+-- ---- uploads
+
+-- each number is above the one before it
+unfoldable pub rises_above : ℕ → List ℕ → Bool
+rises_above before [] = true
+rises_above before (k ∷ ks) = nat_lt before k && rises_above k ks
+
+-- the document of an upload, where its segments' numbers are in order
+abbrev pub document_by : (is_ordered : Bool) → (bytes : List ℕ) → Option ReplyContent
+document_by is_ordered bytes = if is_ordered then Some (Document bytes) else None
+
+abbrev pub told_upload : Config → Shown → Answer
+told_upload config (shown.Upload row received) =
+    answer 200
+    (document_by (rises_above 0 received) (upload_document config row received)) None None
+told_upload config sh = answer 200 None None None
+
+abbrev pub told_opened : Config → Shown → Answer
+told_opened config (shown.Upload row received) =
+    answer 201
+    (document_by (rises_above 0 received) (upload_document config row received)) None
+    (Some (upload_url config row.upload))
+told_opened config sh = answer 201 None None None
+
+-- ---- files and bags
+
+-- a file with its tag
+abbrev pub file_answer : State → FileId → Answer
+file_answer s id =
+    answer 200
+    (option_map (λ file. StoredContent file.media file.content) (file_at s id.object id.file))
+    (option_map (λ file. file.tag) (file_at s id.object id.file)) None
+
+-- what stands at a path of an object's bag
+abbrev pub bag_answer : State → (n : ℕ) → (path : List ℕ) → Answer
+bag_answer s n path =
+    answer 200 (option_and_then (λ o. shown_in_bag o path) (finmap.get s.objects n)) None None
+
+-- the form of a tag file
+abbrev pub form_at : (path : List ℕ) → Form
+form_at path = if bytes_eq path (codes "metadata/sword.json") then form.Document else form.PlainText

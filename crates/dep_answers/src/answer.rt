@@ -1,0 +1,178 @@
+//! Answers, and the replies that say them.
+ghost use Rattle.std.specs.Prelude.{◌≡◌, ◌++◌, [], IfOk, OnOk, Some, None};
+ghost use Rattle.dep_types.specs.State.{State};
+ghost use Rattle.dep_reply.specs.Statuses.{status_number};
+ghost use Rattle.dep_answers.specs.Answers.{answer, head_of, media_of, document_of, stored_of, Document};
+ghost use Rattle.dep_answers.specs.Performing.{IsReply};
+ghost use Rattle.dep_answers.specs.Replies.{unless_bare};
+ghost use Rattle.dep_answers.specs.Told.{content_of};
+
+use crate::performed::{Delivery, Performed};
+use dep_moment::Moment;
+use dep_reply::{Reply, Status, spell_head};
+use dep_types::{Octets, Text};
+use std::alloc::{AllocError, Global};
+use std::marker::Model;
+
+/// What a text in a reply is.
+#[derive(Clone, Copy)]
+pub(crate) enum Form {
+    /// JSON.
+    Document,
+    /// Lines in UTF-8.
+    PlainText,
+}
+
+/// A text in a reply.
+#[derive(Drop)]
+pub(crate) struct Content {
+    form: Form,
+    bytes: Octets,
+}
+
+impl Model for Content {
+    ghost use Rattle.dep_answers.specs.Answers.{ReplyContent};
+    ghost use Rattle.dep_answers.specs.Told.{content_of};
+
+    ghost Value = { ReplyContent };
+
+    ghost view = { λ c. content_of c.form c.bytes };
+}
+
+impl Content {
+    pub(crate) fn new(form: Form, bytes: Octets) -> Content
+        ensures { result ≡ content_of form bytes }
+    {
+        Content { form, bytes }
+    }
+
+    /// JSON.
+    pub(crate) fn document(bytes: Vec<u8>) -> Content
+        ensures { result ≡ Document bytes.items }
+    {
+        Content::new(Form::Document, Octets::from_vec(bytes))
+    }
+
+    /// The text itself.
+    fn bytes(&self) -> &[u8]
+        ensures text { result.now ≡ document_of (Some self.now) }
+        ensures stored { stored_of (Some self.now) ≡ [] }
+    {
+        self.bytes.as_slice()
+    }
+
+    /// Its media type (RFC 9110, section 8.3).
+    fn media(&self) -> &'static str
+        ensures { result.now ≡ media_of self.now }
+    {
+        match self.form {
+            Form::Document => "application/json",
+            Form::PlainText => "text/plain; charset=utf-8",
+        }
+    }
+}
+
+/// What a reply says, apart from the clock, from who asked and from whether the connection is closed.
+/// The content of a file isn't said so.
+#[derive(Drop)]
+pub(crate) struct Answer {
+    pub(crate) status: Status,
+    pub(crate) content: Option<Content>,
+    pub(crate) tag: Option<u64>,
+    pub(crate) location: Option<Text>,
+    pub(crate) allow: Option<&'static str>,
+}
+
+impl Model for Answer {
+    ghost use Rattle.std.specs.Option.{option_copied};
+    ghost use Rattle.dep_reply.specs.Statuses.{status_number};
+    ghost use Rattle.dep_answers.specs.Answers as spec;
+
+    ghost Value = { spec.Answer };
+
+    ghost view = { λ a. record {
+      status = status_number a.status;
+      content = a.content;
+      tag = a.tag;
+      location = a.location;
+      allow = option_copied a.allow;
+    } };
+}
+
+impl Answer {
+    /// The answer with nothing to show. It takes no memory.
+    pub(crate) fn without_content(status: Status) -> Answer
+        ensures { result ≡ answer (status_number status) None None None }
+    {
+        Answer {
+            status,
+            content: None,
+            tag: None,
+            location: None,
+            allow: None,
+        }
+    }
+
+    /// The answer that shows this.
+    pub(crate) fn showing(status: Status, content: Content) -> Answer
+        ensures { result ≡ answer (status_number status) (Some content) None None }
+    {
+        Answer {
+            status,
+            content: Some(content),
+            tag: None,
+            location: None,
+            allow: None,
+        }
+    }
+
+    /// The reply that says this.
+    pub(crate) fn spell(self, alloc: Global, delivery: Delivery) -> Result<Performed, AllocError>
+        ensures { IfOk result (λ p. (s : State) → IsReply s self delivery p) }
+    {
+        let mut front = spell_head(alloc, &self.head(delivery.clock, delivery.closes))?;
+        self.add_text(&mut front, delivery.is_bare)?;
+        Ok(Performed {
+            front,
+            stored: None,
+        })
+    }
+
+    // Adds the text behind a head, unless the reply has no body.
+    fn add_text(&self, front: &mut Vec<u8>, is_bare: bool) -> Result<(), AllocError>
+        ensures text { OnOk result (front.new.items ≡
+            front.old.items ++ unless_bare is_bare (document_of self.now.content)) }
+        ensures stored { stored_of self.now.content ≡ [] }
+    {
+        let Some(content) = &self.content else {
+            return Ok(());
+        };
+        let text = content.bytes();
+        if is_bare {
+            return Ok(());
+        }
+        front.extend_from_slice(text)
+    }
+
+    fn head(&self, clock: Moment, closes: bool) -> Reply<'_>
+        ensures { result ≡ head_of self.now clock closes }
+    {
+        let (content_type, content_length) = match &self.content {
+            Some(content) => (Some(content.media()), Some(content.bytes().len() as u64)),
+            None => (None, None),
+        };
+        Reply {
+            status: self.status,
+            date: clock,
+            content_type,
+            content_length,
+            tag: self.tag,
+            location: match &self.location {
+                Some(location) => Some(location.as_str()),
+                None => None,
+            },
+            allow: self.allow,
+            closes,
+        }
+    }
+}

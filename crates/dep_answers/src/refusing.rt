@@ -1,0 +1,45 @@
+//! Replies to requests that are refused.
+ghost use Rattle.std.specs.Prelude.{◌≡◌, IfOk};
+ghost use Rattle.std.specs.Option.{option_copied};
+ghost use Rattle.dep_types.specs.State.{State};
+ghost use Rattle.dep_answers.specs.Performing.{IsReply};
+ghost use Rattle.dep_answers.specs.Replies.{refused_answer};
+
+use crate::answer::{Answer, Content};
+use crate::performed::{Delivery, Performed};
+use dep_docs_out::error_doc;
+use dep_moment::Moment;
+use dep_reply::Status;
+use dep_types::Refusal;
+use std::alloc::{AllocError, Global};
+
+/// The reply to a request that is refused, with the methods of the resource where one is not allowed
+/// (RFC 9110, section 10.2.1). It tells the clock, and nothing of the archive.
+pub fn refused(
+    alloc: Global,
+    refusal: Refusal,
+    allow: Option<&'static str>,
+    delivery: Delivery,
+) -> Result<Performed, AllocError>
+    ensures { IfOk result (λ p. (s : State) →
+        IsReply s (refused_answer delivery.clock refusal (option_copied allow.entry)) delivery p) }
+{
+    refusing(alloc, refusal, allow, delivery.clock)?.spell(alloc, delivery)
+}
+
+fn refusing(
+    alloc: Global,
+    refusal: Refusal,
+    allow: Option<&'static str>,
+    clock: Moment,
+) -> Result<Answer, AllocError>
+    ensures { IfOk result (λ a. a ≡ refused_answer clock refusal (option_copied allow.entry)) }
+{
+    Ok(Answer {
+        status: Status::from(refusal),
+        content: Some(Content::document(error_doc(alloc, refusal, clock)?)),
+        tag: None,
+        location: None,
+        allow,
+    })
+}

@@ -1,0 +1,76 @@
+//! Replies with the content of a stored file.
+ghost use Rattle.std.specs.Prelude.{◌≡◌, IfOk, Some, None, ℕ, List, length};
+ghost use Rattle.dep_types.specs.State.{State, File as StateFile, file_at};
+ghost use Rattle.dep_types.specs.Rows.{file_row};
+ghost use Rattle.dep_answers.specs.Answers.{answer, StoredContent};
+ghost use Rattle.dep_answers.specs.Performing.{IsReply, stored_behind};
+ghost use Rattle.dep_answers.specs.Subjects.{shown_at};
+ghost use Rattle.dep_answers.specs.Told.{file_answer};
+ghost use Rattle.dep_answers.specs.declared.performed.FileId.{FileId as AFileId};
+ghost use Rattle.dep_answers.specs.declared.subject.Subject.TheVariants.{File};
+
+use crate::answer::Answer;
+use crate::performed::{Delivery, FileId, Performed};
+use crate::subject::Shown;
+use dep_reply::{Reply, Status, spell_head};
+use dep_types::FileRow;
+use std::alloc::{AllocError, Global};
+
+/// The reply that shows a file, with its entity tag.
+pub(crate) fn file_reply(
+    alloc: Global,
+    shown: &Shown,
+    delivery: Delivery,
+) -> Result<Performed, AllocError>
+    ensures { IfOk result (λ p. (s : State) (id : AFileId) → shown.now ≡ shown_at s (File id)
+        → IsReply s (file_answer s id) delivery p) }
+{
+    match shown {
+        Shown::File(row) => stored_reply(alloc, row, Some(row.tag), delivery),
+        _ => Answer::without_content(Status::Ok).spell(alloc, delivery),
+    }
+}
+
+/// The reply that shows the content of the file with this row, under its own media type and perhaps
+/// with an entity tag. No byte of the content is read.
+pub(crate) fn stored_reply(
+    alloc: Global,
+    row: &FileRow,
+    tag: Option<u64>,
+    delivery: Delivery,
+) -> Result<Performed, AllocError>
+    ensures { IfOk result (λ p. (s : State) (file : StateFile)
+        → file_at s row.now.object row.now.file ≡ Some file
+        → row.now ≡ file_row row.now.object row.now.file file
+        → IsReply s (answer 200 (Some (StoredContent file.media file.content)) tag None) delivery p) }
+{
+    let head = Reply {
+        status: Status::Ok,
+        date: delivery.clock,
+        content_type: Some(row.media.as_str()),
+        content_length: Some(row.size),
+        tag,
+        location: None,
+        allow: None,
+        closes: delivery.closes,
+    };
+    Ok(Performed {
+        front: spell_head(alloc, &head)?,
+        stored: content_behind(row, delivery.is_bare),
+    })
+}
+
+// The content of the file, unless the reply has no body or the file is empty.
+fn content_behind(row: &FileRow, is_bare: bool) -> Option<FileId>
+    ensures { (content : List ℕ) → length content ≡ row.now.size → result ≡
+        stored_behind is_bare content (record { object = row.now.object; file = row.now.file }) }
+{
+    if is_bare || row.size == 0 {
+        None
+    } else {
+        Some(FileId {
+            object: row.object,
+            file: row.file,
+        })
+    }
+}

@@ -1,0 +1,76 @@
+//! Answers that show staged uploads.
+ghost use Rattle.std.specs.Prelude.{◌≡◌, IfOk};
+ghost use Rattle.dep_docs_out.specs.Documents.{upload_document};
+ghost use Rattle.dep_answers.specs.Told.{told_upload, told_opened, rises_above, document_by};
+
+use crate::answer::{Answer, Content};
+use crate::subject::Shown;
+use dep_docs_out::{upload_doc, upload_url};
+use dep_reply::Status;
+use dep_rulings::Numbers;
+use dep_types::{Config, Text, UploadRow};
+use std::alloc::{AllocError, Global};
+
+/// The document of a staged upload (SWORD 3.0, segmented upload).
+pub(crate) fn upload(alloc: Global, config: &Config, shown: &Shown) -> Result<Answer, AllocError>
+    ensures { IfOk result (λ a. a ≡ told_upload config.now shown.now) }
+{
+    let Shown::Upload { upload, received } = shown else {
+        return Ok(Answer::without_content(Status::Ok));
+    };
+    Ok(Answer {
+        status: Status::Ok,
+        content: document(alloc, config, upload, received)?,
+        tag: None,
+        location: None,
+        allow: None,
+    })
+}
+
+/// The same for an upload that was opened, with its URL.
+pub(crate) fn opened(alloc: Global, config: &Config, shown: &Shown) -> Result<Answer, AllocError>
+    ensures { IfOk result (λ a. a ≡ told_opened config.now shown.now) }
+{
+    let Shown::Upload { upload, received } = shown else {
+        return Ok(Answer::without_content(Status::Created));
+    };
+    Ok(Answer {
+        status: Status::Created,
+        content: document(alloc, config, upload, received)?,
+        tag: None,
+        location: Some(Text::new(upload_url(alloc, config, upload.upload)?)),
+        allow: None,
+    })
+}
+
+// The document, unless a damaged table gave numbers that aren't in order.
+fn document(
+    alloc: Global,
+    config: &Config,
+    upload: &UploadRow,
+    received: &Numbers,
+) -> Result<Option<Content>, AllocError>
+    ensures { IfOk result (λ content. content ≡ document_by (rises_above 0 received.now)
+        (upload_document config.now upload.now received.now)) }
+{
+    let received = received.as_slice();
+    if !are_segments(received) {
+        return Ok(None);
+    }
+    let document = upload_doc(alloc, config, upload, received)?;
+    Ok(Some(Content::document(document)))
+}
+
+// Whether the numbers may be those of segments: each at least 1, and above the one before it.
+fn are_segments(numbers: &[u64]) -> bool
+    ensures { result ≡ rises_above 0 numbers.now }
+{
+    let mut last = 0;
+    for number in numbers {
+        if *number <= last {
+            return false;
+        }
+        last = *number;
+    }
+    true
+}
