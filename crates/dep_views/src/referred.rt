@@ -5,7 +5,7 @@ ghost use Rattle.sqlite.specs.Held.{state};
 ghost use Rattle.dep_types.specs.State.{Upload};
 ghost use Rattle.dep_types.specs.Sound.{IsSound};
 ghost use Rattle.dep_rulings.specs.Views.{assembled_digests};
-ghost use Rattle.dep_tables.specs.Clauses.{ReadsOnly, GoesOn, StaysInside, CommitsNothing};
+ghost use Rattle.dep_tables.specs.Clauses.{ReadsOnly, FailsReading, GoesOn, StaysInside, CommitsNothing};
 ghost use Rattle.dep_row_maps.specs.Clauses.{FromMaps};
 ghost use Rattle.dep_views.specs.Segments.{IsLiveAs};
 ghost use Rattle.dep_views.specs.Referred.{AreKnown, referred, state_referred};
@@ -61,6 +61,7 @@ fn load_digests<S: Alter>(
         → IfOk result (λ digests. digests ≡ assembled_digests it)) }
     ensures same { IsTrue (state S.Store tx.old.conn.now).is_open
         → ReadsOnly (state S.Store tx.old.conn.now) (state S.Store tx.new.conn.now) result }
+    ensures err { FailsReading (state S.Store tx.old.conn.now) (state S.Store tx.new.conn.now) result }
     ensures inside { GoesOn (state S.Store tx.old.conn.now) (state S.Store tx.new.conn.now) result }
     ensures kept { StaysInside (state S.Store tx.old.conn.now) (state S.Store tx.new.conn.now) }
     ensures same_reference { tx.new.conn.ghost_name ≡ tx.old.conn.ghost_name }
@@ -81,6 +82,7 @@ fn load_referred<S: Alter>(
     ensures map { FromMaps (state S.Store tx.old.conn.now) (state S.Store tx.new.conn.now)
         (λ s. IsSound s → IfOk result (λ found. found ≡ referred s upload)) }
     ensures same { ReadsOnly (state S.Store tx.old.conn.now) (state S.Store tx.new.conn.now) result }
+    ensures err { FailsReading (state S.Store tx.old.conn.now) (state S.Store tx.new.conn.now) result }
     ensures inside { GoesOn (state S.Store tx.old.conn.now) (state S.Store tx.new.conn.now) result }
     ensures kept { StaysInside (state S.Store tx.old.conn.now) (state S.Store tx.new.conn.now) }
     ensures same_reference { tx.new.conn.ghost_name ≡ tx.old.conn.ghost_name }
@@ -111,6 +113,7 @@ pub(crate) fn recall<S: Alter>(
         → IfOk result (λ found. (found ≡ referred s upload) × AreKnown s known.new)) }
     ensures same { IsTrue (state S.Store tx.old.conn.now).is_open
         → ReadsOnly (state S.Store tx.old.conn.now) (state S.Store tx.new.conn.now) result }
+    ensures err { FailsReading (state S.Store tx.old.conn.now) (state S.Store tx.new.conn.now) result }
     ensures inside { GoesOn (state S.Store tx.old.conn.now) (state S.Store tx.new.conn.now) result }
     ensures kept { StaysInside (state S.Store tx.old.conn.now) (state S.Store tx.new.conn.now) }
     ensures same_reference { tx.new.conn.ghost_name ≡ tx.old.conn.ghost_name }

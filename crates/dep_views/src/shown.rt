@@ -5,7 +5,7 @@ ghost use Rattle.sqlite.specs.Held.{state};
 ghost use Rattle.dep_types.specs.Sound.{IsSound};
 ghost use Rattle.dep_answers.specs.Subjects.{shown_at};
 ghost use Rattle.dep_answers.specs.declared.subject.Subject.TheVariants as subject;
-ghost use Rattle.dep_tables.specs.Clauses.{ReadsOnly, GoesOn, StaysInside, CommitsNothing};
+ghost use Rattle.dep_tables.specs.Clauses.{ReadsOnly, FailsReading, GoesOn, StaysInside, CommitsNothing};
 ghost use Rattle.dep_row_maps.specs.Clauses.{FromMaps, KeepsOurs};
 
 use crate::objects::load_object_view;
@@ -26,6 +26,7 @@ fn show_object<S: Alter>(
     ensures map { FromMaps (state S.Store tx.old.conn.now) (state S.Store tx.new.conn.now)
         (λ s. IsSound s → IfOk result (λ shown. shown ≡ shown_at s (subject.Object object))) }
     ensures same { ReadsOnly (state S.Store tx.old.conn.now) (state S.Store tx.new.conn.now) result }
+    ensures err { FailsReading (state S.Store tx.old.conn.now) (state S.Store tx.new.conn.now) result }
     ensures inside { GoesOn (state S.Store tx.old.conn.now) (state S.Store tx.new.conn.now) result }
     ensures kept { StaysInside (state S.Store tx.old.conn.now) (state S.Store tx.new.conn.now) }
     ensures same_reference { tx.new.conn.ghost_name ≡ tx.old.conn.ghost_name }
@@ -41,6 +42,7 @@ fn show_row<S: Alter>(tx: &mut Transaction<'_, S>, object: u64) -> Result<Shown,
     ensures map { FromMaps (state S.Store tx.old.conn.now) (state S.Store tx.new.conn.now)
         (λ s. IfOk result (λ shown. shown ≡ shown_at s (subject.ObjectRow object))) }
     ensures same { ReadsOnly (state S.Store tx.old.conn.now) (state S.Store tx.new.conn.now) result }
+    ensures err { FailsReading (state S.Store tx.old.conn.now) (state S.Store tx.new.conn.now) result }
     ensures inside { GoesOn (state S.Store tx.old.conn.now) (state S.Store tx.new.conn.now) result }
     ensures kept { StaysInside (state S.Store tx.old.conn.now) (state S.Store tx.new.conn.now) }
     ensures same_reference { tx.new.conn.ghost_name ≡ tx.old.conn.ghost_name }
@@ -60,6 +62,7 @@ fn show_metadata<S: Alter>(
     ensures map { FromMaps (state S.Store tx.old.conn.now) (state S.Store tx.new.conn.now)
         (λ s. IsSound s → IfOk result (λ shown. shown ≡ shown_at s (subject.Metadata object))) }
     ensures same { ReadsOnly (state S.Store tx.old.conn.now) (state S.Store tx.new.conn.now) result }
+    ensures err { FailsReading (state S.Store tx.old.conn.now) (state S.Store tx.new.conn.now) result }
     ensures inside { GoesOn (state S.Store tx.old.conn.now) (state S.Store tx.new.conn.now) result }
     ensures kept { StaysInside (state S.Store tx.old.conn.now) (state S.Store tx.new.conn.now) }
     ensures same_reference { tx.new.conn.ghost_name ≡ tx.old.conn.ghost_name }
@@ -78,6 +81,7 @@ fn show_file<S: Alter>(tx: &mut Transaction<'_, S>, id: FileId) -> Result<Shown,
     ensures map { FromMaps (state S.Store tx.old.conn.now) (state S.Store tx.new.conn.now)
         (λ s. IfOk result (λ shown. shown ≡ shown_at s (subject.File id))) }
     ensures same { ReadsOnly (state S.Store tx.old.conn.now) (state S.Store tx.new.conn.now) result }
+    ensures err { FailsReading (state S.Store tx.old.conn.now) (state S.Store tx.new.conn.now) result }
     ensures inside { GoesOn (state S.Store tx.old.conn.now) (state S.Store tx.new.conn.now) result }
     ensures kept { StaysInside (state S.Store tx.old.conn.now) (state S.Store tx.new.conn.now) }
     ensures same_reference { tx.new.conn.ghost_name ≡ tx.old.conn.ghost_name }
@@ -97,6 +101,7 @@ fn show_upload<S: Alter>(
     ensures map { FromMaps (state S.Store tx.old.conn.now) (state S.Store tx.new.conn.now)
         (λ s. IfOk result (λ shown. shown ≡ shown_at s (subject.Upload upload))) }
     ensures same { ReadsOnly (state S.Store tx.old.conn.now) (state S.Store tx.new.conn.now) result }
+    ensures err { FailsReading (state S.Store tx.old.conn.now) (state S.Store tx.new.conn.now) result }
     ensures inside { GoesOn (state S.Store tx.old.conn.now) (state S.Store tx.new.conn.now) result }
     ensures kept { StaysInside (state S.Store tx.old.conn.now) (state S.Store tx.new.conn.now) }
     ensures same_reference { tx.new.conn.ghost_name ≡ tx.old.conn.ghost_name }
@@ -124,6 +129,7 @@ pub fn load_shown<S: Alter>(
     ensures same { IsTrue (state S.Store tx.old.conn.now).is_open
         → ReadsOnly (state S.Store tx.old.conn.now) (state S.Store tx.new.conn.now) result }
     ensures ours { KeepsOurs (state S.Store tx.old.conn.now) (state S.Store tx.new.conn.now) result }
+    ensures err { FailsReading (state S.Store tx.old.conn.now) (state S.Store tx.new.conn.now) result }
     ensures inside { GoesOn (state S.Store tx.old.conn.now) (state S.Store tx.new.conn.now) result }
     ensures kept { StaysInside (state S.Store tx.old.conn.now) (state S.Store tx.new.conn.now) }
     ensures same_reference { tx.new.conn.ghost_name ≡ tx.old.conn.ghost_name }

@@ -5,7 +5,7 @@ ghost use Rattle.sqlite.specs.Held.{state};
 ghost use Rattle.dep_types.specs.Sound.{IsSound};
 ghost use Rattle.dep_rulings.specs.Views.{upload_state, upload_view};
 ghost use Rattle.dep_rulings.specs.declared.view.UploadState.TheVariants.{Live};
-ghost use Rattle.dep_tables.specs.Clauses.{ReadsOnly, GoesOn, StaysInside, CommitsNothing};
+ghost use Rattle.dep_tables.specs.Clauses.{ReadsOnly, FailsReading, GoesOn, StaysInside, CommitsNothing};
 ghost use Rattle.dep_row_maps.specs.Clauses.{FromMaps};
 ghost use Rattle.dep_views.specs.Segments.{live_received};
 ghost use Rattle.dep_views.specs.Referred.{AreKnown};
@@ -38,6 +38,7 @@ fn load_received<S: Alter>(
     ensures map { FromMaps (state S.Store tx.old.conn.now) (state S.Store tx.new.conn.now)
         (λ s. IfOk result (λ state. state ≡ upload_state false s upload)) }
     ensures same { ReadsOnly (state S.Store tx.old.conn.now) (state S.Store tx.new.conn.now) result }
+    ensures err { FailsReading (state S.Store tx.old.conn.now) (state S.Store tx.new.conn.now) result }
     ensures inside { GoesOn (state S.Store tx.old.conn.now) (state S.Store tx.new.conn.now) result }
     ensures kept { StaysInside (state S.Store tx.old.conn.now) (state S.Store tx.new.conn.now) }
     ensures same_reference { tx.new.conn.ghost_name ≡ tx.old.conn.ghost_name }
@@ -62,6 +63,7 @@ fn load_state<S: Alter>(
         (state ≡ upload_state by_reference s upload) × AreKnown s known.new)) }
     ensures same { IsTrue (state S.Store tx.old.conn.now).is_open
         → ReadsOnly (state S.Store tx.old.conn.now) (state S.Store tx.new.conn.now) result }
+    ensures err { FailsReading (state S.Store tx.old.conn.now) (state S.Store tx.new.conn.now) result }
     ensures inside { GoesOn (state S.Store tx.old.conn.now) (state S.Store tx.new.conn.now) result }
     ensures kept { StaysInside (state S.Store tx.old.conn.now) (state S.Store tx.new.conn.now) }
     ensures same_reference { tx.new.conn.ghost_name ≡ tx.old.conn.ghost_name }
@@ -89,6 +91,7 @@ pub(crate) fn load_uploads<S: Alter>(
         views ≡ map (upload_view by_reference s) uploads.now)) }
     ensures same { IsTrue (state S.Store tx.old.conn.now).is_open
         → ReadsOnly (state S.Store tx.old.conn.now) (state S.Store tx.new.conn.now) result }
+    ensures err { FailsReading (state S.Store tx.old.conn.now) (state S.Store tx.new.conn.now) result }
     ensures inside { GoesOn (state S.Store tx.old.conn.now) (state S.Store tx.new.conn.now) result }
     ensures kept { StaysInside (state S.Store tx.old.conn.now) (state S.Store tx.new.conn.now) }
     ensures same_reference { tx.new.conn.ghost_name ≡ tx.old.conn.ghost_name }

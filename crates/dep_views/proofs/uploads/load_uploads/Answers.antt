@@ -1,4 +1,4 @@
-use Rattle.std.proofs.Common.{◌≡◌, ◌∙◌, ◌++◌, [], ◌∷◌, map, take, get_or, sym, ap}
+use Rattle.std.proofs.Common.{inl, ◌≡◌, ◌∙◌, ◌++◌, [], ◌∷◌, map, take, get_or, sym, ap}
 use Rattle.std.proofs.lemmas.List.{map_more, take_all}
 use Rattle.sqlite.specs.Held.{state}
 use Rattle.sqlite.proofs.StateLemmas.{survives_then}
@@ -8,7 +8,8 @@ use Rattle.dep_objects.proofs.Named.{pushed}
 use Rattle.dep_files.proofs.Results.{still_ours}
 use Rattle.dep_rulings.specs.Views.{upload_view}
 use Rattle.dep_rulings.specs.declared.view.UploadView.{UploadView}
-use Rattle.dep_staging.proofs.Chains.{was_clean}
+use Rattle.dep_staging.proofs.Chains.{was_clean, failed_since}
+use Rattle.dep_tables.proofs.Results.{if_failed}
 use Rattle.dep_views.proofs.Chains.{still_seen}
 use Rattle.dep_views.proofs.uploads.load_uploads.Goals as goal
 
@@ -43,3 +44,25 @@ pub returns-clause-map : goal.returns-clause-map
 returns-clause-map g c is_open clean inside ours s are sound =
     let f = upload_view c.args.by_reference s in
     c.from_vec.ensures ∙ (c.uploads.invariant.5 is_open clean inside ours s are sound).1 ∙ ap (map f) (take_all c.uploads.upload-index c.args.uploads.now c.uploads-test.false)
+
+pub returns-in_err-state-clause-err : goal.returns-in_err-state-clause-err
+returns-in_err-state-clause-err g c clean inside ours is_open =
+    let old = state g.S.Store c.args.tx.now.conn.now in
+    let mid = state g.S.Store c.uploads.tx.conn.now in
+    let new = state g.S.Store c.load_state.new.tx.conn.now in
+    let inv = c.uploads.invariant in
+    let before = was_clean mid new c.load_state.ensures.survives clean in
+    let opened = (inv.3 before inside).was_open ((c.load_state.ensures.kept clean (inv.2 before inside)).was_open is_open) in
+    let same = inv.4 opened before ours in
+    if_failed _ (failed_since old mid new same (c.in_err-state.ensures.err clean (inv.2 before inside) (still_ours old mid same ours) is_open))
+
+pub returns-then-is_err-clause-err : goal.returns-then-is_err-clause-err
+returns-then-is_err-clause-err g c clean inside ours is_open =
+    let old = state g.S.Store c.args.tx.now.conn.now in
+    let mid = state g.S.Store c.uploads.tx.conn.now in
+    let new = state g.S.Store c.load_state.new.tx.conn.now in
+    let inv = c.uploads.invariant in
+    let before = was_clean mid new c.load_state.ensures.survives clean in
+    let opened = (inv.3 before inside).was_open ((c.load_state.ensures.kept clean (inv.2 before inside)).was_open is_open) in
+    let same = inv.4 opened before ours in
+    inl (unchanged_then old mid new same (c.in_ok-state.ensures.same same.0.is_open clean (still_ours old mid same ours)))
