@@ -1,9 +1,11 @@
 -- What was sent of the content of a file.
-use Rattle.std.proofs.Common.{◌≡◌, ◌≢◌, ◌⊎◌, inl, inr, ℕ, ◌+◌, ◌<◌, pos, true, false, cond, List, [], ◌∷◌, ◌++◌, length, filter, Option, Some, None, Ok, Err, false, refl, sym, ap, subst, ◌∙◌, append-nil, append_assoc, length-append, is_eq, arith}
+use Rattle.std.proofs.Common.{◌≡◌, ◌≢◌, ◌⊎◌, inl, inr, ℕ, ◌+◌, ◌<◌, pos, true, false, cond, List, [], ◌∷◌, ◌++◌, length, filter, Option, Some, None, Ok, Err, IsTrue, false, refl, sym, ap, subst, ◌∙◌, append-nil, append_assoc, length-append, is_eq, arith}
 use Rattle.std.specs.Prelude.{option_map, option_and_then}
 use Rattle.std.specs.List.{flat_map}
 use Rattle.std.specs.FinMap as finmap
-use Rattle.sqlite.specs.State.{IsUnchanged, IsRolledBack}
+use Rattle.sqlite.specs.State.{IsUnchanged, IsRolledBack, Shown, ShowsRows}
+use Rattle.sqlite.specs.Clock.{timed}
+use Rattle.sqlite_schema.specs.declared.command.Returning.{Returning}
 use Rattle.sqlite.specs.State as db
 use Rattle.sqlite.specs.declared.types.Value.TheVariants.{Int}
 use Rattle.sqlite_value.specs.Order.{Row, column, value_cmp}
@@ -152,3 +154,16 @@ kept_failed old new (inr back) = kept_back old new back
 
 pub kept_itself : (now : db.State) → IsKept now now
 kept_itself now is_open = ((is_open, refl), inl (refl, refl))
+
+-- what shows rows was open
+pub shown_open : (sql : List ℕ) (params : Row) (old new : db.State) (rows : List Row) → Shown sql params old new rows → IsTrue old.is_open
+unfolding Shown
+shown_open sql params old new rows h = either h.0.returning h.2
+  where
+    either : (returning : Option Returning) → ShowsRows old new sql h.0 (timed params h.0.formats h.1.now) rows returning → IsTrue old.is_open
+    either None shows = shows.3.0.was_open
+    either (Some what) shows = shows.1.shown.was_open
+
+pub left_open : (old new : db.State) → IsUnchanged old new ⊎ IsRolledBack old new → IsTrue new.is_open → IsTrue old.is_open
+left_open old new (inl same) is_open = same.0.was_open
+left_open old new (inr back) is_open = back.was_open is_open

@@ -53,6 +53,9 @@ pub fn stream_content<S: Alter, O: Outlet>(
         → OnOk result (IsUnchanged (state S.Store connection.old) (state S.Store connection.new)) }
     ensures same { HasCleanDisk (state S.Store connection.new) → IsOurs (state S.Store connection.old)
         → IsKept (state S.Store connection.old) (state S.Store connection.new) }
+    // It opens no store that was shut.
+    ensures open { HasCleanDisk (state S.Store connection.new)
+        → IsTrue (state S.Store connection.new).is_open → IsTrue (state S.Store connection.old).is_open }
     ensures clean { HasCleanDisk (state S.Store connection.new)
         → HasCleanDisk (state S.Store connection.old) }
     ensures survives { HasCleanDisk (state S.Store connection.new) → IsOurs (state S.Store connection.old)

@@ -7,6 +7,7 @@ use Rattle.dep_tables.proofs.Leading.{plain_here}
 use Rattle.dep_streams.proofs.SendingLemmas.{commits_nothing}
 use Rattle.dep_files.specs.Sizes.{find_size_text}
 use Rattle.dep_files.proofs.SizeFound.{find_is, finds_size}
+use Rattle.dep_files.proofs.Streams.{shown_open, left_open}
 use Rattle.dep_files.proofs.sizes.find_size.Goals as goal
 
 pub returns-in-Ok-clause-ok : goal.returns-in-Ok-clause-ok
@@ -30,3 +31,15 @@ returns-in-Err-clause-err g c clean ours = inr (asks_leave _ _ (state g.S.Store 
 
 pub returns-in-Err-clause-survives : goal.returns-in-Err-clause-survives
 returns-in-Err-clause-survives g c ours = commits_nothing _ _ (state g.S.Store c.args.connection.now) (state g.S.Store c.query_all-asked.new.self) (plain_here (state g.S.Store c.args.connection.now) find_size_text ours find_is.plain) c.in-Err.ensures.survives
+
+pub returns-in-Ok-clause-found : goal.returns-in-Ok-clause-found
+returns-in-Ok-clause-found g c clean =
+    if_ok c.only.result (shown_open _ _ (state g.S.Store c.args.connection.now) (state g.S.Store c.query_all-asked.new.self) _ (c.in-Ok.ensures.ok clean))
+
+pub returns-in-Ok-clause-open : goal.returns-in-Ok-clause-open
+returns-in-Ok-clause-open g c clean is_open =
+    shown_open _ _ (state g.S.Store c.args.connection.now) (state g.S.Store c.query_all-asked.new.self) _ (c.in-Ok.ensures.ok clean)
+
+pub returns-in-Err-clause-open : goal.returns-in-Err-clause-open
+returns-in-Err-clause-open g c clean =
+    left_open (state g.S.Store c.args.connection.now) (state g.S.Store c.query_all-asked.new.self) (asks_leave _ _ (state g.S.Store c.args.connection.now) (state g.S.Store c.query_all-asked.new.self) _ (inl (c.in-Err.ensures.err clean)))
