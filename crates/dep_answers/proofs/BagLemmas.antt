@@ -18,8 +18,10 @@ use Rattle.dep_bag.specs.Parts.{told_parts, told_part, text_part, stored_part}
 use Rattle.dep_bag.specs.declared.part.BagPart.{BagPart}
 use Rattle.dep_bag.specs.declared.part.BagPart.TheVariants.{Bytes, Stored}
 use Rattle.dep_bag.proofs.Keys.{entries-held}
+use Rattle.dep_bag.specs.Bag.{listed_files, tag_manifest, bag_files}
+use Rattle.dep_bag.proofs.Files.{payload_entry}
 use Rattle.dep_bag.proofs.ToldBag.{same_listed}
-use Rattle.dep_answers.specs.Answers.{ReplyContent, StoredContent}
+use Rattle.dep_answers.specs.Answers.{ReplyContent, StoredContent, bytes_of}
 use Rattle.dep_answers.specs.Bags.{Place, places, tag_places, payload_place, shown_in_bag}
 use Rattle.dep_answers.specs.Told.{content_of, form_at}
 
@@ -58,6 +60,15 @@ places_told n o =
     let held = entries-held nat_cmp_total finmap.nat_cmp-IsAntisymmetric o.files in
     ap (λ (listed : List Entry). each (told_place o) (parts_by n o listed)) (same_listed n o)
     ∙ ap (λ (l : List Known). each held_place (tag_places o) ++ l) (payload_told n o (finmap.entries o.files) held)
+
+-- the files of the bag
+pub shown_files : (o : Object) → each (λ (p : Place). (p.0, bytes_of p.1)) (places o) ≡ bag_files o
+unfolding bag_files
+shown_files o = ap (λ (l : List Entry). listed_files o ++ tag_manifest o ∷ l) (same_payload (finmap.entries o.files))
+  where
+    same_payload : (es : List (ℕ × File)) → each (λ (p : Place). (p.0, bytes_of p.1)) (each payload_place es) ≡ each payload_entry es
+    same_payload [] = refl
+    same_payload (e ∷ es) = ap (λ (l : List Entry). payload_entry e ∷ l) (same_payload es)
 
 -- ---- what is found
 

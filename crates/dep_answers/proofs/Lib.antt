@@ -3,3 +3,4 @@ pub mod Rising
 pub mod ToldLemmas
 pub mod BagLemmas
 pub mod ShownReplies
+pub mod Unbroken

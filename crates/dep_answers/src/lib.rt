@@ -4,6 +4,7 @@
 mod accepting;
 mod answer;
 mod bags;
+pub mod laws;
 mod objects;
 mod performed;
 mod refusing;

@@ -11,7 +11,7 @@ use dep_types::{
 };
 
 /// What has to be read of the archive for a reply.
-#[derive(Clone, Copy, Debug, PartialEq, Eq)]
+#[derive(Clone, Copy)]
 pub enum Subject {
     Nothing,
     /// All that is told of the object with this number.
