@@ -7,7 +7,7 @@ use Rattle.std.proofs.lemmas.Grind.{flat_map-append}
 use Rattle.dep_types.specs.State.{State}
 use Rattle.dep_types.specs.Sinks.{Entry, IsFront, file_given}
 use Rattle.dep_types.specs.declared.rows.FileRow.{FileRow}
-use Rattle.dep_bag.specs.Source.{HasContent}
+use Rattle.dep_types.specs.Streams.{HasContent}
 use Rattle.dep_bag.specs.Parts.{row_path}
 use Rattle.std.specs.Result.{IsErrAnd}
 use Rattle.dep_bag.specs.Giving.{IsGivenAt, IsGiven, AreFilesOf}

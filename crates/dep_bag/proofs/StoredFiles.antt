@@ -1,9 +1,9 @@
 -- A file as a source streams it.
-use Rattle.std.proofs.Common.{◌≡◌, ℕ, List, ◌++◌, Some, sym, ap, subst, ◌∙◌}
+use Rattle.std.proofs.Common.{◌≡◌, ◌⊎◌, inl, inr, ℕ, List, [], ◌++◌, Some, refl, sym, ap, subst, ◌∙◌}
 use Rattle.dep_types.specs.State.{State, File, file_at}
 use Rattle.dep_types.specs.Sound.{IsSound}
 use Rattle.dep_types.specs.Sinks.{IsFront, file_begun, file_given}
-use Rattle.dep_bag.specs.Source.{HasContent, IsPartOfContent}
+use Rattle.dep_types.specs.Streams.{HasContent, HasNoFile, IsPartOfContent}
 use Rattle.dep_bag.proofs.GivenParts.{file_front, whole_front}
 
 same_file : (x y : File) → Some x ≡ Some y → x ≡ y
@@ -20,7 +20,16 @@ same_content s sound f a b x y =
 pub part_sent : (s : State) → IsSound s → (f : ℕ) (path sent bytes : List ℕ) → IsPartOfContent s f sent → HasContent s f bytes
     → IsFront (file_begun path ++ sent) (file_given (path, bytes))
 part_sent s sound f path sent bytes p has =
-    file_front path sent bytes (subst (IsFront sent) (same_content s sound f p.whole bytes p.has has) p.front)
+    file_front path sent bytes (subst (IsFront sent) (same_content s sound f p.whole bytes p.has has) (record { rest = p.front.rest; joined = p.front.joined }))
+
+-- the same where nothing may have been sent
+pub perhaps_sent : (s : State) → IsSound s → (f : ℕ) (path sent bytes : List ℕ) → (sent ≡ []) ⊎ IsPartOfContent s f sent → HasContent s f bytes
+    → IsFront (file_begun path ++ sent) (file_given (path, bytes))
+perhaps_sent s sound f path sent bytes (inl none) has = file_front path sent bytes (subst (λ l. IsFront l bytes) (sym none) (record { rest = bytes; joined = refl }))
+perhaps_sent s sound f path sent bytes (inr part) has = part_sent s sound f path sent bytes part has
+
+pub no_content : (s : State) (f : ℕ) (bytes : List ℕ) → HasNoFile s f → HasContent s f bytes → ⊥
+no_content s f bytes none has = let no = none has.object in let some = has.held in cc
 
 -- all of it
 pub all_sent : (s : State) → IsSound s → (f : ℕ) (path sent bytes : List ℕ) → HasContent s f sent → HasContent s f bytes

@@ -6,7 +6,7 @@ use Rattle.dep_types.specs.Writing.{HasRisen}
 use Rattle.dep_types.specs.Sinks.{Entry, folder_made, file_given, IsFront}
 use Rattle.dep_types.specs.declared.rows.FileRow.{FileRow}
 use Rattle.dep_types.specs.declared.rows.ObjectView.{ObjectView}
-use Rattle.dep_bag.specs.Source.{HasContent}
+use Rattle.dep_types.specs.Streams.{HasContent}
 use Rattle.dep_bag.specs.Parts.{row_path, told_tag_files}
 use Rattle.dep_bag.specs.declared.export_fault.ExportFault.{ExportFault}
 use Rattle.dep_bag.specs.declared.export_fault.ExportFault.TheVariants.{NoSuchObject, Sink, Store, Memory}

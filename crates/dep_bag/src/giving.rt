@@ -3,7 +3,8 @@ ghost use Rattle.std.specs.Prelude.{◌≡◌, ◌≢◌, ◌++◌, ℕ, List, O
 ghost use Rattle.std.specs.Io.KnownBytes.{Appends};
 ghost use Rattle.dep_types.specs.State.{State};
 ghost use Rattle.dep_types.specs.Sinks.{Entry, file_given};
-ghost use Rattle.dep_bag.specs.Source.{HasContent, KeepsStanding};
+ghost use Rattle.dep_types.specs.Streams.{HasContent};
+ghost use Rattle.dep_bag.specs.Source.{KeepsStanding};
 ghost use Rattle.dep_bag.specs.Parts.{row_path};
 ghost use Rattle.dep_bag.specs.Giving.{IsGiven, Gives, HasCause, tag_transcript, AreFilesOf};
 

@@ -3,8 +3,9 @@ ghost use Rattle.std.specs.Prelude.{◌≡◌, ℕ, List, OnOk, IfOk, Err};
 ghost use Rattle.std.specs.Io.KnownBytes.{Appends};
 ghost use Rattle.dep_types.specs.State.{State};
 ghost use Rattle.dep_types.specs.Sound.{IsSound};
+ghost use Rattle.dep_types.specs.Streams.{IsStreamed};
 ghost use Rattle.dep_types.specs.Writing.{HasRisen};
-ghost use Rattle.dep_bag.specs.Source.{view_at, IsStreamed, KeepsStanding};
+ghost use Rattle.dep_bag.specs.Source.{view_at, KeepsStanding};
 
 use dep_types::{ObjectView, Outlet, StoreFault, StreamFault};
 

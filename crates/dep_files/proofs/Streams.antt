@@ -28,7 +28,7 @@ use Rattle.dep_row_maps.proofs.Blocks.{blocks-sorted}
 use Rattle.dep_row_maps.proofs.Whole.{file_found_at}
 use Rattle.dep_files.specs.declared.sizes.FileSize.{FileSize}
 use Rattle.dep_files.specs.Sizes.{size_values, shown_size}
-use Rattle.dep_files.specs.Sent.{HasNoFile, IsStreamed}
+use Rattle.dep_types.specs.Streams.{HasNoFile, IsStreamed}
 use Rattle.dep_files.specs.Reading.{IsKept}
 use Rattle.dep_files.specs.Faults.{fault_of_blocks}
 use Rattle.dep_files.proofs.Cuts.{blocks_join}

@@ -5,11 +5,12 @@ ghost use Rattle.std.specs.Io.KnownBytes.{Appends};
 ghost use Rattle.sqlite.specs.State.{HasCleanDisk, IsUnchanged, Survives};
 ghost use Rattle.sqlite.specs.Held.{state};
 ghost use Rattle.dep_types.specs.State.{State};
+ghost use Rattle.dep_types.specs.Streams.{IsStreamed};
 ghost use Rattle.dep_types.specs.Writing.{HasRisen};
 ghost use Rattle.dep_tables.specs.Tables.{tables_of, IsOurs};
 ghost use Rattle.dep_row_maps.specs.TablesAre.{TablesAre};
 ghost use Rattle.dep_files.specs.Reading.{Tells, IsKept};
-ghost use Rattle.dep_files.specs.Sent.{IsStreamed, IsLoaded};
+ghost use Rattle.dep_files.specs.Sent.{IsLoaded};
 ghost use Rattle.dep_files.specs.Faults.{fault_of_store, fault_of_blocks, load_fault};
 
 use crate::sizes::find_size;

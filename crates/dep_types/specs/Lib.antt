@@ -12,6 +12,7 @@ pub mod Sound
 pub mod Rows
 pub mod MetadataEntries
 pub mod StoreFaults
+pub mod Streams
 pub mod Numbers
 pub mod BagPaths
 pub mod Sinks

@@ -3,11 +3,11 @@ use Rattle.std.specs.Io.KnownBytes.{Appends}
 use Rattle.std.proofs.KnownBytes.{Appends-nil, Appends-trans}
 use Rattle.dep_types.specs.Sinks.{file_begun, file_given}
 use Rattle.std.proofs.Common.{Err}
-use Rattle.dep_bag.specs.Source.{IsStreamed}
+use Rattle.dep_types.specs.Streams.{IsStreamed}
 use Rattle.dep_bag.specs.Parts.{row_path}
 use Rattle.dep_bag.specs.declared.export_fault.ExportFault.TheVariants.{Sink, Memory}
 use Rattle.dep_bag.proofs.GivenParts.{faulty, kept, nothing_given, nothing_front}
-use Rattle.dep_bag.proofs.StoredFiles.{part_sent, all_sent, all_front}
+use Rattle.dep_bag.proofs.StoredFiles.{part_sent, perhaps_sent, no_content, all_sent, all_front}
 use Rattle.dep_bag.proofs.giving.give_stored.Goals as goal
 
 pub returns-in_err-path-clause-gives : goal.returns-in_err-path-clause-gives
@@ -52,7 +52,7 @@ returns-in-Err-Store-clause-gives g c =
     let begun = subst (λ p. Appends (g.K.Outlet.taken c.args.sink.now) (g.K.Outlet.taken c.begin.new.self) (file_begun p)) (c.as_str.ensures ∙ c.in_ok-path.ensures) c.in_ok-begin.ensures.ok in (
       file_begun path ++ sends.0,
       Appends-trans (g.K.Outlet.taken c.args.sink.now) (g.K.Outlet.taken c.begin.new.self) (g.K.Outlet.taken c.stream.new.out) (file_begun path) sends.0 begun sends.1,
-      λ clean s at bytes has. part_sent s (g.met.S.BagSource.sound c.args.source.now s at) c.args.row.now.file path sends.0 bytes (subst (λ e. IsStreamed {X = Unit {0}} s c.args.row.now.file sends.0 (Err e)) c.in-Err-Store.field-0-is (sends.2 clean s at)) has,
+      λ clean s at bytes has. perhaps_sent s (g.met.S.BagSource.sound c.args.source.now s at) c.args.row.now.file path sends.0 bytes (subst (λ e. IsStreamed {X = Unit {0}} s c.args.row.now.file sends.0 (Err e)) c.in-Err-Store.field-0-is (sends.2 clean s at)) has,
     )
 
 pub returns-in-Err-Memory-clause-gives : goal.returns-in-Err-Memory-clause-gives
@@ -62,7 +62,7 @@ returns-in-Err-Memory-clause-gives g c =
     let begun = subst (λ p. Appends (g.K.Outlet.taken c.args.sink.now) (g.K.Outlet.taken c.begin.new.self) (file_begun p)) (c.as_str.ensures ∙ c.in_ok-path.ensures) c.in_ok-begin.ensures.ok in (
       file_begun path ++ sends.0,
       Appends-trans (g.K.Outlet.taken c.args.sink.now) (g.K.Outlet.taken c.begin.new.self) (g.K.Outlet.taken c.stream.new.out) (file_begun path) sends.0 begun sends.1,
-      λ clean s at bytes has. part_sent s (g.met.S.BagSource.sound c.args.source.now s at) c.args.row.now.file path sends.0 bytes (subst (λ e. IsStreamed {X = Unit {0}} s c.args.row.now.file sends.0 (Err e)) c.in-Err-Memory.field-0-is (sends.2 clean s at)) has,
+      λ clean s at bytes has. perhaps_sent s (g.met.S.BagSource.sound c.args.source.now s at) c.args.row.now.file path sends.0 bytes (subst (λ e. IsStreamed {X = Unit {0}} s c.args.row.now.file sends.0 (Err e)) c.in-Err-Memory.field-0-is (sends.2 clean s at)) has,
     )
 
 pub returns-in-Err-NoSuchFile-clause-gives : goal.returns-in-Err-NoSuchFile-clause-gives
@@ -72,7 +72,7 @@ returns-in-Err-NoSuchFile-clause-gives g c =
     let begun = subst (λ p. Appends (g.K.Outlet.taken c.args.sink.now) (g.K.Outlet.taken c.begin.new.self) (file_begun p)) (c.as_str.ensures ∙ c.in_ok-path.ensures) c.in_ok-begin.ensures.ok in (
       file_begun path ++ sends.0,
       Appends-trans (g.K.Outlet.taken c.args.sink.now) (g.K.Outlet.taken c.begin.new.self) (g.K.Outlet.taken c.stream.new.out) (file_begun path) sends.0 begun sends.1,
-      λ clean s at bytes has. absurd ((subst (λ e. IsStreamed {X = Unit {0}} s c.args.row.now.file sends.0 (Err e)) c.in-Err-NoSuchFile.field-0-is (sends.2 clean s at)).1 bytes has),
+      λ clean s at bytes has. absurd (no_content s c.args.row.now.file bytes (subst (λ e. IsStreamed {X = Unit {0}} s c.args.row.now.file sends.0 (Err e)) c.in-Err-NoSuchFile.field-0-is (sends.2 clean s at)).1 has),
     )
 
 pub returns-in_err-finish-clause-gives : goal.returns-in_err-finish-clause-gives

@@ -1,5 +1,5 @@
 use Rattle.std.proofs.Common.{Err, subst}
-use Rattle.dep_files.specs.Sent.{IsStreamed}
+use Rattle.dep_types.specs.Streams.{IsStreamed}
 use Rattle.dep_files.proofs.streaming.load_content.Goals as goal
 
 pub returns-in-Err-NoSuchFile-clause-map : goal.returns-in-Err-NoSuchFile-clause-map

@@ -7,7 +7,7 @@ use Rattle.dep_tables.specs.Rows.{is_block_of}
 use Rattle.dep_tables.specs.declared.owner.BlockOwner.TheVariants as owner
 use Rattle.dep_streams.specs.Sent.{SendsBlocks}
 use Rattle.dep_files.specs.Reading.{IsKept}
-use Rattle.dep_files.specs.Sent.{IsStreamed}
+use Rattle.dep_types.specs.Streams.{IsStreamed}
 use Rattle.dep_files.proofs.Results.{still_ours, same_tables}
 use Rattle.dep_files.proofs.Streams.{SizeTold, size_told, all_sent, some_sent, kept_then, kept_same, kept_failed, kept_itself}
 use Rattle.dep_files.proofs.streaming.stream_content.Goals as goal
