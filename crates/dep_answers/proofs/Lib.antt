@@ -4,3 +4,4 @@ pub mod ToldLemmas
 pub mod BagLemmas
 pub mod ShownReplies
 pub mod Unbroken
+pub mod Made

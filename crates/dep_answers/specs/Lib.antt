@@ -5,3 +5,4 @@ pub mod Steps
 pub mod Subjects
 pub mod Told
 pub mod Performing
+pub mod Laws

@@ -7,10 +7,15 @@ ghost use Rattle.dep_types.specs.declared.config.Config.{Config as AConfig};
 ghost use Rattle.dep_types.specs.declared.refusal.Refusal.{Refusal as ARefusal};
 ghost use Rattle.dep_types.specs.declared.target.Method.{Method as AMethod};
 ghost use Rattle.dep_types.specs.declared.target.Resource.{Resource as AResource};
+ghost use Rattle.dep_types.specs.declared.target.Method.TheVariants.{Post as APost};
+ghost use Rattle.dep_types.specs.declared.target.Resource.TheVariants.{Service as AService, Staging as AStaging};
+ghost use Rattle.dep_decisions.specs.Rules.{refusal};
+ghost use Rattle.dep_decisions.specs.declared.operation.Operation.{Operation as AnOperation};
 ghost use Rattle.dep_reply.specs.Lines.{is_unbroken, IsUnbroken};
 ghost use Rattle.dep_bag.specs.Bag.{bag_files};
 ghost use Rattle.dep_answers.specs.Answers.{bytes_of, head_of};
 ghost use Rattle.dep_answers.specs.Bags.{places};
+ghost use Rattle.dep_answers.specs.Laws.{IsToldObject, IsToldUpload};
 ghost use Rattle.dep_answers.specs.Replies.{answer_to, refused_answer};
 
 /// What is shown at the paths of an object's bag are the files of the bag.
@@ -26,4 +31,18 @@ pub fn answers_are_unbroken()
     ensures refused { (r : ARefusal) (allow : Option (List ℕ)) (clock : ℕ) (closes : Bool)
         → IfSome allow (λ text. IsTrue (is_unbroken text))
         → IsUnbroken (head_of (refused_answer clock r allow) clock closes) }
+{}
+
+/// A deposit on the Service-URL is answered with the object that it made, under the number that was
+/// next, with the number of the change as its tag, and with its URL.
+pub fn deposits_are_told_their_object()
+    ensures { (config : AConfig) (s : State) (op : AnOperation) → op.target.resource ≡ AService
+        → op.target.method ≡ APost → refusal config s op ≡ None → IsToldObject config s op }
+{}
+
+/// An opening is answered with the upload that it made, under the number that was next, all of whose
+/// segments are still to come, and with its URL.
+pub fn openings_are_told_their_upload()
+    ensures { (config : AConfig) (s : State) (op : AnOperation) → op.target.resource ≡ AStaging
+        → op.target.method ≡ APost → refusal config s op ≡ None → IsToldUpload config s op }
 {}

@@ -1,0 +1,30 @@
+-- Words of the laws.
+use Rattle.std.specs.Prelude.{◌≡◌, Some, None, []}
+use Rattle.std.specs.FinMap as finmap
+use Rattle.dep_types.specs.State.{State, Object}
+use Rattle.dep_types.specs.Rows.{object_view, upload_row}
+use Rattle.dep_types.specs.declared.config.Config.{Config}
+use Rattle.dep_docs_out.specs.Documents.{status_document, object_url, upload_document, upload_url}
+use Rattle.dep_fields.specs.declared.kind.Opening.{Opening}
+use Rattle.dep_decisions.specs.Effects.{effect, fresh}
+use Rattle.dep_decisions.specs.declared.operation.Operation.{Operation}
+use Rattle.dep_answers.specs.Answers.{Document, answer}
+use Rattle.dep_answers.specs.Steps.{accepted_answer}
+
+-- an object stands at the number that was next, of the change that was next, and is answered with
+pub record IsToldObject (config : Config) (s : State) (op : Operation) : Type 0 where
+  pub object : Object
+  pub there : finmap.get (effect config s op).objects s.next.object ≡ Some object
+  pub tag : object.tag ≡ s.next.change
+  pub answer : accepted_answer config (effect config s op) op
+      ≡ answer 201 (Some (Document (status_document config (object_view s.next.object object))))
+      (Some s.next.change) (Some (object_url config s.next.object))
+
+-- an upload stands at the number that was next, without segments, and is answered with
+pub record IsToldUpload (config : Config) (s : State) (op : Operation) : Type 0 where
+  pub opening : Opening
+  pub there : finmap.get (effect config s op).uploads s.next.upload ≡ Some (fresh s opening)
+  pub answer : accepted_answer config (effect config s op) op
+      ≡ answer 201
+      (Some (Document (upload_document config (upload_row s.next.upload (fresh s opening)) [])))
+      None (Some (upload_url config s.next.upload))
