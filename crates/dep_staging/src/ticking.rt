@@ -7,7 +7,8 @@ ghost use Rattle.sqlite.specs.Held.{state};
 ghost use Rattle.dep_types.specs.State as machine;
 ghost use Rattle.dep_tables.specs.Tables.{tables_of};
 ghost use Rattle.dep_tables.specs.Clauses.{GoesOn, StaysInside, CommitsNothing};
-ghost use Rattle.dep_row_maps.specs.TablesAre.{TablesAre};
+ghost use Rattle.dep_row_maps.specs.Stored.{state_row};
+ghost use Rattle.dep_row_maps.specs.TablesAre.{TablesAre, with_counters};
 ghost use Rattle.dep_row_maps.specs.Clauses.{FromMaps, KeepsOurs};
 ghost use Rattle.dep_staging.specs.Expiring.{timed_out, expired_at, expired_all};
 
@@ -90,6 +91,34 @@ fn expire_idle<S: Alter>(
     Err(StoreFault::Store)
 }
 
+// Writes the clock where it moves: a tick within the same second writes nothing.
+fn set_clock<S: Alter>(
+    tx: &mut Transaction<'_, S>,
+    row: &StateRow,
+    clock: u64,
+) -> Result<(), StoreFault>
+    ensures map { FromMaps (state S.Store tx.old.conn.now) (state S.Store tx.new.conn.now)
+        (λ s. row.now ≡ state_row s
+        → OnOk result (TablesAre (tables_of (state S.Store tx.new.conn.now))
+        (with_counters s clock s.next))) }
+    ensures ours { KeepsOurs (state S.Store tx.old.conn.now) (state S.Store tx.new.conn.now) result }
+    ensures inside { GoesOn (state S.Store tx.old.conn.now) (state S.Store tx.new.conn.now) result }
+    ensures kept { StaysInside (state S.Store tx.old.conn.now) (state S.Store tx.new.conn.now) }
+    ensures same_reference { tx.new.conn.ghost_name ≡ tx.old.conn.ghost_name }
+    ensures survives { CommitsNothing (state S.Store tx.old.conn.now) (state S.Store tx.new.conn.now) }
+{
+    if clock == row.clock {
+        return Ok(());
+    }
+    write_state(
+        tx,
+        &StateRow {
+            clock,
+            next: row.next,
+        },
+    )
+}
+
 /// Moves the clock to the moment, in seconds of Unix time, and never back, and ends each upload that
 /// was left idle: its row, its segments and their bytes go, and its number is remembered. It answers
 /// the clock. No upload has the number 0. A number of 2^63 or more is a fault of the store.
@@ -111,13 +140,7 @@ pub fn tick<S: Alter>(
 {
     let row = read_state(tx)?;
     let clock = row.clock.max(moment.min(GREATEST_MOMENT));
-    write_state(
-        tx,
-        &StateRow {
-            clock,
-            next: row.next,
-        },
-    )?;
+    set_clock(tx, &row, clock)?;
     expire_idle(tx, config, clock)?;
     Ok(clock)
 }

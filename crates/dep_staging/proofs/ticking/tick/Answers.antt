@@ -1,11 +1,10 @@
-use Rattle.std.proofs.Common.{◌≡◌, max, min, ap, sym, subst, ◌∙◌}
+use Rattle.std.proofs.Common.{◌≡◌, max, min, ap, refl, sym, subst, ◌∙◌}
 use Rattle.sqlite.specs.Held.{state}
 use Rattle.dep_types.specs.State.{State, clock_at}
 use Rattle.dep_tables.specs.Tables.{Tables, tables_of}
 use Rattle.dep_tables.specs.declared.state.StateRow.{StateRow}
 use Rattle.dep_row_maps.specs.Stored.{state_row}
 use Rattle.dep_row_maps.specs.TablesAre.{TablesAre}
-use Rattle.dep_row_maps.proofs.Whole.{state_written}
 use Rattle.dep_row_maps.proofs.Readings.{state_read}
 use Rattle.dep_files.proofs.Results.{still_ours, same_tables}
 use Rattle.dep_staging.proofs.Chains.{was_clean}
@@ -16,17 +15,19 @@ pub returns-clause-map : goal.returns-clause-map
 returns-clause-map g c clean inside ours s are zero_free =
     let old = state g.S.Store c.args.tx.now.conn.now in
     let one = state g.S.Store c.read_state.new.tx.conn.now in
-    let two = state g.S.Store c.write_state.new.tx.conn.now in
+    let two = state g.S.Store c.set_clock.new.tx.conn.now in
     let new = state g.S.Store c.expire_idle.new.tx.conn.now in
     let clean_two = was_clean two new c.expire_idle.ensures.survives clean in
-    let clean_one = was_clean one two c.write_state.ensures.survives clean_two in
+    let clean_one = was_clean one two c.set_clock.ensures.survives clean_two in
     let same = c.in_ok-row.ensures.same clean_one ours in
     let row = c.in_ok-row.row in
     let clock = c.max-clock.result in
     let is : row ≡ state_row s = state_read (tables_of old) s are row (c.in_ok-row.ensures.ok clean_one ours) in
     let now : clock ≡ clock_at s c.args.moment = c.max-clock.ensures ∙ ap (max row.clock) c.min.ensures ∙ ap (λ (r : StateRow). max r.clock (min c.args.moment 253402300799)) is in
-    let wrote = c.in_ok-write_state.ensures.ok clean_two (c.in_ok-row.ensures.inside clean_one inside) (still_ours old one same ours) in
-    let was : State = record s { clock = clock; next = row.next } in
-    let written : TablesAre (tables_of two) was = subst (λ (t : Tables). TablesAre t was) (sym wrote.rows) (state_written (tables_of one) s (subst (λ (t : Tables). TablesAre t s) (sym (same_tables old one same)) are) clock row.next) in
-    let expired = c.in_ok-expire_idle.ensures.map clean wrote.shows.mode wrote.ours was written zero_free in
-    (now, subst (TablesAre (tables_of new)) (tick_is c.args.config.now s c.args.moment clock row.next now (ap (λ (r : StateRow). r.next) is)) expired)
+    let inside_one = c.in_ok-row.ensures.inside clean_one inside in
+    let ours_one = still_ours old one same ours in
+    let are_one = subst (λ (t : Tables). TablesAre t s) (sym (same_tables old one same)) are in
+    let set = c.in_ok-set_clock.ensures.map clean_two inside_one ours_one s are_one is in
+    let was : State = record s { clock = clock } in
+    let expired = c.in_ok-expire_idle.ensures.map clean (c.in_ok-set_clock.ensures.inside clean_two inside_one) (c.in_ok-set_clock.ensures.ours clean_two inside_one ours_one) was set zero_free in
+    (now, subst (TablesAre (tables_of new)) (tick_is c.args.config.now s c.args.moment clock s.next now refl) expired)
