@@ -1,0 +1,366 @@
+-- A view that tells the state truly where an accepted request touches it tells all that its decision relies on.
+use Rattle.std.proofs.Common.{◌≡◌, ◌∙◌, ℕ, zero, suc, ◌&&◌, not, nat_le, Bool, true, false, List, [], ◌∷◌, length, ◌==◌, map, slice_get, Option, Some, None, is_some, option_map, option_and_then, unwrap_or, refl, sym, ap, subst, arith, if◌then◌else◌}
+use Rattle.std.specs.List.{cons_option, filter_map}
+use Rattle.std.specs.Option.{option_map_or}
+use Rattle.std.specs.FinMap as finmap
+use Rattle.std.specs.FinSet as finset
+use Rattle.dep_types.specs.Maps.{first_of}
+use Rattle.dep_types.specs.State as state
+use Rattle.dep_types.specs.State.{State, file_at}
+use Rattle.dep_types.specs.Rows.{object_row}
+use Rattle.dep_types.specs.Uploads.{assembled, has_segment, is_complete, segment_length}
+use Rattle.dep_types.specs.Sound.{IsSound}
+use Rattle.dep_types.specs.declared.config.Config.{Config}
+use Rattle.dep_types.specs.declared.refusal.Refusal.{Refusal}
+use Rattle.dep_types.specs.declared.refusal.Refusal.TheVariants.{BadRequest, ByReferenceNotAllowed, DigestMismatch, InvalidSegmentSize, NotFound, PackagingFormatNotAcceptable, SegmentedUploadTimedOut, UnexpectedSegment}
+use Rattle.dep_types.specs.declared.target.Resource.{Resource}
+use Rattle.dep_types.specs.declared.target.Resource.TheVariants.{Service, Object, Metadata, FileSet, File, Staging, Upload, BagList, BagFile}
+use Rattle.dep_types.specs.declared.target.Method.{Method}
+use Rattle.dep_types.specs.declared.target.Method.TheVariants.{Get, Head, Post, Put, Delete}
+use Rattle.dep_fixity.specs.Fixity.{digests_of}
+use Rattle.dep_fields.specs.declared.kind.Kind.{Kind}
+use Rattle.dep_fields.specs.declared.kind.Kind.TheVariants as of
+use Rattle.dep_docs_in.specs.Documents.{metadata_read}
+use Rattle.dep_docs_in.specs.declared.reference.Reference.{Reference}
+use Rattle.dep_decisions.specs.Kinds.{is_completion, kind_of}
+use Rattle.dep_decisions.specs.Decisions.{assembled_file, decision, decision_at, decision_with, deposit_by, deposit_of, files_of, ingests, opened, posted_file, received, referred_files, references_by, references_in, replaced_file, texts_of, upload_number}
+use Rattle.dep_decisions.specs.Rules.{document_refusal, each, has_digests, has_length, has_object, is_binary, of_document, of_presence, of_references, of_sizes, passes, presence_refusal, received_refusal, references_refusal, refusal, rows_met, segment_refusal, size_refusal, stands_twice, unless, upload_refusal, when}
+use Rattle.dep_decisions.specs.Effects.{uploads_of}
+use Rattle.dep_decisions.specs.declared.operation.Operation.{Operation}
+use Rattle.dep_decisions.specs.declared.decision.NewFile.{NewFile}
+use Rattle.dep_decisions.specs.declared.decision.Deposit.{Deposit}
+use Rattle.dep_decisions.specs.declared.decision.Deposit.TheVariants as deposit
+use Rattle.dep_decisions.specs.declared.decision.Decision.{Decision}
+use Rattle.dep_decisions.specs.declared.decision.Decision.TheVariants.{Show, Create, Append, Replace, Complete, SetMetadata, SetFiles}
+use Rattle.dep_rulings.specs.Views.{live_upload, referred_uploads, seen_at, touched_with, upload_view, uploads_named, view_of}
+use Rattle.dep_rulings.specs.declared.view.View.{View}
+use Rattle.dep_rulings.specs.declared.view.UploadState.TheVariants.{TimedOut, Unknown, Live}
+use Rattle.dep_rulings.specs.declared.view.UploadView.{UploadView}
+use Rattle.dep_soundness.proofs.FoundInMaps.{all_passed, unless-none}
+use Rattle.dep_soundness.proofs.Lengths.{assembled_length}
+use Rattle.dep_soundness.proofs.Referred.{IsReferred, referred}
+use Rattle.dep_changes.specs.Told.{AreSources, HasSources, IsSeenWhole, IsSource, TellsFile, TellsFor, TellsObject, whole_view}
+
+-- ---- what is there
+
+some_of : {X : Type 0} (o : Option X) → is_some o ≡ true → (x : X) × (o ≡ Some x)
+some_of (Some x) e = (x, refl)
+some_of None e = cc e
+
+when-none : (b : Bool) (r : Refusal) → when b r ≡ None → b ≡ false
+when-none true r e = cc e
+when-none false r e = refl
+
+both_true : (a b : Bool) → (a && b) ≡ true → (a ≡ true) × (b ≡ true)
+both_true true b e = (refl, e)
+both_true false b e = cc e
+
+not_true : (b : Bool) → not b ≡ true → b ≡ false
+not_true true e = cc e
+not_true false e = refl
+
+none_of : {X : Type 0} (o : Option X) → is_some o ≡ false → o ≡ None
+none_of None e = refl
+none_of (Some x) e = cc e
+
+there_by : (live gone : Bool) → (if live then None else if gone then Some SegmentedUploadTimedOut else Some NotFound) ≡ None → live ≡ true
+there_by true gone e = refl
+there_by false true e = cc e
+there_by false false e = cc e
+
+-- ---- what an accepted deposit by reference takes
+
+first_two : (o : Option Refusal) (rest : List (Option Refusal)) → first_of (o ∷ rest) ≡ None → (o ≡ None) × (first_of rest ≡ None)
+first_two None rest e = (refl, e)
+first_two (Some r) rest e = cc e
+
+named_once : (s : State) (refs : List Reference) → of_references s refs ≡ None → stands_twice (uploads_named refs) ≡ false
+unfolding of_references
+named_once s refs e =
+    let rows = all_passed
+    (each (λ r. unless (is_some (upload_number r.target)) ByReferenceNotAllowed) refs
+    ∷ each (λ r. unless (is_binary r.packaging) PackagingFormatNotAcceptable) refs
+    ∷ when (stands_twice (filter_map (λ r. upload_number r.target) refs)) BadRequest
+    ∷ each (λ r. option_and_then (upload_refusal s) (upload_number r.target)) refs
+    ∷ each (λ r. unless (passes s r is_complete) BadRequest) refs
+    ∷ each (λ r. unless (passes s r (has_length r.length)) BadRequest) refs
+    ∷ each (λ r. unless (passes s r (has_digests r.digest)) DigestMismatch) refs
+    ∷ []) e in
+    when-none (stands_twice (uploads_named refs)) BadRequest rows.1.1.0
+
+uploads_are : (op : Operation) (refs : List Reference) → uploads_of (referred_files op refs) ≡ uploads_named refs
+uploads_are op [] = refl
+uploads_are op (r ∷ refs) = go (upload_number r.target) (uploads_are op refs)
+  where
+    go : (o : Option ℕ) → uploads_of (referred_files op refs) ≡ uploads_named refs → uploads_of (cons_option (option_map (assembled_file op r) o) (referred_files op refs)) ≡ cons_option o (uploads_named refs)
+    go None more = more
+    go (Some u) more = ap (λ (us : List ℕ). u ∷ us) more
+
+module _ (s : State) (sound : IsSound s) where
+  whole_seen : (u : ℕ) (it : state.Upload) → finmap.get s.uploads u ≡ Some it → is_complete it ≡ true → ◌≡◌ {A = UploadView} (upload_view true s u) (whole_view u it)
+  whole_seen u it there complete =
+      ap (λ (o : Option state.Upload). record { upload = u; state = option_map_or (λ (x : state.Upload). Live (live_upload true u x)) o (if finset.contains s.timed_out u then TimedOut else Unknown) }) there
+      ∙ ap (λ (b : Bool). record { upload = u; state = Live (record { row = (live_upload true u it).row; received = []; digests = if b then Some (digests_of (assembled it)) else None }) }) complete
+
+  is_source : (r : Reference) (is : IsReferred s r) → IsSeenWhole s.uploads is.upload (Some (upload_view true s is.upload))
+  is_source r is =
+      let up = sound.uploads is.upload is.was is.there in
+      record {
+        upload = is.was;
+        there = is.there;
+        whole = record {
+          segments = record { complete = is.complete; within = λ k bytes at. let has = up.segments k bytes at in (has.0, has.1) };
+          size = assembled_length s is.upload is.was up is.complete;
+        };
+        seen_so = ap (λ (v : UploadView). Some v) (whole_seen is.upload is.was is.there is.complete);
+      }
+
+  module _ (op : Operation) where
+    abbrev AreIn : List NewFile → List UploadView → Type 0
+    AreIn new seen = (i : ℕ) (one : NewFile) → slice_get new i ≡ Some one → IsSource s op.content (slice_get seen i) one.source
+
+    one_source : (r : Reference) (is : IsReferred s r) (more : List NewFile) (seen : List UploadView) → AreIn more seen → AreIn (assembled_file op r is.upload ∷ more) (upload_view true s is.upload ∷ seen)
+    one_source r is more seen later zero one at =
+        let same : assembled_file op r is.upload ≡ one = cc at in
+        subst (λ (x : NewFile). IsSource s op.content (Some (upload_view true s is.upload)) x.source) same (is_source r is)
+    one_source r is more seen later (suc i) one at = later i one at
+
+    all_sources : (refs : List Reference) → ((i : ℕ) (r : Reference) → slice_get refs i ≡ Some r → IsReferred s r) → AreIn (referred_files op refs) (map (upload_view true s) (uploads_named refs))
+    all_sources [] passed = λ i one at. absurd (cc at)
+    all_sources (r ∷ refs) passed =
+        let is = passed 0 r refl in
+        subst (λ (o : Option ℕ). AreIn (cons_option (option_map (assembled_file op r) o) (referred_files op refs)) (map (upload_view true s) (cons_option o (uploads_named refs)))) (sym is.number)
+        (one_source r is (referred_files op refs) (map (upload_view true s) (uploads_named refs)) (all_sources refs (λ i x at. passed (suc i) x at)))
+
+    referred_sources : (refs : List Reference) → of_references s refs ≡ None → AreSources s op.content (map (upload_view true s) (uploads_named refs)) (referred_files op refs)
+    referred_sources refs e = (all_sources refs (λ i r at. referred s refs i r e at), ap stands_twice (uploads_are op refs) ∙ named_once s refs e)
+
+-- ---- what an accepted deposit takes
+
+none_sources : (s : State) (content : List ℕ) (seen : List UploadView) → AreSources s content seen []
+unfolding stands_twice
+none_sources s content seen = ((λ i one at. absurd (cc at)), refl)
+
+posted_source : (s : State) (op : Operation) (seen : List UploadView) (name : List ℕ) → AreSources s op.content seen (posted_file op name ∷ [])
+unfolding stands_twice
+posted_source s op seen name = (at_place, refl)
+  where
+    at_place : (i : ℕ) (one : NewFile) → slice_get (posted_file op name ∷ []) i ≡ Some one → IsSource s op.content (slice_get seen i) one.source
+    at_place zero one at =
+        let same : posted_file op name ≡ one = cc at in
+        subst (λ (x : NewFile). IsSource s op.content (slice_get seen 0) x.source) same refl
+    at_place (suc i) one at = absurd (cc at)
+
+module _ (config : Config) (s : State) (op : Operation) (sound : IsSound s) where
+  -- the uploads that are seen, by the references that are read
+  abbrev uploads_seen : Option (List Reference) → List UploadView
+  uploads_seen refs = map (upload_view (is_some refs) s) (referred_uploads refs)
+
+  -- a deposit that there is has its sources
+  abbrev Have : List UploadView → Option Deposit → Type 0
+  Have seen None = Unit {0}
+  Have seen (Some d) = HasSources s op.content seen d
+
+  metadata_has : (seen : List UploadView) (o : Option state.Texts) → Have seen (option_map (λ texts. deposit.Metadata texts) o)
+  metadata_has seen None = tt
+  metadata_has seen (Some texts) = tt
+
+  references_have : (refs : Option (List Reference)) → references_in config op ≡ refs → document_refusal config s op of.References ≡ None
+      → Have (uploads_seen refs) (option_map (λ entries. deposit.Files (referred_files op entries)) refs)
+  references_have None is passed = tt
+  references_have (Some refs) is passed = referred_sources s sound op refs (sym (ap (references_refusal s) is) ∙ passed)
+
+  module _ (document : of_document config s op ≡ None) where
+    passed_by : (k : Kind) → kind_of op ≡ Some k → document_refusal config s op k ≡ None
+    unfolding of_document
+    passed_by k is = sym (ap (option_and_then (document_refusal config s op)) is) ∙ document
+
+    by_kind : (o : Option Kind) → kind_of op ≡ o → Have (uploads_seen (references_in config op)) (option_and_then (deposit_by (references_in config op) op) o)
+    by_kind None is = tt
+    by_kind (Some (of.File name)) is = posted_source s op (uploads_seen (references_in config op)) name
+    by_kind (Some of.Metadata) is = metadata_has (uploads_seen (references_in config op)) (metadata_read op.content)
+    by_kind (Some of.References) is = references_have (references_in config op) refl (passed_by of.References is)
+    by_kind (Some (of.Opening o)) is = tt
+    by_kind (Some (of.Segment k)) is = tt
+
+    deposit_has : Have (uploads_seen (references_in config op)) (deposit_of (references_in config op) op)
+    unfolding deposit_of
+    deposit_has = by_kind (kind_of op) refl
+
+-- ---- what each decision relies on
+
+module _ (s : State) (content : List ℕ) (view : View) where
+  abbrev Told : Option Decision → Type 0
+  Told o = TellsFor view s content (unwrap_or o Show)
+
+  -- a deposit that there is has its sources
+  abbrev Has : Option Deposit → Type 0
+  Has None = Unit {0}
+  Has (Some d) = HasSources s content view.uploads d
+
+  created : (ingested : Bool) (o : Option Deposit) → finmap.get s.objects s.next.object ≡ None → Has o → Told (option_map (λ d. Create d ingested) o)
+  created ingested None none has = tt
+  created ingested (Some d) none has = (none, has)
+
+  module _ (n : ℕ) (o : state.Object) (told : TellsObject view s n o) where
+    appended : (complete ingests : Bool) (d : Option Deposit) → Has d → Told (if complete then Some (Complete n) else option_map (λ d. Append n d ingests) d)
+    appended true ingests d has = (o, told)
+    appended false ingests None has = tt
+    appended false ingests (Some d) has = (o, told, has)
+
+    replaced : (ingests : Bool) (d : Option Deposit) → Has d → Told (option_map (λ d. Replace n d ingests) d)
+    replaced ingests None has = tt
+    replaced ingests (Some d) has = (o, told, has)
+
+    texts_set : (texts : Option state.Texts) → Told (option_map (λ texts. SetMetadata n texts) texts)
+    texts_set None = tt
+    texts_set (Some texts) = (o, told)
+
+    files_set : (d : Option Deposit) → Has d → Told (option_map (λ files. SetFiles n files) (option_and_then files_of d))
+    files_set None has = tt
+    files_set (Some (deposit.Files new)) has = (o, told, has)
+    files_set (Some (deposit.Metadata texts)) has = tt
+
+module _ (config : Config) (s : State) (op : Operation) (sound : IsSound s) where
+  abbrev refs : Option (List Reference)
+  refs = references_in config op
+
+  abbrev seen : Resource → View
+  seen resource = seen_at s (touched_with resource refs)
+
+  abbrev Asked : Resource → Method → Type 0
+  Asked resource method = Told s op.content (seen resource) (decision_at refs op resource method)
+
+  object_free : finmap.get s.objects s.next.object ≡ None
+  object_free = go (finmap.get s.objects s.next.object) refl
+    where
+      go : (o : Option state.Object) → finmap.get s.objects s.next.object ≡ o → o ≡ None
+      go None e = refl
+      go (Some o) e = absurd (let below = (sound.objects s.next.object o e).number_given.below in omega arith)
+
+  -- an object that is there is told
+  object_told : (n : ℕ) (view : View) → view.object ≡ option_map (object_row n) (finmap.get s.objects n) → unless (has_object s n) NotFound ≡ None → (o : state.Object) × TellsObject view s n o
+  object_told n view is present =
+      let there = some_of (finmap.get s.objects n) (unless-none (has_object s n) NotFound present) in
+      (there.0, (is ∙ ap (option_map (object_row n)) there.1, there.1))
+
+  file_found : (n f : ℕ) (o : Option state.Object) → is_some (option_and_then (λ (x : state.Object). finmap.get x.files f) o) ≡ true → (x : state.Object) × (file : state.File) × (o ≡ Some x) × (finmap.get x.files f ≡ Some file)
+  file_found n f None e = cc e
+  file_found n f (Some x) e = let file = some_of (finmap.get x.files f) e in (x, file.0, refl, file.1)
+
+  file_told : (n f : ℕ) (view : View) → view.object ≡ option_map (object_row n) (finmap.get s.objects n) → unless (is_some (file_at s n f)) NotFound ≡ None → (o : state.Object) × (file : state.File) × TellsFile view s n o f file
+  file_told n f view is present =
+      let found = file_found n f (finmap.get s.objects n) (unless-none (is_some (file_at s n f)) NotFound present) in
+      (found.0, found.1, ((is ∙ ap (option_map (object_row n)) found.2, found.2), found.3))
+
+  file_set : (n f : ℕ) (o : Option Kind) → unless (is_some (file_at s n f)) NotFound ≡ None → Told s op.content (seen (File n f)) (option_and_then (replaced_file op n f) o)
+  file_set n f None present = tt
+  file_set n f (Some (of.File name)) present = let told = file_told n f (seen (File n f)) refl present in (told.0, told.1, told.2, refl)
+  file_set n f (Some of.Metadata) present = tt
+  file_set n f (Some of.References) present = tt
+  file_set n f (Some (of.Opening o)) present = tt
+  file_set n f (Some (of.Segment k)) present = tt
+
+  opened_told : (o : Option Kind) → Told s op.content (seen Staging) (option_and_then opened o)
+  opened_told None = tt
+  opened_told (Some (of.File name)) = tt
+  opened_told (Some of.Metadata) = tt
+  opened_told (Some of.References) = tt
+  opened_told (Some (of.Opening o)) = tt
+  opened_told (Some (of.Segment k)) = tt
+
+  -- a segment refers to no upload
+  no_references : (k : ℕ) → kind_of op ≡ Some (of.Segment k) → refs ≡ None
+  unfolding references_in
+  no_references k is = ap (references_by config op) is
+
+  lacks : (it : state.Upload) (k : ℕ) → segment_refusal it k op.content ≡ None → finmap.get it.segments k ≡ None
+  lacks it k passed =
+      let rows = all_passed
+      (unless (nat_le 1 k && nat_le k it.count && not (has_segment it k)) UnexpectedSegment
+      ∷ unless (length op.content == segment_length it k) InvalidSegmentSize
+      ∷ []) passed in
+      none_of (finmap.get it.segments k) (not_true (has_segment it k) (both_true (nat_le 1 k && nat_le k it.count) (not (has_segment it k)) (unless-none _ UnexpectedSegment rows.0)).1)
+
+  received_told : (u : ℕ) (o : Option Kind) → kind_of op ≡ o → op.target.resource ≡ Upload u → upload_refusal s u ≡ None → option_and_then (size_refusal config s op) o ≡ None → Told s op.content (seen (Upload u)) (option_and_then (received u) o)
+  received_told u None is at present passed = tt
+  received_told u (Some (of.File name)) is at present passed = tt
+  received_told u (Some of.Metadata) is at present passed = tt
+  received_told u (Some of.References) is at present passed = tt
+  received_told u (Some (of.Opening o)) is at present passed = tt
+  received_told u (Some (of.Segment k)) is at present passed =
+      let there = some_of (finmap.get s.uploads u) (there_by (finmap.contains_key s.uploads u) (finset.contains s.timed_out u) present) in
+      let sized = ap (option_and_then (λ x. segment_refusal x k op.content)) (sym there.1) ∙ ap (λ (r : Resource). received_refusal s r k op.content) (sym at) ∙ passed in
+      (there.0, (ap (λ (r : Option (List Reference)). upload_view (is_some r) s u ∷ []) (no_references k is), there.1, lacks there.0 k sized))
+
+  sizes : of_sizes config s op ≡ None → option_and_then (size_refusal config s op) (kind_of op) ≡ None
+  unfolding of_sizes
+  sizes e = e
+
+  asked : (resource : Resource) (method : Method) → op.target.resource ≡ resource → presence_refusal s resource ≡ None → first_of (rows_met config s op resource method) ≡ None → Asked resource method
+  asked Service Post at present e =
+      let rows = all_passed (rows_met config s op Service Post) e in
+      created s op.content (seen Service) (ingests op) (deposit_of refs op) object_free (deposit_has config s op sound rows.1.1.1.1.1.1.1.1.1.0)
+  asked Service Get at present e = tt
+  asked Service Head at present e = tt
+  asked Service Put at present e = tt
+  asked Service Delete at present e = tt
+  asked (Object n) Post at present e =
+      let rows = all_passed (rows_met config s op (Object n) Post) e in
+      let told = object_told n (seen (Object n)) refl present in
+      appended s op.content (seen (Object n)) n told.0 told.1 (is_completion op) (ingests op) (deposit_of refs op) (deposit_has config s op sound rows.1.1.1.1.1.1.1.1.1.0)
+  asked (Object n) Put at present e =
+      let rows = all_passed (rows_met config s op (Object n) Put) e in
+      let told = object_told n (seen (Object n)) refl present in
+      replaced s op.content (seen (Object n)) n told.0 told.1 (ingests op) (deposit_of refs op) (deposit_has config s op sound rows.1.1.1.1.1.1.1.1.1.0)
+  asked (Object n) Delete at present e = object_told n (seen (Object n)) refl present
+  asked (Object n) Get at present e = tt
+  asked (Object n) Head at present e = tt
+  asked (Metadata n) Put at present e =
+      let told = object_told n (seen (Metadata n)) refl present in
+      texts_set s op.content (seen (Metadata n)) n told.0 told.1 (option_and_then texts_of (deposit_of refs op))
+  asked (Metadata n) Delete at present e = object_told n (seen (Metadata n)) refl present
+  asked (Metadata n) Get at present e = tt
+  asked (Metadata n) Head at present e = tt
+  asked (Metadata n) Post at present e = tt
+  asked (FileSet n) Put at present e =
+      let rows = all_passed (rows_met config s op (FileSet n) Put) e in
+      let told = object_told n (seen (FileSet n)) refl present in
+      files_set s op.content (seen (FileSet n)) n told.0 told.1 (deposit_of refs op) (deposit_has config s op sound rows.1.1.1.1.1.1.1.1.1.0)
+  asked (FileSet n) Delete at present e =
+      let told = object_told n (seen (FileSet n)) refl present in
+      (told.0, told.1, none_sources s op.content (seen (FileSet n)).uploads)
+  asked (FileSet n) Get at present e = tt
+  asked (FileSet n) Head at present e = tt
+  asked (FileSet n) Post at present e = tt
+  asked (File n f) Put at present e = file_set n f (kind_of op) present
+  asked (File n f) Delete at present e = file_told n f (seen (File n f)) refl present
+  asked (File n f) Get at present e = tt
+  asked (File n f) Head at present e = tt
+  asked (File n f) Post at present e = tt
+  asked Staging Post at present e = opened_told (kind_of op)
+  asked Staging Get at present e = tt
+  asked Staging Head at present e = tt
+  asked Staging Put at present e = tt
+  asked Staging Delete at present e = tt
+  asked (Upload u) Post at present e =
+      let rows = all_passed (rows_met config s op (Upload u) Post) e in
+      received_told u (kind_of op) refl at present (sizes rows.1.1.1.1.1.1.1.1.1.1.0)
+  asked (Upload u) Delete at present e = tt
+  asked (Upload u) Get at present e = tt
+  asked (Upload u) Head at present e = tt
+  asked (Upload u) Put at present e = tt
+  asked (BagList n) method at present e = tt
+  asked (BagFile n path) method at present e = tt
+
+  present_by : (resource : Resource) (method : Method) → first_of (rows_met config s op resource method) ≡ None → of_presence s op ≡ None
+  present_by resource Get e = (all_passed (rows_met config s op resource Get) e).1.0
+  present_by resource Head e = (all_passed (rows_met config s op resource Head) e).1.0
+  present_by resource Post e = (all_passed (rows_met config s op resource Post) e).1.0
+  present_by resource Put e = (all_passed (rows_met config s op resource Put) e).1.0
+  present_by (Upload u) Delete e = (all_passed (rows_met config s op (Upload u) Delete) e).1.0
+  present_by resource Delete e = (all_passed (rows_met config s op resource Delete) e).1.0
+
+  pub told_for : refusal config s op ≡ None → TellsFor (view_of config s op) s op.content (decision config op)
+  unfolding decision_with refusal of_presence
+  told_for e = asked op.target.resource op.target.method refl (present_by op.target.resource op.target.method e) e

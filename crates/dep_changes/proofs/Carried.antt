@@ -1,0 +1,64 @@
+-- From what a decision makes of the maps to what a request makes of the state.
+use Rattle.std.proofs.Common.{◌≡◌, ℕ, ◌&&◌, true, List, None, IsTrue, nat_eq, sym, ap, subst, arith}
+use Rattle.std.proofs.lemmas.Bool.Decides.{nat_tests}
+use Rattle.dep_types.specs.State.{State}
+use Rattle.dep_types.specs.Sound.{IsSound}
+use Rattle.dep_types.specs.Numbers.{counters_after, has_room, room_for}
+use Rattle.dep_types.specs.declared.config.Config.{Config}
+use Rattle.dep_types.specs.declared.counters.Counters.{Counters}
+use Rattle.dep_tables.specs.Tables.{Tables}
+use Rattle.dep_row_maps.specs.TablesAre.{TablesAre}
+use Rattle.dep_params.proofs.Runs.{and_both}
+use Rattle.dep_decisions.specs.Decisions.{decision, numbers_for}
+use Rattle.dep_decisions.specs.Effects.{effect, effect_of}
+use Rattle.dep_decisions.specs.Rules.{refusal}
+use Rattle.dep_decisions.specs.declared.operation.Operation.{Operation}
+use Rattle.dep_decisions.specs.declared.decision.Decision.{Decision}
+use Rattle.dep_rulings.specs.Views.{view_of}
+use Rattle.dep_rulings.specs.declared.view.View.{View}
+use Rattle.dep_changes.specs.Told.{TellsFor, TellsNumbers}
+use Rattle.dep_changes.specs.Changed.{with_maps}
+use Rattle.dep_changes.proofs.Accepted.{told_for}
+
+-- room for all numbers is room for those of files
+pub room_of_files : (next : Counters) (d : Decision) (count : ℕ) → (numbers_for d).file ≡ count → IsTrue (room_for next (numbers_for d)) → IsTrue (has_room next.file count)
+unfolding room_for
+room_of_files next d count is room =
+    let taken = numbers_for d in
+    let three = and_both (has_room next.object taken.object && has_room next.file taken.file && has_room next.upload taken.upload) (has_room next.change taken.change) room in
+    let two = and_both (has_room next.object taken.object && has_room next.file taken.file) (has_room next.upload taken.upload) three.0 in
+    let one = and_both (has_room next.object taken.object) (has_room next.file taken.file) two.0 in
+    subst (λ (n : ℕ). IsTrue (has_room next.file n)) is one.1
+
+module _ (config : Config) (s : State) (op : Operation) (view : View) (content : List ℕ) (d : Decision) (seen : view ≡ view_of config s op) (asked : d ≡ decision config op) (same : content ≡ op.content) where
+  pub numbers_told : TellsNumbers view s
+  numbers_told = (ap (λ (v : View). v.clock) seen, ap (λ (v : View). v.next) seen)
+
+  pub told : IsSound s → refusal config s op ≡ None → TellsFor view s content d
+  told sound passed =
+      subst (λ (v : View). TellsFor v s content d) (sym seen)
+      (subst (λ (bytes : List ℕ). TellsFor (view_of config s op) s bytes d) (sym same)
+      (subst (TellsFor (view_of config s op) s op.content) (sym asked) (told_for config s op sound passed)))
+
+  pub carried : (t : Tables) (clock : ℕ) (next : Counters) → clock ≡ s.clock → next ≡ counters_after s.next (numbers_for d) → TablesAre t (record (with_maps s content d) { clock = clock; next = next }) → TablesAre t (effect config s op)
+  unfolding effect
+  carried t clock next at_clock at_next are =
+      subst (λ (x : Decision). TablesAre t (effect_of s op.content x)) asked
+      (subst (λ (bytes : List ℕ). TablesAre t (effect_of s bytes d)) same
+      (subst (λ (n : Counters). TablesAre t (record (with_maps s content d) { clock = s.clock; next = n })) at_next
+      (subst (λ (now : ℕ). TablesAre t (record (with_maps s content d) { clock = now; next = next })) at_clock are)))
+
+-- counters that are equal number by number are the same
+pub same_counters : (a b : Counters) → (nat_eq a.object b.object && (nat_eq a.file b.file && (nat_eq a.upload b.upload && nat_eq a.change b.change))) ≡ true → a ≡ b
+same_counters a b e =
+    let one = and_both (nat_eq a.object b.object) _ e in
+    let two = and_both (nat_eq a.file b.file) _ one.1 in
+    let three = and_both (nat_eq a.upload b.upload) (nat_eq a.change b.change) two.1 in
+    let object = same a.object b.object one.0 in
+    let file = same a.file b.file two.0 in
+    let upload = same a.upload b.upload three.0 in
+    let change = same a.change b.change three.1 in
+    λ i. record { object = object i; file = file i; upload = upload i; change = change i }
+  where
+    same : (x y : ℕ) → nat_eq x y ≡ true → x ≡ y
+    same x y e = grind (arith, nat_tests)

@@ -1,0 +1,89 @@
+-- Deposits in an object.
+use Rattle.std.proofs.Common.{◌≡◌, ℕ, ◌||◌, Bool, List, None, refl, sym, ap, subst, ◌∙◌}
+use Rattle.std.specs.Option.{option_map_or}
+use Rattle.std.specs.FinMap as finmap
+use Rattle.dep_types.specs.Maps.{Numbered}
+use Rattle.dep_types.specs.State.{State, Object, File, Texts}
+use Rattle.dep_types.specs.Rows.{object_row}
+use Rattle.dep_types.specs.declared.counters.Counters.{Counters}
+use Rattle.dep_types.specs.declared.rows.ObjectRow.{ObjectRow}
+use Rattle.dep_tables.specs.Tables.{Tables}
+use Rattle.dep_row_maps.specs.TablesAre.{TablesAre, metadata_at, files_at, with_object, with_metadata}
+use Rattle.dep_decisions.specs.Effects.{blank, filled, ingested_by, joined, uploads_in, with_files, with_texts, without}
+use Rattle.dep_decisions.specs.declared.decision.NewFile.{NewFile}
+use Rattle.dep_decisions.specs.declared.decision.Deposit.{Deposit}
+use Rattle.dep_decisions.specs.declared.decision.Deposit.TheVariants.{Files, Metadata}
+use Rattle.dep_rulings.specs.declared.view.UploadView.{UploadView}
+use Rattle.dep_changes.specs.Told.{AreSources, HasSources}
+use Rattle.dep_changes.specs.Changed.{with_appended, with_deposit, with_new_files}
+use Rattle.dep_changes.proofs.Added.{added_alike}
+use Rattle.dep_changes.proofs.Steps.{insert_twice}
+
+-- ---- the deposit by its kind
+
+pub files_have : (s : State) (content : List ℕ) (seen : List UploadView) (d : Deposit) (files now : List NewFile) → d ≡ Files files → now ≡ files → HasSources s content seen d → AreSources s content seen now
+files_have s content seen d files now is same have = subst (AreSources s content seen) (sym same) (let has : HasSources s content seen (Files files) = subst (HasSources s content seen) is have in has)
+
+module _ (t : Tables) (s : State) (content : List ℕ) (n : ℕ) (d : Deposit) where
+  pub files_deposited : (ingested : Bool) (files now : List NewFile) → d ≡ Files files → now ≡ files → TablesAre t (with_new_files s content n (blank s ingested) now) → TablesAre t (with_deposit s content n d ingested)
+  files_deposited ingested files now is same are =
+      subst (λ (x : Deposit). TablesAre t (with_deposit s content n x ingested)) (sym is) (subst (λ (new : List NewFile). TablesAre t (with_new_files s content n (blank s ingested) new)) same are)
+
+  pub texts_deposited : (ingested : Bool) (texts : Texts) → d ≡ Metadata texts → TablesAre t (with_object s n (with_metadata (blank s ingested) texts)) → TablesAre t (with_deposit s content n d ingested)
+  texts_deposited ingested texts is are = subst (λ (x : Deposit). TablesAre t (with_deposit s content n x ingested)) (sym is) are
+
+  module _ (o : Object) (ingests : Bool) (k : ℕ) (number : k ≡ n) where
+    pub files_appended : (files now : List NewFile) → d ≡ Files files → now ≡ files → TablesAre t (with_new_files s content k (with_files s o.files (ingested_by ingests o)) now) → TablesAre t (with_appended s content n o d ingests)
+    files_appended files now is same are =
+        subst (λ (x : Deposit). TablesAre t (with_appended s content n o x ingests)) (sym is)
+        (subst (λ (new : List NewFile). TablesAre t (with_new_files s content n (with_files s o.files (ingested_by ingests o)) new)) same
+        (subst (λ (m : ℕ). TablesAre t (with_new_files s content m (with_files s o.files (ingested_by ingests o)) now)) number are))
+
+    pub texts_appended : (texts : Texts) → d ≡ Metadata texts → TablesAre t (with_object s k (with_texts s (joined (finmap.entries texts) o.metadata) (ingested_by ingests o))) → TablesAre t (with_appended s content n o d ingests)
+    texts_appended texts is are =
+        subst (λ (x : Deposit). TablesAre t (with_appended s content n o x ingests)) (sym is)
+        (subst (λ (m : ℕ). TablesAre t (with_object s m (with_texts s (joined (finmap.entries texts) o.metadata) (ingested_by ingests o)))) number are)
+
+-- ---- the rows
+
+pub ingested_row : (n : ℕ) (o : Object) (ingests : Bool) (was now : ObjectRow) → was ≡ object_row n o → now ≡ record was { ingested = was.ingested || ingests } → now ≡ object_row n (ingested_by ingests o)
+ingested_row n o ingests was now is after = after ∙ ap (λ (r : ObjectRow). record r { ingested = r.ingested || ingests }) is
+
+-- what an object keeps until its files and its metadata are taken away
+abbrev pub marked : State → Object → (ingested : Bool) → Object
+marked s o ingested = record (blank s ingested) { metadata = o.metadata; files = o.files }
+
+module _ (s : State) (clock : ℕ) (next : Counters) (at_clock : clock ≡ s.clock) (at_next : next ≡ s.next) (now : ObjectRow) where
+  pub blank_row_is : (k : ℕ) (ingested : Bool) → now ≡ record { object = k; ingested = ingested; object_tag = next.change; metadata_tag = next.change; files_tag = next.change; changed = clock } → now ≡ object_row k (blank s ingested)
+  blank_row_is k ingested is = cc
+
+  pub marked_row : (n : ℕ) (o it : Object) (row : ObjectRow) → row ≡ object_row n it
+      → now ≡ record { object = row.object; ingested = row.ingested; object_tag = next.change; metadata_tag = next.change; files_tag = next.change; changed = clock } → now ≡ object_row n (marked s o it.ingested)
+  marked_row n o it row was is = cc
+
+-- ---- a new object
+
+pub none_texts : (s : State) (k n : ℕ) → k ≡ n → finmap.get s.objects n ≡ None → finmap.empty ≡ metadata_at s.objects k
+none_texts s k n same none = sym (ap (λ x. option_map_or (λ (y : Object). y.metadata) x finmap.empty) (ap (finmap.get s.objects) same ∙ none))
+
+pub none_files : (s : State) (k n : ℕ) → k ≡ n → finmap.get s.objects n ≡ None → finmap.empty ≡ files_at s.objects k
+none_files s k n same none = sym (ap (λ x. option_map_or (λ (y : Object). y.files) x finmap.empty) (ap (finmap.get s.objects) same ∙ none))
+
+-- ---- the object was written before the deposit was put in
+
+filled_alike : (m : Numbered Object) (s : State) (content : List ℕ) (d : Deposit) (ingested : Bool) → filled (record s { objects = m }) content d ingested ≡ filled s content d ingested
+filled_alike m s content (Files new) ingested = ap (λ (files : Numbered File). record (blank s ingested) { files = files }) (added_alike m s.next.file s content new finmap.empty)
+filled_alike m s content (Metadata texts) ingested = refl
+
+pub still_have : (m : Numbered Object) (s : State) (content : List ℕ) (seen : List UploadView) (d : Deposit) → HasSources s content seen d → HasSources (record s { objects = m }) content seen d
+still_have m s content seen (Files new) have = have
+still_have m s content seen (Metadata texts) have = have
+
+pub deposit_again : (t : Tables) (s : State) (content : List ℕ) (k n : ℕ) (was : Object) (d : Deposit) (ingested : Bool) → k ≡ n → TablesAre t (with_deposit (with_object s n was) content k d ingested) → TablesAre t (with_deposit s content n d ingested)
+deposit_again t s content k n was d ingested same are =
+    let m = finmap.insert s.objects n was in
+    let objects : finmap.insert m k (filled (with_object s n was) content d ingested) ≡ finmap.insert s.objects n (filled s content d ingested) =
+    ap (λ (q : ℕ). finmap.insert m q (filled (with_object s n was) content d ingested)) same
+    ∙ insert_twice s.objects n was (filled (with_object s n was) content d ingested)
+    ∙ ap (finmap.insert s.objects n) (filled_alike m s content d ingested) in
+    subst (λ (q : Numbered Object). TablesAre t (record s { objects = q; uploads = without s.uploads (uploads_in d) })) objects are

@@ -1,0 +1,6 @@
+pub mod Steps
+pub mod Staged
+pub mod Added
+pub mod Filled
+pub mod Accepted
+pub mod Carried

@@ -1,0 +1,30 @@
+use Rattle.std.proofs.Common.{refl, arith}
+use Rattle.sqlite.specs.State.{HasCleanDisk}
+use Rattle.sqlite.specs.Held.{state}
+use Rattle.dep_types.specs.State.{State, Object}
+use Rattle.dep_tables.specs.Tables.{tables_of}
+use Rattle.dep_tables.proofs.Results.{ok_then}
+use Rattle.dep_row_maps.specs.TablesAre.{with_object}
+use Rattle.dep_row_maps.proofs.Lens.{get_here}
+use Rattle.dep_decisions.specs.Effects.{with_files}
+use Rattle.dep_changes.proofs.Added.{new_files_again}
+use Rattle.dep_changes.proofs.Steps.{files_of_row, its_number, its_own, at_number, texts_at, files_kept_at}
+use Rattle.dep_changes.proofs.deposits.append_files.Goals as goal
+
+pub returns-clause-map : goal.returns-clause-map
+returns-clause-map g c clean inside ours s are o it numbers there its texts files sources =
+    let view = c.args.change.now.view.now in
+    let mid = state g.S.Store c.write_row.new.tx.conn.now in
+    let new = state g.S.Store c.put_new_files.new.tx.conn.now in
+    let before : HasCleanDisk mid = omega (arith, clean, c.put_new_files.ensures.survives.clean) in
+    let n = c.args.row.object in
+    let now = c.files_changed.result in
+    let mark : Object = with_files s it.files it in
+    let is = files_of_row s n it c.args.row its view.clock view.next numbers.0 numbers.1 now it.files c.files_changed.ensures in
+    let to = its_number n mark now is in
+    let put = at_number (tables_of mid) s now.object n mark to
+    (c.in_ok-write_row.ensures.map before inside ours s are mark (its_own n mark now is) (texts_at s now.object n o mark to there texts) (files_kept_at s now.object n o mark to there files)) in
+    let one : State = with_object s n mark in
+    ok_then c.put_new_files.result
+    (c.put_new_files.ensures.map clean (c.in_ok-write_row.ensures.inside before inside) (c.in_ok-write_row.ensures.ours before inside ours) one put mark numbers (get_here s.objects n mark) sources)
+    (λ added. new_files_again (tables_of new) s c.args.change.now.content.now n n mark mark c.args.files.now refl added)

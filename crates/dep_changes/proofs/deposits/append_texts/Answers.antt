@@ -1,0 +1,31 @@
+use Rattle.std.proofs.Common.{arith}
+use Rattle.std.specs.FinMap as finmap
+use Rattle.sqlite.specs.State.{HasCleanDisk}
+use Rattle.sqlite.specs.Held.{state}
+use Rattle.dep_types.specs.State.{State, Object}
+use Rattle.dep_tables.specs.Tables.{tables_of}
+use Rattle.dep_tables.proofs.Results.{ok_then}
+use Rattle.dep_row_maps.specs.TablesAre.{with_object}
+use Rattle.dep_row_maps.proofs.Lens.{get_here}
+use Rattle.dep_decisions.specs.Effects.{joined, with_texts}
+use Rattle.dep_changes.proofs.Steps.{texts_of_row, its_number, its_own, at_number, texts_at, files_kept_at, written_again}
+use Rattle.dep_changes.proofs.deposits.append_texts.Goals as goal
+
+pub returns-clause-map : goal.returns-clause-map
+returns-clause-map g c clean inside ours s are o it numbers there its texts files =
+    let view = c.args.change.now.view.now in
+    let mid = state g.S.Store c.write_row.new.tx.conn.now in
+    let new = state g.S.Store c.append_metadata.new.tx.conn.now in
+    let before : HasCleanDisk mid = omega (arith, clean, c.append_metadata.ensures.survives.clean) in
+    let n = c.args.row.object in
+    let now = c.texts_changed.result in
+    let mark : Object = with_texts s it.metadata it in
+    let is = texts_of_row s n it c.args.row its view.clock view.next numbers.0 numbers.1 now it.metadata c.texts_changed.ensures in
+    let to = its_number n mark now is in
+    let put = at_number (tables_of mid) s now.object n mark to
+    (c.in_ok-write_row.ensures.map before inside ours s are mark (its_own n mark now is) (texts_at s now.object n o mark to there texts) (files_kept_at s now.object n o mark to there files)) in
+    let one : State = with_object s n mark in
+    let after : Object = with_texts s (joined (finmap.entries c.args.metadata.now) it.metadata) it in
+    ok_then c.append_metadata.result
+    (c.append_metadata.ensures.map clean (c.in_ok-write_row.ensures.inside before inside) (c.in_ok-write_row.ensures.ours before inside ours) one put mark (get_here s.objects n mark))
+    (λ added. written_again (tables_of new) s n mark after added)

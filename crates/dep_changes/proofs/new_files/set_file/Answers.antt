@@ -1,0 +1,47 @@
+use Rattle.std.proofs.Common.{◌≡◌, refl, arith}
+use Rattle.std.specs.FinMap as finmap
+use Rattle.sqlite.specs.State.{HasCleanDisk}
+use Rattle.sqlite.specs.Held.{state}
+use Rattle.dep_types.specs.State.{State, Object, File}
+use Rattle.dep_fixity.specs.Fixity.{digests_of}
+use Rattle.dep_tables.specs.Tables.{tables_of}
+use Rattle.dep_tables.proofs.Results.{ok_then}
+use Rattle.dep_row_maps.specs.TablesAre.{with_object}
+use Rattle.dep_row_maps.proofs.Lens.{get_here}
+use Rattle.dep_decisions.specs.Effects.{with_files}
+use Rattle.dep_changes.specs.Changed.{made_file}
+use Rattle.dep_changes.proofs.Steps.{files_row, number_is, its_number, its_own, at_number, there_at, texts_at, files_kept_at, written_again, file_replaced}
+use Rattle.dep_changes.proofs.new_files.set_file.Goals as goal
+
+pub returns-clause-map : goal.returns-clause-map
+returns-clause-map g c clean inside ours s are n o file numbers told source =
+    let view = c.args.change.now.view.now in
+    let content = c.args.change.now.content.now in
+    let f = c.args.file in
+    let one = state g.S.Store c.write_row.new.tx.conn.now in
+    let two = state g.S.Store c.delete_file.new.tx.conn.now in
+    let new = state g.S.Store c.put_posted.new.tx.conn.now in
+    let clean_two : HasCleanDisk two = omega (arith, clean, c.put_posted.ensures.survives.clean) in
+    let clean_one : HasCleanDisk one = omega (arith, clean_two, c.delete_file.ensures.survives.clean) in
+    let inside_one = c.in_ok-write_row.ensures.inside clean_one inside in
+    let ours_one = c.in_ok-write_row.ensures.ours clean_one inside ours in
+    let row = c.in_ok-row.row in
+    let number = number_is s n o view.object told.0.0 row c.in_ok-row.ensures in
+    let now = c.files_changed.result in
+    let mark : Object = with_files s o.files o in
+    let is = files_row s n o view.object told.0.0 row c.in_ok-row.ensures view.clock view.next numbers.0 numbers.1 now o.files c.files_changed.ensures in
+    let to = its_number n mark now is in
+    let put = at_number (tables_of one) s now.object n mark to
+    (c.in_ok-write_row.ensures.map clean_one inside ours s are mark (its_own n mark now is) (texts_at s now.object n o mark to told.0.1 refl) (files_kept_at s now.object n o mark to told.0.1 refl)) in
+    let first : State = with_object s n mark in
+    let left : Object = with_files s (finmap.remove o.files f) o in
+    let gone = written_again (tables_of two) s n mark left
+    (c.in_ok-delete_file.ensures.map clean_two inside_one ours_one first put n mark file (get_here s.objects n mark) told.1) in
+    let second : State = with_object s n left in
+    let made : File = made_file s c.args.new.now content in
+    let it : Object = with_files s (finmap.insert (finmap.remove o.files f) f made) o in
+    let digests : c.in-Posted.digests ≡ digests_of content = let posted = c.in-Posted.is in cc in
+    ok_then c.put_posted.result
+    (c.put_posted.ensures.map clean (c.in_ok-delete_file.ensures.inside clean_two inside_one) (c.in_ok-delete_file.ensures.ours clean_two inside_one ours_one) second gone left numbers
+    (there_at second.objects row.object n left number (get_here s.objects n left)) digests)
+    (λ there. file_replaced (tables_of new) s n o f made (written_again (tables_of new) s n left it (at_number (tables_of new) second row.object n it number there)))

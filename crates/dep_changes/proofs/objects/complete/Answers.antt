@@ -1,0 +1,20 @@
+use Rattle.std.proofs.Common.{true, refl}
+use Rattle.sqlite.specs.Held.{state}
+use Rattle.dep_types.specs.State.{Object}
+use Rattle.dep_tables.specs.Tables.{tables_of}
+use Rattle.dep_tables.proofs.Results.{ok_then}
+use Rattle.dep_decisions.specs.Effects.{changed, ingested_by}
+use Rattle.dep_changes.proofs.Steps.{completed_row, number_is, its_own, at_number, texts_at, files_kept_at}
+use Rattle.dep_changes.proofs.objects.complete.Goals as goal
+
+pub returns-clause-map : goal.returns-clause-map
+returns-clause-map g c clean inside ours s are n o numbers told =
+    let view = c.args.view.now in
+    let row = c.in_ok-row.row in
+    let found = c.in_ok-row.ensures in
+    let it : Object = ingested_by true (changed s o) in
+    let is = completed_row s n o view.object told.0 row found view.clock view.next numbers.0 numbers.1 _ refl in
+    let number = number_is s n o view.object told.0 row found in
+    ok_then c.write_row.result
+    (c.write_row.ensures.map clean inside ours s are it (its_own n it _ is) (texts_at s row.object n o it number told.1 refl) (files_kept_at s row.object n o it number told.1 refl))
+    (λ put. at_number (tables_of (state g.S.Store c.write_row.new.tx.conn.now)) s row.object n it number put)

@@ -1,0 +1,31 @@
+use Rattle.std.proofs.Common.{refl, arith}
+use Rattle.std.specs.FinMap as finmap
+use Rattle.sqlite.specs.State.{HasCleanDisk}
+use Rattle.sqlite.specs.Held.{state}
+use Rattle.dep_types.specs.State.{State, Object}
+use Rattle.dep_tables.specs.Tables.{tables_of}
+use Rattle.dep_tables.proofs.Results.{ok_then}
+use Rattle.dep_row_maps.specs.TablesAre.{with_object}
+use Rattle.dep_row_maps.proofs.Lens.{get_here}
+use Rattle.dep_decisions.specs.Effects.{with_files}
+use Rattle.dep_changes.proofs.Steps.{files_row, its_number, its_own, at_number, texts_at, files_kept_at, written_again}
+use Rattle.dep_changes.proofs.objects.drop_file.Goals as goal
+
+pub returns-clause-map : goal.returns-clause-map
+returns-clause-map g c clean inside ours s are n o file numbers told =
+    let view = c.args.view.now in
+    let mid = state g.S.Store c.write_row.new.tx.conn.now in
+    let new = state g.S.Store c.delete_file.new.tx.conn.now in
+    let before : HasCleanDisk mid = omega (arith, clean, c.delete_file.ensures.survives.clean) in
+    let row = c.in_ok-row.row in
+    let now = c.files_changed.result in
+    let mark : Object = with_files s o.files o in
+    let is = files_row s n o view.object told.0.0 row c.in_ok-row.ensures view.clock view.next numbers.0 numbers.1 now o.files c.files_changed.ensures in
+    let to = its_number n mark now is in
+    let put = at_number (tables_of mid) s now.object n mark to
+    (c.in_ok-write_row.ensures.map before inside ours s are mark (its_own n mark now is) (texts_at s now.object n o mark to told.0.1 refl) (files_kept_at s now.object n o mark to told.0.1 refl)) in
+    let one : State = with_object s n mark in
+    let it : Object = with_files s (finmap.remove o.files c.args.file) o in
+    ok_then c.delete_file.result
+    (c.delete_file.ensures.map clean (c.in_ok-write_row.ensures.inside before inside) (c.in_ok-write_row.ensures.ours before inside ours) one put n mark file (get_here s.objects n mark) told.1)
+    (λ gone. written_again (tables_of new) s n mark it gone)

@@ -1,0 +1,116 @@
+//! What a decision makes of the tables.
+
+ghost use Rattle.std.specs.Prelude.{◌≡◌, OnOk, IsTrue};
+ghost use Rattle.sqlite.specs.Held.{state};
+ghost use Rattle.dep_types.specs.Numbers.{room_for};
+ghost use Rattle.dep_types.specs.Sound.{IsSound};
+ghost use Rattle.dep_types.specs.declared.config.Config.{Config};
+ghost use Rattle.dep_tables.specs.Clauses.{GoesOn, StaysInside, CommitsNothing};
+ghost use Rattle.dep_row_maps.specs.Clauses.{FromMaps, KeepsOurs, SeesState};
+ghost use Rattle.dep_decisions.specs.Decisions.{numbers_for};
+ghost use Rattle.dep_decisions.specs.Effects.{effect};
+ghost use Rattle.dep_decisions.specs.declared.operation.Operation.{Operation};
+ghost use Rattle.dep_rulings.specs.Rulings.{IsRuling};
+ghost use Rattle.dep_rulings.specs.Views.{view_of};
+ghost use Rattle.dep_rulings.specs.declared.ruling.Ruling.TheVariants.{Do};
+ghost use Rattle.dep_changes.specs.Told.{TellsNumbers, TellsFor};
+ghost use Rattle.dep_changes.specs.Changed.{with_maps};
+
+use crate::change::Change;
+use crate::deposits::{append, create, replace};
+use crate::new_files::{set_file, set_files};
+use crate::objects::{complete, drop_file, drop_object, set_texts};
+use crate::uploads::{open, receive};
+use dep_decisions::{Decision, numbers_for};
+use dep_objects::set_counters;
+use dep_rulings::View;
+use dep_staging::drop_upload;
+use dep_tables::StateRow;
+use dep_types::{Octets, StoreFault};
+use sqlite::{Alter, Transaction};
+use std::alloc::Global;
+
+/// Makes of the tables what an accepted request's decision makes of the state. The view tells the state where the
+/// request touches it, and the content is that of the request. Nothing is hashed: the digests of a posted content
+/// stand in the decision, and those of uploads in the view.
+pub fn carry_out<S: Alter>(
+    tx: &mut Transaction<'_, S>,
+    alloc: Global,
+    view: &View,
+    decision: &Decision,
+    content: &Octets,
+) -> Result<(), StoreFault>
+    requires { IsTrue (room_for view.now.next (numbers_for decision.now)) }
+    ensures map { FromMaps (state S.Store tx.old.conn.now) (state S.Store tx.new.conn.now)
+        (λ s. (config : Config) (op : Operation) → IsSound s → view.now ≡ view_of config s op
+        → IsRuling config s op (Do decision.now) → content.now ≡ op.content
+        → OnOk result (SeesState (state S.Store tx.new.conn.now) (effect config s op))) }
+    ensures ours { KeepsOurs (state S.Store tx.old.conn.now) (state S.Store tx.new.conn.now) result }
+    ensures inside { GoesOn (state S.Store tx.old.conn.now) (state S.Store tx.new.conn.now) result }
+    ensures kept { StaysInside (state S.Store tx.old.conn.now) (state S.Store tx.new.conn.now) }
+    ensures same_reference { tx.new.conn.ghost_name ≡ tx.old.conn.ghost_name }
+    ensures survives { CommitsNothing (state S.Store tx.old.conn.now) (state S.Store tx.new.conn.now) }
+{
+    let change = Change {
+        alloc,
+        view,
+        content,
+    };
+    change_maps(tx, &change, decision)?;
+    let next = view.next.after_taking(&numbers_for(decision));
+    if next == view.next {
+        return Ok(());
+    }
+    set_counters(
+        tx,
+        &StateRow {
+            clock: view.clock,
+            next,
+        },
+    )
+}
+
+// What becomes of the objects and the uploads.
+fn change_maps<S: Alter>(
+    tx: &mut Transaction<'_, S>,
+    change: &Change<'_>,
+    decision: &Decision,
+) -> Result<(), StoreFault>
+    requires { IsTrue (room_for change.now.view.now.next (numbers_for decision.now)) }
+    ensures map { FromMaps (state S.Store tx.old.conn.now) (state S.Store tx.new.conn.now)
+        (λ s. TellsNumbers change.now.view.now s
+        → TellsFor change.now.view.now s change.now.content.now decision.now
+        → OnOk result (SeesState (state S.Store tx.new.conn.now)
+        (with_maps s change.now.content.now decision.now))) }
+    ensures ours { KeepsOurs (state S.Store tx.old.conn.now) (state S.Store tx.new.conn.now) result }
+    ensures inside { GoesOn (state S.Store tx.old.conn.now) (state S.Store tx.new.conn.now) result }
+    ensures kept { StaysInside (state S.Store tx.old.conn.now) (state S.Store tx.new.conn.now) }
+    ensures same_reference { tx.new.conn.ghost_name ≡ tx.old.conn.ghost_name }
+    ensures survives { CommitsNothing (state S.Store tx.old.conn.now) (state S.Store tx.new.conn.now) }
+{
+    match decision {
+        Decision::Show => Ok(()),
+        Decision::Create { deposit, ingests } => create(tx, change, deposit, *ingests),
+        Decision::Append {
+            deposit,
+            ingests,
+            ..
+        } => append(tx, change, deposit, *ingests),
+        Decision::Replace {
+            deposit,
+            ingests,
+            ..
+        } => replace(tx, change, deposit, *ingests),
+        Decision::Complete { .. } => complete(tx, change.view),
+        Decision::SetMetadata { metadata, .. } => {
+            set_texts(tx, change.alloc, change.view, metadata)
+        }
+        Decision::SetFiles { files, .. } => set_files(tx, change, files.as_slice()),
+        Decision::SetFile { file, new, .. } => set_file(tx, change, *file, new),
+        Decision::DropFile { file, .. } => drop_file(tx, change.view, *file),
+        Decision::DropObject { object } => drop_object(tx, change.alloc, *object),
+        Decision::Open(opening) => open(tx, change.view, opening),
+        Decision::Receive { segment, .. } => receive(tx, change, *segment),
+        Decision::DropUpload { upload } => drop_upload(tx, *upload),
+    }
+}

@@ -1,0 +1,25 @@
+//! What a change is made with, and the row of the object that it touches.
+
+ghost use Rattle.std.specs.Prelude.{◌≡◌, Some, IfOk};
+
+use dep_rulings::View;
+use dep_types::{ObjectRow, Octets, StoreFault};
+use std::alloc::Global;
+
+/// What a change is made with, beside its decision.
+#[derive(Clone, Copy)]
+pub(crate) struct Change<'a> {
+    pub(crate) alloc: Global,
+    pub(crate) view: &'a View,
+    pub(crate) content: &'a Octets,
+}
+
+/// The object that is touched. That none is there is a fault of the store, as the rules let no such request through.
+pub(crate) fn touched(view: &View) -> Result<ObjectRow, StoreFault>
+    ensures { IfOk result (λ row. view.now.object ≡ Some row) }
+{
+    match view.object {
+        Some(row) => Ok(row),
+        None => Err(StoreFault::Store),
+    }
+}

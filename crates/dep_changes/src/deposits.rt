@@ -1,0 +1,206 @@
+//! Deposits.
+
+ghost use Rattle.std.specs.Prelude.{◌≡◌, ◌||◌, ℕ, Bool, Some, None, OnOk, IsTrue, length};
+ghost use Rattle.std.specs.FinMap as map;
+ghost use Rattle.sqlite.specs.Held.{state};
+ghost use Rattle.dep_types.specs.State.{Object};
+ghost use Rattle.dep_types.specs.Rows.{object_row};
+ghost use Rattle.dep_types.specs.Numbers.{has_room};
+ghost use Rattle.dep_tables.specs.Clauses.{GoesOn, StaysInside, CommitsNothing};
+ghost use Rattle.dep_row_maps.specs.TablesAre.{with_object};
+ghost use Rattle.dep_row_maps.specs.Clauses.{FromMaps, KeepsOurs, SeesState};
+ghost use Rattle.dep_decisions.specs.Decisions.{count_of};
+ghost use Rattle.dep_decisions.specs.Effects.{blank, joined, with_files, with_texts};
+ghost use Rattle.dep_changes.specs.Told.{TellsNumbers, TellsObject, AreSources, HasSources};
+ghost use Rattle.dep_changes.specs.Changed.{with_deposit, with_appended, with_new_files};
+
+use crate::change::{Change, touched};
+use crate::new_files::put_new_files;
+use crate::objects::{files_changed, texts_changed, write_row};
+use dep_decisions::{Deposit, NewFile};
+use dep_files::delete_files;
+use dep_objects::{append_metadata, set_metadata};
+use dep_rulings::View;
+use dep_types::{Metadata, ObjectRow, StoreFault};
+use sqlite::{Alter, Transaction};
+
+// An ingested object never goes back.
+fn ingested_by(row: ObjectRow, ingests: bool) -> ObjectRow
+    ensures { result ≡ record row { ingested = row.ingested || ingests } }
+{
+    ObjectRow {
+        ingested: row.ingested || ingests,
+        ..row
+    }
+}
+
+// The row of an object that has nothing but a deposit of this change.
+fn blank_row(view: &View, object: u64, ingested: bool) -> ObjectRow
+    ensures { result ≡ record {
+      object = object;
+      ingested = ingested;
+      object_tag = view.now.next.change;
+      metadata_tag = view.now.next.change;
+      files_tag = view.now.next.change;
+      changed = view.now.clock;
+    } }
+{
+    ObjectRow {
+        object,
+        ingested,
+        object_tag: view.next.change,
+        metadata_tag: view.next.change,
+        files_tag: view.next.change,
+        changed: view.clock,
+    }
+}
+
+// Puts a deposit in an object that has nothing.
+fn fill<S: Alter>(
+    tx: &mut Transaction<'_, S>,
+    change: &Change<'_>,
+    object: u64,
+    deposit: &Deposit,
+) -> Result<(), StoreFault>
+    requires { IsTrue (has_room change.now.view.now.next.file (count_of deposit.now)) }
+    ensures map { FromMaps (state S.Store tx.old.conn.now) (state S.Store tx.new.conn.now)
+        (λ s. (ingested : Bool) → TellsNumbers change.now.view.now s
+        → map.get s.objects object ≡ Some (blank s ingested)
+        → HasSources s change.now.content.now change.now.view.now.uploads deposit.now
+        → OnOk result (SeesState (state S.Store tx.new.conn.now)
+        (with_deposit s change.now.content.now object deposit.now ingested))) }
+    ensures ours { KeepsOurs (state S.Store tx.old.conn.now) (state S.Store tx.new.conn.now) result }
+    ensures inside { GoesOn (state S.Store tx.old.conn.now) (state S.Store tx.new.conn.now) result }
+    ensures kept { StaysInside (state S.Store tx.old.conn.now) (state S.Store tx.new.conn.now) }
+    ensures same_reference { tx.new.conn.ghost_name ≡ tx.old.conn.ghost_name }
+    ensures survives { CommitsNothing (state S.Store tx.old.conn.now) (state S.Store tx.new.conn.now) }
+{
+    match deposit {
+        Deposit::Files(files) => put_new_files(tx, change, object, files.as_slice()),
+        Deposit::Metadata(metadata) => set_metadata(tx, change.alloc, object, metadata),
+    }
+}
+
+/// A new object with a deposit alone, under the next number.
+pub(crate) fn create<S: Alter>(
+    tx: &mut Transaction<'_, S>,
+    change: &Change<'_>,
+    deposit: &Deposit,
+    ingests: bool,
+) -> Result<(), StoreFault>
+    requires { IsTrue (has_room change.now.view.now.next.file (count_of deposit.now)) }
+    ensures map { FromMaps (state S.Store tx.old.conn.now) (state S.Store tx.new.conn.now)
+        (λ s. TellsNumbers change.now.view.now s → map.get s.objects s.next.object ≡ None
+        → HasSources s change.now.content.now change.now.view.now.uploads deposit.now
+        → OnOk result (SeesState (state S.Store tx.new.conn.now)
+        (with_deposit s change.now.content.now s.next.object deposit.now ingests))) }
+    ensures ours { KeepsOurs (state S.Store tx.old.conn.now) (state S.Store tx.new.conn.now) result }
+    ensures inside { GoesOn (state S.Store tx.old.conn.now) (state S.Store tx.new.conn.now) result }
+    ensures kept { StaysInside (state S.Store tx.old.conn.now) (state S.Store tx.new.conn.now) }
+    ensures same_reference { tx.new.conn.ghost_name ≡ tx.old.conn.ghost_name }
+    ensures survives { CommitsNothing (state S.Store tx.old.conn.now) (state S.Store tx.new.conn.now) }
+{
+    let object = change.view.next.object;
+    write_row(tx, &blank_row(change.view, object, ingests))?;
+    fill(tx, change, object, deposit)
+}
+
+/// The deposit takes the place of all that the object has.
+pub(crate) fn replace<S: Alter>(
+    tx: &mut Transaction<'_, S>,
+    change: &Change<'_>,
+    deposit: &Deposit,
+    ingests: bool,
+) -> Result<(), StoreFault>
+    requires { IsTrue (has_room change.now.view.now.next.file (count_of deposit.now)) }
+    ensures map { FromMaps (state S.Store tx.old.conn.now) (state S.Store tx.new.conn.now)
+        (λ s. (n : ℕ) (o : Object) → TellsNumbers change.now.view.now s → TellsObject change.now.view.now s n o
+        → HasSources s change.now.content.now change.now.view.now.uploads deposit.now
+        → OnOk result (SeesState (state S.Store tx.new.conn.now)
+        (with_deposit s change.now.content.now n deposit.now (o.ingested || ingests)))) }
+    ensures ours { KeepsOurs (state S.Store tx.old.conn.now) (state S.Store tx.new.conn.now) result }
+    ensures inside { GoesOn (state S.Store tx.old.conn.now) (state S.Store tx.new.conn.now) result }
+    ensures kept { StaysInside (state S.Store tx.old.conn.now) (state S.Store tx.new.conn.now) }
+    ensures same_reference { tx.new.conn.ghost_name ≡ tx.old.conn.ghost_name }
+    ensures survives { CommitsNothing (state S.Store tx.old.conn.now) (state S.Store tx.new.conn.now) }
+{
+    let row = ingested_by(touched(change.view)?, ingests);
+    write_row(tx, &blank_row(change.view, row.object, row.ingested))?;
+    delete_files(tx, change.alloc, row.object)?;
+    set_metadata(tx, change.alloc, row.object, &Metadata::new(change.alloc))?;
+    fill(tx, change, row.object, deposit)
+}
+
+fn append_files<S: Alter>(
+    tx: &mut Transaction<'_, S>,
+    change: &Change<'_>,
+    row: ObjectRow,
+    files: &[NewFile],
+) -> Result<(), StoreFault>
+    requires { IsTrue (has_room change.now.view.now.next.file (length files.now)) }
+    ensures map { FromMaps (state S.Store tx.old.conn.now) (state S.Store tx.new.conn.now)
+        (λ s. (o it : Object) → TellsNumbers change.now.view.now s
+        → map.get s.objects row.object ≡ Some o → row ≡ object_row row.object it
+        → it.metadata ≡ o.metadata → it.files ≡ o.files
+        → AreSources s change.now.content.now change.now.view.now.uploads files.now
+        → OnOk result (SeesState (state S.Store tx.new.conn.now)
+        (with_new_files s change.now.content.now row.object
+        (with_files s it.files it) files.now))) }
+    ensures ours { KeepsOurs (state S.Store tx.old.conn.now) (state S.Store tx.new.conn.now) result }
+    ensures inside { GoesOn (state S.Store tx.old.conn.now) (state S.Store tx.new.conn.now) result }
+    ensures kept { StaysInside (state S.Store tx.old.conn.now) (state S.Store tx.new.conn.now) }
+    ensures same_reference { tx.new.conn.ghost_name ≡ tx.old.conn.ghost_name }
+    ensures survives { CommitsNothing (state S.Store tx.old.conn.now) (state S.Store tx.new.conn.now) }
+{
+    write_row(tx, &files_changed(change.view, row))?;
+    put_new_files(tx, change, row.object, files)
+}
+
+fn append_texts<S: Alter>(
+    tx: &mut Transaction<'_, S>,
+    change: &Change<'_>,
+    row: ObjectRow,
+    metadata: &Metadata,
+) -> Result<(), StoreFault>
+    ensures map { FromMaps (state S.Store tx.old.conn.now) (state S.Store tx.new.conn.now)
+        (λ s. (o it : Object) → TellsNumbers change.now.view.now s
+        → map.get s.objects row.object ≡ Some o → row ≡ object_row row.object it
+        → it.metadata ≡ o.metadata → it.files ≡ o.files
+        → OnOk result (SeesState (state S.Store tx.new.conn.now)
+        (with_object s row.object
+        (with_texts s (joined (map.entries metadata.now) it.metadata) it)))) }
+    ensures ours { KeepsOurs (state S.Store tx.old.conn.now) (state S.Store tx.new.conn.now) result }
+    ensures inside { GoesOn (state S.Store tx.old.conn.now) (state S.Store tx.new.conn.now) result }
+    ensures kept { StaysInside (state S.Store tx.old.conn.now) (state S.Store tx.new.conn.now) }
+    ensures same_reference { tx.new.conn.ghost_name ≡ tx.old.conn.ghost_name }
+    ensures survives { CommitsNothing (state S.Store tx.old.conn.now) (state S.Store tx.new.conn.now) }
+{
+    write_row(tx, &texts_changed(change.view, row))?;
+    append_metadata(tx, change.alloc, row.object, metadata)
+}
+
+/// The deposit is added to what the object has.
+pub(crate) fn append<S: Alter>(
+    tx: &mut Transaction<'_, S>,
+    change: &Change<'_>,
+    deposit: &Deposit,
+    ingests: bool,
+) -> Result<(), StoreFault>
+    requires { IsTrue (has_room change.now.view.now.next.file (count_of deposit.now)) }
+    ensures map { FromMaps (state S.Store tx.old.conn.now) (state S.Store tx.new.conn.now)
+        (λ s. (n : ℕ) (o : Object) → TellsNumbers change.now.view.now s → TellsObject change.now.view.now s n o
+        → HasSources s change.now.content.now change.now.view.now.uploads deposit.now
+        → OnOk result (SeesState (state S.Store tx.new.conn.now)
+        (with_appended s change.now.content.now n o deposit.now ingests))) }
+    ensures ours { KeepsOurs (state S.Store tx.old.conn.now) (state S.Store tx.new.conn.now) result }
+    ensures inside { GoesOn (state S.Store tx.old.conn.now) (state S.Store tx.new.conn.now) result }
+    ensures kept { StaysInside (state S.Store tx.old.conn.now) (state S.Store tx.new.conn.now) }
+    ensures same_reference { tx.new.conn.ghost_name ≡ tx.old.conn.ghost_name }
+    ensures survives { CommitsNothing (state S.Store tx.old.conn.now) (state S.Store tx.new.conn.now) }
+{
+    let row = ingested_by(touched(change.view)?, ingests);
+    match deposit {
+        Deposit::Files(files) => append_files(tx, change, row, files.as_slice()),
+        Deposit::Metadata(metadata) => append_texts(tx, change, row, metadata),
+    }
+}

@@ -1,0 +1,299 @@
+//! New files, each under the next number, with their contents.
+
+ghost use Rattle.std.specs.Prelude.{◌≡◌, ◌+◌, ℕ, length, slice_get, Some, None, IfOk, OnOk, IsTrue};
+ghost use Rattle.std.specs.FinMap as map;
+ghost use Rattle.sqlite.specs.Held.{state};
+ghost use Rattle.dep_types.specs.State.{Object, File, Upload};
+ghost use Rattle.dep_types.specs.Rows.{upload_row};
+ghost use Rattle.dep_types.specs.Numbers.{has_room};
+ghost use Rattle.dep_types.specs.Uploads.{assembled};
+ghost use Rattle.dep_fixity.specs.Fixity.{digests_of};
+ghost use Rattle.dep_tables.specs.Clauses.{GoesOn, StaysInside, CommitsNothing};
+ghost use Rattle.dep_row_maps.specs.TablesAre.{with_object};
+ghost use Rattle.dep_row_maps.specs.Clauses.{FromMaps, KeepsOurs, SeesState};
+ghost use Rattle.dep_decisions.specs.Effects.{file_from, is_reference, with_files};
+ghost use Rattle.dep_decisions.specs.declared.decision.Source.TheVariants.{Posted};
+ghost use Rattle.dep_files.specs.Edits.{with_file};
+ghost use Rattle.dep_staging.specs.Assembling.{deposited};
+ghost use Rattle.dep_changes.specs.Told.{TellsNumbers, TellsFile, TellsObject, IsSource, AreSources, IsWhole, whole_view};
+ghost use Rattle.dep_changes.specs.Changed.{made_file, with_new_file, with_new_files};
+
+use crate::change::{Change, touched};
+use crate::objects::{files_changed, write_row};
+use dep_decisions::{NewFile, Source};
+use dep_files::{delete_file, delete_files, put_file};
+use dep_fixity::Digests;
+use dep_rulings::{UploadState, UploadView, View};
+use dep_staging::assemble;
+use dep_types::{FileRow, StoreFault, Text, UploadRow};
+use sqlite::{Alter, Transaction};
+use std::alloc::Global;
+
+// The numbers of a file and of its object.
+#[derive(Clone, Copy)]
+struct Place {
+    object: u64,
+    file: u64,
+}
+
+// How many bytes a content has, and their digests.
+#[derive(Clone, Copy)]
+struct Extent {
+    size: u64,
+    digests: Digests,
+}
+
+fn copied(alloc: Global, text: &Text) -> Result<Text, StoreFault>
+    ensures { IfOk result (λ copied. copied ≡ text.now) }
+{
+    match Text::copied(alloc, text.as_str()) {
+        Ok(copied) => Ok(copied),
+        Err(_) => Err(StoreFault::Memory),
+    }
+}
+
+fn copied_behalf(alloc: Global, behalf: &Option<Text>) -> Result<Option<Text>, StoreFault>
+    ensures { IfOk result (λ copied. copied ≡ behalf.now) }
+{
+    match behalf {
+        Some(text) => Ok(Some(copied(alloc, text)?)),
+        None => Ok(None),
+    }
+}
+
+fn is_reference(source: Source) -> bool
+    ensures { result ≡ is_reference source }
+{
+    match source {
+        Source::Posted(_) => false,
+        Source::Assembled(_) => true,
+    }
+}
+
+fn new_row(
+    change: &Change<'_>,
+    place: Place,
+    new: &NewFile,
+    extent: Extent,
+) -> Result<FileRow, StoreFault>
+    ensures { IfOk result (λ row. row ≡ record {
+      file = place.file;
+      object = place.object;
+      name = new.now.name;
+      media = new.now.media;
+      size = extent.size;
+      tag = change.now.view.now.next.change;
+      deposited = change.now.view.now.clock;
+      behalf = new.now.behalf;
+      by_reference = is_reference new.now.source;
+      sha256 = extent.digests.sha256;
+    }) }
+{
+    Ok(FileRow {
+        file: place.file,
+        object: place.object,
+        name: copied(change.alloc, &new.name)?,
+        media: copied(change.alloc, &new.media)?,
+        size: extent.size,
+        tag: change.view.next.change,
+        deposited: change.view.clock,
+        behalf: copied_behalf(change.alloc, &new.behalf)?,
+        by_reference: is_reference(new.source),
+        sha256: extent.digests.sha256,
+    })
+}
+
+// A file of the content of the request.
+fn put_posted<S: Alter>(
+    tx: &mut Transaction<'_, S>,
+    change: &Change<'_>,
+    place: Place,
+    new: &NewFile,
+    digests: Digests,
+) -> Result<(), StoreFault>
+    ensures map { FromMaps (state S.Store tx.old.conn.now) (state S.Store tx.new.conn.now)
+        (λ s. (o : Object) → TellsNumbers change.now.view.now s → map.get s.objects place.object ≡ Some o
+        → digests ≡ digests_of change.now.content.now
+        → OnOk result (SeesState (state S.Store tx.new.conn.now)
+        (with_file s place.object o place.file (made_file s new.now change.now.content.now)))) }
+    ensures ours { KeepsOurs (state S.Store tx.old.conn.now) (state S.Store tx.new.conn.now) result }
+    ensures inside { GoesOn (state S.Store tx.old.conn.now) (state S.Store tx.new.conn.now) result }
+    ensures kept { StaysInside (state S.Store tx.old.conn.now) (state S.Store tx.new.conn.now) }
+    ensures same_reference { tx.new.conn.ghost_name ≡ tx.old.conn.ghost_name }
+    ensures survives { CommitsNothing (state S.Store tx.old.conn.now) (state S.Store tx.new.conn.now) }
+{
+    let extent = Extent {
+        size: change.content.as_slice().len() as u64,
+        digests,
+    };
+    put_file(tx, &new_row(change, place, new, extent)?, change.content)
+}
+
+// An upload that is whole, with the digests of its bytes.
+#[derive(Clone, Copy)]
+struct WholeUpload {
+    row: UploadRow,
+    digests: Digests,
+}
+
+// The upload that is seen at this place. That it isn't there or isn't whole is a fault of the store, as the rules let
+// no such request through.
+fn whole_upload(view: &View, index: usize) -> Result<WholeUpload, StoreFault>
+    ensures { IfOk result (λ whole. (u : ℕ) (it : Upload)
+        → slice_get view.now.uploads index ≡ Some (whole_view u it)
+        → (whole.row ≡ upload_row u it) × (whole.digests ≡ digests_of (assembled it))) }
+{
+    let views = view.uploads.as_slice();
+    if index >= views.len() {
+        return Err(StoreFault::Store);
+    }
+    let UploadState::Live(live) = &views[index].state else {
+        return Err(StoreFault::Store);
+    };
+    match live.digests {
+        Some(digests) => Ok(WholeUpload {
+            row: live.row,
+            digests,
+        }),
+        None => Err(StoreFault::Store),
+    }
+}
+
+// A file of the bytes of an upload, which goes.
+fn put_assembled<S: Alter>(
+    tx: &mut Transaction<'_, S>,
+    change: &Change<'_>,
+    place: Place,
+    new: &NewFile,
+    index: usize,
+) -> Result<(), StoreFault>
+    ensures map { FromMaps (state S.Store tx.old.conn.now) (state S.Store tx.new.conn.now)
+        (λ s. (o : Object) (u : ℕ) (it : Upload) → TellsNumbers change.now.view.now s
+        → map.get s.objects place.object ≡ Some o → map.get s.uploads u ≡ Some it → IsWhole it
+        → slice_get change.now.view.now.uploads index ≡ Some (whole_view u it)
+        → OnOk result (SeesState (state S.Store tx.new.conn.now)
+        (deposited s place.object o place.file (made_file s new.now (assembled it)) u))) }
+    ensures ours { KeepsOurs (state S.Store tx.old.conn.now) (state S.Store tx.new.conn.now) result }
+    ensures inside { GoesOn (state S.Store tx.old.conn.now) (state S.Store tx.new.conn.now) result }
+    ensures kept { StaysInside (state S.Store tx.old.conn.now) (state S.Store tx.new.conn.now) }
+    ensures same_reference { tx.new.conn.ghost_name ≡ tx.old.conn.ghost_name }
+    ensures survives { CommitsNothing (state S.Store tx.old.conn.now) (state S.Store tx.new.conn.now) }
+{
+    let upload = whole_upload(change.view, index)?;
+    let extent = Extent {
+        size: upload.row.size,
+        digests: upload.digests,
+    };
+    assemble(tx, &upload.row, &new_row(change, place, new, extent)?)
+}
+
+// One of the new files of an object, in their order.
+fn put_new_file<S: Alter>(
+    tx: &mut Transaction<'_, S>,
+    change: &Change<'_>,
+    place: Place,
+    new: &NewFile,
+    index: usize,
+) -> Result<(), StoreFault>
+    ensures map { FromMaps (state S.Store tx.old.conn.now) (state S.Store tx.new.conn.now)
+        (λ s. (o : Object) → TellsNumbers change.now.view.now s → map.get s.objects place.object ≡ Some o
+        → IsSource s change.now.content.now (slice_get change.now.view.now.uploads index) new.now.source
+        → OnOk result (SeesState (state S.Store tx.new.conn.now)
+        (with_new_file s place.object o place.file
+        (file_from s change.now.content.now new.now) new.now.source))) }
+    ensures ours { KeepsOurs (state S.Store tx.old.conn.now) (state S.Store tx.new.conn.now) result }
+    ensures inside { GoesOn (state S.Store tx.old.conn.now) (state S.Store tx.new.conn.now) result }
+    ensures kept { StaysInside (state S.Store tx.old.conn.now) (state S.Store tx.new.conn.now) }
+    ensures same_reference { tx.new.conn.ghost_name ≡ tx.old.conn.ghost_name }
+    ensures survives { CommitsNothing (state S.Store tx.old.conn.now) (state S.Store tx.new.conn.now) }
+{
+    match new.source {
+        Source::Posted(digests) => put_posted(tx, change, place, new, digests),
+        Source::Assembled(_) => put_assembled(tx, change, place, new, index),
+    }
+}
+
+/// Adds new files to an object that is there, under the next numbers in their order.
+pub(crate) fn put_new_files<S: Alter>(
+    tx: &mut Transaction<'_, S>,
+    change: &Change<'_>,
+    object: u64,
+    files: &[NewFile],
+) -> Result<(), StoreFault>
+    requires { IsTrue (has_room change.now.view.now.next.file (length files.now)) }
+    ensures map { FromMaps (state S.Store tx.old.conn.now) (state S.Store tx.new.conn.now)
+        (λ s. (o : Object) → TellsNumbers change.now.view.now s → map.get s.objects object ≡ Some o
+        → AreSources s change.now.content.now change.now.view.now.uploads files.now
+        → OnOk result (SeesState (state S.Store tx.new.conn.now)
+        (with_new_files s change.now.content.now object o files.now))) }
+    ensures ours { KeepsOurs (state S.Store tx.old.conn.now) (state S.Store tx.new.conn.now) result }
+    ensures inside { GoesOn (state S.Store tx.old.conn.now) (state S.Store tx.new.conn.now) result }
+    ensures kept { StaysInside (state S.Store tx.old.conn.now) (state S.Store tx.new.conn.now) }
+    ensures same_reference { tx.new.conn.ghost_name ≡ tx.old.conn.ghost_name }
+    ensures survives { CommitsNothing (state S.Store tx.old.conn.now) (state S.Store tx.new.conn.now) }
+{
+    'files: for (index, new) in files.iter().enumerate() {
+        let place = Place {
+            object,
+            file: change.view.next.file + index as u64,
+        };
+        put_new_file(tx, change, place, new, index)?;
+    }
+    Ok(())
+}
+
+/// The object has these files alone.
+pub(crate) fn set_files<S: Alter>(
+    tx: &mut Transaction<'_, S>,
+    change: &Change<'_>,
+    files: &[NewFile],
+) -> Result<(), StoreFault>
+    requires { IsTrue (has_room change.now.view.now.next.file (length files.now)) }
+    ensures map { FromMaps (state S.Store tx.old.conn.now) (state S.Store tx.new.conn.now)
+        (λ s. (n : ℕ) (o : Object) → TellsNumbers change.now.view.now s → TellsObject change.now.view.now s n o
+        → AreSources s change.now.content.now change.now.view.now.uploads files.now
+        → OnOk result (SeesState (state S.Store tx.new.conn.now)
+        (with_new_files s change.now.content.now n (with_files s map.empty o) files.now))) }
+    ensures ours { KeepsOurs (state S.Store tx.old.conn.now) (state S.Store tx.new.conn.now) result }
+    ensures inside { GoesOn (state S.Store tx.old.conn.now) (state S.Store tx.new.conn.now) result }
+    ensures kept { StaysInside (state S.Store tx.old.conn.now) (state S.Store tx.new.conn.now) }
+    ensures same_reference { tx.new.conn.ghost_name ≡ tx.old.conn.ghost_name }
+    ensures survives { CommitsNothing (state S.Store tx.old.conn.now) (state S.Store tx.new.conn.now) }
+{
+    let row = touched(change.view)?;
+    write_row(tx, &files_changed(change.view, row))?;
+    delete_files(tx, change.alloc, row.object)?;
+    put_new_files(tx, change, row.object, files)
+}
+
+/// The file of the object becomes the content of the request, under its number. No other source is asked for.
+pub(crate) fn set_file<S: Alter>(
+    tx: &mut Transaction<'_, S>,
+    change: &Change<'_>,
+    file: u64,
+    new: &NewFile,
+) -> Result<(), StoreFault>
+    ensures map { FromMaps (state S.Store tx.old.conn.now) (state S.Store tx.new.conn.now)
+        (λ s. (n : ℕ) (o : Object) (it : File) → TellsNumbers change.now.view.now s
+        → TellsFile change.now.view.now s n o file it
+        → new.now.source ≡ Posted (digests_of change.now.content.now)
+        → OnOk result (SeesState (state S.Store tx.new.conn.now)
+        (with_object s n (with_files s (map.insert o.files file (made_file s new.now change.now.content.now)) o)))) }
+    ensures ours { KeepsOurs (state S.Store tx.old.conn.now) (state S.Store tx.new.conn.now) result }
+    ensures inside { GoesOn (state S.Store tx.old.conn.now) (state S.Store tx.new.conn.now) result }
+    ensures kept { StaysInside (state S.Store tx.old.conn.now) (state S.Store tx.new.conn.now) }
+    ensures same_reference { tx.new.conn.ghost_name ≡ tx.old.conn.ghost_name }
+    ensures survives { CommitsNothing (state S.Store tx.old.conn.now) (state S.Store tx.new.conn.now) }
+{
+    let Source::Posted(digests) = new.source else {
+        return Err(StoreFault::Store);
+    };
+    let row = touched(change.view)?;
+    write_row(tx, &files_changed(change.view, row))?;
+    delete_file(tx, file)?;
+    let place = Place {
+        object: row.object,
+        file,
+    };
+    put_posted(tx, change, place, new, digests)
+}

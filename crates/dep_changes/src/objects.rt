@@ -1,0 +1,158 @@
+//! Changes of one object.
+
+ghost use Rattle.std.specs.Prelude.{◌≡◌, ℕ, Some, OnOk, true};
+ghost use Rattle.std.specs.FinMap as map;
+ghost use Rattle.sqlite.specs.Held.{state};
+ghost use Rattle.dep_types.specs.State.{Object, File};
+ghost use Rattle.dep_types.specs.Rows.{object_row};
+ghost use Rattle.dep_tables.specs.Clauses.{GoesOn, StaysInside, CommitsNothing};
+ghost use Rattle.dep_row_maps.specs.TablesAre.{metadata_at, files_at, with_object, without_object};
+ghost use Rattle.dep_row_maps.specs.Clauses.{FromMaps, KeepsOurs, SeesState};
+ghost use Rattle.dep_decisions.specs.Effects.{changed, ingested_by, with_files, with_texts};
+ghost use Rattle.dep_changes.specs.Told.{TellsNumbers, TellsFile, TellsObject};
+
+use crate::change::touched;
+use dep_files::{delete_file, delete_files};
+use dep_objects::{delete_object, put_object};
+use dep_rulings::View;
+use dep_types::{Metadata, ObjectRow, StoreFault};
+use sqlite::{Alter, Transaction};
+use std::alloc::Global;
+
+/// Writes the row of an object that keeps its metadata and files, or that is new.
+pub(crate) fn write_row<S: Alter>(
+    tx: &mut Transaction<'_, S>,
+    row: &ObjectRow,
+) -> Result<(), StoreFault>
+    ensures map { FromMaps (state S.Store tx.old.conn.now) (state S.Store tx.new.conn.now)
+        (λ s. (o : Object) → row.now ≡ object_row row.now.object o
+        → o.metadata ≡ metadata_at s.objects row.now.object
+        → o.files ≡ files_at s.objects row.now.object
+        → OnOk result (SeesState (state S.Store tx.new.conn.now) (with_object s row.now.object o))) }
+    ensures ours { KeepsOurs (state S.Store tx.old.conn.now) (state S.Store tx.new.conn.now) result }
+    ensures inside { GoesOn (state S.Store tx.old.conn.now) (state S.Store tx.new.conn.now) result }
+    ensures kept { StaysInside (state S.Store tx.old.conn.now) (state S.Store tx.new.conn.now) }
+    ensures same_reference { tx.new.conn.ghost_name ≡ tx.old.conn.ghost_name }
+    ensures survives { CommitsNothing (state S.Store tx.old.conn.now) (state S.Store tx.new.conn.now) }
+{
+    put_object(tx, row)
+}
+
+/// The object becomes ingested.
+pub(crate) fn complete<S: Alter>(tx: &mut Transaction<'_, S>, view: &View) -> Result<(), StoreFault>
+    ensures map { FromMaps (state S.Store tx.old.conn.now) (state S.Store tx.new.conn.now)
+        (λ s. (n : ℕ) (o : Object) → TellsNumbers view.now s → TellsObject view.now s n o
+        → OnOk result (SeesState (state S.Store tx.new.conn.now)
+        (with_object s n (ingested_by true (changed s o))))) }
+    ensures ours { KeepsOurs (state S.Store tx.old.conn.now) (state S.Store tx.new.conn.now) result }
+    ensures inside { GoesOn (state S.Store tx.old.conn.now) (state S.Store tx.new.conn.now) result }
+    ensures kept { StaysInside (state S.Store tx.old.conn.now) (state S.Store tx.new.conn.now) }
+    ensures same_reference { tx.new.conn.ghost_name ≡ tx.old.conn.ghost_name }
+    ensures survives { CommitsNothing (state S.Store tx.old.conn.now) (state S.Store tx.new.conn.now) }
+{
+    let row = touched(view)?;
+    write_row(
+        tx,
+        &ObjectRow {
+            ingested: true,
+            object_tag: view.next.change,
+            changed: view.clock,
+            ..row
+        },
+    )
+}
+
+/// The row of an object whose metadata changes.
+pub(crate) fn texts_changed(view: &View, row: ObjectRow) -> ObjectRow
+    ensures { result ≡ record row {
+      object_tag = view.now.next.change;
+      metadata_tag = view.now.next.change;
+      changed = view.now.clock;
+    } }
+{
+    ObjectRow {
+        object_tag: view.next.change,
+        metadata_tag: view.next.change,
+        changed: view.clock,
+        ..row
+    }
+}
+
+/// The object has this metadata alone.
+pub(crate) fn set_texts<S: Alter>(
+    tx: &mut Transaction<'_, S>,
+    alloc: Global,
+    view: &View,
+    metadata: &Metadata,
+) -> Result<(), StoreFault>
+    ensures map { FromMaps (state S.Store tx.old.conn.now) (state S.Store tx.new.conn.now)
+        (λ s. (n : ℕ) (o : Object) → TellsNumbers view.now s → TellsObject view.now s n o
+        → OnOk result (SeesState (state S.Store tx.new.conn.now)
+        (with_object s n (with_texts s metadata.now o)))) }
+    ensures ours { KeepsOurs (state S.Store tx.old.conn.now) (state S.Store tx.new.conn.now) result }
+    ensures inside { GoesOn (state S.Store tx.old.conn.now) (state S.Store tx.new.conn.now) result }
+    ensures kept { StaysInside (state S.Store tx.old.conn.now) (state S.Store tx.new.conn.now) }
+    ensures same_reference { tx.new.conn.ghost_name ≡ tx.old.conn.ghost_name }
+    ensures survives { CommitsNothing (state S.Store tx.old.conn.now) (state S.Store tx.new.conn.now) }
+{
+    let row = touched(view)?;
+    write_row(tx, &texts_changed(view, row))?;
+    dep_objects::set_metadata(tx, alloc, row.object, metadata)
+}
+
+/// The row of an object whose files change.
+pub(crate) fn files_changed(view: &View, row: ObjectRow) -> ObjectRow
+    ensures { result ≡ record row {
+      object_tag = view.now.next.change;
+      files_tag = view.now.next.change;
+      changed = view.now.clock;
+    } }
+{
+    ObjectRow {
+        object_tag: view.next.change,
+        files_tag: view.next.change,
+        changed: view.clock,
+        ..row
+    }
+}
+
+/// The file goes from the object.
+pub(crate) fn drop_file<S: Alter>(
+    tx: &mut Transaction<'_, S>,
+    view: &View,
+    file: u64,
+) -> Result<(), StoreFault>
+    ensures map { FromMaps (state S.Store tx.old.conn.now) (state S.Store tx.new.conn.now)
+        (λ s. (n : ℕ) (o : Object) (it : File) → TellsNumbers view.now s
+        → TellsFile view.now s n o file it
+        → OnOk result (SeesState (state S.Store tx.new.conn.now)
+        (with_object s n (with_files s (map.remove o.files file) o)))) }
+    ensures ours { KeepsOurs (state S.Store tx.old.conn.now) (state S.Store tx.new.conn.now) result }
+    ensures inside { GoesOn (state S.Store tx.old.conn.now) (state S.Store tx.new.conn.now) result }
+    ensures kept { StaysInside (state S.Store tx.old.conn.now) (state S.Store tx.new.conn.now) }
+    ensures same_reference { tx.new.conn.ghost_name ≡ tx.old.conn.ghost_name }
+    ensures survives { CommitsNothing (state S.Store tx.old.conn.now) (state S.Store tx.new.conn.now) }
+{
+    let row = touched(view)?;
+    write_row(tx, &files_changed(view, row))?;
+    delete_file(tx, file)
+}
+
+/// The object goes, with its metadata and files.
+pub(crate) fn drop_object<S: Alter>(
+    tx: &mut Transaction<'_, S>,
+    alloc: Global,
+    object: u64,
+) -> Result<(), StoreFault>
+    ensures map { FromMaps (state S.Store tx.old.conn.now) (state S.Store tx.new.conn.now)
+        (λ s. (o : Object) → map.get s.objects object ≡ Some o
+        → OnOk result (SeesState (state S.Store tx.new.conn.now) (without_object s object))) }
+    ensures ours { KeepsOurs (state S.Store tx.old.conn.now) (state S.Store tx.new.conn.now) result }
+    ensures inside { GoesOn (state S.Store tx.old.conn.now) (state S.Store tx.new.conn.now) result }
+    ensures kept { StaysInside (state S.Store tx.old.conn.now) (state S.Store tx.new.conn.now) }
+    ensures same_reference { tx.new.conn.ghost_name ≡ tx.old.conn.ghost_name }
+    ensures survives { CommitsNothing (state S.Store tx.old.conn.now) (state S.Store tx.new.conn.now) }
+{
+    delete_files(tx, alloc, object)?;
+    delete_object(tx, object)
+}

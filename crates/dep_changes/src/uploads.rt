@@ -1,0 +1,95 @@
+//! Changes of staged uploads.
+
+ghost use Rattle.std.specs.Prelude.{◌≡◌, ℕ, [], ◌∷◌, IfOk, OnOk};
+ghost use Rattle.sqlite.specs.Held.{state};
+ghost use Rattle.dep_types.specs.State.{Upload};
+ghost use Rattle.dep_tables.specs.Clauses.{GoesOn, StaysInside, CommitsNothing};
+ghost use Rattle.dep_row_maps.specs.TablesAre.{with_upload};
+ghost use Rattle.dep_row_maps.specs.Clauses.{FromMaps, KeepsOurs, SeesState};
+ghost use Rattle.dep_decisions.specs.Effects.{fresh, with_segment};
+ghost use Rattle.dep_rulings.specs.declared.view.LiveUpload.{LiveUpload};
+ghost use Rattle.dep_rulings.specs.declared.view.UploadState.TheVariants.{Live};
+ghost use Rattle.dep_changes.specs.Told.{TellsNumbers, TellsUpload};
+
+use crate::change::Change;
+use dep_fields::Opening;
+use dep_rulings::{LiveUpload, UploadState, UploadView, View};
+use dep_staging::{open_upload, put_segment};
+use dep_tables::SegmentRow;
+use dep_types::{StoreFault, UploadRow};
+use sqlite::{Alter, Transaction};
+
+/// An upload begins, under the next number.
+pub(crate) fn open<S: Alter>(
+    tx: &mut Transaction<'_, S>,
+    view: &View,
+    opening: &Opening,
+) -> Result<(), StoreFault>
+    ensures map { FromMaps (state S.Store tx.old.conn.now) (state S.Store tx.new.conn.now)
+        (λ s. TellsNumbers view.now s → OnOk result (SeesState (state S.Store tx.new.conn.now)
+        (with_upload s s.next.upload (fresh s opening.now)))) }
+    ensures ours { KeepsOurs (state S.Store tx.old.conn.now) (state S.Store tx.new.conn.now) result }
+    ensures inside { GoesOn (state S.Store tx.old.conn.now) (state S.Store tx.new.conn.now) result }
+    ensures kept { StaysInside (state S.Store tx.old.conn.now) (state S.Store tx.new.conn.now) }
+    ensures same_reference { tx.new.conn.ghost_name ≡ tx.old.conn.ghost_name }
+    ensures survives { CommitsNothing (state S.Store tx.old.conn.now) (state S.Store tx.new.conn.now) }
+{
+    open_upload(
+        tx,
+        &UploadRow {
+            upload: view.next.upload,
+            size: opening.size,
+            count: opening.count,
+            segment_size: opening.segment_size,
+            sha256: opening.digest.sha256,
+            last: view.clock,
+        },
+    )
+}
+
+// The one upload that is touched. That it isn't there is a fault of the store, as the rules let no such request
+// through.
+fn live_upload(view: &View) -> Result<&LiveUpload, StoreFault>
+    ensures { IfOk result (λ live. (u : ℕ) (l : LiveUpload)
+        → view.now.uploads ≡ record { upload = u; state = Live l } ∷ [] → live.now ≡ l) }
+{
+    match view.uploads.as_slice() {
+        [
+            UploadView {
+                state: UploadState::Live(live),
+                ..
+            },
+        ] => Ok(live),
+        _ => Err(StoreFault::Store),
+    }
+}
+
+/// The content is received as a segment of the upload that is touched.
+pub(crate) fn receive<S: Alter>(
+    tx: &mut Transaction<'_, S>,
+    change: &Change<'_>,
+    segment: u64,
+) -> Result<(), StoreFault>
+    ensures map { FromMaps (state S.Store tx.old.conn.now) (state S.Store tx.new.conn.now)
+        (λ s. (u : ℕ) (it : Upload) → TellsNumbers change.now.view.now s
+        → TellsUpload change.now.view.now s u it segment
+        → OnOk result (SeesState (state S.Store tx.new.conn.now)
+        (with_upload s u (with_segment s segment change.now.content.now it)))) }
+    ensures ours { KeepsOurs (state S.Store tx.old.conn.now) (state S.Store tx.new.conn.now) result }
+    ensures inside { GoesOn (state S.Store tx.old.conn.now) (state S.Store tx.new.conn.now) result }
+    ensures kept { StaysInside (state S.Store tx.old.conn.now) (state S.Store tx.new.conn.now) }
+    ensures same_reference { tx.new.conn.ghost_name ≡ tx.old.conn.ghost_name }
+    ensures survives { CommitsNothing (state S.Store tx.old.conn.now) (state S.Store tx.new.conn.now) }
+{
+    let live = live_upload(change.view)?;
+    let row = UploadRow {
+        last: change.view.clock,
+        ..live.row
+    };
+    let received = SegmentRow {
+        upload: row.upload,
+        number: segment,
+        size: change.content.as_slice().len() as u64,
+    };
+    put_segment(tx, &row, &received, change.content)
+}
