@@ -5,3 +5,5 @@ pub mod BagLemmas
 pub mod ShownReplies
 pub mod Unbroken
 pub mod Made
+pub mod WrittenOut
+pub mod Present

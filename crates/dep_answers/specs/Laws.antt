@@ -1,15 +1,23 @@
 -- Words of the laws.
-use Rattle.std.specs.Prelude.{◌≡◌, Some, None, []}
+use Rattle.std.specs.Prelude.{◌≡◌, Bool, true, false, Some, None, []}
 use Rattle.std.specs.FinMap as finmap
 use Rattle.dep_types.specs.State.{State, Object}
 use Rattle.dep_types.specs.Rows.{object_view, upload_row}
 use Rattle.dep_types.specs.declared.config.Config.{Config}
+use Rattle.dep_types.specs.declared.target.Resource.{Resource}
+use Rattle.dep_types.specs.declared.target.Resource.TheVariants.{FileSet, Staging}
 use Rattle.dep_docs_out.specs.Documents.{status_document, object_url, upload_document, upload_url}
 use Rattle.dep_fields.specs.declared.kind.Opening.{Opening}
 use Rattle.dep_decisions.specs.Effects.{effect, fresh}
 use Rattle.dep_decisions.specs.declared.operation.Operation.{Operation}
 use Rattle.dep_answers.specs.Answers.{Document, answer}
 use Rattle.dep_answers.specs.Steps.{accepted_answer}
+
+-- the resources that have a GET
+abbrev pub is_shown : Resource → Bool
+is_shown (FileSet n) = false
+is_shown Staging = false
+is_shown resource = true
 
 -- an object stands at the number that was next, of the change that was next, and is answered with
 pub record IsToldObject (config : Config) (s : State) (op : Operation) : Type 0 where

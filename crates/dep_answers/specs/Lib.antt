@@ -6,3 +6,4 @@ pub mod Subjects
 pub mod Told
 pub mod Performing
 pub mod Laws
+pub mod Examples

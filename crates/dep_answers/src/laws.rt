@@ -1,5 +1,5 @@
 //! Laws of the answers, apart from any code.
-ghost use Rattle.std.specs.Prelude.{◌≡◌, ℕ, Bool, List, Option, None, IsTrue, IsSome, IfSome, map as each};
+ghost use Rattle.std.specs.Prelude.{◌≡◌, ℕ, Bool, true, false, List, [], codes, Option, None, IsTrue, is_some, IfSome, map as each};
 ghost use Rattle.dep_types.specs.Base.{IsBase};
 ghost use Rattle.dep_types.specs.State.{State, Object as StateObject};
 ghost use Rattle.dep_types.specs.Sound.{IsSound};
@@ -7,16 +7,18 @@ ghost use Rattle.dep_types.specs.declared.config.Config.{Config as AConfig};
 ghost use Rattle.dep_types.specs.declared.refusal.Refusal.{Refusal as ARefusal};
 ghost use Rattle.dep_types.specs.declared.target.Method.{Method as AMethod};
 ghost use Rattle.dep_types.specs.declared.target.Resource.{Resource as AResource};
-ghost use Rattle.dep_types.specs.declared.target.Method.TheVariants.{Post as APost};
-ghost use Rattle.dep_types.specs.declared.target.Resource.TheVariants.{Service as AService, Staging as AStaging};
-ghost use Rattle.dep_decisions.specs.Rules.{refusal};
+ghost use Rattle.dep_types.specs.declared.target.Method.TheVariants.{Get as AGet, Post as APost, Put as APut};
+ghost use Rattle.dep_types.specs.declared.target.Resource.TheVariants.{Service as AService, Staging as AStaging, Upload as AnUpload, File as AFile, Metadata as AMetadata};
+ghost use Rattle.dep_decisions.specs.Rules.{refusal, presence_refusal};
 ghost use Rattle.dep_decisions.specs.declared.operation.Operation.{Operation as AnOperation};
 ghost use Rattle.dep_reply.specs.Lines.{is_unbroken, IsUnbroken};
 ghost use Rattle.dep_bag.specs.Bag.{bag_files};
 ghost use Rattle.dep_answers.specs.Answers.{bytes_of, head_of};
 ghost use Rattle.dep_answers.specs.Bags.{places};
-ghost use Rattle.dep_answers.specs.Laws.{IsToldObject, IsToldUpload};
-ghost use Rattle.dep_answers.specs.Replies.{answer_to, refused_answer};
+ghost use Rattle.dep_docs_out.specs.ExampleDocuments.{example_config};
+ghost use Rattle.dep_answers.specs.Examples.{example_state, created_reply, upload_reply, file_head, changed_reply};
+ghost use Rattle.dep_answers.specs.Laws.{IsToldObject, IsToldUpload, is_shown};
+ghost use Rattle.dep_answers.specs.Replies.{answer_to, content_at, refused_answer, front_text, stored_text};
 
 /// What is shown at the paths of an object's bag are the files of the bag.
 pub fn bags_show_their_files()
@@ -33,6 +35,12 @@ pub fn answers_are_unbroken()
         → IsUnbroken (head_of (refused_answer clock r allow) clock closes) }
 {}
 
+/// A GET of what is there is answered with something to show.
+pub fn what_is_there_is_shown()
+    ensures { (config : AConfig) (s : State) (r : AResource) → IsTrue (is_shown r)
+        → presence_refusal s r ≡ None → is_some (content_at config s r) ≡ true }
+{}
+
 /// A deposit on the Service-URL is answered with the object that it made, under the number that was
 /// next, with the number of the change as its tag, and with its URL.
 pub fn deposits_are_told_their_object()
@@ -45,4 +53,31 @@ pub fn deposits_are_told_their_object()
 pub fn openings_are_told_their_upload()
     ensures { (config : AConfig) (s : State) (op : AnOperation) → op.target.resource ≡ AStaging
         → op.target.method ≡ APost → refusal config s op ≡ None → IsToldUpload config s op }
+{}
+
+/// The whole reply to a deposit of one file.
+pub fn deposit_of_example()
+    ensures { front_text (answer_to example_config example_state AService APost) 1523836800 false false
+        ≡ created_reply }
+{}
+
+/// The whole reply to a GET of an upload, after which the connection is closed.
+pub fn upload_of_example()
+    ensures { front_text (answer_to example_config example_state (AnUpload 1) AGet) 1523836800 false true
+        ≡ upload_reply }
+{}
+
+/// The head of the reply to a GET of a file, which is that of the HEAD, and the content behind it.
+pub fn file_of_example()
+    ensures head { (is_bare : Bool) → front_text
+        (answer_to example_config example_state (AFile 1 1) AGet) 1523836800 is_bare false ≡ file_head }
+    ensures sent { stored_text (answer_to example_config example_state (AFile 1 1) AGet) false
+        ≡ codes "abc" }
+    ensures unsent { stored_text (answer_to example_config example_state (AFile 1 1) AGet) true ≡ [] }
+{}
+
+/// The whole reply to a PUT of metadata.
+pub fn metadata_of_example()
+    ensures { front_text (answer_to example_config example_state (AMetadata 1) APut) 1523836800 false false
+        ≡ changed_reply }
 {}
