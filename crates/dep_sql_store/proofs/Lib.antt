@@ -1,0 +1,3 @@
+pub mod Transacting
+pub mod Carrying
+pub mod Opened

@@ -1,0 +1,10 @@
+//! The archive on SQLite: what requests and the clock make of it, in one transaction each, and what a
+//! crash leaves of that.
+#![tactic(auto)]
+
+mod opening;
+mod reading;
+mod store;
+mod ticking;
+
+pub use store::Store;

@@ -1,0 +1,182 @@
+//! The store.
+
+ghost use Rattle.std.specs.Prelude.{◌≡◌, ◌⊎◌, ℕ, List, IsTrue, OnOk, IfOk, IfErr, OnErr, MatchResult, option_map, Err, false};
+ghost use Rattle.std.specs.FinMap as finmap;
+ghost use Rattle.std.specs.Io.KnownBytes.{Appends};
+ghost use Rattle.sqlite.specs.State.{HasCleanDisk};
+ghost use Rattle.sqlite.specs.Held.{state};
+ghost use Rattle.dep_types.specs.State.{State, tick, empty_state};
+ghost use Rattle.dep_types.specs.Rows.{object_view};
+ghost use Rattle.dep_types.specs.Writing.{HasRisen};
+ghost use Rattle.dep_row_maps.specs.Keyed.{next_entry};
+ghost use Rattle.dep_types.specs.Streams.{IsStreamed};
+ghost use Rattle.dep_schema.specs.Standing.{HoldsNone, IsOpenable, IsBack};
+ghost use Rattle.dep_sql_store.specs.Standing.{StandsFor, IsLeftAs, Leaves};
+ghost use Rattle.dep_sql_store.specs.Opening.{OpenLeaves};
+
+use crate::opening::open_tables;
+use crate::reading::{find_next, view_object};
+use crate::ticking::move_clock;
+use dep_files::stream_content;
+use dep_moment::Moment;
+use dep_schema::OpenFault;
+use dep_types::{Config, ObjectView, Outlet, StoreFault, StreamFault};
+use sqlite::{Alter, Connection};
+use std::alloc::Global;
+use std::marker::Model;
+
+/// The archive in the tables of a database. Contracts see it as the connection to them.
+#[derive(Drop)]
+pub struct Store<S: Alter> {
+    alloc: Global,
+    connection: Connection<S>,
+}
+
+impl<S: Alter> Model for Store<S> {
+    ghost use Rattle.sqlite.specs.Held.{Held, held_code};
+
+    ghost Value = { Held S };
+
+    ghost coded = { held_code S.code };
+
+    ghost view = { λ s. s.connection };
+}
+
+impl<S: Alter> Store<S> {
+    /// Opens a database that has no table yet, whose tables are then made, or one that has the tables of
+    /// the store. After a fault the connection is handed back.
+    pub fn open(
+        alloc: Global,
+        connection: Connection<S>,
+    ) -> Result<Store<S>, (OpenFault, Connection<S>)>
+        requires settled { (state S.Store connection).in_transaction ≡ false }
+        ensures fresh { IfOk result (λ store. HasCleanDisk (state S.Store store)
+            → HoldsNone (state S.Store connection).now.trees → StandsFor (state S.Store store) empty_state) }
+        ensures found { IfOk result (λ store. HasCleanDisk (state S.Store store)
+            → (s : State) → IsLeftAs (state S.Store connection).now.trees s → StandsFor (state S.Store store) s) }
+        ensures refused { IfErr result (λ e. HasCleanDisk (state S.Store e.1)
+            → e.0 ≡ OpenFault.UnknownVersion → IsOpenable (state S.Store connection) → ⊥) }
+        // What a store left is never of a version that is not known.
+        ensures known { IfErr result (λ e. HasCleanDisk (state S.Store e.1) → IsTrue (state S.Store connection).is_open
+            → (s : State) → IsLeftAs (state S.Store connection).now.trees s → e.0 ≡ OpenFault.UnknownVersion → ⊥) }
+        ensures left { IfErr result (λ e. IsTrue (state S.Store e.1).is_open
+            → IsBack (state S.Store connection) (state S.Store e.1)) }
+        ensures mode { IfErr result (λ e. (state S.Store e.1).in_transaction ≡ false) }
+        ensures honest { MatchResult result
+            (λ store. HasCleanDisk (state S.Store store) → HasCleanDisk (state S.Store connection))
+            (λ e. HasCleanDisk (state S.Store e.1) → HasCleanDisk (state S.Store connection)) }
+        ensures open { MatchResult result
+            (λ store. IsTrue (state S.Store store).is_open → IsTrue (state S.Store connection).is_open)
+            (λ e. IsTrue (state S.Store e.1).is_open → IsTrue (state S.Store connection).is_open) }
+        ensures stop { MatchResult result
+            (λ store. OpenLeaves (state S.Store connection) (state S.Store store))
+            (λ e. OpenLeaves (state S.Store connection) (state S.Store e.1)) }
+    {
+        match open_tables(connection) {
+            Ok(connection) => Ok(Store { alloc, connection }),
+            Err(refused) => Err(refused),
+        }
+    }
+
+    /// Moves the clock to the moment, and never back, and ends the uploads that were left idle. It
+    /// answers the clock.
+    pub fn tick(&mut self, config: &Config, moment: Moment) -> Result<Moment, StoreFault>
+        ensures ok { HasCleanDisk (state S.Store self.new) → (s : State) → StandsFor (state S.Store self.old) s
+            → IfOk result (λ clock. (clock ≡ (tick config.now s moment).clock)
+            × StandsFor (state S.Store self.new) (tick config.now s moment)) }
+        ensures err { IsTrue (state S.Store self.new).is_open
+            → (s : State) → StandsFor (state S.Store self.old) s
+            → OnErr result (StandsFor (state S.Store self.new) s) }
+        ensures honest { HasCleanDisk (state S.Store self.new) → HasCleanDisk (state S.Store self.old) }
+        ensures open { IsTrue (state S.Store self.new).is_open → IsTrue (state S.Store self.old).is_open }
+        ensures stop { HasCleanDisk (state S.Store self.new)
+            → (s : State) → StandsFor (state S.Store self.old) s
+            → Leaves (state S.Store self.new) (λ left. (left ≡ s) ⊎ (left ≡ tick config.now s moment)) }
+    {
+        if !self.connection.is_autocommit() {
+            return Err(StoreFault::Store);
+        }
+        match move_clock(&mut self.connection, config, moment.secs()) {
+            Ok(clock) => Ok(Moment::new(clock)),
+            Err(fault) => Err(fault),
+        }
+    }
+
+    /// Sends the content of the file of this number, one block at a time.
+    pub fn stream<O: Outlet>(&mut self, file: u64, out: &mut O) -> Result<(), StreamFault>
+        ensures streams { (sent : List ℕ) × Appends (O.taken out.old) (O.taken out.new) sent
+            × (HasCleanDisk (state S.Store self.new) → (s : State) → StandsFor (state S.Store self.old) s
+            → IsStreamed s file sent result) }
+        ensures ok { HasCleanDisk (state S.Store self.new) → (s : State) → StandsFor (state S.Store self.old) s
+            → OnOk result (StandsFor (state S.Store self.new) s) }
+        ensures err { IsTrue (state S.Store self.new).is_open
+            → (s : State) → StandsFor (state S.Store self.old) s
+            → OnErr result (StandsFor (state S.Store self.new) s) }
+        ensures honest { HasCleanDisk (state S.Store self.new) → HasCleanDisk (state S.Store self.old) }
+        ensures open { IsTrue (state S.Store self.new).is_open → IsTrue (state S.Store self.old).is_open }
+        ensures stop { HasCleanDisk (state S.Store self.new)
+            → (s : State) → StandsFor (state S.Store self.old) s
+            → Leaves (state S.Store self.new) (λ left. left ≡ s) }
+        ensures kept { OnOk result (O.failures out.new ≡ O.failures out.old) }
+        ensures cause { result ≡ Err StreamFault.Writer → HasRisen (O.failures out.old) (O.failures out.new) }
+    {
+        if !self.connection.is_autocommit() {
+            return Err(StreamFault::Store);
+        }
+        stream_content(&mut self.connection, file, out)
+    }
+
+    /// The object of this number, if there is one, with its metadata and its files.
+    pub fn view(&mut self, object: u64) -> Result<Option<ObjectView>, StoreFault>
+        ensures ok { HasCleanDisk (state S.Store self.new) → (s : State) → StandsFor (state S.Store self.old) s
+            → IfOk result (λ found. (found ≡ option_map (object_view object) (finmap.get s.objects object))
+            × StandsFor (state S.Store self.new) s) }
+        ensures err { IsTrue (state S.Store self.new).is_open
+            → (s : State) → StandsFor (state S.Store self.old) s
+            → OnErr result (StandsFor (state S.Store self.new) s) }
+        ensures honest { HasCleanDisk (state S.Store self.new) → HasCleanDisk (state S.Store self.old) }
+        ensures open { IsTrue (state S.Store self.new).is_open → IsTrue (state S.Store self.old).is_open }
+        ensures stop { HasCleanDisk (state S.Store self.new)
+            → (s : State) → StandsFor (state S.Store self.old) s
+            → Leaves (state S.Store self.new) (λ left. left ≡ s) }
+    {
+        if !self.connection.is_autocommit() {
+            return Err(StoreFault::Store);
+        }
+        view_object(&mut self.connection, self.alloc, object)
+    }
+
+    /// The least number of an object above this one.
+    pub fn next_object(&mut self, after: u64) -> Result<Option<u64>, StoreFault>
+        ensures ok { HasCleanDisk (state S.Store self.new) → (s : State) → StandsFor (state S.Store self.old) s
+            → IfOk result (λ found. (found ≡ option_map (λ e. e.0) (next_entry s.objects after))
+            × StandsFor (state S.Store self.new) s) }
+        ensures err { IsTrue (state S.Store self.new).is_open
+            → (s : State) → StandsFor (state S.Store self.old) s
+            → OnErr result (StandsFor (state S.Store self.new) s) }
+        ensures honest { HasCleanDisk (state S.Store self.new) → HasCleanDisk (state S.Store self.old) }
+        ensures open { IsTrue (state S.Store self.new).is_open → IsTrue (state S.Store self.old).is_open }
+        ensures stop { HasCleanDisk (state S.Store self.new)
+            → (s : State) → StandsFor (state S.Store self.old) s
+            → Leaves (state S.Store self.new) (λ left. left ≡ s) }
+    {
+        if !self.connection.is_autocommit() {
+            return Err(StoreFault::Store);
+        }
+        find_next(&mut self.connection, after)
+    }
+
+    /// While the store stands for a state, a crash leaves that state.
+    pub fn settled(&self)
+        ensures left { (s : State) → StandsFor (state S.Store self.now) s
+            → Leaves (state S.Store self.now) (λ left. left ≡ s) }
+        ensures clean { IsTrue (state S.Store self.now).is_open → HasCleanDisk (state S.Store self.now) }
+    {}
+
+    /// Gives the connection back.
+    pub fn close(self) -> Connection<S>
+        ensures { result ≡ self }
+    {
+        self.connection
+    }
+}
