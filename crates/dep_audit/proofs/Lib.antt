@@ -1,0 +1,3 @@
+pub mod Stills
+pub mod Digests
+pub mod ShownFrom

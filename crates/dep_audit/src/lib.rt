@@ -1,0 +1,7 @@
+//! Fixity of stored files: the bytes of each are read again and held against the SHA-256 that its row keeps.
+#![tactic(auto)]
+
+mod auditing;
+mod hashing;
+
+pub use auditing::{Audit, audit_files};
