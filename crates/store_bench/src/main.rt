@@ -8,8 +8,8 @@ mod content;
 mod steps;
 
 use dep_octets::{Number, decimal};
-use dep_schema::{OpenFault, Schema};
 use dep_types::{Outlet, Through};
+use file_tasks::{Task, open_tables, perform_over_files};
 use sqlite::{Alter, Connection, FileStore};
 use sqlite_disk::Disk;
 use std::env;
@@ -46,13 +46,6 @@ fn number_named(word: &str) -> u64 {
     }
 }
 
-fn opened<S: Alter>(connection: Connection<S>) -> Result<Schema<S>, (OpenFault, Connection<S>)> {
-    if !connection.is_autocommit() {
-        return Err((OpenFault::Store, connection));
-    }
-    dep_schema::open(connection)
-}
-
 /// Tells how a step ended.
 fn is_told(rt: &HostRuntime, step: &str, done: bool) -> bool {
     eprintln!(rt; "{step}: {done}").is_ok() && done
@@ -84,33 +77,47 @@ fn is_performed<S: Alter, O: Outlet>(
     }
 }
 
-/// Whether the step was done and the files closed.
-fn is_done<D: Disk + Drop, O: Outlet>(
-    rt: &HostRuntime,
-    mut connection: Connection<FileStore<D>>,
+/// The work, and where what is sent goes.
+#[derive(Drop)]
+struct Bench<'a, O> {
+    rt: &'a HostRuntime,
     work: Work,
-    out: &mut O,
-) -> bool {
-    let performed = is_performed(rt, &mut connection, work, out);
-    connection.close().is_ok() && performed
+    out: O,
+    is_done: bool,
 }
 
-fn is_done_after_open<D: Disk + Drop, O: Outlet>(
-    rt: &HostRuntime,
-    connection: Connection<FileStore<D>>,
-    work: Work,
-    out: &mut O,
-) -> bool {
-    match opened(connection) {
-        Ok(schema) => is_done(rt, schema.connection, work, out),
-        Err(_) => false,
+impl<O: Outlet> Task for Bench<'_, O> {
+    fn perform<S: Alter>(&mut self, connection: Connection<S>) -> Connection<S> {
+        match open_tables(connection) {
+            Ok(mut schema) => {
+                let connection = &mut schema.connection;
+                self.is_done = is_performed(self.rt, connection, self.work, &mut self.out);
+                schema.connection
+            }
+            Err(connection) => connection,
+        }
     }
 }
 
+/// Whether the step was done and the files closed.
+fn is_done<D: Disk + Drop>(
+    rt: &HostRuntime,
+    connection: Connection<FileStore<D>>,
+    work: Work,
+) -> bool {
+    let mut bench = Bench {
+        rt,
+        work,
+        out: Through::new(rt.stdout()),
+        is_done: false,
+    };
+    let connection = perform_over_files(&mut bench, connection);
+    connection.close().is_ok() && bench.is_done
+}
+
 fn is_done_in(rt: &HostRuntime, path: &str, work: Work) -> bool {
-    let mut out = Through::new(rt.stdout());
     match Connection::open(rt, path) {
-        Ok(connection) => is_done_after_open(rt, connection, work, &mut out),
+        Ok(connection) => is_done(rt, connection, work),
         Err(_) => false,
     }
 }

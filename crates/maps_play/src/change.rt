@@ -1,6 +1,7 @@
 //! One change, as a line tells it.
 
 use crate::sample::{sample_content, sample_file, sample_metadata, sample_object};
+use crate::staging;
 use dep_files::{delete_file, delete_files, put_file};
 use dep_objects::{
     append_metadata, delete_object, load_object, put_object, set_counters, set_metadata,
@@ -10,30 +11,45 @@ use dep_types::{Counters, StoreFault};
 use sqlite::{Alter, Transaction};
 use std::alloc::Global;
 
-/// What a line asks for: a word and up to three numbers, with 0 where one is not given.
+/// What a line asks for: a word and up to four numbers, with 0 where one is not given. Before the word may stand `lose`.
 #[derive(Clone, Copy, Debug, PartialEq, Eq)]
 pub struct Change<'a> {
-    word: &'a str,
-    first: u64,
-    second: u64,
-    third: u64,
+    /// Whether it is never committed.
+    pub is_lost: bool,
+    pub word: &'a str,
+    pub first: u64,
+    pub second: u64,
+    pub third: u64,
+    pub fourth: u64,
 }
 
 impl<'a> Change<'a> {
     /// Reads a line.
     pub fn read(line: &'a str) -> Option<Change<'a>> {
+        match line.strip_prefix("lose ") {
+            Some(rest) => Change::read_words(rest, true),
+            None => Change::read_words(line, false),
+        }
+    }
+
+    /// Whether it changes nothing and tells what a call reads.
+    pub fn is_question(&self) -> bool {
+        matches!(
+            self.word,
+            "clock" | "object" | "files" | "next" | "content" | "upload"
+        )
+    }
+
+    fn read_words(line: &'a str, is_lost: bool) -> Option<Change<'a>> {
         let mut words = line.split(' ');
         Some(Change {
+            is_lost,
             word: words.next()?,
             first: number(words.next())?,
             second: number(words.next())?,
             third: number(words.next())?,
+            fourth: number(words.next())?,
         })
-    }
-
-    /// Whether it is never committed.
-    pub fn is_lost(&self) -> bool {
-        self.word == "lose"
     }
 }
 
@@ -65,13 +81,24 @@ pub fn apply<S: Alter>(
             change.first,
             &sample_metadata(alloc, change.second)?,
         ),
-        "file" => put_sample(tx, alloc, change),
-        "unfile" => delete_file(tx, change.first),
-        "clear" => delete_files(tx, alloc, change.first),
-        "drop" | "lose" => drop_object(tx, alloc, change.first),
+        "drop" => drop_object(tx, alloc, change.first),
         "fill" => fill(tx, alloc, change),
         "load" => load(tx, alloc, change),
-        _ => Err(StoreFault::Store),
+        _ => apply_to_files(tx, alloc, change),
+    }
+}
+
+fn apply_to_files<S: Alter>(
+    tx: &mut Transaction<'_, S>,
+    alloc: Global,
+    change: &Change<'_>,
+) -> Result<(), StoreFault> {
+    match change.word {
+        "file" => put_sample(tx, alloc, change),
+        "replace" => replace(tx, alloc, change),
+        "unfile" => delete_file(tx, change.first),
+        "clear" => delete_files(tx, alloc, change.first),
+        _ => staging::apply(tx, alloc, change),
     }
 }
 
@@ -81,7 +108,7 @@ fn counted(change: &Change<'_>) -> StateRow {
         next: Counters {
             object: change.second,
             file: change.third,
-            upload: 1,
+            upload: change.fourth,
             change: change.third,
         },
     }
@@ -92,9 +119,19 @@ fn put_sample<S: Alter>(
     alloc: Global,
     change: &Change<'_>,
 ) -> Result<(), StoreFault> {
-    let content = sample_content(alloc, change.second, change.third)?;
+    let content = sample_content(alloc, change.fourth, change.third)?;
     let row = sample_file(alloc, change.first, change.second, &content)?;
     put_file(tx, &row, &content)
+}
+
+// Another content under the same number.
+fn replace<S: Alter>(
+    tx: &mut Transaction<'_, S>,
+    alloc: Global,
+    change: &Change<'_>,
+) -> Result<(), StoreFault> {
+    delete_file(tx, change.second)?;
+    put_sample(tx, alloc, change)
 }
 
 fn drop_object<S: Alter>(
