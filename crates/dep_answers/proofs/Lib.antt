@@ -7,3 +7,4 @@ pub mod Unbroken
 pub mod Made
 pub mod WrittenOut
 pub mod Present
+pub mod Changed

@@ -57,7 +57,7 @@ taken_by op (Value k) kind without e =
 taken_by op Bad kind without e = absurd (cc)
 taken_by op Absent kind without e = absurd (let none : None ≡ Some kind = sym without ∙ e in cc)
 
-taken : (op : Operation) (kind : Kind) → kind_without op.target.resource op.target.method ≡ None → kind_of op ≡ Some kind
+pub taken : (op : Operation) (kind : Kind) → kind_without op.target.resource op.target.method ≡ None → kind_of op ≡ Some kind
     → takes_kind op.target.resource op.target.method kind ≡ true
 unfolding kind_of
 taken op kind without e = taken_by op op.fields.disposition kind without e
@@ -66,7 +66,7 @@ either_true : (a b : Bool) → (a || b) ≡ true → b ≡ false → a ≡ true
 either_true true b e n = refl
 either_true false b e n = absurd (cc)
 
-it_is : {X : Type 0} (o : Option X) → is_some o ≡ true → (x : X) × (o ≡ Some x)
+pub it_is : {X : Type 0} (o : Option X) → is_some o ≡ true → (x : X) × (o ≡ Some x)
 it_is None e = absurd (cc)
 it_is (Some x) e = (x, refl)
 
@@ -78,11 +78,14 @@ no_completion : (op : Operation) → may_complete op.target.resource op.target.m
 unfolding is_completion
 no_completion op e = none_of (may_complete op.target.resource op.target.method) _ _ _ e
 
-told_kind : (op : Operation) → may_complete op.target.resource op.target.method ≡ false → of_kind op ≡ None
-    → (kind : Kind) × (kind_of op ≡ Some kind)
+pub kind_unless : (op : Operation) → is_completion op ≡ false → of_kind op ≡ None → (kind : Kind) × (kind_of op ≡ Some kind)
 unfolding of_kind
-told_kind op whole e =
-    it_is (kind_of op) (either_true (is_some (kind_of op)) (is_completion op) (unless-none (is_some (kind_of op) || is_completion op) BadRequest e) (no_completion op whole))
+kind_unless op none e =
+    it_is (kind_of op) (either_true (is_some (kind_of op)) (is_completion op) (unless-none (is_some (kind_of op) || is_completion op) BadRequest e) none)
+
+pub told_kind : (op : Operation) → may_complete op.target.resource op.target.method ≡ false → of_kind op ≡ None
+    → (kind : Kind) × (kind_of op ≡ Some kind)
+told_kind op whole e = kind_unless op (no_completion op whole) e
 
 back : (n : ℕ) → (n + 1) - 1 ≡ n
 back n = omega arith
@@ -96,7 +99,7 @@ module _ (config : Config) (s : State) (op : Operation) where
   abbrev refs : Option (List Reference)
   refs = references_in config op
 
-  document_passed : (kind : Kind) → kind_of op ≡ Some kind → of_document config s op ≡ None → document_refusal config s op kind ≡ None
+  pub document_passed : (kind : Kind) → kind_of op ≡ Some kind → of_document config s op ≡ None → document_refusal config s op kind ≡ None
   unfolding of_document
   document_passed kind is e = ap (option_and_then (document_refusal config s op)) (sym is) ∙ e
 
@@ -104,7 +107,7 @@ module _ (config : Config) (s : State) (op : Operation) where
   references_there None e = absurd (cc)
   references_there (Some entries) e = (entries, refl)
 
-  deposit_for : (kind : Kind) → takes_kind Service Post kind ≡ true → document_refusal config s op kind ≡ None
+  pub deposit_for : (kind : Kind) → takes_kind Service Post kind ≡ true → document_refusal config s op kind ≡ None
       → (d : Deposit) × (deposit_by refs op kind ≡ Some d)
   deposit_for (of.File name) takes e = (_, refl)
   deposit_for of.Metadata takes e =
@@ -116,25 +119,25 @@ module _ (config : Config) (s : State) (op : Operation) where
   deposit_for (of.Opening o) takes e = absurd (cc)
   deposit_for (of.Segment k) takes e = absurd (cc)
 
-  deposited : (kind : Kind) (d : Deposit) → kind_of op ≡ Some kind → deposit_by refs op kind ≡ Some d → deposit_of refs op ≡ Some d
+  pub deposited : (kind : Kind) (d : Deposit) → kind_of op ≡ Some kind → deposit_by refs op kind ≡ Some d → deposit_of refs op ≡ Some d
   unfolding deposit_of
   deposited kind d is e = ap (option_and_then (deposit_by refs op)) is ∙ e
 
-  as_asked : (r : Resource) (m : Method) → op.target.resource ≡ r → op.target.method ≡ m → refusal config s op ≡ None
+  pub as_asked : (r : Resource) (m : Method) → op.target.resource ≡ r → op.target.method ≡ m → refusal config s op ≡ None
       → first_of (rows_met config s op r m) ≡ None
   unfolding refusal
   as_asked r m at by e = (λ i. first_of (rows_met config s op (sym at i) (sym by i))) ∙ e
 
-  decided : (r : Resource) (m : Method) (d : Decision) → op.target.resource ≡ r → op.target.method ≡ m → decision_at refs op r m ≡ Some d
+  pub decided : (r : Resource) (m : Method) (d : Decision) → op.target.resource ≡ r → op.target.method ≡ m → decision_at refs op r m ≡ Some d
       → decision config op ≡ d
   unfolding decision_with
   decided r m d at by e = (λ i. unwrap_or (decision_at refs op (at i) (by i)) Show) ∙ ap (λ (o : Option Decision). unwrap_or o Show) e
 
-  left_by : (d : Decision) → decision config op ≡ d → effect config s op ≡ effect_of s op.content d
+  pub left_by : (d : Decision) → decision config op ≡ d → effect config s op ≡ effect_of s op.content d
   unfolding effect
   left_by d e = ap (effect_of s op.content) e
 
-  answered : (r : Resource) (m : Method) → op.target.resource ≡ r → op.target.method ≡ m → (t : State)
+  pub answered : (r : Resource) (m : Method) → op.target.resource ≡ r → op.target.method ≡ m → (t : State)
       → accepted_answer config t op ≡ answer_to config t r m
   unfolding accepted_answer
   answered r m at by t = λ i. answer_to config t (at i) (by i)

@@ -1,5 +1,5 @@
 //! Laws of the answers, apart from any code.
-ghost use Rattle.std.specs.Prelude.{◌≡◌, ℕ, Bool, true, false, List, [], codes, Option, None, IsTrue, is_some, IfSome, map as each};
+ghost use Rattle.std.specs.Prelude.{◌≡◌, ◌⊎◌, ℕ, Bool, true, false, List, [], codes, Option, Some, None, IsTrue, is_some, IfSome, map as each};
 ghost use Rattle.dep_types.specs.Base.{IsBase};
 ghost use Rattle.dep_types.specs.State.{State, Object as StateObject};
 ghost use Rattle.dep_types.specs.Sound.{IsSound};
@@ -8,7 +8,8 @@ ghost use Rattle.dep_types.specs.declared.refusal.Refusal.{Refusal as ARefusal};
 ghost use Rattle.dep_types.specs.declared.target.Method.{Method as AMethod};
 ghost use Rattle.dep_types.specs.declared.target.Resource.{Resource as AResource};
 ghost use Rattle.dep_types.specs.declared.target.Method.TheVariants.{Get as AGet, Post as APost, Put as APut};
-ghost use Rattle.dep_types.specs.declared.target.Resource.TheVariants.{Service as AService, Staging as AStaging, Upload as AnUpload, File as AFile, Metadata as AMetadata};
+ghost use Rattle.dep_types.specs.declared.target.Resource.TheVariants.{Service as AService, Object as AnObject, Staging as AStaging, Upload as AnUpload, File as AFile, Metadata as AMetadata};
+ghost use Rattle.dep_decisions.specs.Effects.{effect};
 ghost use Rattle.dep_decisions.specs.Rules.{refusal, presence_refusal};
 ghost use Rattle.dep_decisions.specs.declared.operation.Operation.{Operation as AnOperation};
 ghost use Rattle.dep_reply.specs.Lines.{is_unbroken, IsUnbroken};
@@ -19,6 +20,7 @@ ghost use Rattle.dep_docs_out.specs.ExampleDocuments.{example_config};
 ghost use Rattle.dep_answers.specs.Examples.{example_state, created_reply, upload_reply, file_head, changed_reply};
 ghost use Rattle.dep_answers.specs.Laws.{IsToldObject, IsToldUpload, is_shown};
 ghost use Rattle.dep_answers.specs.Replies.{answer_to, content_at, refused_answer, front_text, stored_text};
+ghost use Rattle.dep_answers.specs.Steps.{accepted_answer};
 
 /// What is shown at the paths of an object's bag are the files of the bag.
 pub fn bags_show_their_files()
@@ -53,6 +55,14 @@ pub fn deposits_are_told_their_object()
 pub fn openings_are_told_their_upload()
     ensures { (config : AConfig) (s : State) (op : AnOperation) → op.target.resource ≡ AStaging
         → op.target.method ≡ APost → refusal config s op ≡ None → IsToldUpload config s op }
+{}
+
+/// A POST and a PUT on an Object-URL are answered with the number of the change as the object's tag.
+pub fn changes_are_told_their_tag()
+    ensures { (config : AConfig) (s : State) (op : AnOperation) (n : ℕ)
+        → op.target.resource ≡ AnObject n → (op.target.method ≡ APost) ⊎ (op.target.method ≡ APut)
+        → refusal config s op ≡ None
+        → (accepted_answer config (effect config s op) op).tag ≡ Some s.next.change }
 {}
 
 /// The whole reply to a deposit of one file.
