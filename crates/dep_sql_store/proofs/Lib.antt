@@ -1,3 +1,4 @@
 pub mod Transacting
 pub mod Carrying
 pub mod Opened
+pub mod Stepping

@@ -1,2 +1,3 @@
 pub mod Standing
 pub mod Opening
+pub mod Performing

@@ -3,6 +3,7 @@
 #![tactic(auto)]
 
 mod opening;
+mod performing;
 mod reading;
 mod store;
 mod ticking;

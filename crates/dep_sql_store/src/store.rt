@@ -8,15 +8,21 @@ ghost use Rattle.sqlite.specs.Held.{state};
 ghost use Rattle.dep_types.specs.State.{State, tick, empty_state};
 ghost use Rattle.dep_types.specs.Rows.{object_view};
 ghost use Rattle.dep_types.specs.Writing.{HasRisen};
+ghost use Rattle.dep_fields.specs.Fit.{AreFit};
+ghost use Rattle.dep_answers.specs.Steps.{operation_step};
 ghost use Rattle.dep_row_maps.specs.Keyed.{next_entry};
 ghost use Rattle.dep_types.specs.Streams.{IsStreamed};
 ghost use Rattle.dep_schema.specs.Standing.{HoldsNone, IsOpenable, IsBack};
 ghost use Rattle.dep_sql_store.specs.Standing.{StandsFor, IsLeftAs, Leaves};
+ghost use Rattle.dep_sql_store.specs.Performing.{Performs};
 ghost use Rattle.dep_sql_store.specs.Opening.{OpenLeaves};
 
 use crate::opening::open_tables;
+use crate::performing::perform_request;
 use crate::reading::{find_next, view_object};
 use crate::ticking::move_clock;
+use dep_answers::{Performed, Service};
+use dep_decisions::Operation;
 use dep_files::stream_content;
 use dep_moment::Moment;
 use dep_schema::OpenFault;
@@ -100,6 +106,32 @@ impl<S: Alter> Store<S> {
             Ok(clock) => Ok(Moment::new(clock)),
             Err(fault) => Err(fault),
         }
+    }
+
+    /// Does what a request asks for, once the clock has gone on, in one transaction. The reply is made
+    /// before the commit, so an `Err` changes nothing.
+    pub fn perform(
+        &mut self,
+        service: &Service,
+        operation: &Operation<'_>,
+    ) -> Result<Performed, StoreFault>
+        ensures ok { HasCleanDisk (state S.Store self.new) → AreFit operation.now.fields
+            → (s : State) → StandsFor (state S.Store self.old) s
+            → IfOk result (Performs (operation_step service.now s operation.now) (state S.Store self.new)) }
+        ensures err { IsTrue (state S.Store self.new).is_open
+            → (s : State) → StandsFor (state S.Store self.old) s
+            → OnErr result (StandsFor (state S.Store self.new) s) }
+        ensures honest { HasCleanDisk (state S.Store self.new) → HasCleanDisk (state S.Store self.old) }
+        ensures open { IsTrue (state S.Store self.new).is_open → IsTrue (state S.Store self.old).is_open }
+        ensures stop { HasCleanDisk (state S.Store self.new) → AreFit operation.now.fields
+            → (s : State) → StandsFor (state S.Store self.old) s
+            → Leaves (state S.Store self.new)
+            (λ left. (left ≡ s) ⊎ (left ≡ (operation_step service.now s operation.now).state)) }
+    {
+        if !self.connection.is_autocommit() {
+            return Err(StoreFault::Store);
+        }
+        perform_request(&mut self.connection, self.alloc, service, operation)
     }
 
     /// Sends the content of the file of this number, one block at a time.
