@@ -32,7 +32,8 @@ use std::alloc::Global;
 
 /// Makes of the tables what an accepted request's decision makes of the state. The view tells the state where the
 /// request touches it, and the content is that of the request. Nothing is hashed: the digests of a posted content
-/// stand in the decision, and those of uploads in the view.
+/// stand in the decision, and those of uploads in the view. A number of 2^63 or more is a fault of the store, and so is
+/// that something is not there which the rules have seen.
 pub fn carry_out<S: Alter>(
     tx: &mut Transaction<'_, S>,
     alloc: Global,
