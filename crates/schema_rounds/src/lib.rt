@@ -3,4 +3,4 @@
 
 mod rounds;
 
-pub use rounds::{Found, Tried, look, try_transaction};
+pub use rounds::{Found, Round, Step};

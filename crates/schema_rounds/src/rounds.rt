@@ -1,21 +1,23 @@
 //! One transaction over tables that are made, and what is found of it.
 
-use dep_schema::{OpenFault, Schema, open};
 use dep_tables::{
     BlockKey, BlockOwner, BlockPlace, fault_of, insert_block, read_state, write_state,
 };
 use dep_types::StoreFault;
+use file_tasks::{Task, open_tables};
 use sqlite::{Alter, Connection, Error, Transaction};
 use std::alloc::{AllocError, Global};
 
-/// A transaction that was tried, and the store that it leaves.
-#[derive(Drop)]
-pub struct Tried<S> {
-    pub committed: bool,
-    pub store: S,
+/// What is done with a store.
+#[derive(Clone, Copy, Debug, PartialEq, Eq)]
+pub enum Step {
+    /// Makes the tables and tries the transaction, up to the first fault.
+    Try,
+    /// Looks what the tables have of the transaction, after an open.
+    Look,
 }
 
-/// What is found of the transaction.
+/// What is found of the transaction, after it was tried or by a look.
 #[derive(Clone, Copy, Debug, PartialEq, Eq)]
 pub enum Found {
     Nothing,
@@ -24,11 +26,35 @@ pub enum Found {
     Other,
 }
 
-fn made<S: Alter>(connection: Connection<S>) -> Result<Schema<S>, (OpenFault, Connection<S>)> {
-    if !connection.is_autocommit() {
-        return Err((OpenFault::Store, connection));
+/// A step, and what it found.
+#[derive(Drop)]
+pub struct Round {
+    alloc: Global,
+    step: Step,
+    pub found: Found,
+}
+
+impl Round {
+    /// A step that is yet to be taken.
+    pub fn new(alloc: Global, step: Step) -> Round {
+        Round {
+            alloc,
+            step,
+            found: Found::Other,
+        }
     }
-    open(connection)
+}
+
+impl Task for Round {
+    fn perform<S: Alter>(&mut self, connection: Connection<S>) -> Connection<S> {
+        match open_tables(connection) {
+            Ok(mut schema) => {
+                self.found = found_in(self.alloc, &mut schema.connection, self.step);
+                schema.connection
+            }
+            Err(connection) => connection,
+        }
+    }
 }
 
 fn add_block<S: Alter>(
@@ -80,20 +106,11 @@ fn is_written<S: Alter>(alloc: Global, connection: &mut Connection<S>) -> bool {
     }
 }
 
-fn written<S: Alter + Drop>(alloc: Global, mut connection: Connection<S>) -> Tried<S> {
-    let committed = is_written(alloc, &mut connection);
-    let store = connection.into_store();
-    Tried { committed, store }
-}
-
-/// Makes the tables and tries the transaction, up to the first fault.
-pub fn try_transaction<S: Alter + Drop>(alloc: Global, connection: Connection<S>) -> Tried<S> {
-    match made(connection) {
-        Ok(schema) => written(alloc, schema.connection),
-        Err((_, connection)) => Tried {
-            committed: false,
-            store: connection.into_store(),
-        },
+fn tried<S: Alter>(alloc: Global, connection: &mut Connection<S>) -> Found {
+    if is_written(alloc, connection) {
+        Found::Whole
+    } else {
+        Found::Nothing
     }
 }
 
@@ -127,10 +144,9 @@ fn found_by<S: Alter>(connection: &mut Connection<S>) -> Found {
     Found::Other
 }
 
-/// What the tables have of the transaction, after an open.
-pub fn look<S: Alter + Drop>(connection: Connection<S>) -> Found {
-    match made(connection) {
-        Ok(mut schema) => found_by(&mut schema.connection),
-        Err(_) => Found::Other,
+fn found_in<S: Alter>(alloc: Global, connection: &mut Connection<S>, step: Step) -> Found {
+    match step {
+        Step::Try => tried(alloc, connection),
+        Step::Look => found_by(connection),
     }
 }

@@ -1,7 +1,8 @@
 //! Stops at each call to the disk.
 
-use schema_rounds::{Found, Tried, look, try_transaction};
-use sqlite::{Connection, FileStore, Files, Options};
+use file_tasks::perform_in_files;
+use schema_rounds::{Found, Round, Step};
+use sqlite::Files;
 use sqlite_disk::{Crash, Disk, Fuse, Memory};
 use std::alloc::Global;
 use std::test::Fail;
@@ -13,35 +14,20 @@ fn disks(alloc: Global, log_calls: u64, db_calls: u64) -> Files<Fuse<Memory>> {
     }
 }
 
-/// A connection over the files, or the files where none was to be had.
-fn connected<D: Disk + Drop>(
-    alloc: Global,
+/// What a step found, and the files that it leaves.
+#[derive(Drop)]
+struct Left<D: Disk> {
+    found: Found,
     files: Files<D>,
-) -> Result<Connection<FileStore<D>>, Files<D>> {
-    if !files.may_be_used() {
-        return Err(files);
-    }
-    match Connection::open_files(alloc, files, Options::new(1)) {
-        Ok(connection) => Ok(connection),
-        Err((_, left)) => Err(left.into_files()),
-    }
 }
 
-fn closed<D: Disk + Drop>(tried: Tried<FileStore<D>>) -> Tried<Files<D>> {
-    Tried {
-        committed: tried.committed,
-        store: tried.store.close(),
-    }
-}
-
-/// Opens the files and tries the transaction.
-fn stopped<D: Disk + Drop>(alloc: Global, files: Files<D>) -> Tried<Files<D>> {
-    match connected(alloc, files) {
-        Ok(connection) => closed(try_transaction(alloc, connection)),
-        Err(store) => Tried {
-            committed: false,
-            store,
-        },
+/// Opens the files and takes the step.
+fn take_step<D: Disk + Drop>(alloc: Global, files: Files<D>, step: Step) -> Left<D> {
+    let mut round = Round::new(alloc, step);
+    let files = perform_in_files(alloc, &mut round, files);
+    Left {
+        found: round.found,
+        files,
     }
 }
 
@@ -49,16 +35,15 @@ fn stopped<D: Disk + Drop>(alloc: Global, files: Files<D>) -> Tried<Files<D>> {
 fn found_after<D: Disk + Crash + Drop>(alloc: Global, mut files: Files<D>) -> Found {
     files.log.crash();
     files.db.crash();
-    match connected(alloc, files) {
-        Ok(connection) => look(connection),
-        Err(_) => Found::Other,
-    }
+    let Left { found, files: _ } = take_step(alloc, files, Step::Look);
+    found
 }
 
 /// Whether the transaction was committed, if it is found whole, or not at all where it was not committed.
 fn round<D: Disk + Crash + Drop>(alloc: Global, files: Files<D>) -> Option<bool> {
-    let Tried { committed, store } = stopped(alloc, files);
-    match found_after(alloc, store) {
+    let tried = take_step(alloc, files, Step::Try);
+    let committed = tried.found == Found::Whole;
+    match found_after(alloc, tried.files) {
         Found::Whole => Some(committed),
         Found::Nothing if !committed => Some(false),
         _ => None,

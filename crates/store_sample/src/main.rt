@@ -3,21 +3,14 @@
 
 mod writing;
 
-use dep_schema::{OpenFault, Schema};
 use dep_tables::{BlockOwner, MetadataRow, StateRow};
 use dep_types::{Counters, FileRow, ObjectRow, StoreFault, Text};
+use file_tasks::{Task, open_tables, perform_over_files};
 use sqlite::{Alter, Connection, FileStore, Transaction};
 use sqlite_disk::Disk;
 use std::alloc::Global;
 use std::env;
 use writing::deposit;
-
-fn made<S: Alter>(connection: Connection<S>) -> Result<Schema<S>, (OpenFault, Connection<S>)> {
-    if !connection.is_autocommit() {
-        return Err((OpenFault::Store, connection));
-    }
-    dep_schema::open(connection)
-}
 
 fn clear_files<S: Alter>(tx: &mut Transaction<'_, S>) -> Result<(), StoreFault> {
     dep_tables::delete_blocks(tx, BlockOwner::File(11))?;
@@ -111,17 +104,33 @@ fn fill<S: Alter>(alloc: Global, connection: &mut Connection<S>) -> anyhow::Resu
     Ok(made.is_ok())
 }
 
-/// Whether the sample was written and the files closed.
-fn is_written<D: Disk + Drop>(alloc: Global, mut connection: Connection<FileStore<D>>) -> bool {
-    let filled = matches!(fill(alloc, &mut connection), Ok(true));
-    connection.close().is_ok() && filled
+/// The writing of the sample.
+#[derive(Drop)]
+struct Sample {
+    alloc: Global,
+    is_written: bool,
 }
 
-fn is_filled<D: Disk + Drop>(alloc: Global, connection: Connection<FileStore<D>>) -> bool {
-    match made(connection) {
-        Ok(schema) => is_written(alloc, schema.connection),
-        Err(_) => false,
+impl Task for Sample {
+    fn perform<S: Alter>(&mut self, connection: Connection<S>) -> Connection<S> {
+        match open_tables(connection) {
+            Ok(mut schema) => {
+                self.is_written = matches!(fill(self.alloc, &mut schema.connection), Ok(true));
+                schema.connection
+            }
+            Err(connection) => connection,
+        }
     }
+}
+
+/// Whether the sample was written and the files closed.
+fn is_filled<D: Disk + Drop>(alloc: Global, connection: Connection<FileStore<D>>) -> bool {
+    let mut sample = Sample {
+        alloc,
+        is_written: false,
+    };
+    let connection = perform_over_files(&mut sample, connection);
+    connection.close().is_ok() && sample.is_written
 }
 
 fn main(rt: HostRuntime) -> anyhow::Result<()> {
