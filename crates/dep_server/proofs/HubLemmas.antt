@@ -1,27 +1,33 @@
 -- What a hub stands for, after each of its calls.
-use Rattle.std.proofs.Common.{◌≡◌, ◌≢◌, ℕ, ◌==◌, Bool, true, false, List, [], ◌∷◌, ◌++◌, get_or, set, Option, Some, None, if◌then◌else◌, refl, sym, ap, subst, ◌∙◌, arith, inl}
+use Rattle.std.proofs.Common.{◌≡◌, ◌≢◌, ◌⊎◌, ℕ, ◌==◌, Bool, true, false, List, [], ◌∷◌, ◌++◌, get_or, set, Option, Some, None, if◌then◌else◌, IsTrue, refl, sym, ap, subst, ◌∙◌, arith, inl, inr}
 use Rattle.std.specs.Io.KnownBytes.{Keeps}
+use Rattle.std.specs.Prelude.{IsSome}
+use Rattle.std.proofs.lemmas.Bool.{eqb-true, eq-eqb}
+use Rattle.sqlite.specs.Held.{Held, state}
+use Rattle.sqlite_trees.specs.declared.store.Store.{Ghosts}
 use Rattle.dep_types.specs.State.{State}
-use Rattle.dep_types.specs.Sound.{IsSound}
 use Rattle.dep_types.specs.Writing.{HasRisen}
 use Rattle.dep_types.specs.declared.config.Config.{Config}
 use Rattle.dep_head.specs.Head.{head_end}
 use Rattle.dep_message.specs.Places.{Place, Open, Shut, Reading, IsOpen, HasBytes, place_with}
 use Rattle.dep_message.specs.Stream.{Item, Reads, Waits}
+use Rattle.dep_message.proofs.Reading.{reads_more, reads_append}
+use Rattle.dep_store.specs.Standing.{StandsFor, Leaves}
 use Rattle.dep_server.specs.Machine.{Serves, serves_all, step_fails, gives_up, answer_at_place}
-use Rattle.dep_server.specs.Records.{Event, Connect, Arrive, Close, Record, Line, Absent, Live, ShutLine, World, with_line, line_after, ReadsBeyond, Arrives, at_live, at_shut_line, connects, closes, arrives, Run, goes_on}
+use Rattle.dep_server.specs.Stops.{LeftByServing}
+use Rattle.dep_server.specs.Records.{Event, Connect, Arrive, Close, Record, stopped, Line, Absent, Live, ShutLine, World, first_world, with_line, line_after, ReadsBeyond, Arrives, at_live, at_shut_line, LeftByArrival, connects, closes, arrives, Run, goes_on, stops, breaks}
+use Rattle.dep_server.specs.Causes.{EndsInContent, IsCutWhileStreaming}
+use Rattle.dep_server.specs.Sending.{Outside, outside}
 use Rattle.dep_server.specs.Serving.{arrival_of, ServesFrom, ServesOver}
-use Rattle.dep_server.specs.Standing.{intake_of, KeepsRest, IsKeptAs, StandsAt, StandsFor, Adds, Moves, ArrivesOver, ComesTo}
+use Rattle.dep_server.specs.Standing.{intake_of, KeepsRest, IsKeptAs, StandsAt, StandsAfter, StopsAfter, Adds, Moves, ArrivesTo, ArrivesOver, ComesTo, store_of, IsClean, IsHonest}
 use Rattle.dep_server.specs.Numbers.{index_of, Ascends, Ascends-prop}
 use Rattle.dep_server.specs.declared.arrived.Arrived.{Arrived}
 use Rattle.dep_server.specs.declared.arrived.Arrived.TheVariants.{Open as StaysOpen, Closed, Cut, NoSuch}
 use Rattle.dep_server.specs.declared.connections.Connection.{Connection}
 use Rattle.dep_server.specs.declared.hub.Hub.{Hub}
-use Rattle.dep_message.proofs.Reading.{reads_more, reads_append}
-use Rattle.dep_server.proofs.RunSound.{arrives_sound}
+use Rattle.dep_store.proofs.Transacting.{leaves_wider}
+use Rattle.dep_server.proofs.Leaving.{Settles, stays_as}
 use Rattle.dep_server.proofs.ConnectionLemmas.{index_some, intake_set, intake_push}
-use Rattle.std.proofs.lemmas.Bool.{eqb-true, eq-eqb}
-use Rattle.std.specs.Prelude.{IsSome}
 
 kept_if : (limit : ℕ) (b : Bool) (line line' : Line) (o o' : Option Reading) → IsKeptAs limit line o → IsKeptAs limit line' o'
     → IsKeptAs limit (if b then line else line') (if b then o else o')
@@ -48,6 +54,23 @@ serves_map : {config : Config} {s left : State} {moment : ℕ} {sent : List ℕ}
 serves_map p q f (serves_all items {at} r w) = serves_all items (f items at r) w
 serves_map p q f (step_fails items item at r x) = step_fails items item at (f _ at r) x
 serves_map p q f (gives_up items at r b x) = gives_up items at (f items at r) b x
+
+-- the same stop, and the same cut
+left_map : {config : Config} {s left : State} {moment : ℕ} {sent : List ℕ} {at : Place} {answer : Arrived} (p q : List Item → Place → Type 0)
+    (f : (items : List Item) (at : Place) → p items at → q items at) (v : Serves config p s moment sent left at answer) (found : State)
+    → LeftByServing v found → LeftByServing (serves_map p q f v) found
+unfolding serves_map
+left_map p q f (serves_all items r w) found h = h
+left_map p q f (step_fails items item at r x) found h = h
+left_map p q f (gives_up items at r b x) found h = h
+
+content_map : {config : Config} {s left : State} {moment : ℕ} {sent : List ℕ} {at : Place} {answer : Arrived} (p q : List Item → Place → Type 0)
+    (f : (items : List Item) (at : Place) → p items at → q items at) (v : Serves config p s moment sent left at answer)
+    → EndsInContent v → EndsInContent (serves_map p q f v)
+unfolding serves_map
+content_map p q f (serves_all items r w) h = h
+content_map p q f (step_fails items item at r x) h = h
+content_map p q f (gives_up items at r b x) h = h
 
 -- where the connection stays open, all that is complete was read
 serves_rest : {config : Config} {s left : State} {moment : ℕ} {sent : List ℕ} {at : Place} {answer : Arrived} (p : List Item → Place → Type 0)
@@ -76,6 +99,14 @@ serves_ended limit (step_fails items item at r x) = absurd (ends_read limit item
 serves_ended limit (gives_up [] at r b x) = absurd (subst HasBytes r b)
 serves_ended limit (gives_up (x ∷ xs) at r b y) = absurd r.1
 
+ended_left : {config : Config} {s left : State} {moment : ℕ} {sent : List ℕ} {at : Place} {answer : Arrived} (limit : ℕ)
+    (v : Serves config (λ items at. Reads limit Shut items at) s moment sent left at answer) (found : State) → LeftByServing v found → found ≡ s
+ended_left limit (serves_all [] {at} r w) found h = h
+ended_left limit (serves_all (x ∷ xs) r w) found h = absurd r.1
+ended_left limit (step_fails items item at r x) found h = absurd (ends_read limit items item at r)
+ended_left limit (gives_up [] at r b x) found h = absurd (subst HasBytes r b)
+ended_left limit (gives_up (x ∷ xs) at r b y) found h = absurd r.1
+
 -- what was left goes on with the piece
 beyond : (limit : ℕ) (stream piece : List ℕ) (reading : Reading) → KeepsRest limit stream reading
     → (items : List Item) (at : Place) → Reads limit (place_with reading.place piece) items at → ReadsBeyond limit stream piece items at
@@ -88,10 +119,15 @@ beyond limit stream piece reading k items at r = (
 )
 
 -- what an arrival makes of a line
-pub record NextLine (config : Config) (piece : List ℕ) (moment : ℕ) (line : Line) (s : State) (sent : List ℕ) (left : State) (reading : Reading) (answer : Arrived) : Type 0 where
+pub record NextLine (config : Config) (piece : List ℕ) (moment : ℕ) (line : Line) (s : State) (sent : List ℕ) (old new : Outside) (reading : Reading) (answer : Arrived) : Type 0 where
+  pub left : State
   pub becomes : Line
   pub arrival : Arrives config piece moment line s sent left becomes answer
+  pub stands : IsTrue new.store.is_open → StandsFor new.store left
+  pub stays_clean : answer ≡ StaysOpen → IsTrue new.store.is_open
   pub kept : IsKeptAs config.max_upload becomes (Some reading)
+  pub stop : Leaves new.store (LeftByArrival arrival)
+  pub cause : answer ≡ Cut → HasRisen old.failures new.failures ⊎ IsCutWhileStreaming arrival
 
 after_live : (config : Config) (stream piece : List ℕ) (s left : State) (moment : ℕ) (sent : List ℕ) (at : Place) (answer : Arrived) (now : ℕ) → now ≡ config.max_upload
     → Serves config (ReadsBeyond config.max_upload stream piece) s moment sent left at answer → IsKeptAs config.max_upload (line_after (stream ++ piece) at) (Some (record { limit = now; place = at }))
@@ -100,31 +136,53 @@ after_live config stream piece s left moment sent (Open continued rest) answer n
     record { items = r.1.0 ++ r.0; same_limit = l; spells = record { reads = r.1.3; waits = r.2 }; is_open = tt }
 after_live config stream piece s left moment sent Shut answer now l v = record { same_limit = l; shut = refl }
 
-at_end : {config : Config} {piece : List ℕ} {moment : ℕ} {s left : State} {sent : List ℕ} {at : Place} {answer : Arrived}
-    → Nothing s sent left at answer → Arrives config piece moment ShutLine s sent left ShutLine answer × (at ≡ Shut)
-at_end nothing = (at_shut_line, refl)
+ended_next : (config : Config) (piece : List ℕ) (moment : ℕ) (old new : Outside) (limit : ℕ) {s left : State} {sent : List ℕ} {at : Place} {answer : Arrived}
+    → limit ≡ config.max_upload → Nothing s sent left at answer → (IsTrue new.store.is_open → StandsFor new.store left) → Leaves new.store (λ found. found ≡ s)
+    → NextLine config piece moment ShutLine s sent old new (record { limit = limit; place = at }) answer
+ended_next config piece moment old new limit same nothing stands stop = record {
+  left = _;
+  becomes = ShutLine;
+  arrival = at_shut_line;
+  stands = stands;
+  stays_clean = λ e. cc;
+  kept = record { same_limit = same; shut = refl };
+  stop = stop;
+  cause = λ e. cc;
+}
 
 -- an arrival at a line, by what is kept of it
-pub arrival : (config : Config) (piece : List ℕ) (moment : ℕ) (line : Line) (s : State) (sent : List ℕ) (left : State) (old new : Reading) (answer : Arrived)
+pub arrival : (config : Config) (piece : List ℕ) (moment : ℕ) (line : Line) (s : State) (sent : List ℕ) (before after : Outside) (old new : Reading) (answer : Arrived)
     → new.limit ≡ old.limit
-    → IsKeptAs config.max_upload line (Some old) → (old.limit ≡ config.max_upload → ServesFrom config (arrival_of old piece moment) s sent left new.place answer)
-    → NextLine config piece moment line s sent left new answer
-arrival config piece moment Absent s sent left old new answer m k v = absurd k
-arrival config piece moment (Live stream) s sent left old new answer m k v =
-    let w : Serves config (ReadsBeyond config.max_upload stream piece) s moment sent left new.place answer =
-    serves_map (λ items at. Reads old.limit (place_with old.place piece) items at) (ReadsBeyond config.max_upload stream piece)
-    (λ items at r. beyond config.max_upload stream piece old k items at (subst (λ n. Reads n (place_with old.place piece) items at) k.same_limit r)) (v k.same_limit) in
+    → IsKeptAs config.max_upload line (Some old)
+    → (old.limit ≡ config.max_upload → ServesFrom config (arrival_of old piece moment) s sent before after new.place answer)
+    → NextLine config piece moment line s sent before after new answer
+arrival config piece moment Absent s sent before after old new answer m k v = absurd k
+arrival config piece moment (Live stream) s sent before after old new answer m k v =
+    let t = v k.same_limit in
+    let Given : List Item → Place → Type 0 = λ items at. Reads old.limit (place_with old.place piece) items at in
+    let Beyond : List Item → Place → Type 0 = ReadsBeyond config.max_upload stream piece in
+    let f : (items : List Item) (at : Place) → Given items at → Beyond items at =
+    λ items at r. beyond config.max_upload stream piece old k items at (subst (λ n. Reads n (place_with old.place piece) items at) k.same_limit r) in
+    let w : Serves config Beyond s moment sent t.left new.place answer = serves_map Given Beyond f t.serves in
     record {
+      left = t.left;
       becomes = line_after (stream ++ piece) new.place;
       arrival = at_live w;
-      kept = after_live config stream piece s left moment sent new.place answer new.limit (m ∙ k.same_limit) w;
+      stands = t.stands;
+      stays_clean = t.stays_clean;
+      kept = after_live config stream piece s t.left moment sent new.place answer new.limit (m ∙ k.same_limit) w;
+      stop = leaves_wider after.store _ _ (λ c h. left_map Given Beyond f t.serves c h) t.stop;
+      cause = λ e. elim (t.cause e) [ inl risen ↦ inl risen | inr content ↦ inr (content_map Given Beyond f t.serves content) ];
     }
-arrival config piece moment ShutLine s sent left old new answer m k v =
-    let w : Serves config (λ items at. Reads old.limit Shut items at) s moment sent left new.place answer =
-    serves_map (λ items at. Reads old.limit (place_with old.place piece) items at) (λ items at. Reads old.limit Shut items at)
-    (λ items at r. subst (λ p. Reads old.limit (place_with p piece) items at) k.shut r) (v k.same_limit) in
-    let e : Arrives config piece moment ShutLine s sent left ShutLine answer × (new.place ≡ Shut) = at_end (serves_ended old.limit w) in
-    record { becomes = ShutLine; arrival = e.0; kept = record { same_limit = m ∙ k.same_limit; shut = e.1 } }
+arrival config piece moment ShutLine s sent before after old new answer m k v =
+    let t = v k.same_limit in
+    let Given : List Item → Place → Type 0 = λ items at. Reads old.limit (place_with old.place piece) items at in
+    let AtEnd : List Item → Place → Type 0 = λ items at. Reads old.limit Shut items at in
+    let f : (items : List Item) (at : Place) → Given items at → AtEnd items at =
+    λ items at r. subst (λ p. Reads old.limit (place_with p piece) items at) k.shut r in
+    let w : Serves config AtEnd s moment sent t.left new.place answer = serves_map Given AtEnd f t.serves in
+    ended_next config piece moment before after new.limit (m ∙ k.same_limit) (serves_ended old.limit w) t.stands
+    (leaves_wider after.store _ _ (λ c h. ended_left old.limit w c (left_map Given AtEnd f t.serves c h)) t.stop)
 
 pub none_there : (o : Option Reading) → o ≡ None → IsSome o → ⊥
 none_there None e s = cc
@@ -143,65 +201,75 @@ module _ (n i : ℕ) (cs : List Connection) (c : Connection) (index : index_of n
       subst (λ o. IsSome o) (sym some) refl
 
 -- the numbers ascend in one way
-pub same_hub : (hub : Hub) (a : Ascends 0 hub.connections.items hub.next) → record hub { ascends = a } ≡ hub
+pub same_hub : {S : Type 0} {g : Ghosts S} (hub : Hub S g) (a : Ascends 0 hub.connections.items hub.next) → record hub { ascends = a } ≡ hub
 same_hub hub a i = record hub { ascends = Ascends-prop 0 hub.connections.items hub.next a hub.ascends i }
 
-module _ (old new : Hub) (n i : ℕ) (piece : List ℕ) (moment : ℕ) (c : Connection) (now : Reading)
+module _ {S : Type 0} (g : Ghosts S) (old new : Hub S g) (n i : ℕ) (piece : List ℕ) (moment : ℕ) (c : Connection) (now : Reading)
     (index : index_of n old.connections.items ≡ Some i) (item : c ≡ get_or old.connections.items i c)
     (config : new.config ≡ old.config)
     (changed : new.connections.items ≡ set old.connections.items i (record { number = c.number; intake = now }))
-    (limit : now.limit ≡ c.intake.limit) where
+    (limit : now.limit ≡ c.intake.limit) (law : IsClean g new → IsHonest g new) (settles : Settles (store_of g new))
+    (held holds : Option (List ℕ)) (failures failures_after : ℕ) where
+  abbrev Over : Arrived → Type 0
+  Over answer = ServesOver old.config (arrival_of c.intake piece moment) (outside held failures (store_of g old)) (outside holds failures_after (store_of g new)) now.place answer
+
   -- the world after the arrival
-  pub arrives_at : (held holds : Option (List ℕ)) (answer : Arrived) (v : ServesOver old.config held holds (arrival_of c.intake piece moment) old.store new.store now.place answer)
-      → (w : World) → StandsAt old w → (line : Line) × Arrives old.config piece moment (w.line n) w.state v.0 new.store line answer
-      × StandsAt new (record { state = new.store; line = with_line n line w.line })
-  arrives_at held holds answer v w at =
+  arrives_at : (answer : Arrived) (v : Over answer) → IsHonest g new → (w : World) → StandsAt g old w
+      → ArrivesTo g old.config new n piece moment v.sent failures failures_after answer w
+  arrives_at answer v honest w at =
       let found = index_some n i old.connections.items c index item in
       let kept : IsKeptAs old.config.max_upload (w.line n) (Some c.intake) = subst (λ o. IsKeptAs old.config.max_upload (w.line n) o) found.1 (at.kept n) in
-      let r : NextLine old.config piece moment (w.line n) old.store v.0 new.store now answer =
-      arrival old.config piece moment (w.line n) old.store v.0 new.store c.intake now answer limit kept v.2 in (
-        r.becomes,
-        subst (λ s. Arrives old.config piece moment (w.line n) s v.0 new.store r.becomes answer) at.state r.arrival,
-        record {
-          state = refl;
-          sound = arrives_sound r.arrival (subst IsSound (sym at.state) at.sound);
+      let r = arrival old.config piece moment (w.line n) w.state v.sent (outside held failures (store_of g old)) (outside holds failures_after (store_of g new))
+      c.intake now answer limit kept (λ same. v.serves same honest w.state at.state) in
+      record {
+        left = r.left;
+        line = r.becomes;
+        arrives = r.arrival;
+        stands = λ clean. record {
+          state = r.stands clean;
           kept = subst (λ (x : _). (m : ℕ) → IsKeptAs x.max_upload (with_line n r.becomes w.line m) (intake_of new.connections.items m)) (sym config)
               (kept_put old.config.max_upload n r.becomes w.line (Some now) old.connections.items new.connections.items r.kept at.kept
               (λ m. ap (λ cs. intake_of cs m) changed ∙ intake_set n i old.connections.items (record { number = c.number; intake = now }) index found.0 m));
-        },
-      )
-
-  pub arrives_adds : (held holds : Option (List ℕ)) (answer : Arrived) (v : ServesOver old.config held holds (arrival_of c.intake piece moment) old.store new.store now.place answer)
-      → Adds old new (Arrive n piece moment) v.0
-  arrives_adds held holds answer v first records h =
-      let a = arrives_at held holds answer v h.world h.at in
-      record {
-        world = record { state = new.store; line = with_line n a.0 h.world.line };
-        run = subst (λ (x : _). Run x first (records ++ record { event = Arrive n piece moment; sent = v.0 } ∷ []) (record { state = new.store; line = with_line n a.0 h.world.line })) (sym config)
-            (goes_on h.run (arrives a.1));
-        at = a.2;
+        };
+        rests = λ clean. stays_as (store_of g new) r.left settles (r.stands clean);
+        stays_clean = r.stays_clean;
+        stop = r.stop;
+        cause = r.cause;
       }
 
-  over : (held holds : Option (List ℕ)) (failures failures_after : ℕ) (answer : Arrived) → (answer ≡ Cut → HasRisen failures failures_after)
-      → ServesOver old.config held holds (arrival_of c.intake piece moment) old.store new.store now.place answer
-      → ArrivesOver held holds failures failures_after old new n piece moment answer
-  over held holds failures failures_after answer cause v = record {
-    sent = v.0;
-    appends = v.1;
+  arrives_adds : (answer : Arrived) (v : Over answer) → IsClean g new → Adds g old new (Arrive n piece moment) v.sent
+  arrives_adds answer v clean first records h =
+      let a = arrives_at answer v (law clean) h.world h.at in
+      record {
+        world = record { state = a.left; line = with_line n a.line h.world.line };
+        run = subst (λ (x : _). Run x first (records ++ record { event = Arrive n piece moment; sent = v.sent } ∷ []) (record { state = a.left; line = with_line n a.line h.world.line })) (sym config)
+            (goes_on h.run (arrives a.arrives));
+        at = a.stands clean;
+      }
+
+  arrives_stops : (answer : Arrived) (v : Over answer) → StopsAfter g old new (Arrive n piece moment) v.sent
+  arrives_stops answer v honest first records h =
+      let a = arrives_at answer v honest h.world h.at in
+      leaves_wider (store_of g new) _ _ (λ c l. breaks c h.run a.arrives l) a.stop
+
+  over : (answer : Arrived) → Over answer → ArrivesOver g held holds failures failures_after old new n piece moment answer
+  over answer v = record {
+    sent = v.sent;
+    appends = v.passes.appends;
     arrival = record {
-      adds = arrives_adds held holds answer v;
-      answers = λ w at. let a = arrives_at held holds answer v w at in
-          record { left = new.store; line = a.0; arrives = a.1; stands = a.2; cause = λ cut. inl (cause cut) };
+      adds = arrives_adds answer v;
+      stops = arrives_stops answer v;
+      clean = v.passes.clean;
+      honest = v.passes.honest;
+      answers = arrives_at answer v;
     };
   }
 
-  pub comes_to : (held holds : Option (List ℕ)) (failures failures_after : ℕ) (answer : Arrived) → answer ≢ NoSuch → (answer ≡ Cut → HasRisen failures failures_after)
-      → ServesOver old.config held holds (arrival_of c.intake piece moment) old.store new.store now.place answer
-      → ComesTo held holds failures failures_after old new n piece moment answer
-  comes_to held holds failures failures_after StaysOpen there cause v = over held holds failures failures_after StaysOpen cause v
-  comes_to held holds failures failures_after Closed there cause v = over held holds failures failures_after Closed cause v
-  comes_to held holds failures failures_after Cut there cause v = over held holds failures failures_after Cut cause v
-  comes_to held holds failures failures_after NoSuch there cause v = absurd (there refl)
+  pub comes_to : (answer : Arrived) → answer ≢ NoSuch → Over answer → ComesTo g held holds failures failures_after old new n piece moment answer
+  comes_to StaysOpen there v = over StaysOpen v
+  comes_to Closed there v = over Closed v
+  comes_to Cut there v = over Cut v
+  comes_to NoSuch there v = absurd (there refl)
 
 pub keeps_same : (held : Option (List ℕ)) → Keeps held held
 keeps_same None = tt
@@ -215,54 +283,63 @@ absent_if n m cs false e f = refl
 pub absent_already : (n : ℕ) (cs : List Connection) → intake_of cs n ≡ None → (m : ℕ) → intake_of cs m ≡ (if m == n then None else intake_of cs m)
 absent_already n cs f m = absent_if n m cs (m == n) refl f
 
--- a connection is closed
-pub closes_moves : (old new : Hub) (n : ℕ) → new.config ≡ old.config → new.store ≡ old.store
-    → ((m : ℕ) → intake_of new.connections.items m ≡ (if m == n then None else intake_of old.connections.items m))
-    → Moves old new (Close n) []
-closes_moves old new n config store gone w at = (
-  record { state = w.state; line = with_line n Absent w.line },
-  closes,
-  record {
-    state = store ∙ at.state;
-    sound = at.sound;
-    kept = subst (λ (x : _). (m : ℕ) → IsKeptAs x.max_upload (with_line n Absent w.line m) (intake_of new.connections.items m)) (sym config)
-        (kept_put old.config.max_upload n Absent w.line None old.connections.items new.connections.items tt at.kept gone);
-  },
-)
+module _ {S : Type 0} (g : Ghosts S) (old new : Hub S g) (config : new.config ≡ old.config) where
+  same_state : (w : State) → new.store ≡ old.store → StandsFor (store_of g old) w → StandsFor (store_of g new) w
+  same_state w store h = subst (λ (x : Held S). StandsFor (state g x) w) (sym store) h
 
--- what moves, adds
-pub moves_adds : (old new : Hub) (event : Event) (sent : List ℕ) → new.config ≡ old.config → Moves old new event sent → Adds old new event sent
-moves_adds old new event sent config m first records h =
-    let a = m h.world h.at in
+  -- a connection is closed
+  pub closes_moves : (n : ℕ) → new.store ≡ old.store
+      → ((m : ℕ) → intake_of new.connections.items m ≡ (if m == n then None else intake_of old.connections.items m))
+      → Moves g old new (Close n) []
+  closes_moves n store gone w at = (
+    record { state = w.state; line = with_line n Absent w.line },
+    closes,
     record {
-      world = a.0;
-      run = subst (λ (x : _). Run x first (records ++ record { event = event; sent = sent } ∷ []) a.0) (sym config) (goes_on h.run a.1);
-      at = a.2;
-    }
+      state = same_state w.state store at.state;
+      kept = subst (λ (x : _). (m : ℕ) → IsKeptAs x.max_upload (with_line n Absent w.line m) (intake_of new.connections.items m)) (sym config)
+          (kept_put old.config.max_upload n Absent w.line None old.connections.items new.connections.items tt at.kept gone);
+    },
+  )
 
--- a connection is opened
-pub connects_moves : (old new : Hub) (n : ℕ) → new.config ≡ old.config → new.store ≡ old.store → n ≡ old.next
-    → new.connections.items ≡ old.connections.items ++ record { number = n; intake = record { limit = old.config.max_upload; place = Open false [] } } ∷ []
-    → Moves old new (Connect n) []
-connects_moves old new n config store this items w at =
-    let d : Connection = record { number = n; intake = record { limit = old.config.max_upload; place = Open false [] } } in
-    let low : Ascends 0 old.connections.items n = subst (λ k. Ascends 0 old.connections.items k) (sym this) old.ascends in (
-      record { state = w.state; line = with_line n (Live []) w.line },
-      connects,
+  -- what moves, adds
+  pub moves_adds : (event : Event) (sent : List ℕ) → Moves g old new event sent → Adds g old new event sent
+  moves_adds event sent m first records h =
+      let a = m h.world h.at in
       record {
-        state = store ∙ at.state;
-        sound = at.sound;
-        kept = subst (λ (x : _). (m : ℕ) → IsKeptAs x.max_upload (with_line n (Live []) w.line m) (intake_of new.connections.items m)) (sym config)
-            (kept_put old.config.max_upload n (Live []) w.line (Some d.intake) old.connections.items new.connections.items (kept_fresh old.config.max_upload) at.kept
-            (λ m. ap (λ cs. intake_of cs m) items ∙ intake_push 0 old.connections.items d low m));
-      },
-    )
+        world = a.0;
+        run = subst (λ (x : _). Run x first (records ++ record { event = event; sent = sent } ∷ []) a.0) (sym config) (goes_on h.run a.1);
+        at = a.2;
+      }
 
--- a hub that stands at the same worlds stands for the same records
-pub same_stands_for : (old new : Hub) → new.config ≡ old.config → ((w : World) → StandsAt old w → StandsAt new w)
-    → (first : State) (records : List Record) → StandsFor old first records → StandsFor new first records
-same_stands_for old new config same first records h = record {
-  world = h.world;
-  run = subst (λ (x : _). Run x first records h.world) (sym config) h.run;
-  at = same h.world h.at;
-}
+  -- a connection is opened
+  pub connects_moves : (n : ℕ) → new.store ≡ old.store → n ≡ old.next
+      → new.connections.items ≡ old.connections.items ++ record { number = n; intake = record { limit = old.config.max_upload; place = Open false [] } } ∷ []
+      → Moves g old new (Connect n) []
+  connects_moves n store this items w at =
+      let d : Connection = record { number = n; intake = record { limit = old.config.max_upload; place = Open false [] } } in
+      let low : Ascends 0 old.connections.items n = subst (λ k. Ascends 0 old.connections.items k) (sym this) old.ascends in (
+        record { state = w.state; line = with_line n (Live []) w.line },
+        connects,
+        record {
+          state = same_state w.state store at.state;
+          kept = subst (λ (x : _). (m : ℕ) → IsKeptAs x.max_upload (with_line n (Live []) w.line m) (intake_of new.connections.items m)) (sym config)
+              (kept_put old.config.max_upload n (Live []) w.line (Some d.intake) old.connections.items new.connections.items (kept_fresh old.config.max_upload) at.kept
+              (λ m. ap (λ cs. intake_of cs m) items ∙ intake_push 0 old.connections.items d low m));
+        },
+      )
+
+  -- a hub that stands at the same worlds stands for the same records
+  pub same_stands_for : ((w : World) → StandsAt g old w → StandsAt g new w)
+      → (first : State) (records : List Record) → StandsAfter g old first records → StandsAfter g new first records
+  same_stands_for same first records h = record {
+    world = h.world;
+    run = subst (λ (x : _). Run x first records h.world) (sym config) h.run;
+    at = same h.world h.at;
+  }
+
+-- a stop at rest
+pub rests : {S : Type 0} (g : Ghosts S) (hub : Hub S g) → Settles (store_of g hub) → (first : State) (records : List Record) → StandsAfter g hub first records
+    → Leaves (store_of g hub) (λ found. Run hub.config first (records ++ stopped ∷ []) (first_world found))
+rests g hub settles first records h =
+    leaves_wider (store_of g hub) _ _ (λ c e. subst (λ s. Run hub.config first (records ++ stopped ∷ []) (first_world s)) (sym e) (stops h.run))
+    (stays_as (store_of g hub) h.world.state settles h.at.state)

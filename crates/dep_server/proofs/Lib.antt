@@ -1,12 +1,14 @@
-pub mod ServingLemmas
-pub mod CalmLemmas
-pub mod StreamLemmas
-pub mod ConnectionLemmas
+pub mod Leaving
+mod StepLemmas
+mod ServingLemmas
+mod SendingLemmas
+mod ConnectionLemmas
 pub mod HubLemmas
 pub mod TalkLemmas
-pub mod SendingLemmas
-pub mod SoundLemmas
-pub mod RunSound
-pub mod BareLemmas
-pub mod HeadLemmas
-pub mod StepLemmas
+mod CalmLemmas
+mod StreamLemmas
+mod SoundLemmas
+mod RunKeeps
+mod SegmentsStay
+mod BareLemmas
+mod HeadLemmas

@@ -1,23 +1,29 @@
 -- How the serving of an arrival goes on, and how it ends.
-use Rattle.std.proofs.Common.{◌≡◌, ◌≢◌, ℕ, List, [], ◌∷◌, ◌++◌, refl, sym, ap, subst, ◌∙◌, append_assoc, Option, Some, None}
+use Rattle.std.proofs.Common.{◌≡◌, ◌≢◌, ◌⊎◌, inl, inr, ℕ, Bool, List, [], ◌∷◌, ◌++◌, IsTrue, refl, sym, ap, subst, ◌∙◌, append_assoc, Option}
 use Rattle.std.proofs.lemmas.List.{append-nil}
 use Rattle.std.specs.Io.KnownBytes.{Appends}
+use Rattle.sqlite.specs.State as db
 use Rattle.dep_types.specs.State.{State}
 use Rattle.dep_types.specs.declared.config.Config.{Config}
 use Rattle.dep_types.specs.Writing.{IsProperPrefix, HasRisen}
+use Rattle.dep_types.specs.declared.refusal.Refusal.{Refusal}
+use Rattle.dep_types.specs.declared.store_fault.StoreFault.{StoreFault}
+use Rattle.dep_types.specs.declared.store_fault.StoreFault.TheVariants.{Store, Memory}
 use Rattle.dep_message.specs.Places.{Place, Open, Shut, IsOpen, HasBytes, place_with}
 use Rattle.dep_message.specs.Stream.{Item, Fault, FirstAt, Waits}
-use Rattle.dep_store.specs.Steps.{sent_by}
-use Rattle.dep_server.specs.Machine.{starting_state, step, replies, state_after, Fails, given_up, cut_short, serves_all, step_fails, gives_up, SendsUpTo, all, cut, want_of_memory, answer_at_place}
-use Rattle.dep_server.specs.Sending.{IsSentUpTo, SendsOver, SendsReply}
-use Rattle.std.proofs.Common.{inl, inr, Bool}
-use Rattle.dep_types.specs.declared.refusal.Refusal.{Refusal}
-use Rattle.dep_server.specs.Serving.{Arrival, ReadsWith, AnswersOver, Progress, ServesFrom, ServesOver, answer_after}
+use Rattle.dep_message.proofs.Reading.{reads_one}
+use Rattle.dep_answers.specs.Steps.{sent_by}
+use Rattle.dep_store.specs.Standing.{StandsFor, Leaves}
+use Rattle.dep_server.specs.Machine.{starting_state, step, replies, state_after, given_up, cut_short, serves_all, step_fails, gives_up, SendsUpTo, all, cut, want_of_memory, store_fault, answer_at_place}
+use Rattle.dep_server.specs.Causes.{IsCutInContent}
+use Rattle.dep_server.specs.Sending.{IsSentUpTo, SendsOver, SendsReply, Outside, Passes, SendsStep, reply_to}
+use Rattle.dep_server.specs.Serving.{Arrival, FailsFrom, IsAnsweredBy, Answers, Progress, ServesFrom, ServesOver, answer_after}
 use Rattle.dep_server.specs.declared.arrived.Arrived.{Arrived}
 use Rattle.dep_server.specs.declared.arrived.Arrived.TheVariants.{Open as StaysOpen, Closed, Cut, NoSuch}
 use Rattle.dep_server.specs.declared.sending.Answered.{Answered}
 use Rattle.dep_server.specs.declared.sending.Answered.TheVariants.{Sent, GaveUp, CutShort}
-use Rattle.dep_message.proofs.Reading.{reads_one}
+use Rattle.dep_server.proofs.Leaving.{Settles, stays_as, is_open}
+use Rattle.dep_server.proofs.SendingLemmas.{passes_none, passes_both, passes_at}
 
 -- what is sent for one item more
 pub replies_more : (config : Config) (s : State) (items : List Item) (item : Item) (moment : ℕ)
@@ -33,32 +39,34 @@ pub state_after_more : (config : Config) (s : State) (items : List Item) (item :
 state_after_more config s [] item moment = refl
 state_after_more config s (x ∷ items) item moment = state_after_more config (step config s x moment).state items item moment
 
-pub appends_none : (held : Option (List ℕ)) → Appends held held []
-appends_none None = tt
-appends_none (Some bytes) = sym (append-nil bytes)
-
-pub appends_both : (a b c : Option (List ℕ)) (xs ys : List ℕ) → Appends a b xs → Appends b c ys → Appends a c (xs ++ ys)
-appends_both None b c xs ys h k = tt
-appends_both (Some xs') None c xs ys h k = absurd h
-appends_both (Some xs') (Some bs) None xs ys h k = absurd k
-appends_both (Some xs') (Some bs) (Some cs) xs ys h k = k ∙ (ap (λ l. l ++ ys) h ∙ append_assoc xs' xs ys)
-
 -- nothing is served yet
-pub served_none : (config : Config) (came : Arrival) (s : State) (held : Option (List ℕ)) → Progress config came s held held (place_with came.reading.place came.piece) s
-served_none config came s held = record { items = []; sent = appends_none held; reads = refl; state = refl }
+pub served_none : (config : Config) (came : Arrival) (at : Outside) → Progress config came at at (place_with came.reading.place came.piece)
+served_none config came at = record {
+  items = [];
+  sent = [];
+  reads = refl;
+  passes = passes_none at;
+  replied = λ disk s stands. record { stands = stands; whole = refl; failures = refl };
+}
 
 -- an item more is answered
-pub served_more : {config : Config} {came : Arrival} {at next : Place} {s now left : State} {held holds then : Option (List ℕ)} (item : Item)
-    → Progress config came s held holds at now → FirstAt came.reading.limit at item next
-    → AnswersOver config holds then now item came.moment left Sent → Progress config came s held then next left
-served_more {config} {came} {at} {next} {s} {now} {left} {held} {holds} {then} item v f answer =
+pub served_more : {config : Config} {came : Arrival} {old mid new : Outside} {at next : Place} (item : Item)
+    → Progress config came old mid at → FirstAt came.reading.limit at item next
+    → Answers config mid new item came.moment Sent → Progress config came old new next
+served_more {config} {came} {old} {mid} {new} {at} {next} item v f a =
     record {
       items = v.items ++ item ∷ [];
-      sent = subst (λ bytes. Appends held then bytes)
-          (ap (λ bytes. replies config s v.items came.moment ++ bytes) (answer.2.0 ∙ ap (λ t. sent_by (step config t item came.moment)) v.state) ∙ sym (replies_more config s v.items item came.moment))
-          (appends_both held holds then (replies config s v.items came.moment) answer.0 v.sent answer.1);
+      sent = v.sent ++ a.sent;
       reads = reads_one came.reading.limit v.items item (place_with came.reading.place came.piece) at next v.reads f;
-      state = answer.2.1 ∙ (ap (λ t. (step config t item came.moment).state) v.state ∙ sym (state_after_more config s v.items item came.moment));
+      passes = passes_both v.passes a.passes;
+      replied = λ disk s stands.
+          let b = v.replied (a.passes.honest disk) s stands in
+          let x = a.steps disk (state_after config s v.items came.moment) b.stands in
+          record {
+            stands = subst (λ t. StandsFor new.store t) (sym (state_after_more config s v.items item came.moment)) x.stands;
+            whole = ap (λ bytes. bytes ++ a.sent) b.whole ∙ (ap (λ bytes. replies config s v.items came.moment ++ bytes) x.whole ∙ sym (replies_more config s v.items item came.moment));
+            failures = x.failures ∙ b.failures;
+          };
     }
 
 -- a fixed reply is sent up to its end or cut
@@ -67,97 +75,189 @@ sends_up_to whole sent Sent h = absurd h
 sends_up_to whole sent GaveUp h = subst (λ bytes. SendsUpTo whole bytes Closed) (sym h) all
 sends_up_to whole sent CutShort h = cut h
 
+-- what a failed step may leave
+pub record GivesUp (config : Config) (s : State) (item : Item) (moment : ℕ) (new : db.State) : Type 0 where
+  pub left : State
+  pub is_left : (left ≡ s) ⊎ (left ≡ starting_state config s item moment)
+  pub stands : IsTrue new.is_open → StandsFor new left
+  pub stop : Leaves new (λ found. (found ≡ s) ⊎ ((found ≡ starting_state config s item moment) ⊎ (found ≡ (step config s item moment).state)))
+
+pub is_fixed : (fault : StoreFault) → (reply_to fault ≡ want_of_memory) ⊎ (reply_to fault ≡ store_fault)
+is_fixed Store = inr refl
+is_fixed Memory = inl refl
+
 -- a fixed reply in place of the step's
-pub answers_fixed : (config : Config) (held holds : Option (List ℕ)) (s left : State) (item : Item) (moment : ℕ) (answer : Answered)
-    → left ≡ starting_state config s item moment → SendsOver held holds want_of_memory answer → AnswersOver config held holds s item moment left answer
-answers_fixed config held holds s left item moment Sent e a = absurd a.2
-answers_fixed config held holds s left item moment GaveUp e a = (a.0, a.1, given_up (inl refl) (sends_up_to want_of_memory a.0 GaveUp a.2) (inr e))
-answers_fixed config held holds s left item moment CutShort e a = (a.0, a.1, given_up (inl refl) (sends_up_to want_of_memory a.0 CutShort a.2) (inr e))
+module _ (config : Config) (old new : Outside) (item : Item) (moment : ℕ) (fault : StoreFault)
+    (honest : db.HasCleanDisk new.store → db.HasCleanDisk old.store) (clean : IsTrue new.store.is_open → IsTrue old.store.is_open)
+    (gives : db.HasCleanDisk new.store → (s : State) → StandsFor old.store s → GivesUp config s item moment new.store) where
+  pub answers_fixed : (answer : Answered) → SendsOver old.taken new.taken (reply_to fault) answer → (answer ≡ CutShort → HasRisen old.failures new.failures)
+      → Answers config old new item moment answer
+  answers_fixed Sent x cause = absurd x.2
+  answers_fixed GaveUp x cause = record {
+    sent = x.0;
+    passes = record { appends = x.1; honest = honest; clean = clean };
+    steps = λ disk s stands. let v = gives disk s stands in record {
+      left = v.left;
+      fails = given_up (is_fixed fault) (sends_up_to (reply_to fault) x.0 GaveUp x.2) v.is_left;
+      stands = v.stands;
+      stop = v.stop;
+      cause = λ e. cc;
+    };
+  }
+  answers_fixed CutShort x cause = record {
+    sent = x.0;
+    passes = record { appends = x.1; honest = honest; clean = clean };
+    steps = λ disk s stands. let v = gives disk s stands in record {
+      left = v.left;
+      fails = given_up (is_fixed fault) (sends_up_to (reply_to fault) x.0 CutShort x.2) v.is_left;
+      stands = v.stands;
+      stop = v.stop;
+      cause = λ e. inl (cause refl);
+    };
+  }
 
--- an item's own reply
-pub answers_reply : (config : Config) (held holds : Option (List ℕ)) (s left : State) (item : Item) (moment : ℕ) (answer : Answered) (whole : List ℕ)
-    → left ≡ (step config s item moment).state → whole ≡ sent_by (step config s item moment) → SendsReply held holds whole answer → AnswersOver config held holds s item moment left answer
-answers_reply config held holds s left item moment Sent whole e f a = (a.0, a.1, (a.2 ∙ f, e))
-answers_reply config held holds s left item moment GaveUp whole e f a = absurd a.2
-answers_reply config held holds s left item moment CutShort whole e f a = (a.0, a.1, cut_short (subst (λ (bytes : List ℕ). IsProperPrefix a.0 bytes) f a.2) e)
+-- an item's own reply, once its step was made
+pub answers_from : (config : Config) (s : State) (item : Item) (moment : ℕ) (sent : List ℕ) (old new : Outside) (answer : Answered)
+    → SendsStep (step config s item moment) old new sent answer → IsAnsweredBy config s item moment sent old new answer
+answers_from config s item moment sent old new Sent h = h
+answers_from config s item moment sent old new GaveUp h = absurd h
+answers_from config s item moment sent old new CutShort h = record {
+  left = (step config s item moment).state;
+  fails = cut_short h.part refl;
+  stands = h.stands;
+  stop = h.stop;
+  cause = λ e. h.cause;
+}
 
-answer_open : (at : Place) → IsOpen at → answer_at_place at ≡ StaysOpen
+-- a step is made over one store, and its reply sent over it
+pub made_from : (config : Config) (s : State) (item : Item) (moment : ℕ) (sent : List ℕ) (old mid new : Outside) (answer : Answered)
+    → mid.failures ≡ old.failures → IsAnsweredBy config s item moment sent mid new answer → IsAnsweredBy config s item moment sent old new answer
+made_from config s item moment sent old mid new Sent e h = record { stands = h.stands; whole = h.whole; failures = h.failures ∙ e }
+made_from config s item moment sent old mid new GaveUp e h = record {
+  left = h.left;
+  fails = h.fails;
+  stands = h.stands;
+  stop = h.stop;
+  cause = λ c. subst (λ n. HasRisen n new.failures ⊎ IsCutInContent h.fails) e (h.cause c);
+}
+made_from config s item moment sent old mid new CutShort e h = record {
+  left = h.left;
+  fails = h.fails;
+  stands = h.stands;
+  stop = h.stop;
+  cause = λ c. subst (λ n. HasRisen n new.failures ⊎ IsCutInContent h.fails) e (h.cause c);
+}
+
+-- a reply without a stored content, over a store that stays
+pub answers_reply : (config : Config) (held holds : Option (List ℕ)) (before after : ℕ) (store : db.State) (item : Item) (moment : ℕ) (answer : Answered) (reply : List ℕ)
+    → Settles store → SendsReply held holds reply answer → (answer ≡ Sent → after ≡ before) → (answer ≡ CutShort → HasRisen before after)
+    → ((s : State) → StandsFor store s → StandsFor store (step config s item moment).state × (reply ≡ sent_by (step config s item moment)))
+    → Answers config (record { taken = held; failures = before; store = store }) (record { taken = holds; failures = after; store = store }) item moment answer
+answers_reply config held holds before after store item moment Sent reply settles x kept cause made = record {
+  sent = x.0;
+  passes = passes_at held holds before after store x.0 x.1;
+  steps = λ disk s stands. let b = made s stands in record { stands = b.0; whole = x.2 ∙ b.1; failures = kept refl };
+}
+answers_reply config held holds before after store item moment GaveUp reply settles x kept cause made = absurd x.2
+answers_reply config held holds before after store item moment CutShort reply settles x kept cause made = record {
+  sent = x.0;
+  passes = passes_at held holds before after store x.0 x.1;
+  steps = λ disk s stands. let b = made s stands in record {
+    left = (step config s item moment).state;
+    fails = cut_short (subst (λ (bytes : List ℕ). IsProperPrefix x.0 bytes) b.1 x.2) refl;
+    stands = λ _. b.0;
+    stop = stays_as store (step config s item moment).state settles b.0;
+    cause = λ e. inl (cause refl);
+  };
+}
+
+pub answer_open : (at : Place) → IsOpen at → answer_at_place at ≡ StaysOpen
 answer_open (Open continued rest) o = refl
 answer_open Shut o = absurd o
 
--- where the reading has come to its end
-sent_last : (config : Config) (came : Arrival) (s : State) (held holds : Option (List ℕ)) (at : Place) (now : State)
-    → Progress config came s held holds at now → at ≡ Shut
-    → ServesOver config held holds came s now Shut Closed
-sent_last config came s held holds at now v e =
-    let reads : ReadsWith came v.items Shut = subst (λ p. ReadsWith came v.items p) e v.reads in
-    let whole : ServesFrom config came s (replies config s v.items came.moment) (state_after config s v.items came.moment) Shut Closed = serves_all v.items reads tt in
-    (replies config s v.items came.moment, v.sent, λ _. subst (λ t. ServesFrom config came s (replies config s v.items came.moment) t Shut Closed) (sym v.state) whole)
-
-module _ (config : Config) (came : Arrival) (s : State) (held holds : Option (List ℕ)) (at : Place) (now : State)
-    (v : Progress config came s held holds at now) where
+module _ (config : Config) (came : Arrival) (old now : Outside) (at : Place) (v : Progress config came old now at) where
   -- no item is complete any more
-  pub serves_waiting : (p : Place) → p ≡ at → Waits came.reading.limit at → ServesOver config held holds came s now p (answer_at_place at)
-  serves_waiting p e w = (
-    replies config s v.items came.moment,
-    v.sent,
-    λ same.
-        let whole : ServesFrom config came s (replies config s v.items came.moment) (state_after config s v.items came.moment) at (answer_at_place at) = serves_all v.items v.reads (subst (λ n. Waits n at) same w) in
-        let there : ServesFrom config came s (replies config s v.items came.moment) now at (answer_at_place at) = subst (λ t. ServesFrom config came s (replies config s v.items came.moment) t at (answer_at_place at)) (sym v.state) whole in
-        subst (λ q. ServesFrom config came s (replies config s v.items came.moment) now q (answer_at_place at)) (sym e) there,
-  )
+  pub serves_waiting : Settles now.store → (p : Place) → p ≡ at → (answer : Arrived) → answer ≡ answer_at_place at → answer ≢ Cut
+      → (came.reading.limit ≡ config.max_upload → Waits config.max_upload at)
+      → ServesOver config came old now p answer
+  serves_waiting settles p e answer r never w = record {
+    sent = v.sent;
+    passes = v.passes;
+    serves = λ same disk s stands.
+        let b = v.replied disk s stands in
+        subst (λ q. ServesFrom config came s v.sent old now q answer) (sym e)
+        (subst (λ a. ServesFrom config came s v.sent old now at a) (sym r)
+        (subst (λ bytes. ServesFrom config came s bytes old now at (answer_at_place at)) (sym b.whole)
+        (record {
+          left = state_after config s v.items came.moment;
+          serves = serves_all v.items v.reads (w same);
+          stands = λ _. b.stands;
+          stays_clean = λ _. is_open b.stands;
+          stop = stays_as now.store (state_after config s v.items came.moment) settles b.stands;
+          cause = λ c. absurd (never (r ∙ c));
+        })));
+  }
 
   -- a step fails
-  pub serves_failed : (item : Item) (next : Place) (then : Option (List ℕ)) (left : State) (answer : Arrived) (sent : List ℕ)
-      → FirstAt came.reading.limit at item next → Appends holds then sent → Fails config now item came.moment sent left answer
-      → ServesOver config held then came s left Shut answer
-  serves_failed item next then left answer sent f a fails = (
-    replies config s v.items came.moment ++ sent,
-    appends_both held holds then (replies config s v.items came.moment) sent v.sent a,
-    λ _. step_fails v.items item next (reads_one came.reading.limit v.items item (place_with came.reading.place came.piece) at next v.reads f)
-        (subst (λ t. Fails config t item came.moment sent left answer) v.state fails),
-  )
-
-  -- an item is answered, and it is the last
-  pub serves_last : (item : Item) (next : Place) (then : Option (List ℕ)) (left : State) (answer : Answered)
-      → FirstAt came.reading.limit at item next → (answer ≡ Sent → next ≡ Shut)
-      → AnswersOver config holds then now item came.moment left answer
-      → (p : Place) → p ≡ Shut → (a : Arrived) → a ≡ answer_after answer
-      → ServesOver config held then came s left p a
-  serves_last item next then left answer f e a p q b r =
-      subst (λ x. ServesOver config held then came s left x b) (sym q)
-      (subst (λ x. ServesOver config held then came s left Shut x) (sym r) (last item next then left answer f e a))
-    where
-      last : (item : Item) (next : Place) (then : Option (List ℕ)) (left : State) (answer : Answered)
-          → FirstAt came.reading.limit at item next → (answer ≡ Sent → next ≡ Shut)
-          → AnswersOver config holds then now item came.moment left answer
-          → ServesOver config held then came s left Shut (answer_after answer)
-      last item next then left Sent f e a = sent_last config came s held then next left (served_more item v f a) (e refl)
-      last item next then left GaveUp f e a = serves_failed item next then left Closed a.0 f a.1 a.2
-      last item next then left CutShort f e a = serves_failed item next then left Cut a.0 f a.1 a.2
+  pub serves_failed : (new : Outside) (next : Place) (item : Item) (answer : Arrived) (sent : List ℕ) → answer ≢ StaysOpen
+      → FirstAt came.reading.limit at item next → Passes now new sent
+      → (db.HasCleanDisk new.store → (s : State) → StandsFor now.store s → FailsFrom config s item came.moment sent now new answer)
+      → ServesOver config came old new Shut answer
+  serves_failed new next item answer sent ends f p fails = record {
+    sent = v.sent ++ sent;
+    passes = passes_both v.passes p;
+    serves = λ same disk s stands.
+        let b = v.replied (p.honest disk) s stands in
+        let x = fails disk (state_after config s v.items came.moment) b.stands in
+        subst (λ bytes. ServesFrom config came s (bytes ++ sent) old new Shut answer) (sym b.whole)
+        (record {
+          left = x.left;
+          serves = step_fails v.items item next (reads_one came.reading.limit v.items item (place_with came.reading.place came.piece) at next v.reads f) x.fails;
+          stands = x.stands;
+          stays_clean = λ c. absurd (ends c);
+          stop = x.stop;
+          cause = λ c. subst (λ n. HasRisen n new.failures ⊎ IsCutInContent x.fails) b.failures (x.cause c);
+        });
+  }
 
   -- memory runs out before the next item
-  pub serves_gives_up : (then : Option (List ℕ)) (answer : Arrived) → HasBytes at
-      → (sent : List ℕ) × Appends holds then sent × SendsUpTo want_of_memory sent answer
+  pub serves_gives_up : (then : Option (List ℕ)) (after : ℕ) → Settles now.store → (answer : Arrived) → HasBytes at
+      → (sent : List ℕ) × Appends now.taken then sent × SendsUpTo want_of_memory sent answer → (answer ≡ Cut → HasRisen now.failures after)
       → (p : Place) → p ≡ Shut
-      → ServesOver config held then came s now p answer
-  serves_gives_up then answer b a p e = (
-    replies config s v.items came.moment ++ a.0,
-    appends_both held holds then (replies config s v.items came.moment) a.0 v.sent a.1,
-    λ _. subst (λ x. ServesFrom config came s (replies config s v.items came.moment ++ a.0) now x answer) (sym e)
-        (subst (λ t. ServesFrom config came s (replies config s v.items came.moment ++ a.0) t Shut answer) (sym v.state)
-        (gives_up v.items at v.reads b a.2)),
-  )
+      → ServesOver config came old (record { taken = then; failures = after; store = now.store }) p answer
+  serves_gives_up then after settles answer has a cause p e = record {
+    sent = v.sent ++ a.0;
+    passes = passes_both v.passes (passes_at now.taken then now.failures after now.store a.0 a.1);
+    serves = λ same disk s stands.
+        let b = v.replied disk s stands in
+        subst (λ q. ServesFrom config came s (v.sent ++ a.0) old (record { taken = then; failures = after; store = now.store }) q answer) (sym e)
+        (subst (λ bytes. ServesFrom config came s (bytes ++ a.0) old (record { taken = then; failures = after; store = now.store }) Shut answer) (sym b.whole)
+        (record {
+          left = state_after config s v.items came.moment;
+          serves = gives_up v.items at v.reads has a.2;
+          stands = λ _. b.stands;
+          stays_clean = λ _. is_open b.stands;
+          stop = stays_as now.store (state_after config s v.items came.moment) settles b.stands;
+          cause = λ c. inl (subst (λ n. HasRisen n after) b.failures (cause c));
+        }));
+  }
 
-  pub serves_open : (limit : ℕ) → limit ≡ came.reading.limit → (p : Place) → p ≡ at → Waits limit at → IsOpen at → ServesOver config held holds came s now p StaysOpen
-  serves_open limit l p e w o =
-      subst (λ a. ServesOver config held holds came s now p a) (answer_open at o)
-      (serves_waiting p e (subst (λ n. Waits n at) l w))
+-- an item is answered, and it is the last
+module _ (config : Config) (came : Arrival) (old now new : Outside) (at next : Place) (v : Progress config came old now at) (settles : Settles new.store) where
+  last : (item : Item) (answer : Answered) → FirstAt came.reading.limit at item next → (answer ≡ Sent → next ≡ Shut)
+      → Answers config now new item came.moment answer → ServesOver config came old new Shut (answer_after answer)
+  last item Sent f e a =
+      serves_waiting config came old new next (served_more item v f a) settles Shut (sym (e refl)) Closed (ap answer_at_place (sym (e refl))) (λ c. cc)
+      (λ same. subst (λ q. Waits config.max_upload q) (sym (e refl)) tt)
+  last item GaveUp f e a = serves_failed config came old now at v new next item Closed a.sent (λ c. cc) f a.passes a.steps
+  last item CutShort f e a = serves_failed config came old now at v new next item Cut a.sent (λ c. cc) f a.passes a.steps
 
-  pub serves_shut : (p : Place) → p ≡ at → at ≡ Shut → ServesOver config held holds came s now p Closed
-  serves_shut p e i =
-      subst (λ q. ServesOver config held holds came s now q Closed) (sym (e ∙ i))
-      (sent_last config came s held holds at now v i)
+  pub serves_last : (item : Item) (answer : Answered) → FirstAt came.reading.limit at item next → (answer ≡ Sent → next ≡ Shut)
+      → Answers config now new item came.moment answer → (p : Place) → p ≡ Shut → (b : Arrived) → b ≡ answer_after answer
+      → ServesOver config came old new p b
+  serves_last item answer f e a p q b r =
+      subst (λ x. ServesOver config came old new x b) (sym q)
+      (subst (λ x. ServesOver config came old new Shut x) (sym r) (last item answer f e a))
 
 -- an item is taken at a limit that stayed
 pub first_at : (old limit : ℕ) (at next : Place) (item : Item) → old ≡ limit → FirstAt old at item next → FirstAt limit at item next
@@ -167,16 +267,6 @@ first_at old limit at next item e f = subst (λ n. FirstAt n at item next) e f
 pub fault_shuts : (limit : ℕ) (at next : Place) (refusal : Refusal) (bare : Bool) → FirstAt limit at (Fault refusal bare) next → next ≡ Shut
 fault_shuts limit (Open continued bytes) next refusal bare f = f.goes_on
 fault_shuts limit Shut next refusal bare f = absurd f
-
-cut_only : (answer : Answered) → answer_after answer ≡ Cut → answer ≡ CutShort
-cut_only Sent e = cc
-cut_only GaveUp e = cc
-cut_only CutShort e = refl
-
--- a cut has a cause, counted from the start
-pub cut_cause : (answer : Answered) (result : Arrived) (start now then : ℕ) → result ≡ answer_after answer → now ≡ start
-    → (answer ≡ CutShort → HasRisen now then) → result ≡ Cut → HasRisen start then
-cut_cause answer result start now then e s f c = subst (λ n. HasRisen n then) s (f (cut_only answer (sym e ∙ c)))
 
 -- an item was answered over a connection that is there
 pub never_such : (answer : Answered) → answer_after answer ≢ NoSuch

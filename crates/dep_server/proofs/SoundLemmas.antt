@@ -7,20 +7,20 @@ use Rattle.dep_types.specs.declared.refusal.Refusal.{Refusal}
 use Rattle.dep_types.proofs.TickSound.{keeps_sound}
 use Rattle.dep_message.specs.Stream.{Item, Fault, Continue, Request}
 use Rattle.dep_message.specs.declared.message.Message.{Message}
-use Rattle.dep_operations.specs.Fields.{AreFit}
-use Rattle.dep_operations.specs.Rules.{refusal}
-use Rattle.dep_operations.specs.declared.operation.Operation.{Operation}
-use Rattle.dep_operations.proofs.Fits.{fields_are_fit}
-use Rattle.dep_operations.proofs.Accepted.{accepted_sound}
-use Rattle.dep_store.specs.Steps.{step_by, operation_step}
+use Rattle.dep_fields.specs.Fit.{AreFit}
+use Rattle.dep_fields.proofs.FitFields.{fields_are_fit}
+use Rattle.dep_decisions.specs.Rules.{refusal}
+use Rattle.dep_decisions.specs.declared.operation.Operation.{Operation}
+use Rattle.dep_soundness.proofs.Accepted.{effect_sound}
+use Rattle.dep_answers.specs.Steps.{step_by, operation_step}
 use Rattle.dep_server.specs.Machine.{operation_of, routed_step, step}
-use Rattle.dep_server.specs.Targets.{target}
-use Rattle.dep_server.specs.declared.routing.Routed.{Routed}
-use Rattle.dep_server.specs.declared.routing.Routed.TheVariants.{To, NotFound, NotAllowed}
+use Rattle.dep_router.specs.Targets.{target}
+use Rattle.dep_router.specs.declared.routed.Routed.{Routed}
+use Rattle.dep_router.specs.declared.routed.Routed.TheVariants.{To, NotFound, NotAllowed}
 
 by_refusal : (config : Config) (s : State) (op : Operation) → AreFit op.fields → (o : Option Refusal) → refusal config s op ≡ o
     → IsSound s → IsSound (step_by config s op o).state
-by_refusal config s op fit None accepted sound = accepted_sound config s op fit accepted sound
+by_refusal config s op fit None accepted sound = effect_sound config s op fit accepted sound
 by_refusal config s op fit (Some r) refused sound = sound
 
 operation_sound : (config : Config) (s : State) (op : Operation) → AreFit op.fields → IsSound s → IsSound (operation_step config s op).state
@@ -29,7 +29,7 @@ operation_sound config s op fit sound = by_refusal config s op fit (refusal conf
 
 routed_sound : (config : Config) (s : State) (m : Message) (r : Routed) → IsSound s → IsSound (routed_step config s m r).state
 routed_sound config s m NotFound sound = sound
-routed_sound config s m (NotAllowed resource) sound = sound
+routed_sound config s m (NotAllowed methods) sound = sound
 routed_sound config s m (To t) sound = operation_sound config s (operation_of m t) (fields_are_fit m.head.fields) sound
 
 pub step_sound : (config : Config) (s : State) (item : Item) (moment : ℕ) → IsSound s → IsSound (step config s item moment).state

@@ -13,8 +13,8 @@ use Rattle.dep_message.specs.Stream.{Item, Spells, Reads, Waits}
 use Rattle.dep_message.proofs.OneReading.{one_spelling}
 use Rattle.dep_message.proofs.Reading.{reads_more}
 use Rattle.dep_server.specs.Machine.{Serves}
-use Rattle.dep_server.specs.Records.{Event, Record, Line, Absent, Live, ShutLine, World, line_after, ReadsBeyond, Run, Happens, Arrives}
-use Rattle.dep_server.specs.Calm.{SteppedItem, steps_of, CalmServes, all_served, CalmArrives, live, shut_line, Calm, connect, close, arrive, none, CalmRun, nothing, more as one_more}
+use Rattle.dep_server.specs.Records.{Event, Record, stopped, Line, Absent, Live, ShutLine, World, line_after, ReadsBeyond, Run, Happens, Arrives}
+use Rattle.dep_server.specs.Calm.{SteppedItem, steps_of, CalmServes, all_served, CalmArrives, live, shut_line, Calm, connect, close, arrive, none, CalmRun, nothing, more as one_more, stop as one_stop}
 use Rattle.dep_server.specs.Streams.{Streams, all_streams, with_event, streams_over, streams_of, items_of, AreSpelled, no_stream, first_stream, Occasion, occasions_of}
 use Rattle.dep_server.specs.declared.arrived.Arrived.{Arrived}
 
@@ -232,6 +232,11 @@ run_accounts {config} n (one_more {records} {event} {sent} {w} {w'} {steps} {nex
     (subst (λ s. Accounts config.max_upload (w'.line n) s (items_of n steps ++ items_of n next))
     (sym (fold-append (λ (s : Streams) (r : Record). with_event n s r.event) (record { closed = []; current = None }) records (record { event = event; sent = sent } ∷ [])))
     (happens_accounts n (streams_over n records) (items_of n steps) k (run_accounts n c)))
+run_accounts {config} n (one_stop {records} {w} {steps} r c) =
+    subst (λ s. Accounts config.max_upload Absent s (items_of n steps))
+    (sym (fold-append (λ (s : Streams) (r : Record). with_event n s r.event) (record { closed = []; current = None }) records (stopped ∷ [])))
+    (closed_accounts config.max_upload (streams_over n records) (items_of n steps)
+    (accounts_all config.max_upload (w.line n) (streams_over n records) (items_of n steps) (run_accounts n c)))
 
 pub run_spelled : {config : Config} {first : State} {records : List Record} {w : World} {r : Run config first records w} {steps : List SteppedItem}
     → CalmRun _ _ r steps → (n : ℕ) → AreSpelled config.max_upload (streams_of n records) (items_of n steps)

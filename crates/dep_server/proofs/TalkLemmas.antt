@@ -3,17 +3,24 @@ use Rattle.std.proofs.Common.{arith, ◌+◌, ◌<◌, length, ◌≡◌, ℕ, L
 use Rattle.std.proofs.lemmas.List.{append-nil}
 use Rattle.std.specs.List.{flat_map, FoldsTo}
 use Rattle.std.specs.Io.KnownBytes.{Appends, Consumes, Keeps}
+use Rattle.sqlite.specs.State as db
+use Rattle.sqlite.specs.Held.{Held, state}
+use Rattle.std.specs.Prelude.{IsTrue}
 use Rattle.dep_types.specs.State.{State}
 use Rattle.dep_types.specs.declared.config.Config.{Config}
-use Rattle.dep_server.specs.Records.{World, with_line, Connect, Close, Record, Run, goes_on, Arrives, Happens, connects, closes, arrives}
-use Rattle.dep_server.specs.Standing.{StandsAt, StandsFor, Moves, intake_of}
+use Rattle.sqlite_trees.specs.declared.store.Store.{Ghosts}
+use Rattle.dep_store.specs.Standing.{Leaves}
+use Rattle.dep_server.specs.Records.{World, Line, with_line, Connect, Close, Record, stopped, first_world, Run, goes_on, stops, breaks, Arrives, LeftByArrival, Happens, connects, closes, arrives}
+use Rattle.dep_server.specs.Standing.{StandsAt, StandsAfter, IsClean, IsHonest, Moves, intake_of, store_of}
 use Rattle.dep_server.specs.declared.hub.Hub.{Hub}
 use Rattle.dep_server.specs.declared.arrived.Arrived.{Arrived}
 use Rattle.dep_server.specs.declared.arrived.Arrived.TheVariants.{Open as StaysOpen, Closed as HasClosed, Cut}
-use Rattle.dep_server.proofs.ServingLemmas.{appends_none, appends_both}
+use Rattle.dep_store.proofs.Transacting.{leaves_wider}
+use Rattle.dep_server.proofs.Leaving.{Settles, stays_as}
+use Rattle.dep_server.proofs.SendingLemmas.{appends_none, appends_both}
 use Rattle.dep_server.proofs.HubLemmas.{keeps_same}
 use Rattle.dep_server.specs.Turns.{Turn, pieces_of, replies_of, record_of, records_of, EndsAs, last_answer, IsPiece, ArePieces, most_reads, with_opened, with_closed, Exchanges, none_yet, one_more, IsEndedBy}
-use Rattle.dep_server.specs.Conversation.{Wire, Session, session, Transfers, Rests, Clocks, Converses, IsAnswered, IsUnserved, ConversesOver, next_after, AddsAll, Talk, OneTurn, NoTurn, TurnsTo, TalksUntil, Talks, silent, turn}
+use Rattle.dep_server.specs.Conversation.{Wire, Session, session, Transfers, Rests, Clocks, Converses, IsAnswered, IsUnserved, ConversesOver, next_after, AddsAll, StopsAll, Talk, OneTurn, NoTurn, TurnsTo, TalksUntil, Talks, silent, turn}
 use Rattle.dep_server.specs.declared.connection.Served.{Served}
 use Rattle.dep_server.specs.declared.connection.Served.TheVariants.{Ended, Closed, Unserved, ReadFault, WriteFault, Bound}
 
@@ -66,18 +73,6 @@ all_more : (turns : List Turn) (t : Turn) → ArePieces turns → IsPiece t → 
 all_more [] t a p = (p, tt)
 all_more (u ∷ turns) t a p = (a.0, all_more turns t a.1 p)
 
--- no turn yet
-pub talk_none : {C : Type 0} (ticks : C → ℕ → C → Type 0) (n : ℕ) (at : Session C) → Talk ticks n at at 0 StaysOpen
-talk_none ticks n at = record {
-  turns = [];
-  counted = refl;
-  sizes = tt;
-  talks = silent;
-  transfers = record { pieces = consumes_none at.wire.unread; replies = appends_none at.wire.taken };
-  moments = refl;
-  answered = refl;
-}
-
 transfers_both : (a b c : Wire) (xs ys us vs : List ℕ) → Transfers a b xs us → Transfers b c ys vs → Transfers a c (xs ++ ys) (us ++ vs)
 transfers_both a b c xs ys us vs t u = record {
   pieces = consumes_both a.unread b.unread c.unread xs ys t.pieces u.pieces;
@@ -87,73 +82,86 @@ transfers_both a b c xs ys us vs t u = record {
 rests_transfers : (a b : Wire) → Rests a b → Transfers a b [] []
 rests_transfers a b r = record { pieces = keeps_consumes a.unread b.unread r.pieces; replies = keeps_appends a.taken b.taken r.replies }
 
--- one turn more
-pub talk_more : {C : Type 0} (ticks : C → ℕ → C → Type 0) (n : ℕ) (old mid new : Session C) (answer : Arrived) (k : ℕ)
-    → mid.hub.config ≡ old.hub.config → Talk ticks n old mid k StaysOpen → OneTurn ticks n mid new answer
-    → Talk ticks n old new (k + 1) answer
-talk_more ticks n old mid new answer k same t o =
-    let u : Turn = record { piece = o.piece; moment = o.moment; sent = o.sent; answer = answer } in
-    record {
-      turns = t.turns ++ u ∷ [];
-      counted = length_more t.turns u ∙ ap (λ m. m + 1) t.counted;
-      sizes = all_more t.turns u t.sizes (o.some, o.small);
-      talks = turn u t.talks t.answered same o.arrives;
-      transfers = subst (λ l. Transfers old.wire new.wire l (replies_of (t.turns ++ u ∷ []))) (sym (pieces_more t.turns u))
-          (subst (λ l. Transfers old.wire new.wire (pieces_of t.turns ++ o.piece) l) (sym (sent_more t.turns u))
-          (transfers_both old.wire mid.wire new.wire (pieces_of t.turns) o.piece (replies_of t.turns) o.sent t.transfers o.transfers));
-      moments = folds_more (λ before (v : Turn) after. ticks before v.moment after) old.clock t.turns mid.clock new.clock u t.moments o.ticked;
-      answered = last_more t.turns u;
-    }
+module _ {S : Type 0} (g : Ghosts S) where
+  -- no turn yet
+  pub talk_none : {C : Type 0} (ticks : C → ℕ → C → Type 0) (n : ℕ) (at : Session g C) → Talk g ticks n at at 0 StaysOpen
+  talk_none ticks n at = record {
+    turns = [];
+    counted = refl;
+    sizes = tt;
+    talks = silent;
+    transfers = record { pieces = consumes_none at.wire.unread; replies = appends_none at.wire.taken };
+    moments = refl;
+    answered = refl;
+  }
 
--- nothing more was read
-pub talk_same : {C : Type 0} (ticks : C → ℕ → C → Type 0) (n : ℕ) (old mid new : Session C) (k : ℕ)
-    → Talk ticks n old mid k StaysOpen → NoTurn mid new → Talk ticks n old new k StaysOpen
-talk_same ticks n old mid new k t o = record {
-  turns = t.turns;
-  counted = t.counted;
-  sizes = t.sizes;
-  talks = subst (λ h. Talks n old.hub old.wire.failures t.turns h new.wire.failures) (sym o.same_hub)
-      (subst (λ k. Talks n old.hub old.wire.failures t.turns mid.hub k) (sym o.rests.failures) t.talks);
-  transfers = subst (λ l. Transfers old.wire new.wire l (replies_of t.turns)) (append-nil (pieces_of t.turns))
-      (subst (λ l. Transfers old.wire new.wire (pieces_of t.turns ++ []) l) (append-nil (replies_of t.turns))
-      (transfers_both old.wire mid.wire new.wire (pieces_of t.turns) [] (replies_of t.turns) [] t.transfers (rests_transfers mid.wire new.wire o.rests)));
-  moments = subst (λ c. Clocks ticks old.clock t.turns c) (sym o.same_clock) t.moments;
-  answered = t.answered;
-}
+  -- one turn more
+  pub talk_more : {C : Type 0} (ticks : C → ℕ → C → Type 0) (n : ℕ) (old mid new : Session g C) (answer : Arrived) (k : ℕ)
+      → mid.hub.config ≡ old.hub.config → Talk g ticks n old mid k StaysOpen → OneTurn g ticks n mid new answer
+      → Talk g ticks n old new (k + 1) answer
+  talk_more ticks n old mid new answer k same t o =
+      let u : Turn = record { piece = o.piece; moment = o.moment; sent = o.sent; answer = answer } in
+      record {
+        turns = t.turns ++ u ∷ [];
+        counted = length_more t.turns u ∙ ap (λ m. m + 1) t.counted;
+        sizes = all_more t.turns u t.sizes (o.some, o.small);
+        talks = turn u t.talks t.answered same o.arrives;
+        transfers = subst (λ l. Transfers old.wire new.wire l (replies_of (t.turns ++ u ∷ []))) (sym (pieces_more t.turns u))
+            (subst (λ l. Transfers old.wire new.wire (pieces_of t.turns ++ o.piece) l) (sym (sent_more t.turns u))
+            (transfers_both old.wire mid.wire new.wire (pieces_of t.turns) o.piece (replies_of t.turns) o.sent t.transfers o.transfers));
+        moments = folds_more (λ before (v : Turn) after. ticks before v.moment after) old.clock t.turns mid.clock new.clock u t.moments o.ticked;
+        answered = last_more t.turns u;
+      }
 
--- a turn that was the last
-pub talk_last : {C : Type 0} (ticks : C → ℕ → C → Type 0) (n : ℕ) (old mid new : Session C) (served : Served) (k : ℕ)
-    → k < most_reads → mid.hub.config ≡ old.hub.config
-    → Talk ticks n old mid k StaysOpen → TurnsTo ticks n mid new (Some served) → TalksUntil ticks n old new served
-talk_last ticks n old mid new Closed k b same t o =
-    let u = talk_more ticks n old mid new HasClosed k same t o in
-    record { count = k + 1; answer = HasClosed; talk = u; ends = (u.answered, (omega (arith, b, u.counted))) }
-talk_last ticks n old mid new WriteFault k b same t o =
-    let u = talk_more ticks n old mid new Cut k same t o in
-    record { count = k + 1; answer = Cut; talk = u; ends = (u.answered, (omega (arith, b, u.counted))) }
-talk_last ticks n old mid new Ended k b same t o =
-    let u = talk_same ticks n old mid new k t o.0 in
-    record { count = k; answer = StaysOpen; talk = u; ends = (o.1, u.answered, (omega (arith, b, u.counted))) }
-talk_last ticks n old mid new ReadFault k b same t o =
-    let u = talk_same ticks n old mid new k t o in
-    record { count = k; answer = StaysOpen; talk = u; ends = (u.answered, (omega (arith, b, u.counted))) }
-talk_last ticks n old mid new Unserved k b same t o = absurd o
-talk_last ticks n old mid new Bound k b same t o = absurd o
+  -- nothing more was read
+  pub talk_same : {C : Type 0} (ticks : C → ℕ → C → Type 0) (n : ℕ) (old mid new : Session g C) (k : ℕ)
+      → Talk g ticks n old mid k StaysOpen → NoTurn g mid new → Talk g ticks n old new k StaysOpen
+  talk_same ticks n old mid new k t o = record {
+    turns = t.turns;
+    counted = t.counted;
+    sizes = t.sizes;
+    talks = subst (λ h. Talks g n old.hub old.wire.failures t.turns h new.wire.failures) (sym o.same_hub)
+        (subst (λ k. Talks g n old.hub old.wire.failures t.turns mid.hub k) (sym o.rests.failures) t.talks);
+    transfers = subst (λ l. Transfers old.wire new.wire l (replies_of t.turns)) (append-nil (pieces_of t.turns))
+        (subst (λ l. Transfers old.wire new.wire (pieces_of t.turns ++ []) l) (append-nil (replies_of t.turns))
+        (transfers_both old.wire mid.wire new.wire (pieces_of t.turns) [] (replies_of t.turns) [] t.transfers (rests_transfers mid.wire new.wire o.rests)));
+    moments = subst (λ c. Clocks ticks old.clock t.turns c) (sym o.same_clock) t.moments;
+    answered = t.answered;
+  }
 
--- as many turns as there may be
-pub talk_bound : {C : Type 0} (ticks : C → ℕ → C → Type 0) (n : ℕ) (old new : Session C) (k : ℕ)
-    → k ≡ most_reads → Talk ticks n old new k StaysOpen → TalksUntil ticks n old new Bound
-talk_bound ticks n old new k e t = record { count = k; answer = StaysOpen; talk = t; ends = (t.answered, t.counted ∙ e) }
+  -- a turn that was the last
+  pub talk_last : {C : Type 0} (ticks : C → ℕ → C → Type 0) (n : ℕ) (old mid new : Session g C) (served : Served) (k : ℕ)
+      → k < most_reads → mid.hub.config ≡ old.hub.config
+      → Talk g ticks n old mid k StaysOpen → TurnsTo g ticks n mid new (Some served) → TalksUntil g ticks n old new served
+  talk_last ticks n old mid new Closed k b same t o =
+      let u = talk_more ticks n old mid new HasClosed k same t o in
+      record { count = k + 1; answer = HasClosed; talk = u; ends = (u.answered, (omega (arith, b, u.counted))) }
+  talk_last ticks n old mid new WriteFault k b same t o =
+      let u = talk_more ticks n old mid new Cut k same t o in
+      record { count = k + 1; answer = Cut; talk = u; ends = (u.answered, (omega (arith, b, u.counted))) }
+  talk_last ticks n old mid new Ended k b same t o =
+      let u = talk_same ticks n old mid new k t o.0 in
+      record { count = k; answer = StaysOpen; talk = u; ends = (o.1, u.answered, (omega (arith, b, u.counted))) }
+  talk_last ticks n old mid new ReadFault k b same t o =
+      let u = talk_same ticks n old mid new k t o in
+      record { count = k; answer = StaysOpen; talk = u; ends = (u.answered, (omega (arith, b, u.counted))) }
+  talk_last ticks n old mid new Unserved k b same t o = absurd o
+  talk_last ticks n old mid new Bound k b same t o = absurd o
 
--- whoever was served took one number
-pub next_served : {C : Type 0} (ticks : C → ℕ → C → Type 0) (n : ℕ) (old new : Session C) (end : Served)
-    → TalksUntil ticks n old new end → (next : ℕ) → next_after next end ≡ next + 1
-next_served ticks n old new Ended t next = refl
-next_served ticks n old new Closed t next = refl
-next_served ticks n old new ReadFault t next = refl
-next_served ticks n old new WriteFault t next = refl
-next_served ticks n old new Bound t next = refl
-next_served ticks n old new Unserved t next = absurd t.ends
+  -- as many turns as there may be
+  pub talk_bound : {C : Type 0} (ticks : C → ℕ → C → Type 0) (n : ℕ) (old new : Session g C) (k : ℕ)
+      → k ≡ most_reads → Talk g ticks n old new k StaysOpen → TalksUntil g ticks n old new Bound
+  talk_bound ticks n old new k e t = record { count = k; answer = StaysOpen; talk = t; ends = (t.answered, t.counted ∙ e) }
+
+  -- whoever was served took one number
+  pub next_served : {C : Type 0} (ticks : C → ℕ → C → Type 0) (n : ℕ) (old new : Session g C) (end : Served)
+      → TalksUntil g ticks n old new end → (next : ℕ) → next_after next end ≡ next + 1
+  next_served ticks n old new Ended t next = refl
+  next_served ticks n old new Closed t next = refl
+  next_served ticks n old new ReadFault t next = refl
+  next_served ticks n old new WriteFault t next = refl
+  next_served ticks n old new Bound t next = refl
+  next_served ticks n old new Unserved t next = absurd t.ends
 
 -- ---- the machine's side
 
@@ -225,6 +233,13 @@ pub last_tells : (config : Config) (n : ℕ) (w v : World) (before behind : List
 last_tells config n w v before behind t unread end x ends =
     ended_at unread before t behind end (open_behind before t behind (open_before config n w v (before ++ t ∷ behind) x)) ends
 
+-- the same arrival and stop under the same configuration
+left_same : {piece : List ℕ} {moment : ℕ} {line after : Line} {s left : State} {sent : List ℕ} {answer : Arrived} (given config : Config) → given ≡ config
+    → (a : Arrives given piece moment line s sent left after answer) (found : State) → LeftByArrival a found
+    → (b : Arrives config piece moment line s sent left after answer) × LeftByArrival b found
+left_same {piece} {moment} {line} {after} {s} {left} {sent} {answer} given config same a found l =
+    subst (λ (x : Config). (b : Arrives x piece moment line s sent left after answer) × LeftByArrival b found) same (a, l)
+
 -- ---- from hubs to the machine
 
 opened_is : {config : Config} {w : World} {n : ℕ} {v : World} {sent : List ℕ} → Happens config w (Connect n) sent v → v ≡ with_opened n w
@@ -233,85 +248,149 @@ opened_is connects = refl
 closed_is : {config : Config} {w : World} {n : ℕ} {v : World} {sent : List ℕ} → Happens config w (Close n) sent v → v ≡ with_closed n w
 closed_is closes = refl
 
--- what the hub answered is what the machine answers
-talks_exchange : (n : ℕ) (old new : Hub) (failures failures_after : ℕ) (turns : List Turn) → Talks n old failures turns new failures_after → (w : World) → StandsAt old w
-    → (v : World) × Exchanges old.config n w turns v × StandsAt new v
-talks_exchange n old new failures failures_after turns silent w at = (w, none_yet, at)
-talks_exchange n old new failures failures_after turns (turn {mid = mid} {before = between} {turns = before} t talks stays same a) w at =
-    let h = talks_exchange n old mid failures between before talks w at in
-    let b = a.answers h.0 h.2 in (
-      record { state = b.left; line = with_line n b.line h.0.line },
-      one_more t h.1 stays (subst (λ (x : Config). Arrives x t.piece t.moment (h.0.line n) h.0.state t.sent b.left b.line t.answer) same b.arrives),
-      b.stands,
-    )
+module _ {S : Type 0} (g : Ghosts S) where
+  -- what the machine comes to by the turns: after one that leaves the connection open, or with an open store, the hub stands at it
+  record Exchanged (config : Config) (n : ℕ) (new : Hub S g) (turns : List Turn) (w : World) : Type 0 where
+    pub talked : World
+    pub exchanges : Exchanges config n w turns talked
+    pub stays : last_answer turns ≡ StaysOpen → StandsAt g new talked
+    pub at : IsClean g new → StandsAt g new talked
 
-module _ (n : ℕ) (old opened talked new : Hub) (failures failures_after : ℕ) (turns : List Turn)
-    (opens : Moves old opened (Connect n) []) (closes : Moves talked new (Close n) [])
-    (same_opened : opened.config ≡ old.config) (same_new : new.config ≡ old.config) (talks : Talks n opened failures turns talked failures_after) where
-  answered : (w : World) → StandsAt old w → IsAnswered old new n turns w
-  answered w at =
-      let o = opens w at in
-      let t = talks_exchange n opened talked failures failures_after turns talks (with_opened n w) (subst (λ v. StandsAt opened v) (opened_is o.1) o.2) in
-      let c = closes t.0 t.2 in
+  talks_honest : (n : ℕ) (old new : Hub S g) (failures failures_after : ℕ) (turns : List Turn) → Talks g n old failures turns new failures_after → IsHonest g new → IsHonest g old
+  talks_honest n old new failures failures_after turns silent honest = honest
+  talks_honest n old new failures failures_after turns (turn {mid = mid} {before = between} {turns = before} t talks stays same a) honest =
+      talks_honest n old mid failures between before talks (a.honest honest)
+
+  talks_clean : (n : ℕ) (old new : Hub S g) (failures failures_after : ℕ) (turns : List Turn) → Talks g n old failures turns new failures_after → IsClean g new → IsClean g old
+  talks_clean n old new failures failures_after turns silent clean = clean
+  talks_clean n old new failures failures_after turns (turn {mid = mid} {before = between} {turns = before} t talks stays same a) clean =
+      talks_clean n old mid failures between before talks (a.clean clean)
+
+  -- what the hub answered is what the machine answers
+  talks_exchange : (n : ℕ) (old new : Hub S g) (failures failures_after : ℕ) (turns : List Turn) → Talks g n old failures turns new failures_after
+      → IsHonest g new → (w : World) → StandsAt g old w → Exchanged old.config n new turns w
+  talks_exchange n old new failures failures_after turns silent honest w at = record { talked = w; exchanges = none_yet; stays = λ _. at; at = λ _. at }
+  talks_exchange n old new failures failures_after turns (turn {mid = mid} {before = between} {turns = before} t talks stays same a) honest w at =
+      let h = talks_exchange n old mid failures between before talks (a.honest honest) w at in
+      let b = a.answers honest h.talked (h.stays stays) in
       record {
-        talked = t.0;
-        exchanges = subst (λ (x : Config). Exchanges x n (with_opened n w) turns t.0) same_opened t.1;
-        at = subst (λ v. StandsAt new v) (closed_is c.1) c.2;
+        talked = record { state = b.left; line = with_line n b.line h.talked.line };
+        exchanges = one_more t h.exchanges stays (subst (λ (x : Config). Arrives x t.piece t.moment (h.talked.line n) h.talked.state t.sent b.left b.line t.answer) same b.arrives);
+        stays = λ e. b.stands (b.stays_clean (sym (last_more before t) ∙ e));
+        at = b.stands;
       }
 
-  all_added : AddsAll old new (records_of n turns)
-  all_added first records h =
-      let a = answered h.world h.at in
-      record {
-        world = with_closed n a.talked;
-        run = subst (λ (x : Config). Run x first (records ++ records_of n turns) (with_closed n a.talked)) (sym same_new)
-            (conversation_run old.config n first records h.world a.talked turns h.run a.exchanges);
-        at = a.at;
-      }
+  -- what a stop now leaves goes on from the turns
+  talks_stop : (n : ℕ) (old new : Hub S g) (failures failures_after : ℕ) (turns : List Turn) → Settles (store_of g old) → Talks g n old failures turns new failures_after
+      → IsHonest g new → (first : State) (records : List Record) (w : World) → Run old.config first records w → StandsAt g old w
+      → Leaves (store_of g new) (λ found. Run old.config first ((records ++ map (record_of n) turns) ++ stopped ∷ []) (first_world found))
+  talks_stop n old new failures failures_after turns settles silent honest first records w run at =
+      leaves_wider (store_of g old) _ _
+      (λ c e. subst (λ rs. Run old.config first (rs ++ stopped ∷ []) (first_world c)) (sym (append-nil records))
+      (subst (λ s. Run old.config first (records ++ stopped ∷ []) (first_world s)) (sym e) (stops run)))
+      (stays_as (store_of g old) w.state settles at.state)
+  talks_stop n old new failures failures_after turns settles (turn {mid = mid} {before = between} {turns = before} t talks stays same a) honest first records w run at =
+      let h = talks_exchange n old mid failures between before talks (a.honest honest) w at in
+      let b = a.answers honest h.talked (h.stays stays) in
+      let so_far : Run old.config first (records ++ map (record_of n) before) h.talked = exchanges_run old.config n first records w h.talked before run h.exchanges in
+      leaves_wider (store_of g new) _ _
+      (λ c l. subst (λ rs. Run old.config first rs (first_world c))
+      (sym (append_assoc (records ++ map (record_of n) before) (record_of n t ∷ []) (stopped ∷ []))
+      ∙ ap (λ rs. rs ++ stopped ∷ []) (append_assoc records (map (record_of n) before) (record_of n t ∷ []) ∙ ap (λ l. records ++ l) (sym (map_more n before t))))
+      (let x = left_same mid.config old.config same b.arrives c l in breaks c so_far x.0 x.1))
+      b.stop
 
-module _ {C : Type 0} (ticks : C → ℕ → C → Type 0) (n : ℕ) (old : Session C) (opened talked new : Hub) (wire : Wire) (now : C)
-    (is_next : n ≡ old.hub.next) (fresh : intake_of old.hub.connections.items n ≡ None)
-    (opens : Moves old.hub opened (Connect n) []) (closes : Moves talked new (Close n) [])
-    (same_opened : opened.config ≡ old.hub.config) (same_new : new.config ≡ old.hub.config)
-    (gone : intake_of new.connections.items n ≡ None) where
-  converses : (end : Served) → TalksUntil ticks n (session opened old.wire old.clock) (session talked wire now) end
-      → Converses ticks old new wire end
-  converses end u =
-      let t = u.talk in
-      record {
-        number = n;
-        turns = t.turns;
-        is_next = is_next;
-        fresh = fresh;
-        opened = opened;
-        opens = opens;
-        talked = talked;
-        talks = t.talks;
-        closes = closes;
-        gone = gone;
-        answers = answered n old.hub opened talked new old.wire.failures wire.failures t.turns opens closes same_opened same_new t.talks;
-        adds = all_added n old.hub opened talked new old.wire.failures wire.failures t.turns opens closes same_opened same_new t.talks;
-        transfers = t.transfers;
-        moments = (now, t.moments);
-        ends = u.ends;
-        sizes = t.sizes;
-      }
+  module _ (n : ℕ) (old opened talked new : Hub S g) (failures failures_after : ℕ) (turns : List Turn)
+      (opens : Moves g old opened (Connect n) []) (closes : Moves g talked new (Close n) []) (settles : Settles (store_of g opened))
+      (same_opened : opened.config ≡ old.config) (same_new : new.config ≡ old.config) (same_store : new.store ≡ talked.store) (talks : Talks g n opened failures turns talked failures_after) where
+    to_talked : (P : db.State → Type 0) → P (store_of g new) → P (store_of g talked)
+    to_talked P h = subst (λ (x : Held S). P (state g x)) same_store h
 
-  pub serves_whole : (served : Served) → TalksUntil ticks n (session opened old.wire old.clock) (session talked wire now) served
-      → ConversesOver ticks old new wire served
-  serves_whole Closed t = converses Closed t
-  serves_whole WriteFault t = converses WriteFault t
-  serves_whole Ended t = converses Ended t
-  serves_whole ReadFault t = converses ReadFault t
-  serves_whole Bound t = converses Bound t
-  serves_whole Unserved t = absurd t.ends
+    answered : IsHonest g new → (w : World) → StandsAt g old w → IsAnswered g old new n turns w
+    answered honest w at =
+        let o = opens w at in
+        let t = talks_exchange n opened talked failures failures_after turns talks (to_talked db.HasCleanDisk honest) (with_opened n w) (subst (λ v. StandsAt g opened v) (opened_is o.1) o.2) in
+        record {
+          talked = t.talked;
+          exchanges = subst (λ (x : Config). Exchanges x n (with_opened n w) turns t.talked) same_opened t.exchanges;
+          at = λ clean.
+              let c = closes t.talked (t.at (to_talked (λ d. IsTrue d.is_open) clean)) in
+              subst (λ v. StandsAt g new v) (closed_is c.1) c.2;
+        }
 
--- not opened
-pub unserved : (old new : Hub) (wire : Wire) → ((w : World) → StandsAt old w → StandsAt new w)
-    → ((first : State) (records : List Record) → StandsFor old first records → StandsFor new first records)
-    → IsUnserved old new wire wire
-unserved old new wire at same = record {
-  same = at;
-  adds = λ first records h. subst (λ rs. StandsFor new first rs) (sym (append-nil records)) (same first records h);
-  rests = record { pieces = keeps_same wire.unread; replies = keeps_same wire.taken; failures = refl };
-}
+    all_added : (IsClean g new → IsHonest g new) → AddsAll g old new (records_of n turns)
+    all_added law clean first records h =
+        let a = answered (law clean) h.world h.at in
+        record {
+          world = with_closed n a.talked;
+          run = subst (λ (x : Config). Run x first (records ++ records_of n turns) (with_closed n a.talked)) (sym same_new)
+              (conversation_run old.config n first records h.world a.talked turns h.run a.exchanges);
+          at = a.at clean;
+        }
+
+    all_stops : StopsAll g old new (record { event = Connect n; sent = [] } ∷ map (record_of n) turns)
+    all_stops honest first records h =
+        let c : Record = record { event = Connect n; sent = [] } in
+        let o = opens h.world h.at in
+        let from : Run opened.config first (records ++ c ∷ []) o.0 = subst (λ (x : Config). Run x first (records ++ c ∷ []) o.0) (sym same_opened) (goes_on h.run o.1) in
+        subst (λ (x : Held S). Leaves (state g x) (λ found. Run old.config first ((records ++ c ∷ map (record_of n) turns) ++ stopped ∷ []) (first_world found))) (sym same_store)
+        (leaves_wider (store_of g talked) _ _
+        (λ found r. subst (λ rs. Run old.config first (rs ++ stopped ∷ []) (first_world found)) (append_assoc records (c ∷ []) (map (record_of n) turns))
+        (subst (λ (x : Config). Run x first (((records ++ c ∷ []) ++ map (record_of n) turns) ++ stopped ∷ []) (first_world found)) same_opened r))
+        (talks_stop n opened talked failures failures_after turns settles talks (to_talked db.HasCleanDisk honest) first (records ++ c ∷ []) o.0 from o.2))
+
+  module _ {C : Type 0} (ticks : C → ℕ → C → Type 0) (n : ℕ) (old : Session g C) (opened talked new : Hub S g) (wire : Wire) (now : C)
+      (is_next : n ≡ old.hub.next) (fresh : intake_of old.hub.connections.items n ≡ None)
+      (opens : Moves g old.hub opened (Connect n) []) (closes : Moves g talked new (Close n) []) (settles : Settles (store_of g opened)) (law : IsClean g new → IsHonest g new)
+      (same_opened : opened.config ≡ old.hub.config) (same_new : new.config ≡ old.hub.config) (same_store : new.store ≡ talked.store)
+      (gone : intake_of new.connections.items n ≡ None) where
+    converses : (end : Served) → TalksUntil g ticks n (session g opened old.wire old.clock) (session g talked wire now) end
+        → Converses g ticks old new wire end
+    converses end u =
+        let t = u.talk in
+        record {
+          number = n;
+          turns = t.turns;
+          is_next = is_next;
+          fresh = fresh;
+          opened = opened;
+          opens = opens;
+          talked = talked;
+          talks = t.talks;
+          closes = closes;
+          gone = gone;
+          answers = answered n old.hub opened talked new old.wire.failures wire.failures t.turns opens closes settles same_opened same_new same_store t.talks;
+          adds = all_added n old.hub opened talked new old.wire.failures wire.failures t.turns opens closes settles same_opened same_new same_store t.talks law;
+          stops = all_stops n old.hub opened talked new old.wire.failures wire.failures t.turns opens closes settles same_opened same_new same_store t.talks;
+          transfers = t.transfers;
+          moments = (now, t.moments);
+          ends = u.ends;
+          sizes = t.sizes;
+        }
+
+    pub serves_whole : (served : Served) → TalksUntil g ticks n (session g opened old.wire old.clock) (session g talked wire now) served
+        → ConversesOver g ticks old new wire served
+    serves_whole Closed t = converses Closed t
+    serves_whole WriteFault t = converses WriteFault t
+    serves_whole Ended t = converses Ended t
+    serves_whole ReadFault t = converses ReadFault t
+    serves_whole Bound t = converses Bound t
+    serves_whole Unserved t = absurd t.ends
+
+  -- where the store is open, or honest, at the end of the turns, it was so before
+  pub later_clean : {C : Type 0} (ticks : C → ℕ → C → Type 0) (n : ℕ) (old new : Session g C) (served : Served) → TalksUntil g ticks n old new served → IsClean g new.hub → IsClean g old.hub
+  later_clean ticks n old new served t clean = talks_clean n old.hub new.hub old.wire.failures new.wire.failures t.talk.turns t.talk.talks clean
+
+  pub later_honest : {C : Type 0} (ticks : C → ℕ → C → Type 0) (n : ℕ) (old new : Session g C) (served : Served) → TalksUntil g ticks n old new served → IsHonest g new.hub → IsHonest g old.hub
+  later_honest ticks n old new served t honest = talks_honest n old.hub new.hub old.wire.failures new.wire.failures t.talk.turns t.talk.talks honest
+
+  -- not opened
+  pub unserved : (old new : Hub S g) (wire : Wire) → ((w : World) → StandsAt g old w → StandsAt g new w) → new.store ≡ old.store
+      → ((first : State) (records : List Record) → StandsAfter g old first records → StandsAfter g new first records)
+      → IsUnserved g old new wire wire
+  unserved old new wire at store same = record {
+    same = at;
+    same_store = store;
+    adds = λ clean first records h. subst (λ rs. StandsAfter g new first rs) (sym (append-nil records)) (same first records h);
+    rests = record { pieces = keeps_same wire.unread; replies = keeps_same wire.taken; failures = refl };
+  }

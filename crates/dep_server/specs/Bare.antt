@@ -1,7 +1,7 @@
 -- Replies without a body (RFC 9110, section 9.3.2).
 use Rattle.std.specs.Prelude.{◌≡◌, ℕ, List, ◌++◌, length, Some}
 use Rattle.dep_reply.specs.Head.{ReplyHead, head_text}
-use Rattle.dep_store.specs.Steps.{Stepped, sent_by}
+use Rattle.dep_answers.specs.Steps.{Stepped, sent_by}
 use Rattle.dep_message.specs.declared.message.Message.{Message}
 
 -- the same request by another method

@@ -1,12 +1,12 @@
 -- Runs in which no step fails, and the steps that they make.
-use Rattle.std.specs.Prelude.{Bool, ◌≡◌, ◌==◌, ℕ, List, [], ◌++◌, map, if◌then◌else◌}
+use Rattle.std.specs.Prelude.{Bool, false, ◌≡◌, ◌==◌, ℕ, List, [], ◌++◌, map, if◌then◌else◌}
 use Rattle.std.specs.List.{flat_map}
 use Rattle.dep_types.specs.State.{State}
 use Rattle.dep_types.specs.declared.config.Config.{Config}
 use Rattle.dep_message.specs.Places.{Place}
 use Rattle.dep_message.specs.Stream.{Item, Waits}
 use Rattle.dep_server.specs.Machine.{Serves, serves_all}
-use Rattle.dep_server.specs.Records.{Event, Connect, Arrive, Close, Record, Line, Absent, World, Run, begins, goes_on, Happens, connects, closes, arrives, unknown, Arrives, at_live, at_shut_line, ReadsBeyond}
+use Rattle.dep_server.specs.Records.{Event, Connect, Arrive, Close, Stop, Record, Line, Absent, World, Run, begins, goes_on, stops, Happens, connects, closes, arrives, unknown, Arrives, at_live, at_shut_line, ReadsBeyond}
 use Rattle.dep_server.specs.declared.arrived.Arrived.{Arrived}
 
 -- a step: whose item it is, and when
@@ -51,7 +51,7 @@ pub data Calm {config : Config} {w : World}
   none : {n moment : ℕ} {piece : List ℕ} (e : w.line n ≡ Absent)
       → Calm _ _ _ (unknown {n = n} {moment = moment} {piece = piece} e) []
 
--- a run
+-- a run, in which the server stops only between two calls
 pub data CalmRun {config : Config} {first : State}
     : (records : List Record) → (w : World) → Run config first records w → List SteppedItem
     → Type 0 where
@@ -60,15 +60,19 @@ pub data CalmRun {config : Config} {first : State}
       {steps next : List SteppedItem}
       (r : Run config first records w) (h : Happens config w event sent w')
       → CalmRun _ _ r steps → Calm _ _ _ h next → CalmRun _ _ (goes_on r h) (steps ++ next)
+  stop : {records : List Record} {w : World} {steps : List SteppedItem} (r : Run config first records w)
+      → CalmRun _ _ r steps → CalmRun _ _ (stops r) steps
 
-abbrev pub number_of : Event → ℕ
-number_of (Connect n) = n
-number_of (Arrive n piece moment) = n
-number_of (Close n) = n
+-- an event of the connection of this number
+abbrev pub is_of : ℕ → Event → Bool
+is_of n (Connect m) = m == n
+is_of n (Arrive m piece moment) = m == n
+is_of n (Close m) = m == n
+is_of n Stop = false
 
 abbrev pub bytes_if : Bool → List ℕ → List ℕ
 bytes_if b bytes = if b then bytes else []
 
 -- what was sent to one connection
 abbrev pub sent_to : ℕ → List Record → List ℕ
-sent_to n records = flat_map (λ r. bytes_if (number_of r.event == n) r.sent) records
+sent_to n records = flat_map (λ r. bytes_if (is_of n r.event) r.sent) records

@@ -5,7 +5,7 @@ use Rattle.dep_types.specs.Writing.{IsProperPrefix, HasRisen}
 use Rattle.dep_types.specs.declared.config.Config.{Config}
 use Rattle.dep_message.specs.Places.{Place}
 use Rattle.dep_message.specs.Stream.{Item}
-use Rattle.dep_store.specs.Steps.{Stepped}
+use Rattle.dep_answers.specs.Steps.{Stepped}
 use Rattle.dep_server.specs.Machine.{step, Fails, given_up, cut_short, Serves, serves_all, step_fails, gives_up}
 use Rattle.dep_server.specs.Records.{Line, Arrives, at_live, at_shut_line}
 use Rattle.dep_server.specs.declared.arrived.Arrived.{Arrived}

@@ -1,11 +1,13 @@
 -- One connection over a reader and an outlet, from its opening to its close.
-use Rattle.std.specs.Prelude.{◌<◌, ◌≤◌, ◌+◌, length, ◌≡◌, ℕ, List, [], ◌∷◌, ◌++◌, Option, Some, None}
+use Rattle.std.specs.Prelude.{◌<◌, ◌≤◌, ◌+◌, length, ◌≡◌, ℕ, List, [], ◌∷◌, ◌++◌, Option, Some, None, map}
 use Rattle.std.specs.List.{FoldsTo}
 use Rattle.std.specs.Io.KnownBytes.{Appends, Consumes, Keeps, IsAtEnd}
+use Rattle.sqlite_trees.specs.declared.store.Store.{Ghosts}
 use Rattle.dep_types.specs.State.{State}
-use Rattle.dep_server.specs.Records.{World, Connect, Close, Record}
-use Rattle.dep_server.specs.Standing.{StandsAt, StandsFor, Moves, IsArrival, intake_of}
-use Rattle.dep_server.specs.Turns.{Turn, pieces_of, replies_of, records_of, most_read, ArePieces, last_answer, with_opened, with_closed, Exchanges, EndsAs}
+use Rattle.dep_store.specs.Standing.{Leaves}
+use Rattle.dep_server.specs.Records.{World, Connect, Close, Record, stopped, Run, first_world}
+use Rattle.dep_server.specs.Standing.{StandsAt, StandsAfter, IsClean, IsHonest, Moves, IsArrival, intake_of, store_of}
+use Rattle.dep_server.specs.Turns.{Turn, pieces_of, replies_of, record_of, records_of, most_read, ArePieces, last_answer, with_opened, with_closed, Exchanges, EndsAs}
 use Rattle.dep_server.specs.declared.hub.Hub.{Hub}
 use Rattle.dep_server.specs.declared.arrived.Arrived.{Arrived}
 use Rattle.dep_server.specs.declared.arrived.Arrived.TheVariants.{Open as StaysOpen, Closed as HasClosed, Cut}
@@ -22,15 +24,6 @@ pub record Wire : Type 0 where
 abbrev pub wire : (unread taken : Option (List ℕ)) (failures : ℕ) → Wire
 wire unread taken failures = record { unread = unread; taken = taken; failures = failures }
 
--- where the serving of a connection stands
-pub record Session (C : Type 0) : Type 0 where
-  pub hub : Hub
-  pub wire : Wire
-  pub clock : C
-
-abbrev pub session : {C : Type 0} → Hub → Wire → C → Session C
-session hub ends clock = record { hub = hub; wire = ends; clock = clock }
-
 -- what was read is these bytes, and these were sent
 pub record Transfers (before after : Wire) (read sent : List ℕ) : Type 0 where
   pub pieces : Consumes before.unread after.unread read
@@ -42,116 +35,10 @@ pub record Rests (before after : Wire) : Type 0 where
   pub replies : Keeps before.taken after.taken
   pub failures : after.failures ≡ before.failures
 
--- for all records that it stood for, the hub stands for them with these after them
-abbrev pub AddsAll : Hub → Hub → List Record → Type 0
-AddsAll old new more =
-    (first : State) (records : List Record) → StandsFor old first records
-    → StandsFor new first (records ++ more)
-
--- the turns leave the connection open, one after another, each with the outlet's failures that the one before left
-pub data Talks (number : ℕ) : Hub → (failures : ℕ) → List Turn → Hub → (failures_after : ℕ) → Type 0 where
-  silent : {hub : Hub} {failures : ℕ} → Talks number hub failures [] hub failures
-  turn : {hub mid new : Hub} {failures before after : ℕ} {turns : List Turn} (t : Turn)
-      → Talks number hub failures turns mid before
-      → last_answer turns ≡ StaysOpen → mid.config ≡ hub.config
-      → IsArrival mid new number t.piece t.moment t.sent before after t.answer
-      → Talks number hub failures (turns ++ t ∷ []) new after
-
 -- each turn came at the clock's answer
 abbrev pub Clocks : {C : Type 0} → (C → ℕ → C → Type 0) → C → List Turn → C → Type 0
 Clocks ticks clock turns now =
     FoldsTo (λ before t after. ticks before t.moment after) clock turns now
-
--- turns so far: what they add, read, write, and when
-pub record Talk {C : Type 0} (ticks : C → ℕ → C → Type 0) (number : ℕ) (before after : Session C)
-    (count : ℕ) (answer : Arrived) : Type 0 where
-  pub turns : List Turn
-  pub counted : length turns ≡ count
-  pub sizes : ArePieces turns
-  pub talks : Talks number before.hub before.wire.failures turns after.hub after.wire.failures
-  pub transfers : Transfers before.wire after.wire (pieces_of turns) (replies_of turns)
-  pub moments : Clocks ticks before.clock turns after.clock
-  pub answered : last_answer turns ≡ answer
-
--- one turn
-pub record OneTurn {C : Type 0} (ticks : C → ℕ → C → Type 0) (number : ℕ) (before after : Session C)
-    (answer : Arrived) : Type 0 where
-  pub piece : List ℕ
-  pub moment : ℕ
-  pub sent : List ℕ
-  pub arrives :
-      IsArrival before.hub after.hub number piece moment sent before.wire.failures after.wire.failures answer
-  pub some : 0 < length piece
-  pub small : length piece ≤ most_read
-  pub transfers : Transfers before.wire after.wire piece sent
-  pub ticked : ticks before.clock moment after.clock
-
--- nothing was read
-pub record NoTurn {C : Type 0} (before after : Session C) : Type 0 where
-  pub same_hub : after.hub ≡ before.hub
-  pub rests : Rests before.wire after.wire
-  pub same_clock : after.clock ≡ before.clock
-
-abbrev pub TurnsTo : {C : Type 0} → (C → ℕ → C → Type 0) → ℕ → (before after : Session C) → Option Served
-    → Type 0
-TurnsTo ticks number before after None = OneTurn ticks number before after StaysOpen
-TurnsTo ticks number before after (Some Closed) = OneTurn ticks number before after HasClosed
-TurnsTo ticks number before after (Some WriteFault) = OneTurn ticks number before after Cut
-TurnsTo ticks number before after (Some Ended) = NoTurn before after × IsAtEnd after.wire.unread
-TurnsTo ticks number before after (Some ReadFault) = NoTurn before after
-TurnsTo ticks number before after (Some Unserved) = ⊥
-TurnsTo ticks number before after (Some Bound) = ⊥
-
--- the turns up to the end
-pub record TalksUntil {C : Type 0} (ticks : C → ℕ → C → Type 0) (number : ℕ) (before after : Session C)
-    (served : Served) : Type 0 where
-  pub count : ℕ
-  pub answer : Arrived
-  pub talk : Talk ticks number before after count answer
-  pub ends : EndsAs after.wire.unread talk.turns served
-
--- what the machine makes of the turns, from whatever machine the hub kept: it answers them as they were answered, and
--- the hub keeps what it comes to
-pub record IsAnswered (old new : Hub) (number : ℕ) (turns : List Turn) (w : World) : Type 0 where
-  pub talked : World
-  pub exchanges : Exchanges old.config number (with_opened number w) turns talked
-  pub at : StandsAt new (with_closed number talked)
-
--- one connection: what was read are its pieces, what was written is what was sent, each at the clock's answer
-pub record Converses {C : Type 0} (ticks : C → ℕ → C → Type 0) (before : Session C) (new : Hub) (after : Wire)
-    (served : Served) : Type 0 where
-  pub number : ℕ
-  pub turns : List Turn
-  pub is_next : number ≡ before.hub.next
-  pub fresh : intake_of before.hub.connections.items number ≡ None
-  pub opened : Hub
-  pub opens : Moves before.hub opened (Connect number) []
-  pub talked : Hub
-  pub talks : Talks number opened before.wire.failures turns talked after.failures
-  pub closes : Moves talked new (Close number) []
-  pub gone : intake_of new.connections.items number ≡ None
-  pub answers : (w : World) → StandsAt before.hub w → IsAnswered before.hub new number turns w
-  pub adds : AddsAll before.hub new (records_of number turns)
-  pub transfers : Transfers before.wire after (pieces_of turns) (replies_of turns)
-  pub moments : (last : C) × Clocks ticks before.clock turns last
-  pub ends : EndsAs after.unread turns served
-  pub sizes : ArePieces turns
-
--- nothing is read or written, and the hub stands for what it did
-pub record IsUnserved (old new : Hub) (before after : Wire) : Type 0 where
-  pub same : (w : World) → StandsAt old w → StandsAt new w
-  pub adds : AddsAll old new []
-  pub rests : Rests before after
-
-abbrev pub ConversesOver : {C : Type 0} → (C → ℕ → C → Type 0) → (before : Session C) → (new : Hub)
-    → (after : Wire)
-    → Served → Type 0
-ConversesOver ticks before new after Unserved = IsUnserved before.hub new before.wire after
-ConversesOver ticks before new after Ended = Converses ticks before new after Ended
-ConversesOver ticks before new after Closed = Converses ticks before new after Closed
-ConversesOver ticks before new after ReadFault = Converses ticks before new after ReadFault
-ConversesOver ticks before new after WriteFault = Converses ticks before new after WriteFault
-ConversesOver ticks before new after Bound = Converses ticks before new after Bound
 
 -- a connection that is served takes one number, and another takes none
 abbrev pub next_after : ℕ → Served → ℕ
@@ -161,3 +48,131 @@ next_after next Closed = next + 1
 next_after next ReadFault = next + 1
 next_after next WriteFault = next + 1
 next_after next Bound = next + 1
+
+module _ {S : Type 0} (g : Ghosts S) where
+  -- where the serving of a connection stands
+  pub record Session (C : Type 0) : Type 0 where
+    pub hub : Hub S g
+    pub wire : Wire
+    pub clock : C
+
+  abbrev pub session : {C : Type 0} → Hub S g → Wire → C → Session C
+  session hub ends clock = record { hub = hub; wire = ends; clock = clock }
+
+  -- for all records that it stood for, the hub stands for them with these after them, if its store is open
+  abbrev pub AddsAll : Hub S g → Hub S g → List Record → Type 0
+  AddsAll old new more = IsClean g new → (first : State) (records : List Record)
+      → StandsAfter g old first records
+      → StandsAfter g new first (records ++ more)
+
+  -- what a stop now leaves stands for all records that the hub stood for, with these after them and a stop
+  abbrev pub StopsAll : Hub S g → Hub S g → List Record → Type 0
+  StopsAll old new more = IsHonest g new → (first : State) (records : List Record)
+      → StandsAfter g old first records
+      → Leaves (store_of g new)
+      (λ found. Run old.config first ((records ++ more) ++ stopped ∷ []) (first_world found))
+
+  -- the turns leave the connection open, one after another, each with the outlet's failures that the one before left
+  pub data Talks (number : ℕ)
+      : Hub S g → (failures : ℕ) → List Turn → Hub S g → (failures_after : ℕ) → Type 0 where
+    silent : {hub : Hub S g} {failures : ℕ} → Talks number hub failures [] hub failures
+    turn : {hub mid new : Hub S g} {failures before after : ℕ} {turns : List Turn} (t : Turn)
+        → Talks number hub failures turns mid before
+        → last_answer turns ≡ StaysOpen → mid.config ≡ hub.config
+        → IsArrival g mid new number t.piece t.moment t.sent before after t.answer
+        → Talks number hub failures (turns ++ t ∷ []) new after
+
+  -- turns so far: what they add, read, write, and when
+  pub record Talk {C : Type 0} (ticks : C → ℕ → C → Type 0) (number : ℕ) (before after : Session C)
+      (count : ℕ) (answer : Arrived) : Type 0 where
+    pub turns : List Turn
+    pub counted : length turns ≡ count
+    pub sizes : ArePieces turns
+    pub talks : Talks number before.hub before.wire.failures turns after.hub after.wire.failures
+    pub transfers : Transfers before.wire after.wire (pieces_of turns) (replies_of turns)
+    pub moments : Clocks ticks before.clock turns after.clock
+    pub answered : last_answer turns ≡ answer
+
+  -- one turn
+  pub record OneTurn {C : Type 0} (ticks : C → ℕ → C → Type 0) (number : ℕ) (before after : Session C)
+      (answer : Arrived) : Type 0 where
+    pub piece : List ℕ
+    pub moment : ℕ
+    pub sent : List ℕ
+    pub arrives :
+        IsArrival g before.hub after.hub number piece moment sent before.wire.failures after.wire.failures answer
+    pub some : 0 < length piece
+    pub small : length piece ≤ most_read
+    pub transfers : Transfers before.wire after.wire piece sent
+    pub ticked : ticks before.clock moment after.clock
+
+  -- nothing was read
+  pub record NoTurn {C : Type 0} (before after : Session C) : Type 0 where
+    pub same_hub : after.hub ≡ before.hub
+    pub rests : Rests before.wire after.wire
+    pub same_clock : after.clock ≡ before.clock
+
+  abbrev pub TurnsTo : {C : Type 0} → (C → ℕ → C → Type 0) → ℕ → (before after : Session C) → Option Served
+      → Type 0
+  TurnsTo ticks number before after None = OneTurn ticks number before after StaysOpen
+  TurnsTo ticks number before after (Some Closed) = OneTurn ticks number before after HasClosed
+  TurnsTo ticks number before after (Some WriteFault) = OneTurn ticks number before after Cut
+  TurnsTo ticks number before after (Some Ended) = NoTurn before after × IsAtEnd after.wire.unread
+  TurnsTo ticks number before after (Some ReadFault) = NoTurn before after
+  TurnsTo ticks number before after (Some Unserved) = ⊥
+  TurnsTo ticks number before after (Some Bound) = ⊥
+
+  -- the turns up to the end
+  pub record TalksUntil {C : Type 0} (ticks : C → ℕ → C → Type 0) (number : ℕ) (before after : Session C)
+      (served : Served) : Type 0 where
+    pub count : ℕ
+    pub answer : Arrived
+    pub talk : Talk ticks number before after count answer
+    pub ends : EndsAs after.wire.unread talk.turns served
+
+  -- what the machine makes of the turns, from whatever machine the hub kept: it answers them as they were answered,
+  -- and the hub keeps what it comes to, if its store is open
+  pub record IsAnswered (old new : Hub S g) (number : ℕ) (turns : List Turn) (w : World) : Type 0 where
+    pub talked : World
+    pub exchanges : Exchanges old.config number (with_opened number w) turns talked
+    pub at : IsClean g new → StandsAt g new (with_closed number talked)
+
+  -- one connection: what was read are its pieces, what was written is what was sent, each at the clock's answer
+  pub record Converses {C : Type 0} (ticks : C → ℕ → C → Type 0) (before : Session C) (new : Hub S g)
+      (after : Wire) (served : Served) : Type 0 where
+    pub number : ℕ
+    pub turns : List Turn
+    pub is_next : number ≡ before.hub.next
+    pub fresh : intake_of before.hub.connections.items number ≡ None
+    pub opened : Hub S g
+    pub opens : Moves g before.hub opened (Connect number) []
+    pub talked : Hub S g
+    pub talks : Talks number opened before.wire.failures turns talked after.failures
+    pub closes : Moves g talked new (Close number) []
+    pub gone : intake_of new.connections.items number ≡ None
+    pub answers : IsHonest g new → (w : World) → StandsAt g before.hub w
+        → IsAnswered before.hub new number turns w
+    pub adds : AddsAll before.hub new (records_of number turns)
+    pub stops : StopsAll before.hub new
+        (record { event = Connect number; sent = [] } ∷ map (record_of number) turns)
+    pub transfers : Transfers before.wire after (pieces_of turns) (replies_of turns)
+    pub moments : (last : C) × Clocks ticks before.clock turns last
+    pub ends : EndsAs after.unread turns served
+    pub sizes : ArePieces turns
+
+  -- nothing is read or written, and the hub stands for what it did
+  pub record IsUnserved (old new : Hub S g) (before after : Wire) : Type 0 where
+    pub same : (w : World) → StandsAt g old w → StandsAt g new w
+    pub same_store : new.store ≡ old.store
+    pub adds : AddsAll old new []
+    pub rests : Rests before after
+
+  abbrev pub ConversesOver : {C : Type 0} → (C → ℕ → C → Type 0) → (before : Session C) → (new : Hub S g)
+      → (after : Wire)
+      → Served → Type 0
+  ConversesOver ticks before new after Unserved = IsUnserved before.hub new before.wire after
+  ConversesOver ticks before new after Ended = Converses ticks before new after Ended
+  ConversesOver ticks before new after Closed = Converses ticks before new after Closed
+  ConversesOver ticks before new after ReadFault = Converses ticks before new after ReadFault
+  ConversesOver ticks before new after WriteFault = Converses ticks before new after WriteFault
+  ConversesOver ticks before new after Bound = Converses ticks before new after Bound

@@ -5,16 +5,17 @@ use Rattle.dep_types.specs.Writing.{IsProperPrefix}
 use Rattle.dep_types.specs.declared.config.Config.{Config}
 use Rattle.dep_types.specs.declared.refusal.Refusal.TheVariants as why
 use Rattle.dep_types.specs.declared.target.Target.{Target}
-use Rattle.dep_server.specs.declared.routing.Routed.{Routed}
-use Rattle.dep_server.specs.declared.routing.Routed.TheVariants.{To, NotFound, NotAllowed}
+use Rattle.dep_router.specs.Targets.{target}
+use Rattle.dep_router.specs.declared.routed.Routed.{Routed}
+use Rattle.dep_router.specs.declared.routed.Routed.TheVariants.{To, NotFound, NotAllowed}
 use Rattle.dep_message.specs.declared.message.Message.{Message}
 use Rattle.dep_message.specs.Places.{Place, Open, Shut, HasBytes}
 use Rattle.dep_message.specs.Heads.{is_bare, closes}
 use Rattle.dep_message.specs.Stream.{Item, Fault, Continue, Request, Waits}
-use Rattle.dep_server.specs.Targets.{target, allow_text}
-use Rattle.dep_operations.specs.Fields.{fields_of}
-use Rattle.dep_operations.specs.declared.operation.Operation.{Operation}
-use Rattle.dep_store.specs.Steps.{Stepped, sent_by, refused_step, operation_step}
+use Rattle.dep_fields.specs.Told.{fields_of}
+use Rattle.dep_fields.specs.Tags.{if_match_of}
+use Rattle.dep_decisions.specs.declared.operation.Operation.{Operation}
+use Rattle.dep_answers.specs.Steps.{Stepped, sent_by, refused_step, operation_step}
 use Rattle.dep_server.specs.declared.arrived.Arrived.{Arrived}
 use Rattle.dep_server.specs.declared.arrived.Arrived.TheVariants.{Open as StaysOpen, Closed, Cut}
 
@@ -23,6 +24,7 @@ abbrev pub operation_of : Message → Target → Operation
 operation_of m t = record {
   target = t;
   fields = fields_of m.head.fields;
+  if_match = if_match_of m.head.fields;
   content = m.content;
   closes = closes m.head;
 }
@@ -31,8 +33,8 @@ operation_of m t = record {
 -- refusals in docs/PROFILE.md)
 abbrev pub routed_step : Config → State → Message → Routed → Stepped
 routed_step config s m NotFound = refused_step s why.NotFound None (is_bare m.head) (closes m.head)
-routed_step config s m (NotAllowed resource) =
-    refused_step s why.MethodNotAllowed (Some (allow_text resource)) (is_bare m.head) (closes m.head)
+routed_step config s m (NotAllowed methods) =
+    refused_step s why.MethodNotAllowed (Some methods) (is_bare m.head) (closes m.head)
 routed_step config s m (To t) = operation_step config s (operation_of m t)
 
 -- what tells a client to send the body (RFC 9110, section 15.2.1)

@@ -5,14 +5,17 @@ use Rattle.dep_types.specs.declared.config.Config.{Config}
 use Rattle.dep_message.specs.Places.{Place, Open, Shut}
 use Rattle.dep_message.specs.Stream.{Item, Reads, Spells}
 use Rattle.dep_server.specs.Machine.{Serves}
+use Rattle.dep_server.specs.Stops.{LeftByServing}
 use Rattle.dep_server.specs.declared.arrived.Arrived.{Arrived}
 use Rattle.dep_server.specs.declared.arrived.Arrived.TheVariants.{Closed}
 
--- what happens to a server: a connection is opened, bytes of one arrive at a moment, one is closed
+-- what happens to a server: a connection is opened, bytes of one arrive at a moment, one is closed; or the
+-- server stops, which ends every connection
 pub data Event : Type 0 where
   Connect : (number : ℕ) → Event
   Arrive : (number : ℕ) (piece : List ℕ) (moment : ℕ) → Event
   Close : (number : ℕ) → Event
+  Stop : Event
 
 -- an event, with the bytes that were sent for it
 pub record Record : Type 0 where
@@ -56,6 +59,13 @@ pub data Arrives (config : Config) (piece : List ℕ) (moment : ℕ)
       → Arrives config piece moment (Live stream) s sent left (line_after (stream ++ piece) at) answer
   at_shut_line : {s : State} → Arrives config piece moment ShutLine s [] s ShutLine Closed
 
+-- what a stop may leave at the end of an arrival
+abbrev pub LeftByArrival : {config : Config} {piece : List ℕ} {moment : ℕ} {line after : Line} {s left : State}
+    {sent : List ℕ} {answer : Arrived}
+    → Arrives config piece moment line s sent left after answer → State → Type 0
+LeftByArrival (at_live serves) found = LeftByServing serves found
+LeftByArrival {s = s} at_shut_line found = found ≡ s
+
 -- what may happen to the machine
 pub data Happens (config : Config) (w : World) : Event → List ℕ → World → Type 0 where
   connects : {n : ℕ}
@@ -68,9 +78,22 @@ pub data Happens (config : Config) (w : World) : Event → List ℕ → World �
   unknown : {n moment : ℕ} {piece : List ℕ} → w.line n ≡ Absent
       → Happens config w (Arrive n piece moment) [] w
 
+abbrev pub stopped : Record
+stopped = record { event = Stop; sent = [] }
+
 -- the machine may be there after these records, from a state and no connection
 pub data Run (config : Config) (first : State) : List Record → World → Type 0 where
   begins : Run config first [] (first_world first)
   goes_on : {records : List Record} {event : Event} {sent : List ℕ} {w w' : World}
       → Run config first records w → Happens config w event sent w'
       → Run config first (records ++ record { event = event; sent = sent } ∷ []) w'
+  -- it stops between two calls, or at the end of one that left all well
+  stops : {records : List Record} {w : World} → Run config first records w
+      → Run config first (records ++ stopped ∷ []) (first_world w.state)
+  -- it stops at the end of an arrival, and what is found is what that arrival may leave
+  breaks : {records : List Record} {n moment : ℕ} {piece sent : List ℕ} {w : World} {left : State}
+      {line : Line} {answer : Arrived} (found : State)
+      → Run config first records w
+      → (a : Arrives config piece moment (w.line n) w.state sent left line answer) → LeftByArrival a found
+      → Run config first (records ++ record { event = Arrive n piece moment; sent = sent } ∷ stopped ∷ [])
+      (first_world found)

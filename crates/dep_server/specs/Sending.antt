@@ -1,10 +1,16 @@
--- Replies that are sent over an outlet.
-use Rattle.std.specs.Prelude.{◌≡◌, ℕ, List, ◌++◌, Option}
+-- Replies that are sent over an outlet, and contents behind them.
+use Rattle.std.specs.Prelude.{◌≡◌, ◌⊎◌, ℕ, List, Option, IsTrue}
 use Rattle.std.specs.Io.KnownBytes.{Appends}
-use Rattle.dep_types.specs.Writing.{IsProperPrefix}
-use Rattle.dep_types.specs.State.{State}
-use Rattle.dep_store.specs.Performing.{document_in, stored_in}
-use Rattle.dep_store.specs.declared.performed.Performed.{Performed}
+use Rattle.sqlite.specs.State as db
+use Rattle.dep_types.specs.Writing.{IsProperPrefix, HasRisen}
+use Rattle.dep_types.specs.declared.store_fault.StoreFault.{StoreFault}
+use Rattle.dep_types.specs.declared.store_fault.StoreFault.TheVariants.{Store, Memory}
+use Rattle.dep_answers.specs.Steps.{Stepped, sent_by}
+use Rattle.dep_answers.specs.declared.performed.Performed.{Performed}
+use Rattle.dep_store.specs.Standing.{StandsFor, Leaves}
+use Rattle.dep_store.specs.Performing.{Performs}
+use Rattle.dep_server.specs.Machine.{want_of_memory, store_fault}
+use Rattle.dep_server.specs.Causes.{CutsStored}
 use Rattle.dep_server.specs.declared.sending.Answered.{Answered}
 use Rattle.dep_server.specs.declared.sending.Answered.TheVariants.{Sent, GaveUp, CutShort}
 
@@ -18,10 +24,6 @@ abbrev pub SendsOver : Option (List ℕ) → Option (List ℕ) → List ℕ → 
 SendsOver held holds whole answer =
     (sent : List ℕ) × Appends held holds sent × IsSentUpTo whole sent answer
 
--- all that a reply that is ready sends
-abbrev pub ready_bytes : State → Performed → List ℕ
-ready_bytes s p = (p.head.items ++ document_in p.body) ++ stored_in s p.body
-
 -- an item's own reply was sent, or a part of it
 abbrev pub IsReplySent : List ℕ → List ℕ → Answered → Type 0
 IsReplySent whole sent Sent = sent ≡ whole
@@ -31,3 +33,50 @@ IsReplySent whole sent CutShort = IsProperPrefix sent whole
 abbrev pub SendsReply : Option (List ℕ) → Option (List ℕ) → List ℕ → Answered → Type 0
 SendsReply held holds whole answer =
     (sent : List ℕ) × Appends held holds sent × IsReplySent whole sent answer
+
+-- the fixed reply for a fault
+abbrev pub reply_to : StoreFault → List ℕ
+reply_to Store = store_fault
+reply_to Memory = want_of_memory
+
+-- what lies outside the machine: the bytes that the outlet took, where it tells them, how often it has failed, and
+-- the store
+pub record Outside : Type 1 where
+  pub taken : Option (List ℕ)
+  pub failures : ℕ
+  pub store : db.State
+
+abbrev pub outside : (taken : Option (List ℕ)) → (failures : ℕ) → (store : db.State) → Outside
+outside taken failures store = record { taken = taken; failures = failures; store = store }
+
+-- from one to the other these bytes were sent; and where the disk has told no lie up to the second, or the store is
+-- open there, it was so at the first
+pub record Passes (old new : Outside) (sent : List ℕ) : Type 0 where
+  pub appends : Appends old.taken new.taken sent
+  pub honest : db.HasCleanDisk new.store → db.HasCleanDisk old.store
+  pub clean : IsTrue new.store.is_open → IsTrue old.store.is_open
+
+-- what of the reply to a step was sent, once the step was made
+pub record CutsStep (stepped : Stepped) (old new : Outside) (sent : List ℕ) : Type 0 where
+  pub part : IsProperPrefix sent (sent_by stepped)
+  pub stands : IsTrue new.store.is_open → StandsFor new.store stepped.state
+  pub stop : Leaves new.store (λ found. found ≡ stepped.state)
+  pub cause : HasRisen old.failures new.failures ⊎ CutsStored stepped sent
+
+-- a step was made, and all of its reply sent without a failure
+pub record SendsAll (stepped : Stepped) (old new : Outside) (sent : List ℕ) : Type 0 where
+  pub stands : StandsFor new.store stepped.state
+  pub whole : sent ≡ sent_by stepped
+  pub failures : new.failures ≡ old.failures
+
+abbrev pub SendsStep : Stepped → (old new : Outside) → (sent : List ℕ) → Answered → Type 0
+SendsStep stepped old new sent Sent = SendsAll stepped old new sent
+SendsStep stepped old new sent GaveUp = ⊥
+SendsStep stepped old new sent CutShort = CutsStep stepped old new sent
+
+-- what is ready is sent, and the store left as it is
+pub record SendsReady (old new : Outside) (p : Performed) (answer : Answered) : Type 0 where
+  pub sent : List ℕ
+  pub passes : Passes old new sent
+  pub sends : db.HasCleanDisk new.store → (stepped : Stepped) → Performs stepped old.store p
+      → SendsStep stepped old new sent answer

@@ -1,12 +1,15 @@
 -- What a hub stands for: the lists of records that may have led to what it keeps.
-use Rattle.std.specs.Prelude.{◌≡◌, ◌==◌, ℕ, List, [], ◌∷◌, ◌++◌, if◌then◌else◌, Option, None, Some}
+use Rattle.std.specs.Prelude.{◌≡◌, ◌==◌, ℕ, List, [], ◌∷◌, ◌++◌, if◌then◌else◌, Option, None, Some, IsTrue}
 use Rattle.std.specs.Io.KnownBytes.{Appends, Keeps}
+use Rattle.sqlite.specs.State as db
+use Rattle.sqlite.specs.Held.{state}
+use Rattle.sqlite_trees.specs.declared.store.Store.{Ghosts}
 use Rattle.dep_types.specs.State.{State}
-use Rattle.dep_types.specs.Sound.{IsSound}
 use Rattle.dep_types.specs.declared.config.Config.{Config}
 use Rattle.dep_message.specs.Places.{Shut, Reading, IsOpen}
 use Rattle.dep_message.specs.Stream.{Item, Spells}
-use Rattle.dep_server.specs.Records.{Event, Arrive, Record, Line, Absent, Live, ShutLine, World, Run, with_line, Arrives, Happens}
+use Rattle.dep_store.specs.Standing.{StandsFor, Leaves}
+use Rattle.dep_server.specs.Records.{Event, Arrive, Record, stopped, Line, Absent, Live, ShutLine, World, Run, first_world, with_line, Arrives, LeftByArrival, Happens}
 use Rattle.dep_server.specs.declared.arrived.Arrived.{Arrived}
 use Rattle.dep_server.specs.declared.arrived.Arrived.TheVariants.{Open as StaysOpen, Closed, Cut, NoSuch}
 use Rattle.dep_server.specs.declared.connections.Connection.{Connection}
@@ -40,67 +43,93 @@ IsKeptAs limit (Live stream) (Some reading) = KeepsRest limit stream reading
 IsKeptAs limit ShutLine None = ⊥
 IsKeptAs limit ShutLine (Some reading) = IsShut limit reading
 
--- the hub keeps what the machine is, and that is sound
-pub record StandsAt (hub : Hub) (w : World) : Type 0 where
-  pub state : hub.store ≡ w.state
-  pub sound : IsSound w.state
-  pub kept : (number : ℕ)
-      → IsKeptAs hub.config.max_upload (w.line number) (intake_of hub.connections.items number)
+module _ {S : Type 0} (g : Ghosts S) where
+  -- the store of the hub, as the database shows it
+  abbrev pub store_of : Hub S g → db.State
+  store_of hub = state g hub.store
 
--- the machine may be there after these records
-pub record StandsFor (hub : Hub) (first : State) (records : List Record) : Type 0 where
-  pub world : World
-  pub run : Run hub.config first records world
-  pub at : StandsAt hub world
+  -- the store is open: no fault has shut it, and the disk has told no lie that was taken as true
+  abbrev pub IsClean : Hub S g → Type 0
+  IsClean hub = IsTrue (store_of hub).is_open
 
--- for all records that it stood for, the hub stands for them with one more
-abbrev pub Adds : Hub → Hub → Event → List ℕ → Type 0
-Adds old new event sent = (first : State) (records : List Record) → StandsFor old first records
-    → StandsFor new first (records ++ record { event = event; sent = sent } ∷ [])
+  -- the disk has told no lie that was taken as true; a fault may have shut the store
+  abbrev pub IsHonest : Hub S g → Type 0
+  IsHonest hub = db.HasCleanDisk (store_of hub)
 
--- whatever machine the hub kept, it keeps what the event makes of that machine
-abbrev pub Moves : Hub → Hub → Event → List ℕ → Type 0
-Moves old new event sent = (w : World) → StandsAt old w
-    → (w' : World) × Happens old.config w event sent w' × StandsAt new w'
+  -- the hub keeps what the machine is
+  pub record StandsAt (hub : Hub S g) (w : World) : Type 0 where
+    pub state : StandsFor (store_of hub) w.state
+    pub kept : (number : ℕ)
+        → IsKeptAs hub.config.max_upload (w.line number) (intake_of hub.connections.items number)
 
--- what an arrival comes to, from a world at which the hub stood: the hub stands at the next one, and
--- a cut has a cause, on the bytes that were sent
-pub record ArrivesTo (config : Config) (new : Hub) (number : ℕ) (piece : List ℕ) (moment : ℕ)
-    (sent : List ℕ) (failures failures_after : ℕ) (answer : Arrived) (w : World) : Type 0 where
-  pub left : State
-  pub line : Line
-  pub arrives : Arrives config piece moment (w.line number) w.state sent left line answer
-  pub stands : StandsAt new (record { state = left; line = with_line number line w.line })
-  pub cause : answer ≡ Cut → HasCause failures failures_after arrives
+  -- the machine may be there after these records
+  pub record StandsAfter (hub : Hub S g) (first : State) (records : List Record) : Type 0 where
+    pub world : World
+    pub run : Run hub.config first records world
+    pub at : StandsAt hub world
 
--- an arrival at a connection that is there: what is sent for it is a run's, and so is the answer
-pub record IsArrival (old new : Hub) (number : ℕ) (piece : List ℕ) (moment : ℕ) (sent : List ℕ)
-    (failures failures_after : ℕ) (answer : Arrived) : Type 0 where
-  pub adds : Adds old new (Arrive number piece moment) sent
-  pub answers : (w : World) → StandsAt old w
-      → ArrivesTo old.config new number piece moment sent failures failures_after answer w
+  -- for all records that it stood for, the hub stands for them with one more
+  abbrev pub Adds : Hub S g → Hub S g → Event → List ℕ → Type 0
+  Adds old new event sent = (first : State) (records : List Record) → StandsAfter old first records
+      → StandsAfter new first (records ++ record { event = event; sent = sent } ∷ [])
 
--- what was sent over an outlet for an arrival, by what the outlet tells before and after
-pub record ArrivesOver (held holds : Option (List ℕ)) (failures failures_after : ℕ) (old new : Hub)
-    (number : ℕ) (piece : List ℕ) (moment : ℕ) (answer : Arrived) : Type 0 where
-  pub sent : List ℕ
-  pub appends : Appends held holds sent
-  pub arrival : IsArrival old new number piece moment sent failures failures_after answer
+  -- whatever machine the hub kept, it keeps what the event makes of that machine
+  abbrev pub Moves : Hub S g → Hub S g → Event → List ℕ → Type 0
+  Moves old new event sent = (w : World) → StandsAt old w
+      → (w' : World) × Happens old.config w event sent w' × StandsAt new w'
 
--- there is no such connection, and nothing happens
-pub record IsNoSuch (held holds : Option (List ℕ)) (old new : Hub) (number : ℕ) : Type 0 where
-  pub absent : intake_of old.connections.items number ≡ None
-  pub same : new ≡ old
-  pub sends_nothing : Keeps held holds
+  -- What an arrival comes to, from a world at which the hub stood. While the store is open the hub stands at the
+  -- next one, and a stop leaves just that; whether it is or not, a stop leaves what it may leave after the arrival.
+  -- A connection that stays open has an open store, and a cut has a cause, on the bytes that were sent.
+  pub record ArrivesTo (config : Config) (new : Hub S g) (number : ℕ) (piece : List ℕ) (moment : ℕ)
+      (sent : List ℕ) (failures failures_after : ℕ) (answer : Arrived) (w : World) : Type 0 where
+    pub left : State
+    pub line : Line
+    pub arrives : Arrives config piece moment (w.line number) w.state sent left line answer
+    pub stands : IsClean new → StandsAt new (record { state = left; line = with_line number line w.line })
+    pub rests : IsClean new → Leaves (store_of new) (λ found. found ≡ left)
+    pub stays_clean : answer ≡ StaysOpen → IsClean new
+    pub stop : Leaves (store_of new) (LeftByArrival arrives)
+    pub cause : answer ≡ Cut → HasCause failures failures_after arrives
 
--- what an arrival comes to, over an outlet
-abbrev pub ComesTo : (held holds : Option (List ℕ)) → (failures failures_after : ℕ) → (old new : Hub)
-    → (number : ℕ) → (piece : List ℕ) → (moment : ℕ) → Arrived → Type 0
-ComesTo held holds failures failures_after old new number piece moment NoSuch =
-    IsNoSuch held holds old new number
-ComesTo held holds failures failures_after old new number piece moment StaysOpen =
-    ArrivesOver held holds failures failures_after old new number piece moment StaysOpen
-ComesTo held holds failures failures_after old new number piece moment Closed =
-    ArrivesOver held holds failures failures_after old new number piece moment Closed
-ComesTo held holds failures failures_after old new number piece moment Cut =
-    ArrivesOver held holds failures failures_after old new number piece moment Cut
+  -- what a stop at the end of an arrival leaves stands for the records, with the arrival and a stop
+  abbrev pub StopsAfter : Hub S g → Hub S g → Event → List ℕ → Type 0
+  StopsAfter old new event sent = IsHonest new → (first : State) (records : List Record)
+      → StandsAfter old first records
+      → Leaves (store_of new) (λ found. Run old.config first
+      (records ++ record { event = event; sent = sent } ∷ stopped ∷ []) (first_world found))
+
+  -- an arrival at a connection that is there: what is sent for it is a run's, and so is the answer
+  pub record IsArrival (old new : Hub S g) (number : ℕ) (piece : List ℕ) (moment : ℕ) (sent : List ℕ)
+      (failures failures_after : ℕ) (answer : Arrived) : Type 0 where
+    pub adds : IsClean new → Adds old new (Arrive number piece moment) sent
+    pub stops : StopsAfter old new (Arrive number piece moment) sent
+    pub clean : IsClean new → IsClean old
+    pub honest : IsHonest new → IsHonest old
+    pub answers : IsHonest new → (w : World) → StandsAt old w
+        → ArrivesTo old.config new number piece moment sent failures failures_after answer w
+
+  -- what was sent over an outlet for an arrival, by what the outlet tells before and after
+  pub record ArrivesOver (held holds : Option (List ℕ)) (failures failures_after : ℕ) (old new : Hub S g)
+      (number : ℕ) (piece : List ℕ) (moment : ℕ) (answer : Arrived) : Type 0 where
+    pub sent : List ℕ
+    pub appends : Appends held holds sent
+    pub arrival : IsArrival old new number piece moment sent failures failures_after answer
+
+  -- there is no such connection, and nothing happens
+  pub record IsNoSuch (held holds : Option (List ℕ)) (old new : Hub S g) (number : ℕ) : Type 0 where
+    pub absent : intake_of old.connections.items number ≡ None
+    pub same : new ≡ old
+    pub sends_nothing : Keeps held holds
+
+  -- what an arrival comes to, over an outlet
+  abbrev pub ComesTo : (held holds : Option (List ℕ)) → (failures failures_after : ℕ) → (old new : Hub S g)
+      → (number : ℕ) → (piece : List ℕ) → (moment : ℕ) → Arrived → Type 0
+  ComesTo held holds failures failures_after old new number piece moment NoSuch =
+      IsNoSuch held holds old new number
+  ComesTo held holds failures failures_after old new number piece moment StaysOpen =
+      ArrivesOver held holds failures failures_after old new number piece moment StaysOpen
+  ComesTo held holds failures failures_after old new number piece moment Closed =
+      ArrivesOver held holds failures failures_after old new number piece moment Closed
+  ComesTo held holds failures failures_after old new number piece moment Cut =
+      ArrivesOver held holds failures failures_after old new number piece moment Cut

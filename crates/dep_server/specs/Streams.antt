@@ -4,7 +4,7 @@ use Rattle.std.specs.List.{flat_map, fold}
 use Rattle.std.specs.Option.{option_map, option_map_or}
 use Rattle.dep_message.specs.Places.{Place}
 use Rattle.dep_message.specs.Stream.{Item, Spells}
-use Rattle.dep_server.specs.Records.{Event, Connect, Arrive, Close, Record}
+use Rattle.dep_server.specs.Records.{Event, Connect, Arrive, Close, Stop, Record}
 use Rattle.dep_server.specs.Calm.{SteppedItem}
 
 -- the streams of a number: one for each time that it was opened, the last of them open still or not
@@ -15,12 +15,13 @@ pub record Streams : Type 0 where
 abbrev pub all_streams : Streams → List (List ℕ)
 all_streams s = s.closed ++ option_map_or (λ stream. stream ∷ []) s.current []
 
--- a piece goes on with the stream that is open, if there is one
+-- a piece goes on with the stream that is open, if there is one; a stop ends it
 abbrev pub with_event : ℕ → Streams → Event → Streams
 with_event n s (Connect m) = if n == m then record { closed = all_streams s; current = Some [] } else s
 with_event n s (Arrive m piece moment) =
     if n == m then record s { current = option_map (λ stream. stream ++ piece) s.current } else s
 with_event n s (Close m) = if n == m then record { closed = all_streams s; current = None } else s
+with_event n s Stop = record { closed = all_streams s; current = None }
 
 abbrev pub streams_over : ℕ → List Record → Streams
 streams_over n records =

@@ -1,6 +1,6 @@
 //! One connection over a reader and an outlet.
 ghost use Rattle.std.specs.Prelude.{◌≡◌, ◌≢◌, ◌<◌, ℕ, IsSome, length};
-ghost use Rattle.dep_server.specs.Standing.{intake_of};
+ghost use Rattle.dep_server.specs.Standing.{intake_of, IsClean, IsHonest};
 ghost use Rattle.dep_server.specs.Turns.{most_read};
 ghost use Rattle.dep_server.specs.Conversation.{session, wire, ConversesOver, TalksUntil, TurnsTo, next_after};
 
@@ -9,6 +9,7 @@ use crate::connections::ConnId;
 use crate::hub::Hub;
 use dep_moment::Moment;
 use dep_types::Outlet;
+use sqlite::Alter;
 use std::alloc::Global;
 use std::io::Read;
 
@@ -34,19 +35,21 @@ const MOST_READS: u32 = 1_048_576;
 const MOST_READ: usize = 65_536;
 
 /// Serves one fresh connection, from its opening to its close.
-pub fn serve_connection<R: Read, W: Outlet, C: FnMut() -> Moment>(
+pub fn serve_connection<S: Alter, R: Read, W: Outlet, C: FnMut() -> Moment>(
     alloc: Global,
     reader: &mut R,
     writer: &mut W,
-    hub: &mut Hub,
+    hub: &mut Hub<S>,
     mut clock: C,
 ) -> Served
     requires { C.IsAlwaysCallable clock }
     ensures config { hub.new.config ≡ hub.old.config }
-    ensures converses { ConversesOver C.step
-        (session hub.old
+    ensures converses { ConversesOver S.Store C.step
+        (session S.Store hub.old
         (wire (R.remaining reader.old) (W.taken writer.old) (W.failures writer.old)) clock)
         hub.new (wire (R.remaining reader.new) (W.taken writer.new) (W.failures writer.new)) result }
+    ensures clean { IsClean S.Store hub.new → IsClean S.Store hub.old }
+    ensures honest { IsHonest S.Store hub.new → IsHonest S.Store hub.old }
     ensures next { hub.new.next ≡ next_after hub.old.next result }
 {
     let Ok(mut buffer) = vec![in alloc; 0u8; MOST_READ] else {
@@ -68,10 +71,10 @@ pub fn serve_connection<R: Read, W: Outlet, C: FnMut() -> Moment>(
 }
 
 /// Serves a connection until it ends.
-fn converse<R: Read, W: Outlet, C: FnMut() -> Moment>(
+fn converse<S: Alter, R: Read, W: Outlet, C: FnMut() -> Moment>(
     reader: &mut R,
     writer: &mut W,
-    hub: &mut Hub,
+    hub: &mut Hub<S>,
     clock: &mut C,
     connection: ConnId,
     buffer: &mut [u8],
@@ -81,10 +84,10 @@ fn converse<R: Read, W: Outlet, C: FnMut() -> Moment>(
     requires room { length buffer.old ≡ most_read }
     ensures config { hub.new.config ≡ hub.old.config }
     ensures next { hub.new.next ≡ hub.old.next }
-    ensures talks { TalksUntil C.step connection
-        (session hub.old
+    ensures talks { TalksUntil S.Store C.step connection
+        (session S.Store hub.old
         (wire (R.remaining reader.old) (W.taken writer.old) (W.failures writer.old)) clock.old)
-        (session hub.new
+        (session S.Store hub.new
         (wire (R.remaining reader.new) (W.taken writer.new) (W.failures writer.new)) clock.new) result }
 {
     for count in 0..MOST_READS {
@@ -96,10 +99,10 @@ fn converse<R: Read, W: Outlet, C: FnMut() -> Moment>(
 }
 
 /// Reads a piece, and has it served.
-fn turn<R: Read, W: Outlet, C: FnMut() -> Moment>(
+fn turn<S: Alter, R: Read, W: Outlet, C: FnMut() -> Moment>(
     reader: &mut R,
     writer: &mut W,
-    hub: &mut Hub,
+    hub: &mut Hub<S>,
     clock: &mut C,
     connection: ConnId,
     buffer: &mut [u8],
@@ -112,10 +115,10 @@ fn turn<R: Read, W: Outlet, C: FnMut() -> Moment>(
     ensures room { length buffer.new ≡ most_read }
     ensures config { hub.new.config ≡ hub.old.config }
     ensures next { hub.new.next ≡ hub.old.next }
-    ensures turn { TurnsTo C.step connection
-        (session hub.old
+    ensures turn { TurnsTo S.Store C.step connection
+        (session S.Store hub.old
         (wire (R.remaining reader.old) (W.taken writer.old) (W.failures writer.old)) clock.old)
-        (session hub.new
+        (session S.Store hub.new
         (wire (R.remaining reader.new) (W.taken writer.new) (W.failures writer.new)) clock.new) result }
 {
     match reader.read(buffer) {

@@ -1,29 +1,31 @@
 //! All connections, and the one store that they share.
 ghost use Rattle.std.specs.Prelude.{◌+◌, ◌≡◌, ◌<◌, ◌≤◌, ℕ, [], ◌∷◌, ◌++◌, List, length, IfOk, IfErr, OnErr, IfSome, None, IsErrOf, IsSome, ◌⊎◌, ◌≢◌};
-ghost use Rattle.dep_types.specs.Writing.{HasRisen};
 ghost use Rattle.dep_types.specs.State.{State};
-ghost use Rattle.dep_types.specs.Sound.{IsSound};
+ghost use Rattle.sqlite.specs.Held.{state};
+ghost use Rattle.dep_store.specs.Standing.{StandsFor, Leaves};
 ghost use Rattle.dep_types.specs.Config.{IsChecked};
-ghost use Rattle.dep_server.specs.Records.{Connect, Close, Record, World, Run, Absent};
+ghost use Rattle.dep_server.specs.Records.{Connect, Close, Record, World, Run, Absent, stopped, first_world};
 ghost use Rattle.dep_server.specs.Numbers.{Ascends, Ascends-prop, most_connections, last_number};
 
 use crate::arrived::Arrived;
 use crate::connections::{ConnId, Connection, index_among};
 use crate::serving::serve;
+use dep_answers::Service;
 use dep_message::Intake;
 use dep_moment::Moment;
 use dep_store::Store;
 use dep_types::{Config, ConfigFault, Outlet};
+use sqlite::Alter;
 use std::alloc::Global;
 use std::error::Error;
 use std::fmt;
 
 /// All connections, and the one store that they share.
 #[derive(Drop)]
-pub struct Hub {
+pub struct Hub<S: Alter> {
     alloc: Global,
-    config: Config,
-    store: Store,
+    config: Service,
+    store: Store<S>,
     connections: Vec<Connection>,
     next: u64,
     // No number is there twice, and the next one is above them.
@@ -39,7 +41,7 @@ const LAST_NUMBER: u64 = 4_000_000_000_000_000_000;
 pub enum HubFault {
     /// The configuration breaks a rule of its check.
     Config,
-    /// There was no memory for the check.
+    /// There was no memory for the check, or for the service document.
     Memory,
 }
 
@@ -74,42 +76,53 @@ impl fmt::Display for ConnectFault {
 
 impl Error for ConnectFault {}
 
-impl Hub {
-    ghost use Rattle.dep_server.specs.Standing.{StandsFor, StandsAt, Adds, Moves, ComesTo, intake_of};
+impl<S: Alter> Hub<S> {
+    ghost use Rattle.dep_server.specs.Standing.{StandsAfter, StandsAt, IsClean, IsHonest, store_of, Adds, Moves, ComesTo, intake_of};
 
     /// A hub over the store, without connections. A refusal hands the store back.
-    pub fn new(alloc: Global, config: Config, store: Store) -> Result<Hub, (HubFault, Store)>
-        ensures stands { IfOk result (λ hub.
-            (first : State) → store ≡ first → IsSound first → StandsFor hub first []) }
+    pub fn new(
+        alloc: Global,
+        config: Config,
+        store: Store<S>,
+    ) -> Result<Hub<S>, (HubFault, Store<S>)>
+        ensures stands { IfOk result (λ hub. (first : State) → StandsFor (state S.Store store) first
+            → StandsAfter S.Store hub first []) }
         // Also after a stop.
         ensures again { IfOk result (λ hub. (first : State) (records : List Record) (w : World)
             → Run config first records w → ((n : ℕ) → w.line n ≡ Absent)
-            → store ≡ w.state → IsSound w.state → StandsFor hub first records) }
+            → StandsFor (state S.Store store) w.state → StandsAfter S.Store hub first records) }
         ensures config { IfOk result (λ hub. hub.config ≡ config) }
+        ensures kept { IfOk result (λ hub. hub.store ≡ store) }
         ensures checked { IfOk result (λ _. IsChecked config) }
         ensures refused { IfErr result (λ fault. fault.0 ≡ HubFault.Config → ¬ IsChecked config) }
         ensures next { IfOk result (λ hub. hub.next ≡ 0) }
         ensures store { IfErr result (λ fault. fault.1 ≡ store) }
     {
         match config.check(alloc) {
-            Ok(()) => Ok(Hub {
-                alloc,
-                config,
-                store,
-                connections: Vec::new(alloc),
-                next: 0,
-            }),
-            Err(ConfigFault::Memory) => Err((HubFault::Memory, store)),
-            Err(ConfigFault::Base | ConfigFault::Limit) => Err((HubFault::Config, store)),
+            Ok(()) => {}
+            Err(ConfigFault::Memory) => return Err((HubFault::Memory, store)),
+            Err(ConfigFault::Base) => return Err((HubFault::Config, store)),
+            Err(ConfigFault::Limit) => return Err((HubFault::Config, store)),
         }
+        let Ok(config) = Service::new(alloc, config) else {
+            return Err((HubFault::Memory, store));
+        };
+        Ok(Hub {
+            alloc,
+            config,
+            store,
+            connections: Vec::new(alloc),
+            next: 0,
+        })
     }
 
     /// Opens a connection.
     pub fn connect(&mut self) -> Result<ConnId, ConnectFault>
-        ensures adds { IfOk result (λ number. Adds self.old self.new (Connect number) []) }
-        ensures moves { IfOk result (λ number. Moves self.old self.new (Connect number) []) }
-        ensures same { OnErr result ((w : World) → StandsAt self.old w → StandsAt self.new w) }
+        ensures adds { IfOk result (λ number. Adds S.Store self.old self.new (Connect number) []) }
+        ensures moves { IfOk result (λ number. Moves S.Store self.old self.new (Connect number) []) }
+        ensures same { OnErr result ((w : World) → StandsAt S.Store self.old w → StandsAt S.Store self.new w) }
         ensures config { self.new.config ≡ self.old.config }
+        ensures store { self.new.store ≡ self.old.store }
         ensures next { IfOk result (λ number.
             (number ≡ self.old.next) × (self.new.next ≡ self.old.next + 1)) }
         // It refuses for a reason.
@@ -128,7 +141,7 @@ impl Hub {
         let number = self.next;
         let connection = Connection {
             number,
-            intake: Intake::new(self.alloc, self.config.max_upload),
+            intake: Intake::new(self.alloc, self.config.config().max_upload),
         };
         let Ok(()) = self.connections.push(connection) else {
             return Err(ConnectFault::Memory);
@@ -149,12 +162,13 @@ impl Hub {
         ensures next { self.new.next ≡ self.old.next }
         ensures absent { intake_of self.old.connections.items connection ≡ None
             → result ≡ Arrived.NoSuch }
-        // A reply is cut only where a write failed.
-        ensures cause { result ≡ Arrived.Cut → HasRisen (O.failures out.old) (O.failures out.new) }
+        // The store is open after it only where it was before, and the disk honest.
+        ensures clean { IsClean S.Store self.new → IsClean S.Store self.old }
+        ensures honest { IsHonest S.Store self.new → IsHonest S.Store self.old }
         // A connection that was there is there.
         ensures there { IsSome (intake_of self.old.connections.items connection)
             → (result ≢ Arrived.NoSuch) × IsSome (intake_of self.new.connections.items connection) }
-        ensures arrival { ComesTo (O.taken out.old) (O.taken out.new)
+        ensures arrival { ComesTo S.Store (O.taken out.old) (O.taken out.new)
             (O.failures out.old) (O.failures out.new) self.old self.new connection piece.now moment result }
     {
         let Some(i) = index_among(self.connections.as_slice(), connection.number()) else {
@@ -174,10 +188,11 @@ impl Hub {
 
     /// Forgets a connection.
     pub fn close(&mut self, connection: ConnId)
-        ensures adds { Adds self.old self.new (Close connection) [] }
-        ensures moves { Moves self.old self.new (Close connection) [] }
+        ensures adds { Adds S.Store self.old self.new (Close connection) [] }
+        ensures moves { Moves S.Store self.old self.new (Close connection) [] }
         ensures gone { intake_of self.new.connections.items connection ≡ None }
         ensures config { self.new.config ≡ self.old.config }
+        ensures store { self.new.store ≡ self.old.store }
         ensures next { self.new.next ≡ self.old.next }
     {
         if let Some(i) = index_among(self.connections.as_slice(), connection.number()) {
@@ -186,8 +201,13 @@ impl Hub {
     }
 
     /// Hands back the store.
-    pub fn into_store(self) -> Store
-        ensures { result ≡ self.store }
+    pub fn into_store(self) -> Store<S>
+        ensures same { result ≡ self.store }
+        ensures stands { (w : World) → StandsAt S.Store self w → StandsFor (state S.Store result) w.state }
+        // What a stop now leaves.
+        ensures stop { (first : State) (records : List Record) → StandsAfter S.Store self first records
+            → Leaves (state S.Store result)
+            (λ found. Run self.config first (records ++ stopped ∷ []) (first_world found)) }
     {
         let Hub {
             alloc: _,

@@ -1,8 +1,16 @@
 //! Laws of the definitions, apart from any code.
-ghost use Rattle.std.specs.Prelude.{◌≡◌, ℕ, List, ◌++◌, ◌∷◌, Option, None, codes};
+ghost use Rattle.std.specs.Prelude.{◌≡◌, ◌⊎◌, ℕ, List, ◌++◌, ◌∷◌, Option, Some, None, codes};
 ghost use Rattle.dep_message.specs.Stream.{Item, Request};
 ghost use Rattle.dep_message.specs.declared.message.Message.{Message};
-ghost use Rattle.dep_types.specs.State.{State};
+ghost use Rattle.dep_types.specs.State.{State, tick};
+ghost use Rattle.dep_types.specs.declared.target.Resource.TheVariants.{Upload};
+ghost use Rattle.dep_types.specs.declared.target.Method.TheVariants.{Post};
+ghost use Rattle.dep_fields.specs.declared.kind.Kind.TheVariants.{Segment};
+ghost use Rattle.dep_decisions.specs.Kinds.{kind_of};
+ghost use Rattle.dep_decisions.specs.Rules.{refusal};
+ghost use Rattle.dep_router.specs.Targets.{target};
+ghost use Rattle.dep_router.specs.declared.routed.Routed.TheVariants.{To};
+ghost use Rattle.dep_server.specs.Acknowledged.{RunsThrough, HasSegment, IsGone};
 ghost use Rattle.dep_server.specs.Records.{Record, World, Run};
 ghost use Rattle.dep_types.specs.declared.config.Config.{Config};
 ghost use Rattle.dep_server.specs.Calm.{CalmRun, SteppedItem, sent_to};
@@ -11,7 +19,7 @@ ghost use Rattle.dep_types.specs.Sound.{IsSound};
 ghost use Rattle.dep_head.specs.Head.{EndsOnce};
 ghost use Rattle.dep_types.specs.Config.{IsChecked};
 ghost use Rattle.dep_server.specs.ReplyHeads.{IsUnsplit};
-ghost use Rattle.dep_server.specs.Machine.{step, want_of_memory, store_fault};
+ghost use Rattle.dep_server.specs.Machine.{operation_of, step, want_of_memory, store_fault};
 ghost use Rattle.dep_server.specs.Bare.{request_by, IsWithoutBody};
 ghost use Rattle.dep_server.specs.Turns.{Turn, records_of, with_opened, with_closed, Exchanges, EndsAs, IsEndedBy};
 ghost use Rattle.dep_server.specs.declared.connection.Served.{Served};
@@ -75,6 +83,25 @@ pub fn steps_keep_sound()
 pub fn runs_keep_sound()
     ensures { (config : Config) (first : State) (records : List Record) (w : World)
         → Run config first records w → IsSound first → IsSound w.state }
+{}
+
+/// A segment that is accepted stands in the state that its step leaves, with the content of the request.
+pub fn accepted_segment_stands()
+    ensures { (config : Config) (s : State) (m : Message) (moment u k : ℕ)
+        → target m.head.method m.head.path ≡ To (record { resource = Upload u; method = Post })
+        → kind_of (operation_of m (record { resource = Upload u; method = Post })) ≡ Some (Segment k)
+        → refusal config (tick config s moment) (operation_of m (record { resource = Upload u; method = Post }))
+        ≡ None
+        → HasSegment (step config s (Request m) moment).state u k m.content }
+{}
+
+/// Once it stands there and its reply was sent it stays, whatever happens and also where a stop breaks the arrival,
+/// for as long as its upload is there: until that is deposited, deleted or timed out. An upload that is gone stays so.
+pub fn acknowledged_stays()
+    ensures { (config : Config) (first : State) (records : List Record) (w : World)
+        (r : Run config first records w) (through : State) (u k : ℕ) (bytes : List ℕ)
+        → IsSound first → RunsThrough r through → HasSegment through u k bytes
+        → HasSegment w.state u k bytes ⊎ IsGone w.state u }
 {}
 
 /// What the machine answers to the turns of a connection is a run, from its opening to its close.

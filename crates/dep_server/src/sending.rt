@@ -1,10 +1,14 @@
 //! Replies that are sent over an outlet.
-ghost use Rattle.std.specs.Prelude.{◌≡◌, ◌++◌};
+ghost use Rattle.std.specs.Prelude.{◌≡◌};
+ghost use Rattle.sqlite.specs.Held.{state};
 ghost use Rattle.dep_types.specs.Writing.{HasRisen};
-ghost use Rattle.dep_server.specs.Machine.{want_of_memory};
-ghost use Rattle.dep_server.specs.Sending.{SendsOver, SendsReply};
+ghost use Rattle.dep_server.specs.Machine.{want_of_memory, store_fault};
+ghost use Rattle.dep_server.specs.Sending.{SendsOver, SendsReady, SendsReply, outside, reply_to};
 
-use dep_types::{Outlet, WriteFailed};
+use dep_answers::Performed;
+use dep_store::Store;
+use dep_types::{Outlet, StoreFault, WriteFailed};
+use sqlite::Alter;
 
 /// How an item was answered.
 #[derive(Clone, Copy, Debug, PartialEq, Eq)]
@@ -20,6 +24,9 @@ pub(crate) enum Answered {
 const WANT_OF_MEMORY: &[u8] =
     b"HTTP/1.1 503 Service Unavailable\r\nContent-Length: 0\r\nConnection: close\r\n\r\n";
 
+const STORE_FAULT: &[u8] =
+    b"HTTP/1.1 500 Internal Server Error\r\nContent-Length: 0\r\nConnection: close\r\n\r\n";
+
 /// Sends the fixed reply for want of memory (RFC 9110, section 15.6.4).
 pub(crate) fn send_want_of_memory<O: Outlet>(out: &mut O) -> Answered
     ensures sends { SendsOver (O.taken out.old) (O.taken out.new) want_of_memory result }
@@ -28,6 +35,28 @@ pub(crate) fn send_want_of_memory<O: Outlet>(out: &mut O) -> Answered
     match out.write(WANT_OF_MEMORY) {
         Ok(()) => Answered::GaveUp,
         Err(WriteFailed) => Answered::CutShort,
+    }
+}
+
+// Sends the fixed reply for a fault of the store (RFC 9110, section 15.6.1).
+fn send_store_fault<O: Outlet>(out: &mut O) -> Answered
+    ensures sends { SendsOver (O.taken out.old) (O.taken out.new) store_fault result }
+    ensures cause { result ≡ Answered.CutShort → HasRisen (O.failures out.old) (O.failures out.new) }
+{
+    match out.write(STORE_FAULT) {
+        Ok(()) => Answered::GaveUp,
+        Err(WriteFailed) => Answered::CutShort,
+    }
+}
+
+/// Sends the fixed reply for a fault.
+pub(crate) fn send_fault<O: Outlet>(fault: StoreFault, out: &mut O) -> Answered
+    ensures sends { SendsOver (O.taken out.old) (O.taken out.new) (reply_to fault) result }
+    ensures cause { result ≡ Answered.CutShort → HasRisen (O.failures out.old) (O.failures out.new) }
+{
+    match fault {
+        StoreFault::Store => send_store_fault(out),
+        StoreFault::Memory => send_want_of_memory(out),
     }
 }
 
@@ -43,14 +72,24 @@ pub(crate) fn send<O: Outlet>(out: &mut O, reply: &[u8]) -> Answered
     }
 }
 
-/// Sends a reply in two parts, the second as it stands in the archive.
-pub(crate) fn send_parts<O: Outlet>(out: &mut O, front: &[u8], content: &[u8]) -> Answered
-    ensures sends { SendsReply (O.taken out.old) (O.taken out.new) (front.now ++ content.now) result }
-    ensures kept { result ≡ Answered.Sent → O.failures out.new ≡ O.failures out.old }
-    ensures cause { result ≡ Answered.CutShort → HasRisen (O.failures out.old) (O.failures out.new) }
+/// Sends what is ready: its front as one write, and the content of a file behind it as the store keeps it.
+pub(crate) fn send_performed<S: Alter, O: Outlet>(
+    store: &mut Store<S>,
+    performed: &Performed,
+    out: &mut O,
+) -> Answered
+    ensures { SendsReady
+        (outside (O.taken out.old) (O.failures out.old) (state S.Store store.old))
+        (outside (O.taken out.new) (O.failures out.new) (state S.Store store.new)) performed.now result }
 {
-    match send(out, front) {
-        Answered::Sent => send(out, content),
+    match send(out, performed.front.as_slice()) {
+        Answered::Sent => match performed.stored {
+            Some(id) => match store.stream(id.file, out) {
+                Ok(()) => Answered::Sent,
+                Err(_) => Answered::CutShort,
+            },
+            None => Answered::Sent,
+        },
         answered => answered,
     }
 }

@@ -2,34 +2,38 @@
 ghost use Rattle.std.specs.Prelude.{◌≡◌, ◌≢◌, ℕ, List};
 ghost use Rattle.std.specs.Io.KnownBytes.{Appends};
 ghost use Rattle.dep_types.specs.Writing.{HasRisen};
+ghost use Rattle.sqlite.specs.Held.{state};
 ghost use Rattle.dep_server.specs.Machine.{SendsUpTo, want_of_memory};
 ghost use Rattle.dep_message.specs.Places.{Reading, Shut};
+ghost use Rattle.dep_server.specs.Sending.{outside};
 ghost use Rattle.dep_server.specs.Serving.{ServesOver, arrival_of, answer_after};
 
 use crate::arrived::Arrived;
 use crate::sending::{Answered, send_want_of_memory};
 use crate::step::{answer_continue, answer_fault, answer_message};
+use dep_answers::Service;
 use dep_message::{Intake, Step};
 use dep_moment::Moment;
 use dep_store::Store;
-use dep_types::{Config, Outlet};
+use dep_types::Outlet;
+use sqlite::Alter;
 use std::alloc::{AllocError, Global};
 
 /// Takes the piece, and answers each item that is complete with it.
-pub(crate) fn serve<O: Outlet>(
+pub(crate) fn serve<S: Alter, O: Outlet>(
     alloc: Global,
-    config: &Config,
-    store: &mut Store,
+    service: &Service,
+    store: &mut Store<S>,
     intake: &mut Intake,
     piece: &[u8],
     moment: Moment,
     out: &mut O,
 ) -> Arrived
-    ensures served { ServesOver config.now (O.taken out.old) (O.taken out.new)
-        (arrival_of intake.old piece.now moment) store.old store.new intake.new.place result }
+    ensures served { ServesOver service.now (arrival_of intake.old piece.now moment)
+        (outside (O.taken out.old) (O.failures out.old) (state S.Store store.old))
+        (outside (O.taken out.new) (O.failures out.new) (state S.Store store.new)) intake.new.place result }
     ensures limit { intake.new.limit ≡ intake.old.limit }
     ensures there { result ≢ Arrived.NoSuch }
-    ensures cause { result ≡ Arrived.Cut → HasRisen (O.failures out.old) (O.failures out.new) }
 {
     if let Err(AllocError) = intake.feed(piece) {
         return give_up(intake, out);
@@ -40,15 +44,15 @@ pub(crate) fn serve<O: Outlet>(
             Ok(Step::NeedMore) => return Arrived::Open,
             Ok(Step::Dead) => return Arrived::Closed,
             Ok(Step::Refused(refusal, is_bare)) => {
-                let answer = answer_fault(alloc, config, store, refusal, is_bare, moment, out);
+                let answer = answer_fault(alloc, service, store, refusal, is_bare, moment, out);
                 return end(intake, answer);
             }
-            Ok(Step::Continue100) => match answer_continue(out) {
+            Ok(Step::Continue100) => match answer_continue(store, out) {
                 Answered::Sent => {}
                 answer => return end(intake, answer),
             },
             Ok(Step::Message(message)) => {
-                match answer_message(alloc, config, store, message, moment, out) {
+                match answer_message(alloc, service, store, message, moment, out) {
                     Answered::Sent => {}
                     answer => return end(intake, answer),
                 }
@@ -62,6 +66,7 @@ fn give_up<O: Outlet>(intake: &mut Intake, out: &mut O) -> Arrived
         × SendsUpTo want_of_memory sent result }
     ensures shut { intake.new ≡ record intake.old { place = Shut } }
     ensures cause { result ≡ Arrived.Cut → HasRisen (O.failures out.old) (O.failures out.new) }
+    ensures there { result ≢ Arrived.NoSuch }
 {
     let answer = send_want_of_memory(out);
     end(intake, answer)

@@ -1,134 +1,194 @@
 //! One step of the machine, and what is sent for it.
-ghost use Rattle.std.specs.Prelude.{◌≡◌, ℕ, IfOk, OnErr};
-ghost use Rattle.dep_types.specs.Writing.{HasRisen};
+ghost use Rattle.std.specs.Prelude.{◌≡◌, ◌⊎◌, ℕ, IfOk, IsTrue, OnErr};
+ghost use Rattle.sqlite.specs.Held.{state};
+ghost use Rattle.sqlite.specs.State.{HasCleanDisk};
 ghost use Rattle.dep_types.specs.State.{State};
 ghost use Rattle.dep_types.specs.declared.config.Config.{Config as Settings};
-ghost use Rattle.dep_store.specs.Performing.{Performs};
 ghost use Rattle.dep_message.specs.Stream.{Fault, Continue, Request};
+ghost use Rattle.std.specs.Option.{option_copied};
+ghost use Rattle.dep_router.specs.Targets.{target};
+ghost use Rattle.dep_answers.specs.Performing.{IsReply};
+ghost use Rattle.dep_answers.specs.Replies.{refused_answer};
+ghost use Rattle.dep_answers.specs.Steps.{operation_step};
+ghost use Rattle.dep_store.specs.Standing.{StandsFor, Leaves};
+ghost use Rattle.dep_store.specs.Performing.{Performs};
 ghost use Rattle.dep_server.specs.Machine.{operation_of, routed_step};
-ghost use Rattle.dep_server.specs.Sending.{SendsReply, ready_bytes};
-ghost use Rattle.dep_server.specs.Serving.{AnswersOver};
-ghost use Rattle.dep_server.specs.Targets.{target};
+ghost use Rattle.dep_server.specs.Sending.{outside};
+ghost use Rattle.dep_server.specs.Serving.{Answers};
 
-use crate::routing::{Routed, allow, route};
-use crate::sending::{Answered, send, send_parts, send_want_of_memory};
+use crate::sending::{Answered, send, send_fault, send_performed};
+use dep_answers::{Delivery, Performed, Service, refused};
+use dep_decisions::Operation;
+use dep_fields::{IfMatch, SwordFields};
+use dep_head::Head;
 use dep_message::{Message, closes, is_without_body};
 use dep_moment::Moment;
-use dep_operations::{DepositFields, Operation};
-use dep_store::{Body, Delivery, Performed, Store, refused};
-use dep_types::{Config, Outlet, Refusal, Target};
+use dep_router::{Routed, Routes};
+use dep_store::Store;
+use dep_types::{Octets, Outlet, Refusal, StoreFault, Target};
+use sqlite::Alter;
 use std::alloc::{AllocError, Global};
 
 /// Steps a whole message: the clock goes on, and then the message is answered.
-pub(crate) fn answer_message<O: Outlet>(
+pub(crate) fn answer_message<S: Alter, O: Outlet>(
     alloc: Global,
-    config: &Config,
-    store: &mut Store,
+    service: &Service,
+    store: &mut Store<S>,
     message: Message,
     moment: Moment,
     out: &mut O,
 ) -> Answered
-    ensures kept { result ≡ Answered.Sent → O.failures out.new ≡ O.failures out.old }
-    ensures cause { result ≡ Answered.CutShort → HasRisen (O.failures out.old) (O.failures out.new) }
-    ensures answers { AnswersOver config.now (O.taken out.old) (O.taken out.new)
-        store.old (Request message) moment store.new result }
+    ensures { Answers service.now
+        (outside (O.taken out.old) (O.failures out.old) (state S.Store store.old))
+        (outside (O.taken out.new) (O.failures out.new) (state S.Store store.new))
+        (Request message) moment result }
 {
-    let _ = store.tick(config, moment);
-    match perform(alloc, config, store, message) {
-        Ok(performed) => send_performed(store, &performed, out),
-        Err(AllocError) => send_want_of_memory(out),
+    match store.tick(service.config(), moment) {
+        Ok(clock) => match perform(alloc, service, store, message, clock) {
+            Ok(performed) => send_performed(store, &performed, out),
+            Err(fault) => send_fault(fault, out),
+        },
+        Err(fault) => send_fault(fault, out),
     }
 }
 
 /// Tells the client that it may send the body (RFC 9110, section 15.2.1). The clock stays.
-pub(crate) fn answer_continue<O: Outlet>(out: &mut O) -> Answered
-    ensures kept { result ≡ Answered.Sent → O.failures out.new ≡ O.failures out.old }
-    ensures cause { result ≡ Answered.CutShort → HasRisen (O.failures out.old) (O.failures out.new) }
-    ensures answers { (config : Settings) (s : State) (moment : ℕ)
-        → AnswersOver config (O.taken out.old) (O.taken out.new) s Continue moment s result }
+pub(crate) fn answer_continue<S: Alter, O: Outlet>(store: &Store<S>, out: &mut O) -> Answered
+    ensures { (config : Settings) (moment : ℕ) → Answers config
+        (outside (O.taken out.old) (O.failures out.old) (state S.Store store.now))
+        (outside (O.taken out.new) (O.failures out.new) (state S.Store store.now))
+        Continue moment result }
 {
     send(out, b"HTTP/1.1 100 Continue\r\n\r\n")
 }
 
 /// Steps a fault of a stream: the clock goes on, and the connection is closed after the reply.
-pub(crate) fn answer_fault<O: Outlet>(
+pub(crate) fn answer_fault<S: Alter, O: Outlet>(
     alloc: Global,
-    config: &Config,
-    store: &mut Store,
+    service: &Service,
+    store: &mut Store<S>,
     refusal: Refusal,
     is_bare: bool,
     moment: Moment,
     out: &mut O,
 ) -> Answered
-    ensures kept { result ≡ Answered.Sent → O.failures out.new ≡ O.failures out.old }
-    ensures cause { result ≡ Answered.CutShort → HasRisen (O.failures out.old) (O.failures out.new) }
-    ensures answers { AnswersOver config.now (O.taken out.old) (O.taken out.new)
-        store.old (Fault refusal is_bare) moment store.new result }
+    ensures { Answers service.now
+        (outside (O.taken out.old) (O.failures out.old) (state S.Store store.old))
+        (outside (O.taken out.new) (O.failures out.new) (state S.Store store.new))
+        (Fault refusal is_bare) moment result }
 {
-    let delivery = Delivery {
-        clock: store.tick(config, moment),
-        is_bare,
-        closes: true,
-    };
-    match refused(alloc, refusal, None, delivery) {
-        Ok(performed) => send_performed(store, &performed, out),
-        Err(AllocError) => send_want_of_memory(out),
+    match store.tick(service.config(), moment) {
+        Ok(clock) => {
+            let delivery = Delivery {
+                clock,
+                is_bare,
+                closes: true,
+            };
+            match refused(alloc, refusal, None, delivery) {
+                Ok(performed) => send_performed(store, &performed, out),
+                Err(AllocError) => send_fault(StoreFault::Memory, out),
+            }
+        }
+        Err(fault) => send_fault(fault, out),
     }
 }
 
-// What a message comes to, once the clock has gone on. An `Err` changes nothing.
-fn perform(
+// What a message comes to, once the clock has gone on and is this one.
+fn perform<S: Alter>(
     alloc: Global,
-    config: &Config,
-    store: &mut Store,
+    service: &Service,
+    store: &mut Store<S>,
     message: Message,
-) -> Result<Performed, AllocError>
-    ensures ok { IfOk result (λ p. Performs
-        (routed_step config.now store.old message (target message.head.method message.head.path))
-        store.new p) }
-    ensures err { OnErr result (store.new ≡ store.old) }
+    clock: Moment,
+) -> Result<Performed, StoreFault>
+    ensures ok { HasCleanDisk (state S.Store store.new) → (s : State) → StandsFor (state S.Store store.old) s
+        → clock ≡ s.clock
+        → IfOk result (λ p. Performs
+        (routed_step service.now s message (target message.head.method message.head.path))
+        (state S.Store store.new) p) }
+    ensures err { IsTrue (state S.Store store.new).is_open → (s : State) → StandsFor (state S.Store store.old) s
+        → OnErr result (StandsFor (state S.Store store.new) s) }
+    ensures honest { HasCleanDisk (state S.Store store.new) → HasCleanDisk (state S.Store store.old) }
+    ensures open { IsTrue (state S.Store store.new).is_open → IsTrue (state S.Store store.old).is_open }
+    ensures stop { HasCleanDisk (state S.Store store.new) → (s : State) → StandsFor (state S.Store store.old) s
+        → Leaves (state S.Store store.new) (λ found. (found ≡ s) ⊎ (found ≡
+        (routed_step service.now s message (target message.head.method message.head.path)).state)) }
 {
     let delivery = Delivery {
-        clock: store.clock(),
+        clock,
         is_bare: is_without_body(&message.head),
         closes: closes(&message.head),
     };
-    match route(alloc, message.head.method(), message.head.path())? {
-        Routed::NotFound => refused(alloc, Refusal::NotFound, None, delivery),
-        Routed::NotAllowed(resource) => refused(
+    match Routes::new(alloc).route(message.head.method(), message.head.path()) {
+        Ok(Routed::To(target)) => operate(alloc, service, store, message, target),
+        Ok(Routed::NotFound) => refuse(alloc, Refusal::NotFound, None, delivery),
+        Ok(Routed::NotAllowed(methods)) => refuse(
             alloc,
             Refusal::MethodNotAllowed,
-            Some(allow(&resource)),
+            Some(methods.as_str()),
             delivery,
         ),
-        Routed::To(target) => store.perform(config, &operation_of(alloc, message, target)?),
+        Err(AllocError) => Err(StoreFault::Memory),
     }
 }
 
-// The request that the message is.
-fn operation_of(alloc: Global, message: Message, target: Target) -> Result<Operation, AllocError>
-    ensures { IfOk result (λ operation. operation ≡ operation_of message target) }
+// The reply to a message that names no resource, or a method that its resource hasn't.
+fn refuse(
+    alloc: Global,
+    refusal: Refusal,
+    allow: Option<&'static str>,
+    delivery: Delivery,
+) -> Result<Performed, StoreFault>
+    ensures { IfOk result (λ p. (s : State) →
+        IsReply s (refused_answer delivery.clock refusal (option_copied allow.entry)) delivery p) }
+{
+    match refused(alloc, refusal, allow, delivery) {
+        Ok(performed) => Ok(performed),
+        Err(AllocError) => Err(StoreFault::Memory),
+    }
+}
+
+// What a request for a resource comes to.
+fn operate<S: Alter>(
+    alloc: Global,
+    service: &Service,
+    store: &mut Store<S>,
+    message: Message,
+    target: Target,
+) -> Result<Performed, StoreFault>
+    ensures ok { HasCleanDisk (state S.Store store.new) → (s : State) → StandsFor (state S.Store store.old) s
+        → IfOk result (λ p. Performs
+        (operation_step service.now s (operation_of message target)) (state S.Store store.new) p) }
+    ensures err { IsTrue (state S.Store store.new).is_open → (s : State) → StandsFor (state S.Store store.old) s
+        → OnErr result (StandsFor (state S.Store store.new) s) }
+    ensures honest { HasCleanDisk (state S.Store store.new) → HasCleanDisk (state S.Store store.old) }
+    ensures open { IsTrue (state S.Store store.new).is_open → IsTrue (state S.Store store.old).is_open }
+    ensures stop { HasCleanDisk (state S.Store store.new) → (s : State) → StandsFor (state S.Store store.old) s
+        → Leaves (state S.Store store.new) (λ found. (found ≡ s) ⊎
+        (found ≡ (operation_step service.now s (operation_of message target)).state)) }
 {
     let Message { head, content } = message;
-    Ok(Operation {
-        target,
-        fields: DepositFields::read(alloc, &head)?,
-        content,
-        closes: closes(&head),
-    })
+    match operation_of(alloc, &head, content, target) {
+        Ok(operation) => store.perform(service, &operation),
+        Err(AllocError) => Err(StoreFault::Memory),
+    }
 }
 
-// Sends what is ready, the content of a file as it stands in the archive.
-fn send_performed<O: Outlet>(store: &Store, performed: &Performed, out: &mut O) -> Answered
-    ensures sends { SendsReply (O.taken out.old) (O.taken out.new)
-        (ready_bytes store.now performed.now) result }
-    ensures kept { result ≡ Answered.Sent → O.failures out.new ≡ O.failures out.old }
-    ensures cause { result ≡ Answered.CutShort → HasRisen (O.failures out.old) (O.failures out.new) }
+// The request that a message is.
+fn operation_of<'a>(
+    alloc: Global,
+    head: &'a Head,
+    content: Octets,
+    target: Target,
+) -> Result<Operation<'a>, AllocError>
+    ensures { IfOk result (λ operation.
+        operation ≡ operation_of (record { head = head.now; content = content }) target) }
 {
-    let head = performed.head.as_slice();
-    match &performed.body {
-        Body::None => send(out, head),
-        Body::Bytes(document) => send_parts(out, head, document.as_slice()),
-        Body::Stored(file) => send_parts(out, head, store.content(*file)),
-    }
+    Ok(Operation {
+        target,
+        fields: SwordFields::read(alloc, head)?,
+        if_match: IfMatch::read(head),
+        content,
+        closes: closes(head),
+    })
 }

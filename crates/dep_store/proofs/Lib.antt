@@ -1,3 +1,4 @@
-pub mod Ticks
-pub mod StoreLemmas
-pub mod PerformLemmas
+pub mod Transacting
+pub mod Carrying
+pub mod Opened
+pub mod Stepping

@@ -1,6 +1,3 @@
-pub mod Answers
-pub mod Replies
-pub mod Steps
+pub mod Standing
+pub mod Opening
 pub mod Performing
-pub mod Code
-pub mod Contents

@@ -1,14 +1,11 @@
-//! The archive, kept in memory: what requests make of it, and the replies to them.
+//! The archive on SQLite: what requests and the clock make of it, in one transaction each, and what a
+//! crash leaves of that.
 #![tactic(auto)]
 
-mod answer;
-mod perform;
-mod performed;
+mod opening;
+mod performing;
+mod reading;
 mod store;
-mod stored_file;
+mod ticking;
 
-pub use answer::Delivery;
-pub use perform::refused;
-pub use performed::{Body, Performed};
 pub use store::Store;
-pub use stored_file::{FileId, StoredFile};

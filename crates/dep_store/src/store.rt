@@ -1,170 +1,214 @@
-//! The archive, kept in memory.
-ghost use Rattle.std.specs.Prelude.{◌≡◌, OnOk, OnErr, IsTrue, find, ◌==◌, [], option_map};
-ghost use Rattle.std.specs.Option.{option_copied, option_map_or};
-ghost use Rattle.dep_types.specs.State.{State, empty_state, tick, file_at};
-ghost use Rattle.dep_types.specs.Numbers.{room_for, numbers};
-ghost use Rattle.dep_operations.specs.declared.operation.Decision.TheVariants.{Create};
-ghost use Rattle.dep_operations.specs.Effects.{effect_of};
-ghost use Rattle.dep_operations.specs.Views.{view_for, has_file_at};
-ghost use Rattle.dep_store.specs.Code.{state_code};
-ghost use Rattle.dep_store.specs.Contents.{state_of, file_of};
+//! The store.
 
-use crate::stored_file::{FileId, StoredFile};
+ghost use Rattle.std.specs.Prelude.{◌≡◌, ◌⊎◌, ℕ, List, IsTrue, OnOk, IfOk, IfErr, OnErr, MatchResult, option_map, Err, false};
+ghost use Rattle.std.specs.FinMap as finmap;
+ghost use Rattle.std.specs.Io.KnownBytes.{Appends};
+ghost use Rattle.sqlite.specs.State.{HasCleanDisk};
+ghost use Rattle.sqlite.specs.Held.{state};
+ghost use Rattle.dep_types.specs.State.{State, tick, empty_state};
+ghost use Rattle.dep_types.specs.Rows.{object_view};
+ghost use Rattle.dep_types.specs.Writing.{HasRisen};
+ghost use Rattle.dep_fields.specs.Fit.{AreFit};
+ghost use Rattle.dep_answers.specs.Steps.{operation_step};
+ghost use Rattle.dep_row_maps.specs.Keyed.{next_entry};
+ghost use Rattle.dep_types.specs.Streams.{IsStreamed};
+ghost use Rattle.dep_schema.specs.Standing.{HoldsNone, IsOpenable, IsBack};
+ghost use Rattle.dep_store.specs.Standing.{StandsFor, IsLeftAs, Leaves};
+ghost use Rattle.dep_store.specs.Performing.{Performs};
+ghost use Rattle.dep_store.specs.Opening.{OpenLeaves};
+
+use crate::opening::open_tables;
+use crate::performing::perform_request;
+use crate::reading::{find_next, view_object};
+use crate::ticking::move_clock;
+use dep_answers::{Performed, Service};
+use dep_decisions::Operation;
+use dep_files::stream_content;
 use dep_moment::Moment;
-use dep_operations::{NEW_OBJECT, NewFile, Operation, View};
-use dep_types::{Config, Counters, Octets, Resource};
-use std::alloc::{AllocError, Global};
-use std::collections::VecDeque;
+use dep_schema::OpenFault;
+use dep_types::{Config, ObjectView, Outlet, StoreFault, StreamFault};
+use sqlite::{Alter, Connection};
+use std::alloc::Global;
 use std::marker::Model;
 
-/// The archive, kept in memory.
+/// The archive in the tables of a database. Contracts see it as the connection to them.
 #[derive(Drop)]
-pub struct Store {
+pub struct Store<S: Alter> {
     alloc: Global,
-    clock: Moment,
-    next: Counters,
-    // The newest first.
-    files: VecDeque<StoredFile>,
+    connection: Connection<S>,
 }
 
-impl Model for Store {
-    ghost Value = { State };
+impl<S: Alter> Model for Store<S> {
+    ghost use Rattle.sqlite.specs.Held.{Held, held_code};
 
-    ghost coded = { state_code };
+    ghost Value = { Held S };
 
-    ghost view = { λ s. state_of s.clock s.next s.files.items };
+    ghost coded = { held_code S.code };
+
+    ghost view = { λ s. s.connection };
 }
 
-impl Store {
-    /// An archive that holds nothing: its clock stands at 0, and the next numbers are 1. It takes no
-    /// memory.
-    pub fn empty(alloc: Global) -> Store
-        ensures { result ≡ empty_state }
+impl<S: Alter> Store<S> {
+    /// Opens a database that has no table yet, whose tables are then made, or one that has the tables of
+    /// the store. After a fault the connection is handed back.
+    pub fn open(
+        alloc: Global,
+        connection: Connection<S>,
+    ) -> Result<Store<S>, (OpenFault, Connection<S>)>
+        requires settled { (state S.Store connection).in_transaction ≡ false }
+        ensures fresh { IfOk result (λ store. HasCleanDisk (state S.Store store)
+            → HoldsNone (state S.Store connection).now.trees → StandsFor (state S.Store store) empty_state) }
+        ensures found { IfOk result (λ store. HasCleanDisk (state S.Store store)
+            → (s : State) → IsLeftAs (state S.Store connection).now.trees s → StandsFor (state S.Store store) s) }
+        ensures refused { IfErr result (λ e. HasCleanDisk (state S.Store e.1)
+            → e.0 ≡ OpenFault.UnknownVersion → IsOpenable (state S.Store connection) → ⊥) }
+        // What a store left is never of a version that is not known.
+        ensures known { IfErr result (λ e. HasCleanDisk (state S.Store e.1) → IsTrue (state S.Store connection).is_open
+            → (s : State) → IsLeftAs (state S.Store connection).now.trees s → e.0 ≡ OpenFault.UnknownVersion → ⊥) }
+        ensures left { IfErr result (λ e. IsTrue (state S.Store e.1).is_open
+            → IsBack (state S.Store connection) (state S.Store e.1)) }
+        ensures mode { IfErr result (λ e. (state S.Store e.1).in_transaction ≡ false) }
+        ensures honest { MatchResult result
+            (λ store. HasCleanDisk (state S.Store store) → HasCleanDisk (state S.Store connection))
+            (λ e. HasCleanDisk (state S.Store e.1) → HasCleanDisk (state S.Store connection)) }
+        ensures open { MatchResult result
+            (λ store. IsTrue (state S.Store store).is_open → IsTrue (state S.Store connection).is_open)
+            (λ e. IsTrue (state S.Store e.1).is_open → IsTrue (state S.Store connection).is_open) }
+        ensures stop { MatchResult result
+            (λ store. OpenLeaves (state S.Store connection) (state S.Store store))
+            (λ e. OpenLeaves (state S.Store connection) (state S.Store e.1)) }
     {
-        Store {
-            alloc,
-            clock: Moment::new(0),
-            next: Counters {
-                object: 1,
-                file: 1,
-                upload: 1,
-                change: 1,
-            },
-            files: VecDeque::new(alloc),
+        match open_tables(connection) {
+            Ok(connection) => Ok(Store { alloc, connection }),
+            Err(refused) => Err(refused),
         }
     }
 
-    /// An archive that holds nothing, and gives these numbers next. Its state is sound where each
-    /// of them is at least 1 and below 2^63. It takes no memory.
-    pub fn numbered(alloc: Global, next: Counters) -> Store
-        ensures { result ≡ record empty_state { next = next } }
+    /// Moves the clock to the moment, and never back, and ends the uploads that were left idle. It
+    /// answers the clock.
+    pub fn tick(&mut self, config: &Config, moment: Moment) -> Result<Moment, StoreFault>
+        ensures ok { HasCleanDisk (state S.Store self.new) → (s : State) → StandsFor (state S.Store self.old) s
+            → IfOk result (λ clock. (clock ≡ (tick config.now s moment).clock)
+            × StandsFor (state S.Store self.new) (tick config.now s moment)) }
+        ensures err { IsTrue (state S.Store self.new).is_open
+            → (s : State) → StandsFor (state S.Store self.old) s
+            → OnErr result (StandsFor (state S.Store self.new) s) }
+        ensures honest { HasCleanDisk (state S.Store self.new) → HasCleanDisk (state S.Store self.old) }
+        ensures open { IsTrue (state S.Store self.new).is_open → IsTrue (state S.Store self.old).is_open }
+        ensures stop { HasCleanDisk (state S.Store self.new)
+            → (s : State) → StandsFor (state S.Store self.old) s
+            → Leaves (state S.Store self.new) (λ left. (left ≡ s) ⊎ (left ≡ tick config.now s moment)) }
     {
-        Store {
-            alloc,
-            clock: Moment::new(0),
-            next,
-            files: VecDeque::new(alloc),
+        if !self.connection.is_autocommit() {
+            return Err(StoreFault::Store);
+        }
+        match move_clock(&mut self.connection, config, moment.secs()) {
+            Ok(clock) => Ok(Moment::new(clock)),
+            Err(fault) => Err(fault),
         }
     }
 
-    /// The greatest moment so far.
-    pub fn clock(&self) -> Moment
-        ensures { result ≡ self.now.clock }
+    /// Does what a request asks for, once the clock has gone on, in one transaction. The reply is made
+    /// before the commit, so an `Err` changes nothing.
+    pub fn perform(
+        &mut self,
+        service: &Service,
+        operation: &Operation<'_>,
+    ) -> Result<Performed, StoreFault>
+        ensures ok { HasCleanDisk (state S.Store self.new) → AreFit operation.now.fields
+            → (s : State) → StandsFor (state S.Store self.old) s
+            → IfOk result (Performs (operation_step service.now s operation.now) (state S.Store self.new)) }
+        ensures err { IsTrue (state S.Store self.new).is_open
+            → (s : State) → StandsFor (state S.Store self.old) s
+            → OnErr result (StandsFor (state S.Store self.new) s) }
+        ensures honest { HasCleanDisk (state S.Store self.new) → HasCleanDisk (state S.Store self.old) }
+        ensures open { IsTrue (state S.Store self.new).is_open → IsTrue (state S.Store self.old).is_open }
+        ensures stop { HasCleanDisk (state S.Store self.new) → AreFit operation.now.fields
+            → (s : State) → StandsFor (state S.Store self.old) s
+            → Leaves (state S.Store self.new)
+            (λ left. (left ≡ s) ⊎ (left ≡ (operation_step service.now s operation.now).state)) }
     {
-        self.clock
-    }
-
-    /// The next number of each kind.
-    pub fn next_numbers(&self) -> Counters
-        ensures { result ≡ self.now.next }
-    {
-        self.next
-    }
-
-    /// Moves the clock to the moment, and never back. It answers the clock.
-    pub fn tick(&mut self, _config: &Config, moment: Moment) -> Moment
-        ensures state { self.new ≡ tick _config.now self.old moment }
-        ensures clock { result ≡ self.new.clock }
-    {
-        self.clock = Moment::new(self.clock.secs().max(moment.secs()));
-        self.clock
-    }
-
-    /// The allocator of all that the archive makes.
-    pub(crate) fn alloc(&self) -> Global {
-        self.alloc
-    }
-
-    /// A file.
-    pub fn file(&self, id: FileId) -> Option<&StoredFile>
-        ensures { option_map file_of (option_copied result) ≡ file_at self.now id.object id.file }
-    {
-        let Some(newest) = newest(&self.files, id.object) else {
-            return None;
-        };
-        if newest.id.file == id.file {
-            Some(newest)
-        } else {
-            None
+        if !self.connection.is_autocommit() {
+            return Err(StoreFault::Store);
         }
+        perform_request(&mut self.connection, self.alloc, service, operation)
     }
 
-    /// The content of a file, or nothing where there is none.
-    pub fn content(&self, id: FileId) -> &[u8]
-        ensures { result.now ≡ option_map_or (λ f. f.content) (file_at self.now id.object id.file) [] }
+    /// Sends the content of the file of this number, one block at a time.
+    pub fn stream<O: Outlet>(&mut self, file: u64, out: &mut O) -> Result<(), StreamFault>
+        ensures streams { (sent : List ℕ) × Appends (O.taken out.old) (O.taken out.new) sent
+            × (HasCleanDisk (state S.Store self.new) → (s : State) → StandsFor (state S.Store self.old) s
+            → IsStreamed s file sent result) }
+        ensures ok { HasCleanDisk (state S.Store self.new) → (s : State) → StandsFor (state S.Store self.old) s
+            → OnOk result (StandsFor (state S.Store self.new) s) }
+        ensures err { IsTrue (state S.Store self.new).is_open
+            → (s : State) → StandsFor (state S.Store self.old) s
+            → OnErr result (StandsFor (state S.Store self.new) s) }
+        ensures honest { HasCleanDisk (state S.Store self.new) → HasCleanDisk (state S.Store self.old) }
+        ensures open { IsTrue (state S.Store self.new).is_open → IsTrue (state S.Store self.old).is_open }
+        ensures stop { HasCleanDisk (state S.Store self.new)
+            → (s : State) → StandsFor (state S.Store self.old) s
+            → Leaves (state S.Store self.new) (λ left. left ≡ s) }
+        ensures kept { OnOk result (O.failures out.new ≡ O.failures out.old) }
+        ensures cause { result ≡ Err StreamFault.Writer → HasRisen (O.failures out.old) (O.failures out.new) }
     {
-        match self.file(id) {
-            Some(file) => file.content.as_slice(),
-            None => &[],
+        if !self.connection.is_autocommit() {
+            return Err(StreamFault::Store);
         }
+        stream_content(&mut self.connection, file, out)
     }
 
-    /// What the rules see of the archive for a request.
-    pub(crate) fn view_for(&self, operation: &Operation) -> View
-        ensures { result ≡ view_for self.now operation.now }
+    /// The object of this number, if there is one, with its metadata and its files.
+    pub fn view(&mut self, object: u64) -> Result<Option<ObjectView>, StoreFault>
+        ensures ok { HasCleanDisk (state S.Store self.new) → (s : State) → StandsFor (state S.Store self.old) s
+            → IfOk result (λ found. (found ≡ option_map (object_view object) (finmap.get s.objects object))
+            × StandsFor (state S.Store self.new) s) }
+        ensures err { IsTrue (state S.Store self.new).is_open
+            → (s : State) → StandsFor (state S.Store self.old) s
+            → OnErr result (StandsFor (state S.Store self.new) s) }
+        ensures honest { HasCleanDisk (state S.Store self.new) → HasCleanDisk (state S.Store self.old) }
+        ensures open { IsTrue (state S.Store self.new).is_open → IsTrue (state S.Store self.old).is_open }
+        ensures stop { HasCleanDisk (state S.Store self.new)
+            → (s : State) → StandsFor (state S.Store self.old) s
+            → Leaves (state S.Store self.new) (λ left. left ≡ s) }
     {
-        View {
-            next: self.next,
-            has_file: self.has_file_at(&operation.target.resource),
+        if !self.connection.is_autocommit() {
+            return Err(StoreFault::Store);
         }
+        view_object(&mut self.connection, self.alloc, object)
     }
 
-    // Whether the file that a resource names is there.
-    fn has_file_at(&self, resource: &Resource) -> bool
-        ensures { result ≡ has_file_at self.now resource.now }
+    /// The least number of an object above this one.
+    pub fn next_object(&mut self, after: u64) -> Result<Option<u64>, StoreFault>
+        ensures ok { HasCleanDisk (state S.Store self.new) → (s : State) → StandsFor (state S.Store self.old) s
+            → IfOk result (λ found. (found ≡ option_map (λ e. e.0) (next_entry s.objects after))
+            × StandsFor (state S.Store self.new) s) }
+        ensures err { IsTrue (state S.Store self.new).is_open
+            → (s : State) → StandsFor (state S.Store self.old) s
+            → OnErr result (StandsFor (state S.Store self.new) s) }
+        ensures honest { HasCleanDisk (state S.Store self.new) → HasCleanDisk (state S.Store self.old) }
+        ensures open { IsTrue (state S.Store self.new).is_open → IsTrue (state S.Store self.old).is_open }
+        ensures stop { HasCleanDisk (state S.Store self.new)
+            → (s : State) → StandsFor (state S.Store self.old) s
+            → Leaves (state S.Store self.new) (λ left. left ≡ s) }
     {
-        match *resource {
-            Resource::File(object, file) => self.file(FileId { object, file }).is_some(),
-            _ => true,
+        if !self.connection.is_autocommit() {
+            return Err(StoreFault::Store);
         }
+        find_next(&mut self.connection, after)
     }
 
-    /// Adds an object with one file. An `Err` changes nothing.
-    pub(crate) fn create(&mut self, new: NewFile, content: Octets) -> Result<(), AllocError>
-        requires { IsTrue (room_for self.old.next (numbers 1 1 0 1)) }
-        ensures ok { OnOk result (self.new ≡ effect_of self.old content (Create new)) }
-        ensures err { OnErr result (self.new ≡ self.old) }
+    /// While the store stands for a state, a crash leaves that state.
+    pub fn settled(&self)
+        ensures left { (s : State) → StandsFor (state S.Store self.now) s
+            → Leaves (state S.Store self.now) (λ left. left ≡ s) }
+        ensures clean { IsTrue (state S.Store self.now).is_open → HasCleanDisk (state S.Store self.now) }
+    {}
+
+    /// Gives the connection back.
+    pub fn close(self) -> Connection<S>
+        ensures { result ≡ self }
     {
-        let NewFile { name, media } = new;
-        self.files.push_front(StoredFile {
-            id: FileId {
-                object: self.next.object,
-                file: self.next.file,
-            },
-            name,
-            media,
-            content,
-            tag: self.next.change,
-            deposited: self.clock,
-        })?;
-        self.next = self.next.after_taking(&NEW_OBJECT);
-        Ok(())
+        self.connection
     }
-}
-
-// The newest file of an object.
-fn newest(files: &VecDeque<StoredFile>, object: u64) -> Option<&StoredFile>
-    ensures { option_copied result ≡ find (λ kept. kept.id.object == object) files.now.items }
-{
-    files.iter().find(|kept| kept.id.object == object)
 }

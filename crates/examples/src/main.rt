@@ -2,6 +2,7 @@
 //! docs/EXAMPLES.md explains the files.
 #![tactic(auto)]
 
+mod archive;
 mod cut;
 mod documents;
 mod escapes;

@@ -108,17 +108,22 @@ impl Play {
             "at" => self.exchange.moment = number(rest)?,
             "config" => self.settings.configure(self.alloc, rest)?,
             "next" => self.number_next(rest)?,
+            "sql" => self.side.change(self.alloc, rest)?,
             "connection" | "close" | "crowd" => self.commands(word, rest)?,
             _ => self.turns(word, rest)?,
         }
         Ok(())
     }
 
+    // The archive gives this number of a kind next, by a line `KIND NUMBER`.
     fn number_next(&mut self, rest: &str) -> Result<(), Trouble> {
-        if !self.side.is_new() {
-            return Err(Trouble::Line("the archive is there already"));
+        let (kind, value) = rest.split_once(' ').unwrap_or((rest, ""));
+        if !matches!(kind, "object" | "file" | "upload" | "change") {
+            return Err(Trouble::Line("no kind of numbers has that name"));
         }
-        self.settings.number_next(rest)
+        let value = number(value)?;
+        let statement = format!(in self.alloc; "UPDATE state SET next_{kind} = {value}")?;
+        self.side.change(self.alloc, statement.as_str())
     }
 
     // Does what a line asks of the hub's connections.
@@ -135,7 +140,8 @@ impl Play {
         }
         match word {
             "full" => self.side.server(self.alloc, &self.settings)?.is_full(),
-            "restart" => self.side.leave(self.alloc, &self.settings),
+            "restart" => self.side.leave(self.alloc),
+            "reopen" => self.side.reopen(self.alloc),
             "refused" => self.side.refuse(self.alloc, &self.settings),
             "shut" => self.side.shut(),
             "intake" => {

@@ -6,21 +6,27 @@ use crate::settings::Settings;
 use crate::source::Source;
 use crate::trouble::Trouble;
 use dep_moment::Moment;
-use dep_server::{Arrived, ConnId, ConnectFault, Hub, HubFault, Served, Store, serve_connection};
+use dep_server::{Arrived, ConnId, ConnectFault, Hub, HubFault, Served, serve_connection};
+use dep_store::Store;
 use dep_types::{Config, Through};
+use sqlite::MemStore;
 use std::alloc::Global;
 
 /// A hub and its connections, which have the numbers 1, 2 and so on.
 #[derive(Drop)]
 pub struct Server {
-    hub: Hub,
+    hub: Hub<MemStore>,
     connections: Vec<ConnId>,
     current: ConnId,
 }
 
 impl Server {
     /// Over this archive, with connection 1.
-    pub fn open(alloc: Global, settings: &Settings, store: Store) -> Result<Server, Trouble> {
+    pub fn open(
+        alloc: Global,
+        settings: &Settings,
+        store: Store<MemStore>,
+    ) -> Result<Server, Trouble> {
         let mut hub = opened(alloc, settings.config(alloc)?, store)?;
         let current = connected(&mut hub)?;
         Ok(Server {
@@ -79,7 +85,7 @@ impl Server {
     }
 
     /// What the hub leaves.
-    pub fn into_store(self) -> Store {
+    pub fn into_store(self) -> Store<MemStore> {
         self.hub.into_store()
     }
 
@@ -130,7 +136,7 @@ pub fn word_of(came: Arrived) -> &'static str {
     }
 }
 
-fn opened(alloc: Global, config: Config, store: Store) -> Result<Hub, Trouble> {
+fn opened(alloc: Global, config: Config, store: Store<MemStore>) -> Result<Hub<MemStore>, Trouble> {
     match Hub::new(alloc, config, store) {
         Ok(hub) => Ok(hub),
         Err((HubFault::Memory, _)) => Err(Trouble::Memory),
@@ -139,7 +145,11 @@ fn opened(alloc: Global, config: Config, store: Store) -> Result<Hub, Trouble> {
 }
 
 /// The archive, which no hub takes by this configuration.
-pub fn refused(alloc: Global, settings: &Settings, store: Store) -> Result<Store, Trouble> {
+pub fn refused(
+    alloc: Global,
+    settings: &Settings,
+    store: Store<MemStore>,
+) -> Result<Store<MemStore>, Trouble> {
     match Hub::new(alloc, settings.config(alloc)?, store) {
         Ok(_) => Err(Trouble::Line("the configuration is accepted")),
         Err((HubFault::Memory, _)) => Err(Trouble::Memory),
@@ -147,7 +157,7 @@ pub fn refused(alloc: Global, settings: &Settings, store: Store) -> Result<Store
     }
 }
 
-fn connected(hub: &mut Hub) -> Result<ConnId, Trouble> {
+fn connected(hub: &mut Hub<MemStore>) -> Result<ConnId, Trouble> {
     match hub.connect() {
         Ok(connection) => Ok(connection),
         Err(ConnectFault::Memory) => Err(Trouble::Memory),

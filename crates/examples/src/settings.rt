@@ -1,21 +1,17 @@
-//! The configuration of an example, and the numbers that its archive gives next.
+//! The configuration of an example.
 
 use crate::trouble::Trouble;
-use dep_server::Store;
-use dep_types::{
-    Config, Counters, GREATEST_MAX_ASSEMBLED, GREATEST_MAX_SEGMENTS, GREATEST_MAX_UPLOAD, Text,
-};
+use dep_types::{Config, GREATEST_MAX_ASSEMBLED, GREATEST_MAX_SEGMENTS, GREATEST_MAX_UPLOAD, Text};
 use std::alloc::{AllocError, Global};
 
-/// The configuration of an example, and the numbers that its archive gives next.
+/// The configuration of an example.
 #[derive(Drop)]
 pub struct Settings {
     config: Config,
-    next: Counters,
 }
 
 impl Settings {
-    /// Those of the program `swordd`, and an archive that is new.
+    /// That of the program `swordd`.
     pub fn new(alloc: Global) -> Result<Settings, AllocError> {
         Ok(Settings {
             config: Config {
@@ -29,12 +25,6 @@ impl Settings {
                 max_assembled: GREATEST_MAX_ASSEMBLED,
                 max_segments: GREATEST_MAX_SEGMENTS,
                 staging_max_idle: 3_600,
-            },
-            next: Counters {
-                object: 1,
-                file: 1,
-                upload: 1,
-                change: 1,
             },
         })
     }
@@ -61,11 +51,6 @@ impl Settings {
         self.config.max_upload
     }
 
-    /// A new archive that gives the numbers next.
-    pub fn store(&self, alloc: Global) -> Store {
-        Store::numbered(alloc, self.next)
-    }
-
     /// Sets a part of the configuration, by a line `NAME VALUE`.
     pub fn configure(&mut self, alloc: Global, line: &str) -> Result<(), Trouble> {
         let (name, value) = line.split_once(' ').unwrap_or((line, ""));
@@ -88,20 +73,6 @@ impl Settings {
             "max-segments" => self.config.max_segments = value,
             "staging-max-idle" => self.config.staging_max_idle = value,
             _ => return Err(Trouble::Line("no part of the configuration has that name")),
-        }
-        Ok(())
-    }
-
-    /// Sets the next number of a kind, by a line `KIND NUMBER`.
-    pub fn number_next(&mut self, line: &str) -> Result<(), Trouble> {
-        let (kind, value) = line.split_once(' ').unwrap_or((line, ""));
-        let value = number(value)?;
-        match kind {
-            "object" => self.next.object = value,
-            "file" => self.next.file = value,
-            "upload" => self.next.upload = value,
-            "change" => self.next.change = value,
-            _ => return Err(Trouble::Line("no kind of numbers has that name")),
         }
         Ok(())
     }

@@ -1,5 +1,6 @@
 //! What an example is played against.
 
+use crate::archive::{changed, made, reopened};
 use crate::documents::Documents;
 use crate::exchange::Exchange;
 use crate::intake::takes;
@@ -9,7 +10,8 @@ use crate::server::{Server, refused};
 use crate::settings::Settings;
 use crate::trouble::Trouble;
 use dep_message::Intake;
-use dep_server::Store;
+use dep_store::Store;
+use sqlite::MemStore;
 use std::alloc::Global;
 use std::mem;
 
@@ -19,7 +21,7 @@ pub enum Side {
     /// Nothing was played yet, and the archive is to be a new one.
     New,
     /// An archive that no hub has.
-    Archive(Store),
+    Archive(Store<MemStore>),
     Server(Server),
     Intake(Intake),
     Leaf(Leaf),
@@ -27,10 +29,6 @@ pub enum Side {
 }
 
 impl Side {
-    pub fn is_new(&self) -> bool {
-        matches!(self, Side::New)
-    }
-
     /// Plays an exchange, and tells in a word what it came to.
     pub fn plays(
         &mut self,
@@ -60,7 +58,7 @@ impl Side {
     /// Opens a hub over the archive, where none is there yet.
     pub fn open(&mut self, alloc: Global, settings: &Settings) -> Result<(), Trouble> {
         if let Side::New | Side::Archive(_) = self {
-            let store = self.take_store(alloc, settings)?;
+            let store = self.take_store(alloc)?;
             self.change_to(Side::Server(Server::open(alloc, settings, store)?));
         }
         Ok(())
@@ -76,15 +74,29 @@ impl Side {
     }
 
     /// The archive goes on without a hub.
-    pub fn leave(&mut self, alloc: Global, settings: &Settings) -> Result<(), Trouble> {
-        let store = self.take_store(alloc, settings)?;
+    pub fn leave(&mut self, alloc: Global) -> Result<(), Trouble> {
+        let store = self.take_store(alloc)?;
         self.change_to(Side::Archive(store));
+        Ok(())
+    }
+
+    /// The archive is closed and opened again.
+    pub fn reopen(&mut self, alloc: Global) -> Result<(), Trouble> {
+        let store = self.take_store(alloc)?;
+        self.change_to(Side::Archive(reopened(alloc, store)?));
+        Ok(())
+    }
+
+    /// A statement changes the tables of the archive, which is opened again.
+    pub fn change(&mut self, alloc: Global, statement: &str) -> Result<(), Trouble> {
+        let store = self.take_store(alloc)?;
+        self.change_to(Side::Archive(changed(alloc, store, statement)?));
         Ok(())
     }
 
     /// No hub takes the archive by this configuration.
     pub fn refuse(&mut self, alloc: Global, settings: &Settings) -> Result<(), Trouble> {
-        let store = self.take_store(alloc, settings)?;
+        let store = self.take_store(alloc)?;
         self.change_to(Side::Archive(refused(alloc, settings, store)?));
         Ok(())
     }
@@ -105,9 +117,9 @@ impl Side {
         }
     }
 
-    fn take_store(&mut self, alloc: Global, settings: &Settings) -> Result<Store, Trouble> {
+    fn take_store(&mut self, alloc: Global) -> Result<Store<MemStore>, Trouble> {
         match mem::replace(self, Side::New) {
-            Side::New => Ok(settings.store(alloc)),
+            Side::New => made(alloc),
             Side::Archive(store) => Ok(store),
             Side::Server(server) => Ok(server.into_store()),
             _ => Err(Trouble::Line("no archive is there")),

@@ -1,1 +1,2 @@
 pub mod ReplayLemmas
+pub mod ServeLemmas

@@ -2,10 +2,16 @@
 use Rattle.std.proofs.Common.{◌≡◌, ℕ, zero, suc, List, [], ◌∷◌, ◌++◌, refl, subst, arith}
 use Rattle.std.specs.Prelude.{All}
 use Rattle.std.specs.List.{FoldsTo}
+use Rattle.sqlite.specs.State as db
+use Rattle.sqlite.specs.Steps.{over_memory, IsEmpty}
+use Rattle.sqlite.specs.Effect.{IsDatabase}
+use Rattle.dep_schema.specs.Standing.{HoldsNone}
+use Rattle.sqlite.proofs.Callers.{memory_is_clean}
+use Rattle.sqlite_trees.specs.declared.memory.MemStore.{MemStore}
 use Rattle.dep_types.specs.State.{State, empty_state}
 use Rattle.dep_types.specs.declared.config.Config.{Config}
-use Rattle.dep_server.specs.Records.{World, Record, first_world, Run, begins, goes_on}
-use Rattle.dep_server.specs.Standing.{StandsAt, StandsFor}
+use Rattle.dep_server.specs.Records.{World, Record, Arrive, stopped, first_world, Run, begins, goes_on, stops, breaks}
+use Rattle.dep_server.specs.Standing.{StandsAt, StandsAfter}
 use Rattle.dep_server.specs.Turns.{Turn, with_opened, Exchanges}
 use Rattle.dep_server.specs.Conversation.{Wire, Session, Rests, Converses, ConversesOver}
 use Rattle.dep_server.proofs.HubLemmas.{keeps_same}
@@ -27,10 +33,17 @@ not_nil : (records : List Record) (r : Record) → records ++ r ∷ [] ≡ [] �
 not_nil [] r e = cc
 not_nil (x ∷ records) r e = cc
 
+not_nil_more : (records : List Record) (r q : Record) → records ++ r ∷ q ∷ [] ≡ [] → ⊥
+not_nil_more [] r q e = cc
+not_nil_more (x ∷ records) r q e = cc
+
 -- after no records the machine is at its first state
 world_at_first : {config : Config} {first : State} {records : List Record} {w : World} → Run config first records w → records ≡ [] → w ≡ first_world first
 world_at_first begins e = refl
 world_at_first (goes_on {records} {event} {sent} r h) e = absurd (not_nil records (record { event = event; sent = sent }) e)
+world_at_first (stops {records} r) e = absurd (not_nil records stopped e)
+world_at_first (breaks {records} {n} {moment} {piece} {sent} found r a l) e =
+    absurd (not_nil_more records (record { event = Arrive n piece moment; sent = sent }) stopped e)
 
 module _ {C : Type 0} (ticks : C → ℕ → C → Type 0) (moment : ℕ) (tells : C → Type 0)
     (same : (before after : C) (m : ℕ) → tells before → ticks before m after → (m ≡ moment) × tells after) where
@@ -42,12 +55,12 @@ module _ {C : Type 0} (ticks : C → ℕ → C → Type 0) (moment : ℕ) (tells
       let s = same clock f.0 t.moment p f.1 in
       all_more (λ (u : Turn). u.moment ≡ moment) t turns s.0 (all_at turns f.0 last s.1 f.2)
 
-  module _ (base : List ℕ) (before : Session C) (new : Hub) (after : Wire) (first : StandsFor before.hub empty_state [])
+  module _ (base : List ℕ) (before : Session over_memory C) (new : Hub MemStore over_memory) (after : Wire) (first : StandsAfter over_memory before.hub empty_state [])
       (given : before.hub.config ≡ program_config base) (told : tells before.clock) where
-    replays : (end : Served) → Converses ticks before new after end → IsReplayed base moment before.wire after end
+    replays : (end : Served) → Converses over_memory ticks before new after end → IsReplayed base moment before.wire after end
     replays end v =
         let fresh = world_at_first first.run refl in
-        let answers = v.answers (first_world empty_state) (subst (λ w. StandsAt before.hub w) fresh first.at) in
+        let answers = v.answers (memory_is_clean new.store) (first_world empty_state) (subst (λ w. StandsAt over_memory before.hub w) fresh first.at) in
         let exchanges : Exchanges (program_config base) v.number (with_opened v.number (first_world empty_state)) v.turns answers.talked =
         subst (λ (x : Config). Exchanges x v.number (with_opened v.number (first_world empty_state)) v.turns answers.talked) given answers.exchanges in
         record {
@@ -62,7 +75,7 @@ module _ {C : Type 0} (ticks : C → ℕ → C → Type 0) (moment : ℕ) (tells
           ends = v.ends;
         }
 
-    pub comes_to : (end : Served) → ConversesOver ticks before new after end → Replays base moment before.wire after (outcome_of end)
+    pub comes_to : (end : Served) → ConversesOver over_memory ticks before new after end → Replays base moment before.wire after (outcome_of end)
     comes_to Unserved v = not_begun v.rests
     comes_to Ended v = replayed Ended (replays Ended v)
     comes_to Closed v = replayed Closed (replays Closed v)
@@ -72,3 +85,7 @@ module _ {C : Type 0} (ticks : C → ℕ → C → Type 0) (moment : ℕ) (tells
 
 pub rests_same : (at : Wire) → Rests at at
 rests_same at = record { pieces = keeps_same at.unread; replies = keeps_same at.taken; failures = refl }
+
+-- a new database in memory has no table
+pub empty_holds_none : (d : db.State) → IsEmpty d → HoldsNone d.now.trees
+empty_holds_none d e = subst (λ schema. IsDatabase (record { schema = schema; trees = d.now.trees })) e.2 (e.1 e.0.is_open).0

@@ -1,5 +1,5 @@
 -- The configuration of the program.
-use Rattle.std.specs.Prelude.{ℕ, false, List, codes}
+use Rattle.std.specs.Prelude.{ℕ, ◌==◌, ◌++◌, false, List, codes, decimal, if◌then◌else◌}
 use Rattle.dep_types.specs.declared.config.Config.{Config}
 
 -- with this base
@@ -16,3 +16,8 @@ program_config base = record {
   max_segments = 1000;
   staging_max_idle = 3600;
 }
+
+-- the base at a port of 127.0.0.1, whose URLs leave the port 80 out
+abbrev pub base_at : ℕ → List ℕ
+base_at port =
+    if port == 80 then codes "http://127.0.0.1" else codes "http://127.0.0.1" ++ codes ":" ++ decimal port

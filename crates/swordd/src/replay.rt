@@ -1,17 +1,24 @@
-//! One connection over an archive in memory.
-ghost use Rattle.std.specs.Prelude.{◌≡◌};
+//! One connection over a store in memory.
+ghost use Rattle.std.specs.Prelude.{◌≡◌, IfOk};
+ghost use Rattle.sqlite.specs.Held.{state};
+ghost use Rattle.sqlite.specs.Steps.{over_memory};
+ghost use Rattle.dep_types.specs.State.{empty_state};
+ghost use Rattle.dep_store.specs.Standing.{StandsFor};
 ghost use Rattle.dep_server.specs.Conversation.{wire};
 ghost use Rattle.swordd.specs.Replays.{Replays, outcome_of};
 
 use crate::outcome::Outcome;
 use crate::setup::configuration;
 use dep_moment::Moment;
-use dep_server::{Hub, HubFault, Served, Store, serve_connection};
+use dep_schema::OpenFault;
+use dep_server::{Hub, HubFault, Served, serve_connection};
+use dep_store::Store;
 use dep_types::Outlet;
+use sqlite::{Connection, MemStore};
 use std::alloc::Global;
 use std::io::Read;
 
-/// Serves one connection over an archive in memory, which is empty at first: the reader is read to its end,
+/// Serves one connection over a store in memory, which is empty at first: the reader is read to its end,
 /// or until the connection is closed, each piece at the moment, and the replies go to the writer.
 pub fn replay<R: Read, W: Outlet>(
     alloc: Global,
@@ -27,7 +34,10 @@ pub fn replay<R: Read, W: Outlet>(
     let Ok(config) = configuration(alloc, base) else {
         return Outcome::StoreFault;
     };
-    let mut hub = match Hub::new(alloc, config, Store::empty(alloc)) {
+    let Ok(store) = new_store(alloc) else {
+        return Outcome::StoreFault;
+    };
+    let mut hub = match Hub::new(alloc, config, store) {
         Ok(hub) => hub,
         Err((HubFault::Config, _)) => return Outcome::Usage,
         Err((HubFault::Memory, _)) => return Outcome::StoreFault,
@@ -36,6 +46,19 @@ pub fn replay<R: Read, W: Outlet>(
         ensures { result ≡ moment }
     { moment };
     outcome_of(serve_connection(alloc, reader, writer, &mut hub, clock))
+}
+
+/// A new store in memory.
+fn new_store(alloc: Global) -> Result<Store<MemStore>, OpenFault>
+    ensures { IfOk result (λ store. StandsFor (state over_memory store) empty_state) }
+{
+    let Ok(connection) = Connection::open_in_memory(alloc) else {
+        return Err(OpenFault::Memory);
+    };
+    match Store::open(alloc, connection) {
+        Ok(store) => Ok(store),
+        Err((fault, _)) => Err(fault),
+    }
 }
 
 fn outcome_of(served: Served) -> Outcome

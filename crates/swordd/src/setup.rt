@@ -1,8 +1,9 @@
 //! The configuration of the program.
-ghost use Rattle.std.specs.Prelude.{◌≡◌, IfOk};
-ghost use Rattle.swordd.specs.Setup.{program_config};
+ghost use Rattle.std.specs.Prelude.{◌≡◌, IfOk, string_bytes};
+ghost use Rattle.swordd.specs.Setup.{program_config, base_at};
 
 use dep_types::{Config, GREATEST_MAX_ASSEMBLED, GREATEST_MAX_SEGMENTS, GREATEST_MAX_UPLOAD, Text};
+use itoa::Buffer;
 use std::alloc::{AllocError, Global};
 
 const TITLE: &str = "swordd";
@@ -12,6 +13,9 @@ const ABSTRACT: &str = "Deposit service";
 const DEPOSITOR: &str = "depositor";
 
 const STAGING_MAX_IDLE: u64 = 3_600;
+
+/// The port that a URL leaves out.
+const DEFAULT_PORT: u64 = 80;
 
 /// The configuration of the program with this base: each limit of sizes and counts is the greatest, and
 /// an upload expires after an hour.
@@ -30,4 +34,25 @@ pub fn configuration(alloc: Global, base: &str) -> Result<Config, AllocError>
         max_segments: GREATEST_MAX_SEGMENTS,
         staging_max_idle: STAGING_MAX_IDLE,
     })
+}
+
+/// The configuration of the program at a port of 127.0.0.1.
+pub fn configuration_at(alloc: Global, port: u64) -> Result<Config, AllocError>
+    ensures { IfOk result (λ config. config ≡ program_config (base_at port)) }
+{
+    let base = base_text(alloc, port)?;
+    configuration(alloc, base.as_str())
+}
+
+/// The base at a port of 127.0.0.1.
+fn base_text(alloc: Global, port: u64) -> Result<String, AllocError>
+    ensures { IfOk result (λ text. string_bytes text ≡ base_at port) }
+{
+    let mut text = String::from_str(alloc, "http://127.0.0.1")?;
+    if port != DEFAULT_PORT {
+        let mut digits = Buffer::new();
+        text.push_str(":")?;
+        text.push_str(digits.format(port))?;
+    }
+    Ok(text)
 }

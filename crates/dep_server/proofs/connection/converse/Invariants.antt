@@ -12,7 +12,7 @@ invariant-loop-count g l = record {
   there : IsSome (intake_of l.hub.connections.items l.connection);
   config : l.hub.config ≡ l.fn.hub.config;
   next : l.hub.next ≡ l.fn.hub.next;
-  talk : Talk (goal.C-step g) l.connection
-      (session l.fn.hub (wire (g.R.Read.remaining l.fn.reader) (g.W.Outlet.taken l.fn.writer) (g.W.Outlet.failures l.fn.writer)) l.fn.clock)
-      (session l.hub (wire (g.R.Read.remaining l.reader) (g.W.Outlet.taken l.writer) (g.W.Outlet.failures l.writer)) l.clock) l.count StaysOpen;
+  talk : Talk g.S.Store (goal.C-step g) l.connection
+      (session g.S.Store l.fn.hub (wire (g.R.Read.remaining l.fn.reader) (g.W.Outlet.taken l.fn.writer) (g.W.Outlet.failures l.fn.writer)) l.fn.clock)
+      (session g.S.Store l.hub (wire (g.R.Read.remaining l.reader) (g.W.Outlet.taken l.writer) (g.W.Outlet.failures l.writer)) l.clock) l.count StaysOpen;
 }

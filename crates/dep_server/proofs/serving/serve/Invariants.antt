@@ -1,13 +1,16 @@
 use Rattle.std.proofs.Common.{◌≡◌}
+use Rattle.sqlite.specs.Held.{state}
 use Rattle.dep_message.specs.Places.{left_to_read}
+use Rattle.dep_server.specs.Sending.{outside}
 use Rattle.dep_server.specs.Serving.{Progress, arrival_of}
 use Rattle.dep_server.proofs.serving.serve.Given as goal
 
 -- what was read so far was answered
 abbrev pub invariant-loop-intake : goal.invariant-loop-intake
 invariant-loop-intake g l = record {
-  served : Progress l.config (arrival_of l.fn.intake l.piece l.moment) l.fn.store (g.O.Outlet.taken l.fn.out) (g.O.Outlet.taken l.out) l.intake.place l.store;
-  failures : g.O.Outlet.failures l.out ≡ g.O.Outlet.failures l.fn.out;
+  served : Progress l.service (arrival_of l.fn.intake l.piece l.moment)
+      (outside (g.O.Outlet.taken l.fn.out) (g.O.Outlet.failures l.fn.out) (state g.S.Store l.fn.store))
+      (outside (g.O.Outlet.taken l.out) (g.O.Outlet.failures l.out) (state g.S.Store l.store)) l.intake.place;
   limit : l.intake.limit ≡ l.fn.intake.limit;
 }
 

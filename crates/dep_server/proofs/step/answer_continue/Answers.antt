@@ -1,10 +1,15 @@
-use Rattle.std.proofs.Common.{refl}
-use Rattle.dep_server.specs.Machine.{step, continue_line}
+use Rattle.std.proofs.Common.{sym}
+use Rattle.std.proofs.lemmas.List.{append-nil}
+use Rattle.sqlite.specs.Held.{state}
 use Rattle.dep_message.specs.Stream.{Continue}
+use Rattle.dep_server.specs.Machine.{step, continue_line}
 use Rattle.dep_server.proofs.ServingLemmas.{answers_reply}
 use Rattle.dep_server.proofs.step.answer_continue.Goals as goal
 
-pub returns-clause-answers : goal.returns-clause-answers
+pub returns : goal.returns
 unfolding step
-returns-clause-answers g c = λ config s moment.
-    answers_reply config _ _ s s Continue moment c.send.result continue_line refl refl c.send.ensures.sends
+returns g c = λ config moment.
+    answers_reply config (g.O.Outlet.taken c.args.out.now) (g.O.Outlet.taken c.send.new.out) (g.O.Outlet.failures c.args.out.now) (g.O.Outlet.failures c.send.new.out)
+    (state g.S.Store c.args.store.now) Continue moment c.send.result continue_line
+    (λ is_open trees h. g.met.S.Store.settled c.args.store.now.store trees is_open h)
+    c.send.ensures.sends c.send.ensures.kept c.send.ensures.cause (λ s stands. (stands, sym (append-nil continue_line)))

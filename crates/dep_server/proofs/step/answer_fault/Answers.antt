@@ -1,26 +1,66 @@
-use Rattle.std.proofs.Common.{◌∙◌, ap, refl, None, true}
-use Rattle.dep_types.specs.State.{State}
-use Rattle.dep_store.specs.Steps.{sent_by, refused_step}
-use Rattle.dep_store.specs.declared.answer.Delivery.{Delivery}
-use Rattle.dep_server.specs.Machine.{step}
+use Rattle.std.proofs.Common.{None, true, inl, inr, refl}
+use Rattle.sqlite.specs.Held.{state}
+use Rattle.dep_types.specs.State.{tick}
+use Rattle.dep_types.specs.declared.store_fault.StoreFault.TheVariants.{Memory}
 use Rattle.dep_message.specs.Stream.{Fault}
-use Rattle.dep_server.proofs.ServingLemmas.{answers_fixed, answers_reply}
-use Rattle.dep_server.proofs.StepLemmas.{ready_is, refusal_ready}
+use Rattle.dep_answers.specs.declared.performed.Delivery.{Delivery}
+use Rattle.dep_server.specs.Machine.{step}
+use Rattle.dep_server.specs.Sending.{outside}
+use Rattle.dep_store.proofs.Transacting.{leaves_wider}
+use Rattle.dep_server.proofs.Leaving.{stays_as}
+use Rattle.dep_server.proofs.StepLemmas.{refusal_ready}
+use Rattle.dep_server.proofs.ServingLemmas.{answers_fixed, answers_from, made_from}
 use Rattle.dep_server.proofs.step.answer_fault.Goals as goal
 
-pub returns-in-Ok-clause-answers : goal.returns-in-Ok-clause-answers
+pub returns-in-Ok-refused : goal.returns-in-Ok-refused
 unfolding step
-returns-in-Ok-clause-answers g c =
-    let now : State = c.tick.new.self in
-    let delivery : Delivery = record { clock = c.tick.result; is_bare = c.args.is_bare; closes = true } in
-    answers_reply c.args.config.now _ _ c.args.store.now now (Fault c.args.refusal c.args.is_bare) c.args.moment c.send_performed.result _
-    c.tick.ensures.state
-    (ready_is now (refused_step now c.args.refusal None c.args.is_bare true) c.in-Ok.performed refl
-    (refusal_ready now delivery c.in-Ok.performed c.args.refusal None c.args.is_bare true c.tick.ensures.clock refl refl c.in-Ok.ensures)
-    ∙ ap (λ (s : State). sent_by (refused_step s c.args.refusal None c.args.is_bare true)) c.tick.ensures.state)
-    c.send_performed.ensures.sends
+returns-in-Ok-refused g c =
+    let config = c.args.service.now in
+    let delivery : Delivery = record { clock = c.in-Ok.clock; is_bare = c.args.is_bare; closes = true } in
+    let x = c.send_performed.ensures in
+    record {
+      sent = x.sent;
+      passes = record {
+        appends = x.passes.appends;
+        honest = λ h. c.tick.ensures.honest (x.passes.honest h);
+        clean = λ h. c.tick.ensures.open (x.passes.clean h);
+      };
+      steps = λ disk s stands.
+          let t = (rw c.config.ensures at c.in-Ok.ensures.ok) (x.passes.honest disk) s stands in
+          let now = tick config s c.args.moment in
+          made_from config s (Fault c.args.refusal c.args.is_bare) c.args.moment x.sent _ _ _ c.send_performed.result refl
+          (answers_from config s (Fault c.args.refusal c.args.is_bare) c.args.moment x.sent _ _ c.send_performed.result
+          (x.sends disk (step config s (Fault c.args.refusal c.args.is_bare) c.args.moment)
+          (record { state = t.1; ready = refusal_ready now delivery c.in-Ok-refused.performed c.args.refusal None c.args.is_bare true t.0 refl refl c.in-Ok-refused.ensures })));
+    }
 
-pub returns-in-Err-clause-answers : goal.returns-in-Err-clause-answers
-returns-in-Err-clause-answers g c =
-    answers_fixed c.args.config.now _ _ c.args.store.now c.tick.new.self (Fault c.args.refusal c.args.is_bare) c.args.moment c.send_want_of_memory.result
-    c.tick.ensures.state c.send_want_of_memory.ensures.sends
+pub returns-in-Err-refused : goal.returns-in-Err-refused
+unfolding step
+returns-in-Err-refused g c =
+    let config = c.args.service.now in
+    let new = state g.S.Store c.tick.new.self in
+    answers_fixed config (outside (g.O.Outlet.taken c.args.out.now) (g.O.Outlet.failures c.args.out.now) (state g.S.Store c.args.store.now)) (outside (g.O.Outlet.taken c.send_fault.new.out) (g.O.Outlet.failures c.send_fault.new.out) (state g.S.Store c.tick.new.self)) (Fault c.args.refusal c.args.is_bare) c.args.moment Memory
+    c.tick.ensures.honest c.tick.ensures.open
+    (λ disk s stands.
+    let t = (rw c.config.ensures at c.in-Ok.ensures.ok) disk s stands in record {
+      left = tick config s c.args.moment;
+      is_left = inr refl;
+      stands = λ _. t.1;
+      stop = leaves_wider new _ _ (λ found e. inr (inl e))
+          (stays_as new (tick config s c.args.moment) (λ is_open trees h. g.met.S.Store.settled c.tick.new.self.store trees is_open h) t.1);
+    })
+    c.send_fault.result c.send_fault.ensures.sends c.send_fault.ensures.cause
+
+pub returns-in-Err : goal.returns-in-Err
+unfolding step
+returns-in-Err g c =
+    let new = state g.S.Store c.tick.new.self in
+    answers_fixed c.args.service.now (outside (g.O.Outlet.taken c.args.out.now) (g.O.Outlet.failures c.args.out.now) (state g.S.Store c.args.store.now)) (outside (g.O.Outlet.taken c.send_fault-in-Err.new.out) (g.O.Outlet.failures c.send_fault-in-Err.new.out) (state g.S.Store c.tick.new.self)) (Fault c.args.refusal c.args.is_bare) c.args.moment c.in-Err.fault
+    c.tick.ensures.honest c.tick.ensures.open
+    (λ disk s stands. record {
+      left = s;
+      is_left = inl refl;
+      stands = λ is_open. c.in-Err.ensures.err is_open s stands;
+      stop = leaves_wider new _ _ (λ found e. elim e [ inl same ↦ inl same | inr next ↦ inr (inl next) ]) ((rw c.config.ensures at c.tick.ensures.stop) disk s stands);
+    })
+    c.send_fault-in-Err.result c.send_fault-in-Err.ensures.sends c.send_fault-in-Err.ensures.cause

@@ -1,25 +1,62 @@
-use Rattle.std.proofs.Common.{◌∙◌, ap}
-use Rattle.dep_types.specs.State.{State}
-use Rattle.dep_store.specs.Steps.{sent_by}
-use Rattle.dep_server.specs.Machine.{step, routed_step}
+use Rattle.std.proofs.Common.{inl, inr, refl}
+use Rattle.sqlite.specs.Held.{state}
+use Rattle.dep_types.specs.State.{tick}
 use Rattle.dep_message.specs.Stream.{Request}
-use Rattle.dep_server.specs.Targets.{target}
 use Rattle.dep_message.specs.declared.message.Message.{Message}
-use Rattle.dep_server.proofs.ServingLemmas.{answers_fixed, answers_reply}
-use Rattle.dep_server.proofs.StepLemmas.{ready_is}
+use Rattle.dep_server.specs.Machine.{step}
+use Rattle.dep_server.specs.Sending.{outside}
+use Rattle.dep_store.proofs.Transacting.{leaves_wider}
+use Rattle.dep_server.proofs.ServingLemmas.{answers_fixed, answers_from, made_from}
 use Rattle.dep_server.proofs.step.answer_message.Goals as goal
 
-pub returns-in-Ok-clause-answers : goal.returns-in-Ok-clause-answers
+pub returns-in-Ok-perform : goal.returns-in-Ok-perform
 unfolding step
-returns-in-Ok-clause-answers g c =
+returns-in-Ok-perform g c =
+    let config = c.args.service.now in
     let m : Message = c.args.message in
-    let done = c.in-Ok.ensures.ok in
-    answers_reply c.args.config.now _ _ c.args.store.now c.perform.new.store (Request m) c.args.moment c.send_performed.result _
-    (done.state ∙ ap (λ (s : State). (routed_step c.args.config.now s m (target m.head.method m.head.path)).state) c.tick.ensures.state)
-    (ready_is c.perform.new.store _ c.in-Ok.performed done.state done.ready ∙ ap (λ (s : State). sent_by (routed_step c.args.config.now s m (target m.head.method m.head.path))) c.tick.ensures.state)
-    c.send_performed.ensures.sends
+    let x = c.send_performed.ensures in
+    record {
+      sent = x.sent;
+      passes = record {
+        appends = x.passes.appends;
+        honest = λ h. c.tick.ensures.honest (c.perform.ensures.honest (x.passes.honest h));
+        clean = λ h. c.tick.ensures.open (c.perform.ensures.open (x.passes.clean h));
+      };
+      steps = λ disk s stands.
+          let between = x.passes.honest disk in
+          let t = (rw c.config.ensures at c.in-Ok.ensures.ok) (c.perform.ensures.honest between) s stands in
+          let p = c.in-Ok-perform.ensures.ok between (tick config s c.args.moment) t.1 t.0 in
+          made_from config s (Request m) c.args.moment x.sent _ _ _ c.send_performed.result refl
+          (answers_from config s (Request m) c.args.moment x.sent _ _ c.send_performed.result (x.sends disk (step config s (Request m) c.args.moment) p));
+    }
 
-pub returns-in-Err-clause-answers : goal.returns-in-Err-clause-answers
-returns-in-Err-clause-answers g c =
-    answers_fixed c.args.config.now _ _ c.args.store.now c.perform.new.store (Request c.args.message) c.args.moment c.send_want_of_memory.result
-    (c.in-Err.ensures.err ∙ c.tick.ensures.state) c.send_want_of_memory.ensures.sends
+pub returns-in-Err-perform : goal.returns-in-Err-perform
+unfolding step
+returns-in-Err-perform g c =
+    let config = c.args.service.now in
+    let m : Message = c.args.message in
+    let new = state g.S.Store c.perform.new.store in
+    answers_fixed config (outside (g.O.Outlet.taken c.args.out.now) (g.O.Outlet.failures c.args.out.now) (state g.S.Store c.args.store.now)) (outside (g.O.Outlet.taken c.send_fault.new.out) (g.O.Outlet.failures c.send_fault.new.out) (state g.S.Store c.perform.new.store)) (Request m) c.args.moment c.in-Err-perform.fault
+    (λ h. c.tick.ensures.honest (c.perform.ensures.honest h)) (λ h. c.tick.ensures.open (c.perform.ensures.open h))
+    (λ disk s stands.
+    let t = (rw c.config.ensures at c.in-Ok.ensures.ok) (c.perform.ensures.honest disk) s stands in record {
+      left = tick config s c.args.moment;
+      is_left = inr refl;
+      stands = λ is_open. c.in-Err-perform.ensures.err is_open (tick config s c.args.moment) t.1;
+      stop = leaves_wider new _ _ (λ found e. inr e) (c.perform.ensures.stop disk (tick config s c.args.moment) t.1);
+    })
+    c.send_fault.result c.send_fault.ensures.sends c.send_fault.ensures.cause
+
+pub returns-in-Err : goal.returns-in-Err
+unfolding step
+returns-in-Err g c =
+    let new = state g.S.Store c.tick.new.self in
+    answers_fixed c.args.service.now (outside (g.O.Outlet.taken c.args.out.now) (g.O.Outlet.failures c.args.out.now) (state g.S.Store c.args.store.now)) (outside (g.O.Outlet.taken c.send_fault-in-Err.new.out) (g.O.Outlet.failures c.send_fault-in-Err.new.out) (state g.S.Store c.tick.new.self)) (Request c.args.message) c.args.moment c.in-Err.fault
+    c.tick.ensures.honest c.tick.ensures.open
+    (λ disk s stands. record {
+      left = s;
+      is_left = inl refl;
+      stands = λ is_open. c.in-Err.ensures.err is_open s stands;
+      stop = leaves_wider new _ _ (λ found e. elim e [ inl same ↦ inl same | inr next ↦ inr (inl next) ]) ((rw c.config.ensures at c.tick.ensures.stop) disk s stands);
+    })
+    c.send_fault-in-Err.result c.send_fault-in-Err.ensures.sends c.send_fault-in-Err.ensures.cause

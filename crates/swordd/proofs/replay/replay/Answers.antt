@@ -1,7 +1,7 @@
 use Rattle.std.proofs.Common.{◌≡◌, ◌∙◌, refl, sym, subst, of_calls}
 use Rattle.dep_types.specs.Config.{IsChecked}
 use Rattle.dep_types.specs.declared.config.Config.{Config}
-use Rattle.dep_types.proofs.EmptySound.{empty_sound}
+use Rattle.sqlite.specs.Steps.{over_memory}
 use Rattle.dep_server.specs.Conversation.{wire, session}
 use Rattle.swordd.specs.Replays.{Replays, refused, not_begun}
 use Rattle.swordd.specs.declared.outcome.Outcome.{Outcome}
@@ -10,6 +10,9 @@ use Rattle.swordd.proofs.replay.replay.Goals as goal
 
 pub returns-in_default : goal.returns-in_default
 returns-in_default g c = not_begun (rests_same (wire (g.R.Read.remaining c.args.reader.now) (g.W.Outlet.taken c.args.writer.now) (g.W.Outlet.failures c.args.writer.now)))
+
+pub returns-in_default-new_store : goal.returns-in_default-new_store
+returns-in_default-new_store g c = not_begun (rests_same (wire (g.R.Read.remaining c.args.reader.now) (g.W.Outlet.taken c.args.writer.now) (g.W.Outlet.failures c.args.writer.now)))
 
 pub returns-in-Err-Memory-default : goal.returns-in-Err-Memory-default
 returns-in-Err-Memory-default g c = not_begun (rests_same (wire (g.R.Read.remaining c.args.reader.now) (g.W.Outlet.taken c.args.writer.now) (g.W.Outlet.failures c.args.writer.now)))
@@ -25,6 +28,6 @@ returns g c =
     let after = wire (g.R.Read.remaining c.serve_connection.new.reader) (g.W.Outlet.taken c.serve_connection.new.writer) (g.W.Outlet.failures c.serve_connection.new.writer) in
     subst (λ (o : Outcome). Replays c.args.base.now c.args.moment before after o) (sym c.outcome_of.ensures)
     (comes_to _ c.args.moment (λ f. f.0 ≡ c.args.moment) (λ before after m p e. ((search of_calls), (search of_calls)))
-    c.args.base.now (session c.in-Ok-new.hub before _) c.serve_connection.new.hub after
-    (c.in-Ok-new.ensures.stands _ c.empty.ensures empty_sound) (c.in-Ok-new.ensures.config ∙ c.in-Ok.ensures) refl
+    c.args.base.now (session over_memory c.in-Ok-new.hub before _) c.serve_connection.new.hub after
+    (c.in-Ok-new.ensures.stands _ c.in-Ok-new_store.ensures) (c.in-Ok-new.ensures.config ∙ c.in-Ok.ensures) refl
     c.serve_connection.result c.serve_connection.ensures.converses)

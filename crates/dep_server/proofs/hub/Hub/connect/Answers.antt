@@ -1,5 +1,7 @@
-use Rattle.std.proofs.Common.{◌≤◌, ◌+◌, refl, sym, subst, ◌∙◌, ℕ, List, [], ◌∷◌, ◌++◌, arith}
+use Rattle.std.proofs.Common.{◌≤◌, ◌+◌, false, ap, refl, sym, subst, ◌∙◌, ℕ, List, [], ◌∷◌, ◌++◌, arith}
 use Rattle.std.specs.Prelude.{IsSome}
+use Rattle.dep_types.specs.declared.config.Config.{Config}
+use Rattle.dep_message.specs.Places.{Open}
 use Rattle.dep_server.specs.Numbers.{Ascends}
 use Rattle.dep_server.specs.Records.{Connect}
 use Rattle.dep_server.specs.Standing.{intake_of}
@@ -9,32 +11,35 @@ use Rattle.dep_server.proofs.HubLemmas.{connects_moves, moves_adds}
 use Rattle.dep_server.proofs.hub.Hub.connect.Goals as goal
 
 pub returns-clause-moves : goal.returns-clause-moves
-returns-clause-moves c =
-    connects_moves c.args.self.now _ c.new-2.result refl refl c.new-2.ensures
-    (c.in-Ok.ensures.items ∙ (λ i. c.args.self.now.connections.items ++ record { number = sym c.new-2.ensures i; intake = c.new.ensures i } ∷ []))
+returns-clause-moves g c =
+    connects_moves g.S.Store c.args.self.now _ refl c.new-2.result refl c.new-2.ensures
+    (c.in-Ok.ensures.items ∙ (λ i. c.args.self.now.connections.items ++ record {
+      number = sym c.new-2.ensures i;
+      intake = (c.new.ensures ∙ ap (λ (x : Config). record { limit = x.max_upload; place = Open false [] }) c.config.ensures) i;
+    } ∷ []))
 
 pub returns-clause-adds : goal.returns-clause-adds
-returns-clause-adds c = moves_adds c.args.self.now _ (Connect c.new-2.result) [] refl (returns-clause-moves c)
+returns-clause-adds g c = moves_adds g.S.Store c.args.self.now _ refl (Connect c.new-2.result) [] (returns-clause-moves g c)
 
 pub returns-clause-fresh : goal.returns-clause-fresh
-returns-clause-fresh c =
+returns-clause-fresh g c =
     let above : c.args.self.now.next ≤ c.new-2.result = omega (arith, c.new-2.ensures) in
     absent_above 0 c.args.self.now.next c.new-2.result c.args.self.now.connections.items c.args.self.now.ascends above
 
 pub returns-clause-there : goal.returns-clause-there
-returns-clause-there c =
+returns-clause-there g c =
     let d : Connection = record { number = c.args.self.now.next; intake = c.new.result } in
     subst (λ (n : ℕ). IsSome (intake_of c.push.new.self.items n)) (sym c.new-2.ensures)
     (subst (λ (cs : List Connection). IsSome (intake_of cs c.args.self.now.next)) (sym c.in-Ok.ensures.items)
     (pushed_there c.args.self.now.connections.items d c.args.self.now.ascends))
 
 pub invariant_of-self : goal.invariant_of-self
-invariant_of-self c = record {
+invariant_of-self g c = record {
   ascends = subst (λ (cs : List Connection). Ascends 0 cs c.args.self.now.next) (sym c.in_default.ensures.items) c.args.self.now.ascends;
 }
 
 pub invariant_of-self-2 : goal.invariant_of-self-2
-invariant_of-self-2 c =
+invariant_of-self-2 g c =
     let d : Connection = record { number = c.args.self.now.next; intake = c.new.result } in
     record {
       ascends = subst (λ (cs : List Connection). Ascends 0 cs (d.number + 1)) (sym c.in-Ok.ensures.items) (ascends_push 0 c.args.self.now.connections.items d c.args.self.now.ascends);

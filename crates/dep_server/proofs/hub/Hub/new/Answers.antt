@@ -1,26 +1,26 @@
 use Rattle.std.proofs.Common.{refl, sym, subst, List, [], arith}
 use Rattle.dep_server.specs.Numbers.{Ascends}
-use Rattle.dep_server.specs.Records.{Line, begins, first_world}
+use Rattle.dep_types.specs.declared.config.Config.{Config}
+use Rattle.dep_server.specs.Records.{Line, Run, begins, first_world}
 use Rattle.dep_server.specs.Standing.{IsKeptAs, intake_of}
 use Rattle.dep_server.specs.declared.connections.Connection.{Connection}
 use Rattle.dep_server.proofs.hub.Hub.new.Goals as goal
 
-pub returns-in-Ok-clause-again : goal.returns-in-Ok-clause-again
-returns-in-Ok-clause-again c = λ first records w run absent e sound. record {
+pub returns-clause-again : goal.returns-clause-again
+returns-clause-again g c = λ first records w run absent e. record {
   world = w;
-  run = run;
+  run = subst (λ (x : Config). Run x first records w) (sym c.in-Ok-new.ensures) run;
   at = record {
     state = e;
-    sound = sound;
-    kept = λ n. subst (λ (cs : List Connection). IsKeptAs c.args.config.max_upload (w.line n) (intake_of cs n)) (sym c.new.ensures.items)
-        (subst (λ (l : Line). IsKeptAs c.args.config.max_upload l (intake_of [] n)) (sym (absent n)) tt);
+    kept = λ n. subst (λ (cs : List Connection). IsKeptAs c.in-Ok-new.config.max_upload (w.line n) (intake_of cs n)) (sym c.new-2.ensures.items)
+        (subst (λ (l : Line). IsKeptAs c.in-Ok-new.config.max_upload l (intake_of [] n)) (sym (absent n)) tt);
   };
 }
 
-pub returns-in-Ok-clause-stands : goal.returns-in-Ok-clause-stands
-returns-in-Ok-clause-stands c = λ first e sound. returns-in-Ok-clause-again c first [] (first_world first) begins (λ n. refl) e sound
+pub returns-clause-stands : goal.returns-clause-stands
+returns-clause-stands g c = λ first e. returns-clause-again g c first [] (first_world first) begins (λ n. refl) e
 
 pub invariant_of-result : goal.invariant_of-result
-invariant_of-result c = record {
-  ascends = subst (λ (cs : List Connection). Ascends 0 cs 0) (sym c.new.ensures.items) (omega arith);
+invariant_of-result g c = record {
+  ascends = subst (λ (cs : List Connection). Ascends 0 cs 0) (sym c.new-2.ensures.items) (omega arith);
 }

@@ -1,0 +1,99 @@
+#!/bin/sh
+# A repository's client by curl: a deposit, its metadata, a large file in segments, its bag and its end, from end to end
+# against `swordd serve` on a new store, with what came back compared. It needs curl, sqlite3 and sha256sum, and takes
+# some seconds once the program is built. The status is 1 where anything came otherwise.
+crate=$(cd "$(dirname "$0")/../crates/swordd" && pwd) || exit 2
+(cd "$crate" && rt run -- replay 0 http://127.0.0.1 </dev/null) >/dev/null || exit 2
+folder=$(mktemp -d) || exit 2
+port=$((20000 + $$ % 20000))
+base=http://127.0.0.1:$port
+# Each call of curl below is one connection; the server ends after the last.
+"$crate/out/swordd" serve $port "$folder/deposits.db" 20 2>"$folder/said" &
+server=$!
+trap 'kill $server 2>/dev/null; rm -r "$folder"' EXIT
+failed=0
+number=0
+
+# ask STATUS ARGUMENTS: one request, whose status has to be this one. The body lies in $folder/body, the head in
+# $folder/head.
+ask() {
+    wanted=$1
+    shift
+    number=$((number + 1))
+    came=$(curl --silent --show-error --retry 20 --retry-connrefused --retry-delay 1 --output "$folder/body" \
+        --dump-header "$folder/head" --write-out '%{http_code}' "$@")
+    [ "$came" = "$wanted" ] || wrong "request $number: $came in place of $wanted ($*)"
+}
+
+wrong() {
+    echo "WRONG: $1"
+    failed=1
+}
+
+# has TEXT: the body has these letters.
+has() {
+    grep -qF "$1" "$folder/body" || wrong "request $number: no $1"
+}
+
+# told NAME: the value of a field of the head.
+told() {
+    tr -d '\r' <"$folder/head" | sed -n "s|^$1: ||p"
+}
+
+ask 200 "$base/service"
+has '"@type":"ServiceDocument"'
+
+printf abc >"$folder/a.txt"
+ask 201 --data-binary "@$folder/a.txt" -H 'Content-Type: text/plain' \
+    -H 'Content-Disposition: attachment; filename=a.txt' \
+    -H 'Digest: SHA-256=ungWv48Bz+pBQUDeXa4iI7ADYaOWF3qctBD/YfIAFa0=' "$base/service"
+object=$(told Location)
+[ "$object" = "$base/objects/1" ] || wrong "the deposit is at $object"
+ask 200 "$object/files/1"
+cmp -s "$folder/body" "$folder/a.txt" || wrong 'the file came back otherwise'
+
+ask 412 --data-binary "@$folder/a.txt" -H 'Content-Disposition: attachment; filename=a.txt' \
+    -H 'Digest: SHA-256=47DEQpj8HBSa+/TImW+5JCeuQeRkm5NMpJWZG3hSuFU=' "$base/service"
+has '"@type":"DigestMismatch"'
+
+ask 204 -X PUT --data-binary '{"dc:title":"Observations"}' -H 'Content-Type: application/json' "$object/metadata"
+[ "$(told ETag)" = '"2"' ] || wrong "the metadata has the tag $(told ETag)"
+ask 200 "$object/metadata"
+has '"dc:title":"Observations"'
+ask 412 -X DELETE -H 'If-Match: "1"' "$object/metadata"
+
+# A file of 200,000 bytes in four segments, the last one first.
+head -c 200000 /dev/urandom >"$folder/large"
+split -b 65536 -d -a 1 "$folder/large" "$folder/segment."
+ask 201 -X POST -H "Content-Disposition: segment-init; size=200000; segment_count=4; segment_size=65536" "$base/staging"
+upload=$(told Location)
+for segment in 3 0 2 1; do
+    ask 204 --data-binary "@$folder/segment.$segment" -H 'Content-Type:' \
+        -H "Content-Disposition: segment; segment_number=$((segment + 1))" "$upload"
+done
+ask 200 "$upload"
+has '"expecting":[],"received":[1,2,3,4]'
+ask 200 -H 'Content-Disposition: attachment; by-reference=true' -H 'Content-Type: application/json' --data-binary \
+    "{\"byReferenceFiles\":[{\"@id\":\"$upload\",\"contentDisposition\":\"attachment; filename=large\"}]}" "$object"
+ask 404 "$upload"
+ask 200 "$object/files/2"
+cmp -s "$folder/body" "$folder/large" || wrong 'the large file came back otherwise'
+
+ask 200 "$object/bag/manifest-sha256.txt"
+mkdir -p "$folder/data/1" "$folder/data/2"
+cp "$folder/a.txt" "$folder/data/1/a.txt"
+cp "$folder/large" "$folder/data/2/large"
+(cd "$folder" && sha256sum --check --quiet body) || wrong 'the manifest of the bag'
+ask 200 "$object/bag/data/2/large"
+cmp -s "$folder/body" "$folder/large" || wrong 'the file of the bag came back otherwise'
+
+ask 204 -X DELETE "$object"
+ask 404 "$object"
+
+wait $server
+status=$?
+[ "$status" = 0 ] || wrong "the server ended with status $status: $(cat "$folder/said")"
+[ "$(sqlite3 "$folder/deposits.db" 'PRAGMA integrity_check')" = ok ] || wrong 'the integrity check of the store'
+[ "$(sqlite3 "$folder/deposits.db" 'SELECT count(*) FROM blocks')" = 0 ] || wrong 'blocks are left'
+[ $failed = 0 ] && echo "curl: $number requests, each answered as it should be"
+exit $failed

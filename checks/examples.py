@@ -1,0 +1,224 @@
+#!/usr/bin/env python3
+"""Plays files of examples against the second server of the profile (checks/model.py).
+
+    checks/examples.py crates/examples/data/texts.txt crates/examples/data/deposits.txt
+
+docs/EXAMPLES.md says how a file is written. Examples whose lines need the server of this repository itself (a call by
+itself, a reader or a writer that fails, a statement of SQL) are left out and counted. With `--lengths` in front, a
+`Content-Length: ?` that has to come back is taken as the length of what stands behind it, and told.
+"""
+
+import re
+import sys
+
+import model
+
+MOMENT = 1_523_836_800
+WORDS = ("open", "closed", "cut", "gone", "ended", "served")
+LEFT_OUT = {"intake", "fields", "if-match", "disposition", "digest", "hash", "route", "metadata", "references",
+            "metadata-prefixes", "reference-prefixes", "metadata-document", "bag-metadata-document",
+            "status-document", "upload-document", "reader-fails", "reads", "writer-takes", "writer-fails-after",
+            "unserved", "bound", "read-fault", "write-fault", "crowd", "full", "refused", "sql", "shut", "cut"}
+NAMES = {"base": "base", "title": "title", "abstract": "abstract", "depositor": "depositor",
+         "on-behalf-of": "on_behalf_of", "require-if-match": "require_if_match", "max-upload": "max_upload",
+         "max-assembled": "max_assembled", "max-segments": "max_segments", "staging-max-idle": "staging_max_idle"}
+
+
+class LeftOut(Exception):
+    pass
+
+
+class Wrong(Exception):
+    pass
+
+
+def fill(words, text):
+    """The text with the named texts filled in, up to six deep."""
+    def named(match):
+        inside = match.group(1)
+        count, blank, name = inside.partition(" ")
+        if blank and count.isdigit() and name in words:
+            return words[name] * int(count)
+        return words.get(inside, match.group(0))
+    for _ in range(6):
+        text = re.sub(r"\\\{([^}]*)\}", named, text)
+    return text
+
+
+def expand(words, text):
+    def escape(match):
+        sign = match.group(0)
+        if sign[1] == "x":
+            return bytes([int(sign[2:], 16)]).decode("latin-1")
+        if sign[1] == "{":
+            count, _, letters = sign[2:-1].partition(" ")
+            if not count.isdigit():
+                raise Wrong(f"no text has the name {sign[2:-1]}")
+            return int(count) * letters.encode().decode("latin-1")
+        return {"r": "\r", "n": "\n", "t": "\t"}[sign[1]]
+    text = fill(words, text).encode().decode("latin-1")
+    return re.sub(r"\\(?:[rnt]|x[0-9A-Fa-f]{2}|\{[^}]*\})", escape, text).encode("latin-1")
+
+
+def pieces(way, stream):
+    if way == "whole":
+        return [stream]
+    if isinstance(way, tuple):
+        return [stream[:way[0]], stream[way[0]:]]
+    size = int(way)
+    return [stream[at:at + size] for at in range(0, max(len(stream), 1), size)]
+
+
+class Play:
+    """An example that is played, its bytes cut in one way."""
+
+    def __init__(self, words, way, lengths):
+        self.words, self.way, self.lengths = dict(words), way, lengths
+        self.config, self.archive, self.server = model.Config(), model.Archive(), None
+        self.moment, self.stream, self.want, self.name = MOMENT, b"", b"", None
+        self.current, self.longest = 1, 0
+
+    def line(self, line):
+        word, _, rest = line.partition(" ")
+        if word in ("", "//", "pieces", "each", "-"):
+            return
+        if word in LEFT_OUT:
+            raise LeftOut
+        if word in "<>":
+            front = rest[:-1] if rest.endswith("\\") else rest + "\\r\\n"
+            if word == ">":
+                self.stream += expand(self.words, front)
+            else:
+                self.want += expand(self.words, front)
+        elif word in ("let", "text"):
+            self.name, _, text = rest.partition(" ")
+            self.words[self.name] = text if word == "let" else ""
+        elif word == "|":
+            self.words[self.name] += rest[:-1] if rest.endswith("\\") else rest + "\\r\\n"
+        elif word in WORDS:
+            self.ends(word)
+        else:
+            self.sets(word, fill(self.words, rest))
+
+    def open(self):
+        if self.server is None:
+            self.server = model.Server(self.config, self.archive)
+            self.current = self.server.connect()
+
+    def sets(self, word, rest):
+        if word == "at":
+            self.moment = int(rest)
+        elif word == "config":
+            name, _, value = rest.partition(" ")
+            old = getattr(self.config, NAMES[name])
+            new = value == "true" if isinstance(old, bool) else int(value) if isinstance(old, int) else value
+            self.config = model.Config(**{**vars(self.config), NAMES[name]: new})
+        elif word == "next":
+            kind, _, value = rest.partition(" ")
+            self.archive.next[kind] = int(value)
+        elif word in ("restart", "reopen"):
+            self.server = None
+        elif word == "connection":
+            self.open()
+            if int(rest) == len(self.server.connections) + 1:
+                self.server.connect()
+            self.current = int(rest)
+        elif word == "close":
+            self.open()
+            self.server.connections[int(rest) - 1] = None
+        else:
+            raise Wrong(f"no line begins with {word}")
+
+    def ends(self, word):
+        self.open()
+        current = self.current
+        if word in ("ended", "served"):
+            current, word = self.server.connect(), {"ended": "open", "served": "closed"}[word]
+        sent, came = b"", "open"
+        self.longest = max(self.longest, len(self.stream))
+        for piece in pieces(self.way, self.stream):
+            part, came = self.server.arrive(current, piece, self.moment)
+            sent += part
+        want = self.measured(self.want)
+        if want != sent:
+            place = next((i for i, (a, b) in enumerate(zip(want, sent)) if a != b), min(len(want), len(sent)))
+            place = max(place - 30, 0)
+            raise Wrong(f"they part\n  written: {want[place:place + 300]}\n  sent:    {sent[place:place + 300]}")
+        if came != word:
+            raise Wrong(f"written to end as {word}, and came to {came}")
+        self.stream, self.want = b"", b""
+
+    def measured(self, want):
+        """The replies with their lengths filled in."""
+        if not self.lengths or b"Content-Length: ?" not in want:
+            return want
+        head, body = want.split(b"\r\n\r\n", 1)
+        print(f"    length {len(body)}: {head.splitlines()[0].decode()}")
+        return want.replace(b"Content-Length: ?", b"Content-Length: %d" % len(body))
+
+
+def played(words, lines, way, lengths):
+    play = Play(words, way, lengths)
+    for number, line in lines:
+        try:
+            play.line(line)
+        except Wrong as wrong:
+            raise Wrong(f"{number}, {way}: {wrong}") from None
+    if play.stream or play.want:
+        raise Wrong(f"{number}: no word says what the last exchange comes to")
+    return play
+
+
+def play_example(words, lines, lengths):
+    each = [line[5:].split("|") for _, line in lines if line.startswith("each ")]
+    ways = [line[7:].split() for _, line in lines if line.startswith("pieces ")] or [["whole"]]
+    rows = [line[1:].split("|") for _, line in lines if line.startswith("-")] or [[]]
+    if any(len(row) != len(each[0] if each else []) for row in rows):
+        raise Wrong(f"{lines[0][0]}: a cell is missing or too many")
+    for row in rows:
+        cells = {name.strip(): cell.strip() for name, cell in zip(each[0] if each else [], row)}
+        for way in ways[0]:
+            if way == "pairs":
+                way = "anywhere"
+            try:
+                if way == "anywhere":
+                    longest = played({**words, **cells}, lines, (0,), lengths).longest
+                    if longest > 5000:
+                        continue
+                    for at in range(1, longest + 1):
+                        played({**words, **cells}, lines, (at,), lengths)
+                else:
+                    played({**words, **cells}, lines, way, lengths)
+            except Wrong as wrong:
+                raise Wrong(f"row {cells}: {wrong}" if cells else str(wrong)) from None
+
+
+def play_file(words, path, lengths):
+    numbered = list(enumerate(open(path, encoding="utf-8").read().split("\n"), 1))
+    starts = [at for at, (_, line) in enumerate(numbered) if line.startswith("# ")]
+    words.update(played(words, numbered[:starts[0] if starts else None], "whole", lengths).words)
+    right, left_out, failed = 0, 0, 0
+    for at, end in zip(starts, [*starts[1:], len(numbered)]):
+        title = numbered[at][1][2:]
+        try:
+            play_example(words, numbered[at + 1:end], lengths)
+            right += 1
+        except LeftOut:
+            left_out += 1
+        except Wrong as wrong:
+            failed += 1
+            print(f"{path}:{numbered[at][0]}: \"{title}\": {wrong}")
+    print(f"{path}: {right} examples, {left_out} left out, {failed} wrong")
+    return failed
+
+
+def main(arguments):
+    lengths = arguments[:1] == ["--lengths"]
+    words, failed = {}, 0
+    for path in arguments[lengths:]:
+        failed += play_file(words, path, lengths)
+    return 1 if failed else 0
+
+
+if __name__ == "__main__":
+    sys.exit(main(sys.argv[1:]))

@@ -1,0 +1,68 @@
+"""Starts `swordd serve` for the checks of a client: on a free port, over a store in a folder of its own."""
+
+import pathlib
+import socket
+import subprocess
+import tempfile
+import time
+
+CRATE = pathlib.Path(__file__).resolve().parent.parent / "crates/swordd"
+PROGRAM = CRATE / "out/swordd"
+
+
+def build():
+    """Proves and builds the program, where that wasn't done yet."""
+    subprocess.run(["rt", "run", "--", "replay", "0", "http://127.0.0.1"], cwd=CRATE, check=True,
+                   stdin=subprocess.DEVNULL, stdout=subprocess.DEVNULL)
+
+
+def free_port():
+    with socket.socket() as probe:
+        probe.bind(("127.0.0.1", 0))
+        return probe.getsockname()[1]
+
+
+class Server:
+    """A server that ends after so many connections, over the store `deposits.db` of a folder."""
+
+    def __init__(self, count, folder=None, port=None):
+        self.kept = tempfile.TemporaryDirectory() if folder is None else None
+        self.store = pathlib.Path(folder or self.kept.name) / "deposits.db"
+        self.port = port or free_port()
+        self.base = f"http://127.0.0.1:{self.port}"
+        self.process = subprocess.Popen([PROGRAM, "serve", str(self.port), str(self.store), str(count)],
+                                        stderr=subprocess.PIPE)
+
+    def wait_until_it_listens(self):
+        """Looks into the table of sockets, since a connection would be counted."""
+        wanted = f"0100007F:{self.port:04X} 00000000:0000 0A"
+        for _ in range(6000):
+            if wanted in pathlib.Path("/proc/net/tcp").read_text():
+                return self
+            if self.process.poll() is not None:
+                raise RuntimeError(f"the server ended: {self.process.stderr.read().decode()}")
+            time.sleep(0.01)
+        raise RuntimeError("the server does not listen")
+
+    def peak(self):
+        """The greatest memory that it had, in MiB."""
+        for line in pathlib.Path(f"/proc/{self.process.pid}/status").read_text().splitlines():
+            if line.startswith("VmHWM:"):
+                return int(line.split()[1]) / 1024
+        return None
+
+    def ends(self):
+        """Its exit status, once it has served all its connections, and what it wrote on standard error."""
+        status = self.process.wait(60)
+        return status, self.process.stderr.read().decode()
+
+    def __enter__(self):
+        return self.wait_until_it_listens()
+
+    def __exit__(self, *_):
+        if self.process.poll() is None:
+            self.process.kill()
+            self.process.wait()
+        self.process.stderr.close()
+        if self.kept:
+            self.kept.cleanup()

@@ -1,4 +1,0 @@
-pub mod FieldLemmas
-pub mod Fits
-pub mod SeenTruly
-pub mod Accepted

@@ -1,0 +1,6 @@
+use Rattle.dep_server.proofs.HubLemmas.{rests}
+use Rattle.dep_server.proofs.hub.Hub.into_store.Goals as goal
+
+pub returns-clause-stop : goal.returns-clause-stop
+returns-clause-stop g c first records h =
+    rests g.S.Store c.args.self (λ is_open trees k. g.met.S.Store.settled c.args.self.store.store trees is_open k) first records h

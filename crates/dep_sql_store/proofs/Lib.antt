@@ -1,4 +1,0 @@
-pub mod Transacting
-pub mod Carrying
-pub mod Opened
-pub mod Stepping

@@ -1,4 +1,0 @@
-use Rattle.dep_sql_store.proofs.store.Store.view.Goals as goal
-
-pub returns-clause-stop : goal.returns-clause-stop
-returns-clause-stop g c clean s given = c.view_object.ensures.stop clean s (rw (← c.self.view_is) at given)

@@ -1,3 +1,0 @@
-pub mod Standing
-pub mod Opening
-pub mod Performing

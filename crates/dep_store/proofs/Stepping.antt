@@ -1,0 +1,122 @@
+-- What a request's step is, by the ruling on it.
+use Rattle.std.proofs.Common.{◌≡◌, ℕ, Option, Some, None, Result, Ok, Err, IfOk, OnOk, IsTrue, true, min, refl, sym, ap, subst, ◌∙◌, arith}
+use Rattle.sqlite.specs.Effect.{Database}
+use Rattle.sqlite.specs.State as db
+use Rattle.sqlite.specs.State.{HasCleanDisk, IsUnchanged}
+use Rattle.sqlite.specs.Held.{Held, state}
+use Rattle.sqlite_trees.specs.declared.store.Store.{Ghosts}
+use Rattle.dep_types.specs.Limits.{greatest_moment}
+use Rattle.dep_types.specs.Numbers.{counters_after}
+use Rattle.dep_types.specs.State.{State}
+use Rattle.dep_types.specs.Sound.{IsSound}
+use Rattle.dep_types.specs.declared.config.Config.{Config}
+use Rattle.dep_types.specs.declared.counters.Counters.{Counters}
+use Rattle.dep_types.specs.declared.refusal.Refusal.{Refusal}
+use Rattle.dep_types.specs.declared.store_fault.StoreFault.{StoreFault}
+use Rattle.dep_fields.specs.Fit.{AreFit}
+use Rattle.dep_decisions.specs.Decisions.{decision, numbers_for}
+use Rattle.dep_decisions.specs.Effects.{effect}
+use Rattle.dep_decisions.specs.Rules.{refusal}
+use Rattle.dep_decisions.specs.declared.decision.Decision.{Decision}
+use Rattle.dep_decisions.specs.declared.operation.Operation.{Operation}
+use Rattle.dep_rulings.specs.Views.{view_of}
+use Rattle.dep_rulings.specs.declared.view.View.{View}
+use Rattle.dep_soundness.proofs.Accepted.{effect_sound}
+use Rattle.dep_answers.specs.Performing.{IsReady, IsReply}
+use Rattle.dep_answers.specs.Replies.{answer_to, refused_answer}
+use Rattle.dep_answers.specs.Steps.{operation_step, step_by, answered_step, accepted_answer, refused_step, accepted_step, is_head}
+use Rattle.dep_answers.specs.Subjects.{shown_at, subject_of}
+use Rattle.dep_answers.specs.declared.performed.Delivery.{Delivery}
+use Rattle.dep_answers.specs.declared.performed.Performed.{Performed}
+use Rattle.dep_answers.specs.declared.subject.Shown.{Shown}
+use Rattle.dep_answers.specs.declared.subject.Subject.{Subject}
+use Rattle.dep_tables.specs.Tables.{tables_in, IsOurs}
+use Rattle.dep_row_maps.specs.TablesAre.{TablesAre}
+use Rattle.dep_row_maps.specs.Clauses.{FromMaps, SeesState}
+use Rattle.dep_store.specs.Standing.{StandsFor}
+use Rattle.dep_store.specs.Performing.{Performs}
+use Rattle.dep_store.proofs.Transacting.{Makes}
+
+-- a step leaves a sound state
+pub step_sound : (config : Config) (s : State) (op : Operation) → AreFit op.fields → IsSound s → IsSound (operation_step config s op).state
+unfolding operation_step
+step_sound config s op fit sound = either (refusal config s op) refl
+  where
+    either : (found : Option Refusal) → refusal config s op ≡ found → IsSound (step_by config s op found).state
+    either None e = effect_sound config s op fit e sound
+    either (Some r) e = sound
+
+-- the same tables are of the same state
+pub sees_still : (old new : db.State) (s : State) → new.now ≡ old.now → SeesState old s → SeesState new s
+sees_still old new s still are = subst (λ (d : Database). TablesAre (tables_in d.trees) s) (sym still) are
+
+-- how the reply to a request goes out
+abbrev pub delivery_for : State → Operation → Delivery
+delivery_for s op = record { clock = s.clock; is_bare = is_head op.target.method; closes = op.closes }
+
+pub delivered : (s : State) (op : Operation) (clock : ℕ) (d : Delivery) → IsSound s → clock ≡ s.clock → d.clock ≡ min clock greatest_moment
+    → d.is_bare ≡ is_head op.target.method → d.closes ≡ op.closes → d ≡ delivery_for s op
+delivered s op clock d sound same at bare closes =
+    let least : min s.clock greatest_moment ≡ s.clock = omega (arith, sound.clock) in
+    let told : d.clock ≡ s.clock = at ∙ ap (λ (n : ℕ). min n greatest_moment) same ∙ least in
+    λ i. record { clock = told i; is_bare = bare i; closes = closes i }
+
+-- a request that is refused leaves the state
+pub refused_then : (config : Config) (s : State) (op : Operation) (now : db.State) (r : Refusal) (d : Delivery) (result : Result Performed StoreFault)
+    → refusal config s op ≡ Some r → d ≡ delivery_for s op → SeesState now s
+    → IfOk result (λ p. (s : State) → IsReply s (refused_answer d.clock r None) d p)
+    → IfOk result (λ p. IsReady (operation_step config s op) p × SeesState now (operation_step config s op).state)
+unfolding operation_step
+refused_then config s op now r d (Ok p) refused same sees told =
+    let ready : IsReady (refused_step s r None (is_head op.target.method) op.closes) p =
+    subst (λ (way : Delivery). IsReady (answered_step s (refused_answer way.clock r None) way.clock way.is_bare way.closes) p) same (told s) in
+    subst (λ (found : Option Refusal). IsReady (step_by config s op found) p × SeesState now (step_by config s op found).state) (sym refused) (ready, sees)
+refused_then config s op now r d (Err e) refused same sees told = tt
+
+-- one that is accepted is answered at the state that its effect leaves
+pub accepted_then : (config : Config) (s : State) (op : Operation) (now : db.State) (d : Delivery) (shown : Shown) (result : Result Performed StoreFault)
+    → AreFit op.fields → IsSound s → refusal config s op ≡ None → d ≡ delivery_for s op
+    → SeesState now (effect config s op) × (shown ≡ shown_at (effect config s op) (subject_of (effect config s op).next op.target.resource op.target.method))
+    → IfOk result (λ p. (s : State) → IsSound s → shown ≡ shown_at s (subject_of s.next op.target.resource op.target.method)
+    → IsReply s (answer_to config s op.target.resource op.target.method) d p)
+    → IfOk result (λ p. IsReady (operation_step config s op) p × SeesState now (operation_step config s op).state)
+unfolding operation_step accepted_answer
+accepted_then config s op now d shown (Ok p) fit sound accepted same carried told =
+    let after = effect config s op in
+    let ready : IsReady (accepted_step config s op after) p =
+    subst (λ (way : Delivery). IsReady (answered_step after (answer_to config after op.target.resource op.target.method) way.clock way.is_bare way.closes) p) same
+    (told after (effect_sound config s op fit accepted sound) carried.1) in
+    subst (λ (found : Option Refusal). IsReady (step_by config s op found) p × SeesState now (step_by config s op found).state) (sym accepted) (ready, carried.0)
+accepted_then config s op now d shown (Err e) fit sound accepted same carried told = tt
+
+-- the counters that an accepted request leaves
+pub next_after : (config : Config) (s : State) (op : Operation) (view : View) (d : Decision) (next : Counters)
+    → view ≡ view_of config s op → d ≡ decision config op → next ≡ counters_after view.next (numbers_for d) → next ≡ (effect config s op).next
+unfolding effect
+next_after config s op view d next seen is e =
+    e ∙ ap (λ (v : View). counters_after v.next (numbers_for d)) seen ∙ ap (λ (x : Decision). counters_after s.next (numbers_for x)) is
+
+-- what is shown of it then
+pub shown_after : (s : State) (op : Operation) (mid new : db.State) (next : Counters) (subject : Subject) (result : Result Shown StoreFault) → SeesState mid s
+    → subject ≡ subject_of next op.target.resource op.target.method → next ≡ s.next → OnOk result (new.now ≡ mid.now)
+    → IfOk result (λ shown. shown ≡ shown_at s subject)
+    → IfOk result (λ shown. SeesState new s × (shown ≡ shown_at s (subject_of s.next op.target.resource op.target.method)))
+shown_after s op mid new next subject (Ok shown) made of same still told = (
+  sees_still mid new s still made,
+  told ∙ ap (shown_at s) (of ∙ ap (λ (n : Counters). subject_of n op.target.resource op.target.method) same),
+)
+shown_after s op mid new next subject (Err e) made of same still told = tt
+
+-- a request inside a transaction keeps the state sound
+pub works : {S : Type 0} (g : Ghosts S) (old inside : Held S) (config : Config) (op : Operation) (p : Performed) → AreFit op.fields
+    → FromMaps (state g (record old { in_transaction = true })) (state g inside)
+    (λ s. IsSound s → AreFit op.fields → IsReady (operation_step config s op) p × SeesState (state g inside) (operation_step config s op).state)
+    → (HasCleanDisk (state g inside) → IsTrue true → IsOurs (state g (record old { in_transaction = true })) → IsOurs (state g inside))
+    → Makes g old inside inside (λ s. IsReady (operation_step config s op) p) (λ s. (operation_step config s op).state)
+works g old inside config op p fit told ours clean are_ours s sound are =
+    let it = told clean refl are_ours s are sound fit in
+    (it.0, ours clean refl are_ours, record { are = it.1; sound = step_sound config s op fit sound })
+
+pub performs : (config : Config) (s : State) (op : Operation) (new : db.State) (p : Performed)
+    → IsReady (operation_step config s op) p × StandsFor new (operation_step config s op).state → Performs (operation_step config s op) new p
+performs config s op new p it = record { state = it.1; ready = it.0 }

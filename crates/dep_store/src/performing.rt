@@ -1,0 +1,192 @@
+//! What a request comes to, in a transaction of its own.
+
+ghost use Rattle.std.specs.Prelude.{◌≡◌, ◌⊎◌, false, min, None, IsTrue, IfOk, OnErr};
+ghost use Rattle.sqlite.specs.State.{HasCleanDisk};
+ghost use Rattle.sqlite.specs.Held.{state};
+ghost use Rattle.dep_types.specs.State.{State};
+ghost use Rattle.dep_types.specs.Sound.{IsSound};
+ghost use Rattle.dep_types.specs.Limits.{greatest_moment};
+ghost use Rattle.dep_types.specs.Numbers.{room_for};
+ghost use Rattle.dep_types.specs.declared.config.Config.{Config};
+ghost use Rattle.dep_fields.specs.Fit.{AreFit};
+ghost use Rattle.dep_decisions.specs.Decisions.{numbers_for};
+ghost use Rattle.dep_decisions.specs.Effects.{effect};
+ghost use Rattle.dep_rulings.specs.Rulings.{IsRuling, HasRoomFor};
+ghost use Rattle.dep_rulings.specs.Views.{view_of};
+ghost use Rattle.dep_rulings.specs.declared.ruling.Ruling.TheVariants.{Do};
+ghost use Rattle.dep_tables.specs.Clauses.{ReadsOnly, GoesOn, StaysInside, CommitsNothing};
+ghost use Rattle.dep_row_maps.specs.Clauses.{FromMaps, KeepsOurs, SeesState};
+ghost use Rattle.dep_answers.specs.Performing.{IsReady, IsReply};
+ghost use Rattle.dep_answers.specs.Replies.{answer_to, refused_answer};
+ghost use Rattle.dep_answers.specs.Steps.{operation_step, is_head};
+ghost use Rattle.dep_answers.specs.Subjects.{shown_at, subject_of};
+ghost use Rattle.dep_store.specs.Standing.{StandsFor, Leaves};
+ghost use Rattle.dep_store.specs.Performing.{Performs, Rules};
+
+use dep_answers::{Delivery, Performed, Service, Shown, Subject, accepted, refused};
+use dep_changes::carry_out;
+use dep_decisions::{Decision, Operation, numbers_for};
+use dep_moment::Moment;
+use dep_rulings::{Ruling, View, decide, touches};
+use dep_tables::fault_of;
+use dep_types::{Config, Method, Refusal, StoreFault};
+use dep_views::{load_shown, load_view};
+use sqlite::{Alter, Connection, Transaction};
+use std::alloc::{AllocError, Global};
+
+/// A ruling, with the view of the archive that it looked at.
+#[derive(Drop)]
+pub(crate) struct Ruled {
+    pub(crate) view: View,
+    pub(crate) ruling: Ruling,
+}
+
+fn rule<S: Alter>(
+    tx: &mut Transaction<'_, S>,
+    alloc: Global,
+    config: &Config,
+    operation: &Operation<'_>,
+) -> Result<Ruled, StoreFault>
+    ensures map { FromMaps (state S.Store tx.old.conn.now) (state S.Store tx.new.conn.now)
+        (λ s. IsSound s → IfOk result (Rules config.now s operation.now)) }
+    ensures room { IfOk result (λ ruled. HasRoomFor ruled.view.next ruled.ruling) }
+    ensures same { ReadsOnly (state S.Store tx.old.conn.now) (state S.Store tx.new.conn.now) result }
+    ensures ours { KeepsOurs (state S.Store tx.old.conn.now) (state S.Store tx.new.conn.now) result }
+    ensures inside { GoesOn (state S.Store tx.old.conn.now) (state S.Store tx.new.conn.now) result }
+    ensures kept { StaysInside (state S.Store tx.old.conn.now) (state S.Store tx.new.conn.now) }
+    ensures same_reference { tx.new.conn.ghost_name ≡ tx.old.conn.ghost_name }
+    ensures survives { CommitsNothing (state S.Store tx.old.conn.now) (state S.Store tx.new.conn.now) }
+{
+    let touched = match touches(alloc, config, operation) {
+        Ok(touched) => touched,
+        Err(AllocError) => return Err(StoreFault::Memory),
+    };
+    let view = load_view(tx, alloc, touched)?;
+    match decide(alloc, config, &view, operation) {
+        Ok(ruling) => Ok(Ruled { view, ruling }),
+        Err(AllocError) => Err(StoreFault::Memory),
+    }
+}
+
+fn delivery_at(clock: u64, operation: &Operation<'_>) -> Delivery
+    ensures clock { result.clock ≡ min clock greatest_moment }
+    ensures bare { result.is_bare ≡ is_head operation.now.target.method }
+    ensures closes { result.closes ≡ operation.now.closes }
+{
+    Delivery {
+        clock: Moment::new(clock),
+        is_bare: operation.target.method == Method::Head,
+        closes: operation.closes,
+    }
+}
+
+fn refuse(alloc: Global, refusal: Refusal, delivery: Delivery) -> Result<Performed, StoreFault>
+    ensures { IfOk result (λ p. (s : State) →
+        IsReply s (refused_answer delivery.clock refusal None) delivery p) }
+{
+    match refused(alloc, refusal, None, delivery) {
+        Ok(performed) => Ok(performed),
+        Err(AllocError) => Err(StoreFault::Memory),
+    }
+}
+
+fn accept(
+    alloc: Global,
+    service: &Service,
+    operation: &Operation<'_>,
+    shown: &Shown,
+    delivery: Delivery,
+) -> Result<Performed, StoreFault>
+    ensures { IfOk result (λ p. (s : State) → IsSound s
+        → shown.now ≡ shown_at s (subject_of s.next operation.now.target.resource operation.now.target.method)
+        → IsReply s (answer_to service.now s operation.now.target.resource operation.now.target.method) delivery p) }
+{
+    match accepted(alloc, service, &operation.target, shown, delivery) {
+        Ok(performed) => Ok(performed),
+        Err(AllocError) => Err(StoreFault::Memory),
+    }
+}
+
+/// Carries out what is asked for, and reads what the reply shows of that.
+fn carry<S: Alter>(
+    tx: &mut Transaction<'_, S>,
+    alloc: Global,
+    operation: &Operation<'_>,
+    view: &View,
+    decision: &Decision,
+) -> Result<Shown, StoreFault>
+    requires { IsTrue (room_for view.now.next (numbers_for decision.now)) }
+    ensures map { FromMaps (state S.Store tx.old.conn.now) (state S.Store tx.new.conn.now)
+        (λ s. (config : Config) → IsSound s → AreFit operation.now.fields → view.now ≡ view_of config s operation.now
+        → IsRuling config s operation.now (Do decision.now)
+        → IfOk result (λ shown. SeesState (state S.Store tx.new.conn.now) (effect config s operation.now)
+        × (shown ≡ shown_at (effect config s operation.now)
+        (subject_of (effect config s operation.now).next operation.now.target.resource operation.now.target.method)))) }
+    ensures ours { KeepsOurs (state S.Store tx.old.conn.now) (state S.Store tx.new.conn.now) result }
+    ensures inside { GoesOn (state S.Store tx.old.conn.now) (state S.Store tx.new.conn.now) result }
+    ensures kept { StaysInside (state S.Store tx.old.conn.now) (state S.Store tx.new.conn.now) }
+    ensures same_reference { tx.new.conn.ghost_name ≡ tx.old.conn.ghost_name }
+    ensures survives { CommitsNothing (state S.Store tx.old.conn.now) (state S.Store tx.new.conn.now) }
+{
+    carry_out(tx, alloc, view, decision, &operation.content)?;
+    let next = view.next.after_taking(&numbers_for(decision));
+    let subject = Subject::of(&operation.target, &next);
+    load_shown(tx, alloc, &subject)
+}
+
+/// Does what a request asks for, and spells the reply.
+fn answer<S: Alter>(
+    tx: &mut Transaction<'_, S>,
+    alloc: Global,
+    service: &Service,
+    operation: &Operation<'_>,
+) -> Result<Performed, StoreFault>
+    ensures map { FromMaps (state S.Store tx.old.conn.now) (state S.Store tx.new.conn.now)
+        (λ s. IsSound s → AreFit operation.now.fields
+        → IfOk result (λ p. IsReady (operation_step service.now s operation.now) p
+        × SeesState (state S.Store tx.new.conn.now) (operation_step service.now s operation.now).state)) }
+    ensures ours { KeepsOurs (state S.Store tx.old.conn.now) (state S.Store tx.new.conn.now) result }
+    ensures inside { GoesOn (state S.Store tx.old.conn.now) (state S.Store tx.new.conn.now) result }
+    ensures kept { StaysInside (state S.Store tx.old.conn.now) (state S.Store tx.new.conn.now) }
+    ensures same_reference { tx.new.conn.ghost_name ≡ tx.old.conn.ghost_name }
+    ensures survives { CommitsNothing (state S.Store tx.old.conn.now) (state S.Store tx.new.conn.now) }
+{
+    let ruled = rule(tx, alloc, service.config(), operation)?;
+    let delivery = delivery_at(ruled.view.clock, operation);
+    match &ruled.ruling {
+        Ruling::Refuse(refusal) => refuse(alloc, *refusal, delivery),
+        Ruling::Do(decision) => {
+            let shown = carry(tx, alloc, operation, &ruled.view, decision)?;
+            accept(alloc, service, operation, &shown, delivery)
+        }
+    }
+}
+
+/// Does what a request asks for. The reply is made before the commit.
+pub(crate) fn perform_request<S: Alter>(
+    connection: &mut Connection<S>,
+    alloc: Global,
+    service: &Service,
+    operation: &Operation<'_>,
+) -> Result<Performed, StoreFault>
+    requires settled { (state S.Store connection.old).in_transaction ≡ false }
+    ensures ok { HasCleanDisk (state S.Store connection.new) → AreFit operation.now.fields
+        → (s : State) → StandsFor (state S.Store connection.old) s
+        → IfOk result (Performs (operation_step service.now s operation.now) (state S.Store connection.new)) }
+    ensures err { IsTrue (state S.Store connection.new).is_open
+        → (s : State) → StandsFor (state S.Store connection.old) s
+        → OnErr result (StandsFor (state S.Store connection.new) s) }
+    ensures honest { HasCleanDisk (state S.Store connection.new) → HasCleanDisk (state S.Store connection.old) }
+    ensures open { IsTrue (state S.Store connection.new).is_open → IsTrue (state S.Store connection.old).is_open }
+    ensures stop { HasCleanDisk (state S.Store connection.new) → AreFit operation.now.fields
+        → (s : State) → StandsFor (state S.Store connection.old) s
+        → Leaves (state S.Store connection.new)
+        (λ left. (left ≡ s) ⊎ (left ≡ (operation_step service.now s operation.now).state)) }
+{
+    let mut tx = connection.transaction();
+    let performed = answer(&mut tx, alloc, service, operation)?;
+    match tx.commit() {
+        Ok(()) => Ok(performed),
+        Err(error) => Err(fault_of(error)),
+    }
+}
