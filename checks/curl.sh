@@ -20,7 +20,7 @@ ask() {
     wanted=$1
     shift
     number=$((number + 1))
-    came=$(curl --silent --show-error --retry 20 --retry-connrefused --retry-delay 1 --output "$folder/body" \
+    came=$(curl --silent --retry 20 --retry-connrefused --retry-delay 1 --output "$folder/body" \
         --dump-header "$folder/head" --write-out '%{http_code}' "$@")
     [ "$came" = "$wanted" ] || wrong "request $number: $came in place of $wanted ($*)"
 }

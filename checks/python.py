@@ -13,6 +13,7 @@ import json
 import os
 import socket
 import sys
+import urllib.parse
 
 from served import Server, build
 
@@ -122,7 +123,7 @@ def read_bag(client, object_path):
     _, paths = client.ask(200, "GET", object_path + "/bag")
     parts = {}
     for path in paths.decode().splitlines():
-        quoted = "/".join(http.client.urllib.parse.quote(step) for step in path.split("/"))
+        quoted = "/".join(urllib.parse.quote(step) for step in path.split("/"))
         reply, parts[path] = client.ask(200, "GET", f"{object_path}/bag/{quoted}")
         if path.endswith(".txt") and not path.startswith("data/"):
             expect("media type of " + path, reply.headers["Content-Type"], PLAIN)
