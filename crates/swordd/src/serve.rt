@@ -50,6 +50,8 @@ fn serve_next<S: Alter, C: FnMut() -> Moment + Copy>(
     ensures none { IfErr result (λ _. hub.new ≡ hub.old) }
 {
     let (stream, _) = listener.accept()?;
+    // Else a short content would wait until its client has acknowledged the head.
+    let _ = stream.set_nodelay(true);
     let mut reader = &stream;
     let mut writer = Through::new(&stream);
     Ok(serve_connection(alloc, &mut reader, &mut writer, hub, clock))
