@@ -2,10 +2,10 @@
 """Inserts, moves and sends a content by store_bench and by Python's sqlite3, and prints the time of each step, and
 the greatest memory (VmHWM) of a process that inserts and then does it, over new files in one folder.
 
-usage: python3 measure.py [MIB [FOLDER]]     512 MiB, in a new folder beside the temporary files
+usage: checks/benches/store_bench/measure.py [MIB [FOLDER]]     512 MiB, in a new folder beside the temporary files
 
-Run `rt run` in this crate first, which leaves out/store_bench. Both write the same blocks into the same table,
-in WAL mode, and sync at each commit (synchronous=FULL).
+`checks/bench` builds the program first. Both write the same blocks into the same table, in WAL mode, and sync at each
+commit (synchronous=FULL).
 """
 
 import hashlib
@@ -18,8 +18,7 @@ import threading
 import time
 from pathlib import Path
 
-HERE = Path(__file__).resolve().parent
-PROGRAM = HERE / "out" / "store_bench"
+BENCH = Path(__file__).resolve().parent.parent.parent / "bench"
 BLOCK = 65536
 BLOCKS = 64
 STEPS = ("insert", "move", "send")
@@ -104,8 +103,9 @@ def main():
     wanted = hashlib.sha256()
     for _ in range(mebibytes // 4 * BLOCKS):
         wanted.update(b"\x07" * BLOCK)
+    program = subprocess.check_output([BENCH, "--path", "store_bench"], text=True).strip()
     for step in STEPS:
-        for name, command in (("here", [str(PROGRAM)]), ("Python", [sys.executable, __file__, "--step"])):
+        for name, command in (("here", [program]), ("Python", [sys.executable, __file__, "--step"])):
             path = folder / f"{name}-{step}.db"
             lines, memory, digest = run(command + [str(path), step, str(mebibytes)])
             if step == "send" and digest != wanted.hexdigest():

@@ -1,0 +1,66 @@
+"""The crates that crates.txt lists, and copies of them in folders of their own, over the work that their checks kept."""
+
+import os
+import shutil
+from pathlib import Path
+
+ROOT = Path(__file__).resolve().parent.parent
+PARTS = ("src", "specs", "proofs")
+
+
+def listed_crates(file=ROOT / "crates.txt"):
+    """Returns the lines of crates.txt by the name of their crate, in their order."""
+    lines = {}
+    for line in file.read_text(encoding="utf-8").splitlines():
+        head, colon, _ = line.partition(":")
+        if colon and not line.startswith("#"):
+            lines[head.split()[0]] = line
+    return lines
+
+
+def libraries_below(name, lines):
+    """Returns the repository's own libraries that the crate stands on, at any depth."""
+    found = set()
+    for below in lines[name].partition(":")[2].split():
+        if below in lines:
+            found |= {below} | libraries_below(below, lines)
+    return found
+
+
+def begin_room(room, names, lines):
+    """Makes the folder a repository of these crates, which have no files yet."""
+    (room / "crates").mkdir(parents=True, exist_ok=True)
+    (room / "crates.txt").write_text("".join(f"{lines[it]}\n" for it in names), encoding="utf-8")
+    if (ROOT / "HANDLES").exists():
+        shutil.copy(ROOT / "HANDLES", room)
+
+
+def copy_library(name, room):
+    """Puts a library as it stands into such a folder, with what was built of it."""
+    source, to = ROOT / "crates" / name, room / "crates" / name
+    copy_parts(source, to)
+    built = Path("out", "rlib")
+    if (source / built / "stamp").is_file():
+        shutil.rmtree(to / built, ignore_errors=True)
+        copy_kept(source / built, to / built)
+
+
+def copy_parts(source, to):
+    """Copies the files of a crate that its check reads, in the place of those that are there."""
+    for part in PARTS:
+        shutil.rmtree(to / part, ignore_errors=True)
+        if (source / part).is_dir():
+            shutil.copytree(source / part, to / part)
+
+
+def copy_kept(source, to):
+    """Copies a folder of kept work by links: rt makes such files anew and never writes into one."""
+    if source.is_dir():
+        shutil.copytree(source, to, copy_function=link)
+
+
+def link(source, to):
+    try:
+        os.link(source, to)
+    except OSError:
+        shutil.copy2(source, to)
