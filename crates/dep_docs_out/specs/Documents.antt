@@ -15,7 +15,7 @@ use Rattle.dep_types.specs.State.{Texts}
 use Rattle.dep_types.specs.Names.{binary, metadata_format}
 use Rattle.dep_moment.specs.Civil.{rfc3339_text}
 use Rattle.dep_types.specs.Limits.{greatest_moment}
-use Rattle.dep_docs_out.specs.Json.{text, whole, list, only, document}
+use Rattle.dep_docs_out.specs.Json.{text, whole, list, text_list, whole_list, only, document}
 
 abbrev pub context : List ℕ × Data
 context = (codes "@context", text (codes "https://swordapp.github.io/swordv3/swordv3.jsonld"))
@@ -75,7 +75,9 @@ service_places config root staging =
 
 -- what the server offers, and its limits
 unfoldable pub service_data : Config → Data
-service_data config = let root = url config (codes "/service") in let staging = url config (codes "/staging") in
+service_data config =
+    let root = url config (codes "/service") in
+    let staging = url config (codes "/staging") in
     document (service_offers root ++ service_limits config ++ service_places config root staging)
 
 -- why a request was refused, at this second
@@ -144,7 +146,9 @@ kept_members file =
 
 -- a file of the object of this number
 unfoldable pub link_data : Config → (n : ℕ) → FileRow → Data
-link_data config n file = document (deposit_members config (file_url config n file.file) file ++ behalf_members file.behalf ++ kept_members file)
+link_data config n file =
+    document (deposit_members config (file_url config n file.file) file
+    ++ behalf_members file.behalf ++ kept_members file)
 
 -- whether the deposit of an object is complete
 abbrev pub state_id : (ingested : Bool) → List ℕ
@@ -182,12 +186,13 @@ links_data config view = list (map (link_data config view.object.object) view.fi
 -- an object, with a link for each of its files
 unfoldable pub status_data : Config → ObjectView → Data
 status_data config view =
-    document (object_members config view.object ++ (codes "links", links_data config view) ∷ state_members config view.object)
+    document (object_members config view.object
+    ++ (codes "links", links_data config view) ∷ state_members config view.object)
 
 -- a list of one text is written as the text
 abbrev pub texts_data : List (List ℕ) → Data
 texts_data (s ∷ []) = text s
-texts_data ss = list (map text ss)
+texts_data ss = text_list ss
 
 -- each name with its texts, by ascending name
 abbrev pub texts_members : Texts → List (List ℕ × Data)
@@ -203,17 +208,19 @@ metadata_data config n texts = document
 
 -- the same in a bag, where it has no URL
 unfoldable pub bag_metadata_data : Texts → Data
-bag_metadata_data texts = document (context ∷ (codes "@type", text (codes "Metadata")) ∷ texts_members texts)
+bag_metadata_data texts =
+    document (context ∷ (codes "@type", text (codes "Metadata")) ∷ texts_members texts)
 
 -- the segments of an upload that are still to come, where these were received
 abbrev pub expecting : (count : ℕ) (received : List ℕ) → List ℕ
-expecting count received = filter (λ k. not (list_any (λ j. j == k) received)) (range_with_len 1 count)
+expecting count received =
+    filter (λ k. not (list_any (λ j. j == k) received)) (range_with_len 1 count)
 
 -- which segments an upload waits for, and which it has
 unfoldable pub segments_data : UploadRow → (received : List ℕ) → Data
 segments_data row received = document
-    ((codes "expecting", list (map whole (expecting row.count received)))
-    ∷ (codes "received", list (map whole received))
+    ((codes "expecting", whole_list (expecting row.count received))
+    ∷ (codes "received", whole_list received)
     ∷ (codes "segment_size", whole row.segment_size)
     ∷ (codes "size", whole row.size)
     ∷ [])

@@ -1,5 +1,5 @@
 -- JSON data by plain lists, and the tokens that a writer gives it as.
-use Rattle.std.specs.Prelude.{◌≡◌, ℕ, List, [], ◌∷◌, ◌++◌, flat_map}
+use Rattle.std.specs.Prelude.{◌≡◌, ℕ, List, [], ◌∷◌, ◌++◌, flat_map, map}
 use Rattle.json.specs.Token.{Token}
 use Rattle.json.specs.Tree.{json_tokens}
 use Rattle.serde_json.specs.Data.{Data, number, unsigned, string, array, object, Items, no_items, item, Members, no_members, member}
@@ -17,6 +17,13 @@ items (d ∷ ds) = item d (items ds)
 
 abbrev pub list : List Data → Data
 list ds = array (items ds)
+
+-- lists of texts, and of whole numbers
+abbrev pub text_list : List (List ℕ) → Data
+text_list ss = list (map text ss)
+
+abbrev pub whole_list : List ℕ → Data
+whole_list ns = list (map whole ns)
 
 -- a list of one text
 abbrev pub only : List ℕ → Data
@@ -50,6 +57,10 @@ pub record Adds (old new added : List Token) : Type 0 where
 -- these members of an object were
 pub record AddsMembers (old new : List Token) (ms : List (List ℕ × Data)) : Type 0 where
   pub is : new ≡ old ++ member_tokens ms
+
+-- this member of an object was
+abbrev pub AddsMember : (old new : List Token) (name : List ℕ) → Data → Type 0
+AddsMember old new name d = AddsMembers old new ((name, d) ∷ [])
 
 -- these items of a list were
 pub record AddsItems (old new : List Token) (ds : List Data) : Type 0 where

@@ -67,7 +67,8 @@ pub record TellsFile (config : Config) (n : ℕ) (file : FileRow) (d : Data) : T
   pub place : text_at (codes "@id") d ≡ Some (file_url config n file.file)
   pub media : text_at (codes "contentType") d ≡ Some file.media
   pub tag : text_at (codes "eTag") d ≡ Some (decimal file.tag)
-  pub date : text_at (codes "depositedOn") d ≡ Some (rfc3339_text (min file.deposited greatest_moment))
+  pub date : text_at (codes "depositedOn") d
+      ≡ Some (rfc3339_text (min file.deposited greatest_moment))
   pub behalf : text_at (codes "depositedOnBehalfOf") d ≡ file.behalf
 
 -- of all files, in their order
@@ -75,14 +76,17 @@ abbrev pub TellsFiles : Config → (n : ℕ) → List FileRow → Items → Type
 TellsFiles config n [] no_items = ⊤
 TellsFiles config n [] (item d ds) = ⊥
 TellsFiles config n (file ∷ files) no_items = ⊥
-TellsFiles config n (file ∷ files) (item d ds) = TellsFile config n file d × TellsFiles config n files ds
+TellsFiles config n (file ∷ files) (item d ds) =
+    TellsFile config n file d × TellsFiles config n files ds
 
 -- of an object: where it is, its three tags, and its files
 pub record TellsObject (config : Config) (view : ObjectView) (d : Data) : Type 0 where
   pub place : text_at (codes "@id") d ≡ Some (object_url config view.object.object)
   pub tag : text_at (codes "eTag") d ≡ Some (decimal view.object.object_tag)
-  pub metadata_tag : text_within (codes "metadata") (codes "eTag") d ≡ Some (decimal view.object.metadata_tag)
-  pub files_tag : text_within (codes "fileSet") (codes "eTag") d ≡ Some (decimal view.object.files_tag)
+  pub metadata_tag : text_within (codes "metadata") (codes "eTag") d
+      ≡ Some (decimal view.object.metadata_tag)
+  pub files_tag : text_within (codes "fileSet") (codes "eTag") d
+      ≡ Some (decimal view.object.files_tag)
   pub links : Items
   pub listed : get (codes "links") d ≡ Some (array links)
   pub told : TellsFiles config view.object.object view.files links

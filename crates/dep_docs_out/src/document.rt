@@ -5,7 +5,7 @@ ghost use Rattle.json.specs.Print.{print};
 ghost use Rattle.serde_json.specs.Data.{boolean};
 ghost use Rattle.dep_moment.specs.Civil.{rfc3339_text};
 ghost use Rattle.dep_docs_out.specs.Json as spec;
-ghost use Rattle.dep_docs_out.specs.Json.{Adds, AddsItems, AddsMembers};
+ghost use Rattle.dep_docs_out.specs.Json.{Adds, AddsItems, AddsMember};
 
 use dep_moment::Moment;
 use itoa::Buffer;
@@ -14,11 +14,11 @@ use std::alloc::{AllocError, Global};
 use std::marker::Model;
 
 /// What the names in each document mean (JSON-LD 1.1, section 3.1).
-pub const CONTEXT: &str = "https://swordapp.github.io/swordv3/swordv3.jsonld";
+pub(crate) const CONTEXT: &str = "https://swordapp.github.io/swordv3/swordv3.jsonld";
 
 /// A document of JSON that is being written, of which only the text is kept. Contracts see the tokens so far.
 #[derive(Drop)]
-pub struct Document {
+pub(crate) struct Document {
     out: Writer,
 }
 
@@ -97,7 +97,7 @@ impl Document {
 
     /// A member that is a text.
     pub fn text(&mut self, name: &str, text: &str) -> Result<(), AllocError>
-        ensures { OnOk result (AddsMembers self.old self.new ((name.now, spec.text text.now) ∷ [])) }
+        ensures { OnOk result (AddsMember self.old self.new name.now (spec.text text.now)) }
     {
         self.name(name)?;
         self.text_item(text)
@@ -105,7 +105,7 @@ impl Document {
 
     /// A member that is a number, as the text of its decimal digits.
     pub fn decimal(&mut self, name: &str, number: u64) -> Result<(), AllocError>
-        ensures { OnOk result (AddsMembers self.old self.new ((name.now, spec.text (decimal number)) ∷ [])) }
+        ensures { OnOk result (AddsMember self.old self.new name.now (spec.text (decimal number))) }
     {
         let mut digits = Buffer::new();
         self.text(name, digits.format(number))
@@ -113,7 +113,8 @@ impl Document {
 
     /// A member that is a moment, as the text of its day and its time of day in UTC (RFC 3339).
     pub fn moment(&mut self, name: &str, moment: Moment) -> Result<(), AllocError>
-        ensures { OnOk result (AddsMembers self.old self.new ((name.now, spec.text (rfc3339_text moment)) ∷ [])) }
+        ensures { OnOk result
+            (AddsMember self.old self.new name.now (spec.text (rfc3339_text moment))) }
     {
         let bytes = moment.rfc3339();
         let Ok(text) = str::from_utf8(&bytes) else {
@@ -124,7 +125,7 @@ impl Document {
 
     /// A member that is a whole number.
     pub fn whole(&mut self, name: &str, number: u64) -> Result<(), AllocError>
-        ensures { OnOk result (AddsMembers self.old self.new ((name.now, spec.whole number) ∷ [])) }
+        ensures { OnOk result (AddsMember self.old self.new name.now (spec.whole number)) }
     {
         self.name(name)?;
         self.whole_item(number)
@@ -132,7 +133,7 @@ impl Document {
 
     /// A member that is a truth value.
     pub fn flag(&mut self, name: &str, flag: bool) -> Result<(), AllocError>
-        ensures { OnOk result (AddsMembers self.old self.new ((name.now, boolean flag) ∷ [])) }
+        ensures { OnOk result (AddsMember self.old self.new name.now (boolean flag)) }
     {
         self.name(name)?;
         self.out.boolean(flag)
@@ -140,7 +141,7 @@ impl Document {
 
     /// A member that is a list of one text.
     pub fn only(&mut self, name: &str, text: &str) -> Result<(), AllocError>
-        ensures { OnOk result (AddsMembers self.old self.new ((name.now, spec.only text.now) ∷ [])) }
+        ensures { OnOk result (AddsMember self.old self.new name.now (spec.only text.now)) }
     {
         self.name(name)?;
         self.begin_list()?;

@@ -27,7 +27,8 @@ pub fn error_doc(alloc: Global, refusal: Refusal, clock: Moment) -> Result<Vec<u
 
 // The number of the refusal, as the log tells it.
 fn log_text(alloc: Global, refusal: Refusal) -> Result<String, AllocError>
-    ensures { IfOk result (λ text. string_bytes text ≡ codes "refusal " ++ decimal (facts_of refusal).number) }
+    ensures { IfOk result (λ text.
+        string_bytes text ≡ codes "refusal " ++ decimal (facts_of refusal).number) }
 {
     let mut text = String::from_str(alloc, "refusal ")?;
     let mut digits = Buffer::new();

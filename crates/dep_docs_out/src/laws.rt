@@ -34,7 +34,8 @@ pub fn status_document_of_example()
 /// The status document of an object in progress, with a file that was posted on behalf of another and one that came
 /// by reference.
 pub fn status_document_in_progress()
-    ensures { spec.status_document example_config (object_view 7 example_unfinished) ≡ unfinished_text }
+    ensures { spec.status_document example_config (object_view 7 example_unfinished)
+        ≡ unfinished_text }
 {}
 
 /// The status document of an object without files.
@@ -59,17 +60,21 @@ pub fn upload_document_of_example()
 
 /// The service document is read back as the value that it spells.
 pub fn service_document_is_read_back()
-    ensures { (config : AConfig) → HasTexts config → HasLimits config → ReadsAs (spec.service_document config) (spec.service_data config) }
+    ensures { (config : AConfig) → HasTexts config → HasLimits config
+        → ReadsAs (spec.service_document config) (spec.service_data config) }
 {}
 
 /// The error document is read back as the value that it spells.
 pub fn error_document_is_read_back()
-    ensures { (refusal : ARefusal) (clock : ℕ) → clock ≤ greatest_moment → ReadsAs (spec.error_document refusal clock) (spec.error_data refusal clock) }
+    ensures { (refusal : ARefusal) (clock : ℕ) → clock ≤ greatest_moment
+        → ReadsAs (spec.error_document refusal clock) (spec.error_data refusal clock) }
 {}
 
 /// The status document is read back as the value that it spells.
 pub fn status_document_is_read_back()
-    ensures { (config : AConfig) (view : AnObjectView) → HasTexts config → AllByRecursion FileHasTexts view.files → ReadsAs (spec.status_document config view) (spec.status_data config view) }
+    ensures { (config : AConfig) (view : AnObjectView) → HasTexts config
+        → AllByRecursion FileHasTexts view.files
+        → ReadsAs (spec.status_document config view) (spec.status_data config view) }
 {}
 
 /// Whatever a status document is read as, each number, tag and date in it is that of its row.
@@ -80,15 +85,21 @@ pub fn status_document_tells_its_rows()
 
 /// The metadata document is read back as the value that it spells.
 pub fn metadata_document_is_read_back()
-    ensures { (config : AConfig) (n : ℕ) (texts : Texts) → HasTexts config → HasKeptNames texts → MetadataHasTexts texts → ReadsAs (spec.metadata_document config n texts) (spec.metadata_data config n texts) }
+    ensures { (config : AConfig) (n : ℕ) (texts : Texts) → HasTexts config
+        → HasKeptNames texts → MetadataHasTexts texts
+        → ReadsAs (spec.metadata_document config n texts) (spec.metadata_data config n texts) }
 {}
 
 /// The metadata document of a bag is read back as the value that it spells.
 pub fn bag_metadata_document_is_read_back()
-    ensures { (texts : Texts) → HasKeptNames texts → MetadataHasTexts texts → ReadsAs (spec.bag_metadata_document texts) (spec.bag_metadata_data texts) }
+    ensures { (texts : Texts) → HasKeptNames texts → MetadataHasTexts texts
+        → ReadsAs (spec.bag_metadata_document texts) (spec.bag_metadata_data texts) }
 {}
 
 /// The document of an upload is read back as the value that it spells.
 pub fn upload_document_is_read_back()
-    ensures { (config : AConfig) (row : AnUploadRow) (received : List ℕ) → HasTexts config → HasNumbers row received → ReadsAs (spec.upload_document config row received) (spec.upload_data config row received) }
+    ensures { (config : AConfig) (row : AnUploadRow) (received : List ℕ) → HasTexts config
+        → HasNumbers row received
+        → ReadsAs (spec.upload_document config row received)
+        (spec.upload_data config row received) }
 {}

@@ -2,7 +2,7 @@
 ghost use Rattle.std.specs.Prelude.{◌≡◌, [], ◌∷◌, map, IfOk, OnOk};
 ghost use Rattle.dep_docs_out.specs.Documents as spec;
 ghost use Rattle.dep_docs_out.specs.Json as json_spec;
-ghost use Rattle.dep_docs_out.specs.Json.{AddsItems, AddsMembers};
+ghost use Rattle.dep_docs_out.specs.Json.{AddsItems, AddsMember, AddsMembers};
 
 use crate::document::{CONTEXT, Document};
 use crate::urls::metadata_url;
@@ -17,7 +17,8 @@ pub fn metadata_doc(
     object: u64,
     metadata: &Metadata,
 ) -> Result<Vec<u8>, AllocError>
-    ensures { IfOk result (λ bytes. bytes.items ≡ spec.metadata_document config.now object metadata.now) }
+    ensures { IfOk result (λ bytes.
+        bytes.items ≡ spec.metadata_document config.now object metadata.now) }
 {
     let place = metadata_url(alloc, config, object)?;
     let mut document = Document::new(alloc)?;
@@ -44,7 +45,8 @@ pub fn bag_metadata_doc(alloc: Global, metadata: &Metadata) -> Result<Vec<u8>, A
 }
 
 fn add_metadata(document: &mut Document, metadata: &Metadata) -> Result<(), AllocError>
-    ensures { OnOk result (AddsMembers document.old document.new (spec.texts_members metadata.now)) }
+    ensures { OnOk result
+        (AddsMembers document.old document.new (spec.texts_members metadata.now)) }
 {
     for entry in metadata.entries() {
         add_entry(document, entry)?;
@@ -53,7 +55,8 @@ fn add_metadata(document: &mut Document, metadata: &Metadata) -> Result<(), Allo
 }
 
 fn add_entry(document: &mut Document, entry: &MetadataEntry) -> Result<(), AllocError>
-    ensures { OnOk result (AddsMembers document.old document.new ((entry.now.name, spec.texts_data entry.now.texts) ∷ [])) }
+    ensures { OnOk result
+        (AddsMember document.old document.new entry.now.name (spec.texts_data entry.now.texts)) }
 {
     match entry.texts.as_slice() {
         [text] => document.text(entry.name.as_str(), text.as_str()),
@@ -62,7 +65,8 @@ fn add_entry(document: &mut Document, entry: &MetadataEntry) -> Result<(), Alloc
 }
 
 fn add_texts(document: &mut Document, name: &str, texts: &[Text]) -> Result<(), AllocError>
-    ensures { OnOk result (AddsMembers document.old document.new ((name.now, json_spec.list (map json_spec.text texts.now)) ∷ [])) }
+    ensures { OnOk result
+        (AddsMember document.old document.new name.now (json_spec.text_list texts.now)) }
 {
     document.name(name)?;
     document.begin_list()?;

@@ -59,7 +59,8 @@ fn add_places(
     root: &str,
     staging: &str,
 ) -> Result<(), AllocError>
-    ensures { OnOk result (AddsMembers document.old document.new (spec.service_places config.now root.now staging.now)) }
+    ensures { OnOk result (AddsMembers document.old document.new
+        (spec.service_places config.now root.now staging.now)) }
 {
     document.flag("onBehalfOf", config.on_behalf_of)?;
     document.text("root", root)?;

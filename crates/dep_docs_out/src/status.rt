@@ -1,7 +1,7 @@
 //! The status document.
 ghost use Rattle.std.specs.Prelude.{◌≡◌, [], ◌∷◌, IfOk, OnOk, codes};
 ghost use Rattle.dep_docs_out.specs.Documents as spec;
-ghost use Rattle.dep_docs_out.specs.Json.{AddsItems, AddsMembers};
+ghost use Rattle.dep_docs_out.specs.Json.{AddsItems, AddsMember, AddsMembers};
 
 use crate::document::{CONTEXT, Document};
 use crate::urls::{file_url, files_url, metadata_url, object_url, url};
@@ -31,7 +31,8 @@ fn add_object(
     config: &Config,
     object: &ObjectRow,
 ) -> Result<(), AllocError>
-    ensures { OnOk result (AddsMembers document.old document.new (spec.object_members config.now object.now)) }
+    ensures { OnOk result
+        (AddsMembers document.old document.new (spec.object_members config.now object.now)) }
 {
     let place = object_url(alloc, config, object.object)?;
     let files = files_url(alloc, config, object.object)?;
@@ -45,7 +46,8 @@ fn add_object(
 
 // What may be done with an object: everything.
 fn add_actions(document: &mut Document) -> Result<(), AllocError>
-    ensures { OnOk result (AddsMembers document.old document.new ((codes "actions", spec.actions_data) ∷ [])) }
+    ensures { OnOk result
+        (AddsMember document.old document.new (codes "actions") spec.actions_data) }
 {
     document.name("actions")?;
     document.begin_object()?;
@@ -63,7 +65,8 @@ fn add_actions(document: &mut Document) -> Result<(), AllocError>
 
 // A part of an object: where it stands, and its entity tag.
 fn add_part(document: &mut Document, name: &str, place: &str, tag: u64) -> Result<(), AllocError>
-    ensures { OnOk result (AddsMembers document.old document.new ((name.now, spec.part_data place.now tag) ∷ [])) }
+    ensures { OnOk result
+        (AddsMember document.old document.new name.now (spec.part_data place.now tag)) }
 {
     document.name(name)?;
     document.begin_object()?;
@@ -78,7 +81,8 @@ fn add_links(
     config: &Config,
     view: &ObjectView,
 ) -> Result<(), AllocError>
-    ensures { OnOk result (AddsMembers document.old document.new ((codes "links", spec.links_data config.now view.now) ∷ [])) }
+    ensures { OnOk result (AddsMember document.old document.new (codes "links")
+        (spec.links_data config.now view.now)) }
 {
     document.name("links")?;
     document.begin_list()?;
@@ -95,7 +99,8 @@ fn add_link(
     object: u64,
     file: &FileRow,
 ) -> Result<(), AllocError>
-    ensures { OnOk result (AddsItems document.old document.new (spec.link_data config.now object file.now ∷ [])) }
+    ensures { OnOk result
+        (AddsItems document.old document.new (spec.link_data config.now object file.now ∷ [])) }
 {
     let place = file_url(alloc, config, object, file.file)?;
     document.begin_object()?;
@@ -113,7 +118,8 @@ fn add_deposit(
     place: &str,
     file: &FileRow,
 ) -> Result<(), AllocError>
-    ensures { OnOk result (AddsMembers document.old document.new (spec.deposit_members config.now place.now file.now)) }
+    ensures { OnOk result (AddsMembers document.old document.new
+        (spec.deposit_members config.now place.now file.now)) }
 {
     document.text("@id", place)?;
     document.text("contentType", file.media.as_str())?;
@@ -123,7 +129,8 @@ fn add_deposit(
 
 // On whose behalf a file was deposited, where one was told.
 fn add_behalf(document: &mut Document, file: &FileRow) -> Result<(), AllocError>
-    ensures { OnOk result (AddsMembers document.old document.new (spec.behalf_members file.now.behalf)) }
+    ensures { OnOk result
+        (AddsMembers document.old document.new (spec.behalf_members file.now.behalf)) }
 {
     match &file.behalf {
         Some(behalf) => document.text("depositedOnBehalfOf", behalf.as_str()),
@@ -144,7 +151,8 @@ fn add_kept(document: &mut Document, file: &FileRow) -> Result<(), AllocError>
 
 // How a file came, and that it belongs to the file set.
 fn add_relations(document: &mut Document, by_reference: bool) -> Result<(), AllocError>
-    ensures { OnOk result (AddsMembers document.old document.new ((codes "rel", spec.relations_data by_reference) ∷ [])) }
+    ensures { OnOk result
+        (AddsMember document.old document.new (codes "rel") (spec.relations_data by_reference)) }
 {
     document.name("rel")?;
     document.begin_list()?;
@@ -171,7 +179,8 @@ fn add_state(
     config: &Config,
     object: &ObjectRow,
 ) -> Result<(), AllocError>
-    ensures { OnOk result (AddsMembers document.old document.new (spec.state_members config.now object.now)) }
+    ensures { OnOk result
+        (AddsMembers document.old document.new (spec.state_members config.now object.now)) }
 {
     let metadata = metadata_url(alloc, config, object.object)?;
     let service = url(alloc, config, "/service")?;
@@ -182,7 +191,8 @@ fn add_state(
 
 // Whether the deposit is complete, as a list of one state.
 fn add_states(document: &mut Document, ingested: bool) -> Result<(), AllocError>
-    ensures { OnOk result (AddsMembers document.old document.new ((codes "state", spec.states_data ingested) ∷ [])) }
+    ensures { OnOk result
+        (AddsMember document.old document.new (codes "state") (spec.states_data ingested)) }
 {
     document.name("state")?;
     document.begin_list()?;

@@ -3,7 +3,7 @@ ghost use Rattle.std.specs.Prelude.{◌≡◌, ◌≤◌, [], ◌∷◌, All, ma
 ghost use Rattle.std.specs.List.Sorted.{IsStrictlyIncreasing};
 ghost use Rattle.dep_docs_out.specs.Documents as spec;
 ghost use Rattle.dep_docs_out.specs.Json as json_spec;
-ghost use Rattle.dep_docs_out.specs.Json.{AddsItems, AddsMembers};
+ghost use Rattle.dep_docs_out.specs.Json.{AddsItems, AddsMember, AddsMembers};
 
 use crate::document::{CONTEXT, Document};
 use crate::urls::upload_url;
@@ -20,7 +20,8 @@ pub fn upload_doc(
 ) -> Result<Vec<u8>, AllocError>
     requires first { All (λ k. 1 ≤ k) received.now }
     requires rising { IsStrictlyIncreasing received.now }
-    ensures { IfOk result (λ bytes. bytes.items ≡ spec.upload_document config.now upload.now received.now) }
+    ensures { IfOk result (λ bytes.
+        bytes.items ≡ spec.upload_document config.now upload.now received.now) }
 {
     let place = upload_url(alloc, config, upload.upload)?;
     let mut document = Document::new(alloc)?;
@@ -41,7 +42,8 @@ fn add_segments(
 ) -> Result<(), AllocError>
     requires first { All (λ k. 1 ≤ k) received.now }
     requires rising { IsStrictlyIncreasing received.now }
-    ensures { OnOk result (AddsMembers document.old document.new ((codes "segments", spec.segments_data upload.now received.now) ∷ [])) }
+    ensures { OnOk result (AddsMember document.old document.new (codes "segments")
+        (spec.segments_data upload.now received.now)) }
 {
     document.name("segments")?;
     document.begin_object()?;
@@ -55,7 +57,8 @@ fn add_segments(
 fn add_expecting(document: &mut Document, count: u64, received: &[u64]) -> Result<(), AllocError>
     requires first { All (λ k. 1 ≤ k) received.now }
     requires rising { IsStrictlyIncreasing received.now }
-    ensures { OnOk result (AddsMembers document.old document.new ((codes "expecting", json_spec.list (map json_spec.whole (spec.expecting count received.now))) ∷ [])) }
+    ensures { OnOk result (AddsMember document.old document.new (codes "expecting")
+        (json_spec.whole_list (spec.expecting count received.now))) }
 {
     document.name("expecting")?;
     document.begin_list()?;
@@ -71,7 +74,8 @@ fn add_expecting(document: &mut Document, count: u64, received: &[u64]) -> Resul
 }
 
 fn add_received(document: &mut Document, received: &[u64]) -> Result<(), AllocError>
-    ensures { OnOk result (AddsMembers document.old document.new ((codes "received", json_spec.list (map json_spec.whole received.now)) ∷ [])) }
+    ensures { OnOk result (AddsMember document.old document.new (codes "received")
+        (json_spec.whole_list received.now)) }
 {
     document.name("received")?;
     document.begin_list()?;

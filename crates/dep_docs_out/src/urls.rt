@@ -7,7 +7,7 @@ use itoa::Buffer;
 use std::alloc::{AllocError, Global};
 
 /// The URL with this path.
-pub fn url(alloc: Global, config: &Config, path: &str) -> Result<String, AllocError>
+pub(crate) fn url(alloc: Global, config: &Config, path: &str) -> Result<String, AllocError>
     ensures { IfOk result (λ text. string_bytes text ≡ spec.url config.now path.now) }
 {
     let mut text = String::from_str(alloc, config.base.as_str())?;
@@ -26,7 +26,11 @@ pub fn object_url(alloc: Global, config: &Config, object: u64) -> Result<String,
 }
 
 /// Its Metadata-URL.
-pub fn metadata_url(alloc: Global, config: &Config, object: u64) -> Result<String, AllocError>
+pub(crate) fn metadata_url(
+    alloc: Global,
+    config: &Config,
+    object: u64,
+) -> Result<String, AllocError>
     ensures { IfOk result (λ text. string_bytes text ≡ spec.metadata_url config.now object) }
 {
     let mut text = object_url(alloc, config, object)?;
@@ -35,7 +39,7 @@ pub fn metadata_url(alloc: Global, config: &Config, object: u64) -> Result<Strin
 }
 
 /// Its FileSet-URL.
-pub fn files_url(alloc: Global, config: &Config, object: u64) -> Result<String, AllocError>
+pub(crate) fn files_url(alloc: Global, config: &Config, object: u64) -> Result<String, AllocError>
     ensures { IfOk result (λ text. string_bytes text ≡ spec.files_url config.now object) }
 {
     let mut text = object_url(alloc, config, object)?;
@@ -44,7 +48,7 @@ pub fn files_url(alloc: Global, config: &Config, object: u64) -> Result<String, 
 }
 
 /// The File-URL of the file with this number.
-pub fn file_url(
+pub(crate) fn file_url(
     alloc: Global,
     config: &Config,
     object: u64,

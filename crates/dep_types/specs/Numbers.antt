@@ -3,7 +3,8 @@ use Rattle.std.specs.Prelude.{ℕ, ◌+◌, ◌==◌, ◌||◌, ◌&&◌, nat_le
 use Rattle.dep_octets.specs.Octets.{positive_number}
 use Rattle.dep_types.specs.declared.counters.Counters.{Counters}
 
--- the greatest number of an object, a file, an upload or a change, and the first one that is never given
+-- the greatest number of an object, a file, an upload or a change, and the first one that is
+-- never given
 abbrev pub greatest_number : ℕ
 greatest_number = 4000000000000000000
 
@@ -17,7 +18,8 @@ quoted_tag tag = codes "\"" ++ decimal tag ++ codes "\""
 
 -- so many numbers of objects, files, uploads and changes
 abbrev pub numbers : (object file upload change : ℕ) → Counters
-numbers object file upload change = record { object = object; file = file; upload = upload; change = change }
+numbers object file upload change =
+    record { object = object; file = file; upload = upload; change = change }
 
 -- the counters once numbers are taken
 abbrev pub counters_after : Counters → Counters → Counters

@@ -1,5 +1,5 @@
--- What a sink of files was given, as one transcript: bytes stand for themselves, and marks above all bytes say where
--- a folder or a file begins.
+-- What a sink of files was given, as one transcript: bytes stand for themselves, and marks above
+-- all bytes say where a folder or a file begins.
 use Rattle.std.specs.Prelude.{◌≡◌, ℕ, List, [], ◌∷◌, ◌++◌, flat_map}
 
 -- a path and its bytes

@@ -83,5 +83,6 @@ abbrev pub tick : Config → State → ℕ → State
 tick config s moment = record s {
   clock = clock_at s moment;
   uploads = unexpired config (clock_at s moment) s.uploads;
-  timed_out = set.union s.timed_out (set.from_list (map.keys (expired config (clock_at s moment) s.uploads)));
+  timed_out = set.union s.timed_out
+      (set.from_list (map.keys (expired config (clock_at s moment) s.uploads)));
 }

@@ -93,7 +93,8 @@ impl Config {
     pub fn check(&self, alloc: Global) -> Result<(), ConfigFault>
         ensures checked { OnOk result (IsChecked self.now) }
         ensures base { result ≡ Err ConfigFault.Base → ¬ IsBase self.now.base }
-        ensures limit { result ≡ Err ConfigFault.Limit → IsBase self.now.base × (¬ HasLimits self.now) }
+        ensures limit { result ≡ Err ConfigFault.Limit →
+            IsBase self.now.base × (¬ HasLimits self.now) }
     {
         check_base(alloc, self.base.as_str())?;
         if !self.has_limits() {

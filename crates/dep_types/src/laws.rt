@@ -13,7 +13,8 @@ pub fn tick_again()
 
 /// The clock never goes back.
 pub fn clock_never_falls()
-    ensures { (config : Config) (s : State) (moment : ℕ) → s.clock ≤ (tick config s moment).clock }
+    ensures { (config : Config) (s : State) (moment : ℕ)
+        → s.clock ≤ (tick config s moment).clock }
 {}
 
 /// A number that timed out stays so.
@@ -24,7 +25,8 @@ pub fn timed_out_for_good()
 
 /// A tick keeps a sound state sound.
 pub fn tick_keeps_sound()
-    ensures { (config : Config) (s : State) (moment : ℕ) → IsSound s → IsSound (tick config s moment) }
+    ensures { (config : Config) (s : State) (moment : ℕ) → IsSound s
+        → IsSound (tick config s moment) }
 {}
 
 /// What a new store keeps is sound.
