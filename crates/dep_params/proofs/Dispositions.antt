@@ -6,25 +6,25 @@ use Rattle.std.proofs.lemmas.List.Folds.{length-prefix_len}
 use Rattle.std.specs.List.{list_all}
 use Rattle.std.specs.Str.{str_to_ascii_lowercase}
 use Rattle.dep_octets.specs.Octets.{is_token_octet}
-use Rattle.dep_params.specs.Grammar.{AreParameters, IsDisposition, NamedValue, Reading}
+use Rattle.dep_params.specs.Grammar.{AreParameters, IsDisposition, NamedValue, DispositionValue}
 use Rattle.dep_params.specs.Reading.{token_len, parameter_read}
 use Rattle.dep_params.specs.Stored.{views}
 use Rattle.dep_params.specs.declared.disposition.Parameter.{Parameter}
 use Rattle.dep_params.proofs.Runs.{and_both, prefix_len-stopped, run-passes}
 use Rattle.dep_params.proofs.Values.{is_some}
-use Rattle.dep_params.proofs.Places.{First, Ends, Passes, Takes, front, first, name_length, semicolon-shorter, parameter-shorter}
+use Rattle.dep_params.proofs.Slots.{First, Ends, Passes, Takes, front, first, name_length, semicolon-shorter, parameter-shorter}
 
 pub names-views : (ps : List Parameter) → map (λ (p : NamedValue). p.name) (views ps) ≡ map (λ p. p.name.items) ps
 names-views [] = refl
 names-views (p ∷ ps) = ap (λ (l : List (List ℕ)). p.name.items ∷ l) (names-views ps)
 
 -- what a disposition says of the first token of its text and of what follows it
-pub record IsSplit (text : List ℕ) (reading : Reading) : Type 0 where
+pub record IsSplit (text : List ℕ) (reading : DispositionValue) : Type 0 where
   pub named : token_len text ≡ 0 → ⊥
   pub form : reading.form ≡ str_to_ascii_lowercase (take (token_len text) text)
   pub parameters : AreParameters (drop (token_len text) text) reading.parameters
 
-pub split : (text : List ℕ) (reading : Reading) → IsDisposition text reading → IsSplit text reading
+pub split : (text : List ℕ) (reading : DispositionValue) → IsDisposition text reading → IsSplit text reading
 split text reading is =
     let both = and_both (nat_lt 0 (length is.form)) (list_all is_token_octet is.form) is.token in
     let stops = (front is.rest reading.parameters is.parameters).stop.token in
@@ -37,7 +37,7 @@ split text reading is =
       parameters = subst (λ (t : List ℕ). AreParameters t reading.parameters) (sym rest) is.parameters;
     }
 
-pub joined : (text : List ℕ) (reading : Reading) → IsSplit text reading → IsDisposition text reading
+pub joined : (text : List ℕ) (reading : DispositionValue) → IsSplit text reading → IsDisposition text reading
 joined text reading is =
     let some : nat_lt 0 (length (take (token_len text) text)) ≡ true = rw length-prefix_len (is_some (token_len text) (ne_eqb (token_len text) 0 is.named)) in
     record {
@@ -84,11 +84,11 @@ same_below (suc n) text ps qs small is has =
 pub same_parameters : (text : List ℕ) (ps qs : List NamedValue) → AreParameters text ps → AreParameters text qs → ps ≡ qs
 same_parameters text ps qs is has = same_below (suc (length text)) text ps qs (omega arith) is has
 
-pub same_reading : (text : List ℕ) (a b : Reading) → IsDisposition text a → IsDisposition text b → a ≡ b
+pub same_reading : (text : List ℕ) (a b : DispositionValue) → IsDisposition text a → IsDisposition text b → a ≡ b
 same_reading text a b is has =
     let left = split text a is in
     let right = split text b has in
     let form : a.form ≡ b.form = left.form ∙ sym right.form in
     let parameters = same_parameters (drop (token_len text) text) a.parameters b.parameters left.parameters right.parameters in
-    ap (λ (f : List ℕ). let r : Reading = record { form = f; parameters = a.parameters } in r) form
-    ∙ ap (λ (l : List NamedValue). let r : Reading = record { form = b.form; parameters = l } in r) parameters
+    ap (λ (f : List ℕ). let r : DispositionValue = record { form = f; parameters = a.parameters } in r) form
+    ∙ ap (λ (l : List NamedValue). let r : DispositionValue = record { form = b.form; parameters = l } in r) parameters

@@ -6,7 +6,7 @@ use Rattle.std.specs.Char.{is_ascii_hexdigit}
 use Rattle.std.specs.List.{list_all, range_with_len}
 use Rattle.std.specs.Str.{str_eq_ignore_ascii_case}
 use Rattle.percent_encoding.specs.Percent.{percent_decode}
-use Rattle.dep_params.specs.Grammar.{Reading, value_of}
+use Rattle.dep_params.specs.Grammar.{DispositionValue, value_of}
 use Rattle.dep_params.specs.Names.{HasTwoDigitsAfter, HasWholeEscapes, IsExtended, IsTold, IsFileName}
 use Rattle.dep_types.specs.Names.{if_passes, is_good_name}
 use Rattle.dep_params.specs.Reading.{cut_at_apostrophe}
@@ -123,13 +123,13 @@ good-sound star plain name (Some other) told h = elim (chosen (is_good_name othe
   | inr bad ↦ cc (bad.1)
 ]
 
-pub file_name-sound : (reading : Reading) (name : List ℕ) → file_name_of reading ≡ Some name → IsFileName reading name
+pub file_name-sound : (reading : DispositionValue) (name : List ℕ) → file_name_of reading ≡ Some name → IsFileName reading name
 unfolding file_name_of
 file_name-sound reading name h =
     let both = good-sound (value_of (codes "filename*") reading) (value_of (codes "filename") reading) name _ refl h in
     record { told = both.0; good = both.1 }
 
-pub file_name-complete : (reading : Reading) (name : List ℕ) → IsFileName reading name → file_name_of reading ≡ Some name
+pub file_name-complete : (reading : DispositionValue) (name : List ℕ) → IsFileName reading name → file_name_of reading ≡ Some name
 unfolding file_name_of
 file_name-complete reading name is =
     ap (option_and_then (if_passes is_good_name)) (told-complete (value_of (codes "filename*") reading) (value_of (codes "filename") reading) name is.told)

@@ -1,12 +1,12 @@
 -- The disposition that a text tells as a function is the one that its grammar has.
 use Rattle.std.proofs.Common.{◌≡◌, ◌∙◌, ◌<◌, ◌==◌, ℕ, zero, suc, true, false, not, List, [], ◌∷◌, length, take, drop, bytes_eq, Option, Some, None, option_map, refl, sym, ap, subst, arith, inl, inr, ne_eqb}
 use Rattle.std.specs.List.{IsDistinct, AllByRecursion, list_all}
-use Rattle.dep_params.specs.Grammar.{AreParameters, IsDisposition, NamedValue, Reading}
+use Rattle.dep_params.specs.Grammar.{AreParameters, IsDisposition, NamedValue, DispositionValue}
 use Rattle.dep_params.specs.Reading.{parameter_read, semicolon_read, token_len}
-use Rattle.dep_params.specs.Told.{at_place, with_parameter, parameters_read, parameters_of, with_form, reading_of, is_each_once}
+use Rattle.dep_params.specs.Told.{at_slot, with_parameter, parameters_read, parameters_of, with_form, disposition_of, is_each_once}
 use Rattle.dep_params.proofs.Runs.{and_both, not_is, chosen}
 use Rattle.dep_params.proofs.Values.{parameter_read-sound}
-use Rattle.dep_params.proofs.Places.{First, Ends, Passes, Takes, first, parameters-end, parameters-empty, parameters-holds, semicolon-shorter, parameter-shorter}
+use Rattle.dep_params.proofs.Slots.{First, Ends, Passes, Takes, first, parameters-end, parameters-empty, parameters-holds, semicolon-shorter, parameter-shorter}
 use Rattle.dep_params.proofs.Dispositions.{split, joined}
 
 named : (n : ℕ) → (n == 0) ≡ false → n ≡ 0 → ⊥
@@ -27,7 +27,7 @@ module _ (more : List ℕ → Option (List NamedValue)) (later : (text : List �
   held-sound text r ps None found some read h = cc h
   held-sound text r ps (Some x) found some read h = tail-sound text r x.1 x.0 ps (more x.1) found some read refl h
 
-  place-sound : (text : List ℕ) (ps : List NamedValue) (o : Option (Option (List ℕ))) → semicolon_read text ≡ o → at_place more o ≡ Some ps → AreParameters text ps
+  place-sound : (text : List ℕ) (ps : List NamedValue) (o : Option (Option (List ℕ))) → semicolon_read text ≡ o → at_slot more o ≡ Some ps → AreParameters text ps
   place-sound text ps None found h = cc h
   place-sound text ps (Some None) found h =
       let same : [] ≡ ps = cc h in
@@ -46,14 +46,14 @@ parameters-sound (suc n) text ps h = place-sound (parameters_read n) (parameters
 
 place-complete : (n : ℕ) (text : List ℕ) (ps : List NamedValue)
     → ((rest : List ℕ) (more : List NamedValue) → length rest < length text → AreParameters rest more → parameters_read n rest ≡ Some more)
-    → First text ps → at_place (parameters_read n) (semicolon_read text) ≡ Some ps
-place-complete n text ps later (Ends e none) = ap (at_place (parameters_read n)) e ∙ ap Some (sym none)
+    → First text ps → at_slot (parameters_read n) (semicolon_read text) ≡ Some ps
+place-complete n text ps later (Ends e none) = ap (at_slot (parameters_read n)) e ∙ ap Some (sym none)
 place-complete n text ps later (Passes r e none rest) =
-    ap (at_place (parameters_read n)) e ∙ rw none (later r ps (semicolon-shorter text r e) rest)
+    ap (at_slot (parameters_read n)) e ∙ rw none (later r ps (semicolon-shorter text r e) rest)
 place-complete n text ps later (Takes r rest p more e some read told left) =
     let first = semicolon-shorter text r e in
     let second = parameter-shorter r rest p some read in
-    ap (at_place (parameters_read n)) e
+    ap (at_slot (parameters_read n)) e
     ∙ rw (ne_eqb (token_len r) 0 some, read, later rest more (omega (arith, first, second)) left) (ap Some (sym told))
 
 pub parameters-complete : (n : ℕ) (text : List ℕ) (ps : List NamedValue) → length text < n → AreParameters text ps → parameters_read n text ≡ Some ps
@@ -64,7 +64,7 @@ parameters-complete (suc n) text ps small is =
 
 -- ---- dispositions
 
-form-sound : (text : List ℕ) (reading : Reading) (o : Option (List NamedValue)) → (token_len text ≡ 0 → ⊥) → parameters_of (drop (token_len text) text) ≡ o
+form-sound : (text : List ℕ) (reading : DispositionValue) (o : Option (List NamedValue)) → (token_len text ≡ 0 → ⊥) → parameters_of (drop (token_len text) text) ≡ o
     → option_map (with_form (take (token_len text) text)) o ≡ Some reading → IsDisposition text reading
 form-sound text reading None some is h = cc h
 form-sound text reading (Some ps) some is h =
@@ -72,8 +72,8 @@ form-sound text reading (Some ps) some is h =
     subst (IsDisposition text) same (joined text (with_form (take (token_len text) text) ps)
     (record { named = some; form = refl; parameters = parameters-sound _ _ ps is }))
 
-pub reading-sound : (text : List ℕ) (reading : Reading) → reading_of text ≡ Some reading → IsDisposition text reading
-unfolding reading_of
+pub reading-sound : (text : List ℕ) (reading : DispositionValue) → disposition_of text ≡ Some reading → IsDisposition text reading
+unfolding disposition_of
 reading-sound text reading h = elim (chosen (token_len text == 0) _ _ (Some reading) h) [
   | inl none ↦ cc (none.1)
   | inr some ↦ form-sound text reading (parameters_of (drop (token_len text) text)) (named (token_len text) some.0) refl some.1
@@ -82,14 +82,14 @@ reading-sound text reading h = elim (chosen (token_len text == 0) _ _ (Some read
 short : (n : ℕ) → n < suc n
 short n = omega arith
 
-pub reading-complete : (text : List ℕ) (reading : Reading) → IsDisposition text reading → reading_of text ≡ Some reading
-unfolding reading_of
+pub reading-complete : (text : List ℕ) (reading : DispositionValue) → IsDisposition text reading → disposition_of text ≡ Some reading
+unfolding disposition_of
 reading-complete text reading is =
     let whole = split text reading is in
     let rest = drop (token_len text) text in
     let read = parameters-complete (suc (length rest)) rest reading.parameters (short (length rest)) whole.parameters in
     rw (ne_eqb (token_len text) 0 whole.named, read)
-    (ap (λ (f : List ℕ). Some (let r : Reading = record { form = f; parameters = reading.parameters } in r)) (sym whole.form))
+    (ap (λ (f : List ℕ). Some (let r : DispositionValue = record { form = f; parameters = reading.parameters } in r)) (sym whole.form))
 
 -- ---- names that stand once
 

@@ -10,7 +10,7 @@ pub record NamedValue : Type 0 where
   pub value : List ℕ
 
 -- what a disposition says: its type in lower case, and its parameters in their order
-pub record Reading : Type 0 where
+pub record DispositionValue : Type 0 where
   pub form : List ℕ
   pub parameters : List NamedValue
 
@@ -57,39 +57,39 @@ value_octets (Bare text) = text
 value_octets (Quoted pieces) = map piece_octet pieces
 
 -- a semicolon with the blanks about it, and behind it a parameter or nothing
-pub data Place : Type 0 where
-  Empty : (before after : List ℕ) → Place
-  Holds : (before after name : List ℕ) → Value → Place
+pub data ParameterSlot : Type 0 where
+  Empty : (before after : List ℕ) → ParameterSlot
+  Holds : (before after name : List ℕ) → Value → ParameterSlot
 
 abbrev pub are_blanks : List ℕ → Bool
 are_blanks text = list_all is_blank text
 
-abbrev pub IsPlace : Place → Type 0
-IsPlace (Empty before after) = (are_blanks before ≡ true) × (are_blanks after ≡ true)
-IsPlace (Holds before after name value) =
+abbrev pub IsSlot : ParameterSlot → Type 0
+IsSlot (Empty before after) = (are_blanks before ≡ true) × (are_blanks after ≡ true)
+IsSlot (Holds before after name value) =
     (are_blanks before ≡ true) × (are_blanks after ≡ true) × (is_token name ≡ true)
     × (is_value value ≡ true)
 
-abbrev pub place_text : Place → List ℕ
-place_text (Empty before after) = before ++ 59 ∷ after
-place_text (Holds before after name value) = before ++ 59 ∷ after ++ name ++ 61 ∷ value_text value
+abbrev pub slot_text : ParameterSlot → List ℕ
+slot_text (Empty before after) = before ++ 59 ∷ after
+slot_text (Holds before after name value) = before ++ 59 ∷ after ++ name ++ 61 ∷ value_text value
 
-abbrev pub place_parameter : Place → Option NamedValue
-place_parameter (Empty before after) = None
-place_parameter (Holds before after name value) =
+abbrev pub slot_parameter : ParameterSlot → Option NamedValue
+slot_parameter (Empty before after) = None
+slot_parameter (Holds before after name value) =
     Some (record { name = str_to_ascii_lowercase name; value = value_octets value })
 
--- the text is places and then blanks, and holds these parameters
+-- the text is slots and then blanks, and holds these parameters
 pub record AreParameters (text : List ℕ) (parameters : List NamedValue) : Type 0 where
-  pub places : List Place
+  pub slots : List ParameterSlot
   pub last : List ℕ
-  pub well_formed : AllByRecursion IsPlace places
+  pub well_formed : AllByRecursion IsSlot slots
   pub blank : are_blanks last ≡ true
-  pub written : text ≡ flat_map place_text places ++ last
-  pub told : parameters ≡ filter_map place_parameter places
+  pub written : text ≡ flat_map slot_text slots ++ last
+  pub told : parameters ≡ filter_map slot_parameter slots
 
 -- the text is a type and then parameters, and says this
-pub record IsDisposition (text : List ℕ) (reading : Reading) : Type 0 where
+pub record IsDisposition (text : List ℕ) (reading : DispositionValue) : Type 0 where
   pub form : List ℕ
   pub rest : List ℕ
   pub token : is_token form ≡ true
@@ -98,14 +98,14 @@ pub record IsDisposition (text : List ℕ) (reading : Reading) : Type 0 where
   pub parameters : AreParameters rest reading.parameters
 
 -- the names of its parameters
-abbrev pub names_of : Reading → List (List ℕ)
+abbrev pub names_of : DispositionValue → List (List ℕ)
 names_of reading = map (λ p. p.name) reading.parameters
 
 -- no two parameters have one name
-abbrev pub HasDistinctNames : Reading → Type 0
+abbrev pub HasDistinctNames : DispositionValue → Type 0
 HasDistinctNames reading = IsDistinct bytes_eq (names_of reading)
 
 -- the value of the parameter with this name, in any letter case
-abbrev pub value_of : List ℕ → Reading → Option (List ℕ)
+abbrev pub value_of : List ℕ → DispositionValue → Option (List ℕ)
 value_of name reading =
     option_map (λ p. p.value) (find (λ p. str_eq_ignore_ascii_case p.name name) reading.parameters)

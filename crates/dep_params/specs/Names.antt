@@ -5,7 +5,7 @@ use Rattle.std.specs.Char.{is_ascii_hexdigit}
 use Rattle.std.specs.Str.{str_eq_ignore_ascii_case}
 use Rattle.percent_encoding.specs.Percent.{percent_decode}
 use Rattle.dep_types.specs.Names.{is_good_name}
-use Rattle.dep_params.specs.Grammar.{Reading, value_of}
+use Rattle.dep_params.specs.Grammar.{DispositionValue, value_of}
 use Rattle.dep_params.specs.declared.disposition.ParamFault.{ParamFault}
 use Rattle.dep_params.specs.declared.disposition.ParamFault.TheVariants.{NoName, Memory}
 
@@ -42,12 +42,12 @@ IsTold None (Some plain) name = name ≡ plain
 IsTold None None name = ⊥
 
 -- its parameters tell this name, whether it may stand or not
-abbrev pub IsToldName : Reading → List ℕ → Type 0
+abbrev pub IsToldName : DispositionValue → List ℕ → Type 0
 IsToldName reading name =
     IsTold (value_of (codes "filename*") reading) (value_of (codes "filename") reading) name
 
 -- the disposition gives this file name
-pub record IsFileName (reading : Reading) (name : List ℕ) : Type 0 where
+pub record IsFileName (reading : DispositionValue) (name : List ℕ) : Type 0 where
   pub told : IsToldName reading name
   pub good : is_good_name name ≡ true
 

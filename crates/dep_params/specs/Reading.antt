@@ -67,7 +67,8 @@ behind_name [] = None
 behind_name (b ∷ rest) = if b == 61 then value_read rest else None
 
 abbrev pub named : List ℕ → Option (List ℕ × List ℕ) → Option (NamedValue × List ℕ)
-named name read = option_map (λ p. (record { name = str_to_ascii_lowercase name; value = p.0 }, p.1)) read
+named name read =
+    option_map (λ p. (record { name = str_to_ascii_lowercase name; value = p.0 }, p.1)) read
 
 abbrev pub token_len : List ℕ → ℕ
 token_len text = prefix_len is_token_octet text

@@ -48,17 +48,17 @@ pub struct Disposition {
 }
 
 impl Model for Disposition {
-    ghost use Rattle.dep_params.specs.Grammar.{Reading};
+    ghost use Rattle.dep_params.specs.Grammar.{DispositionValue};
     ghost use Rattle.dep_params.specs.Stored.{views};
 
-    ghost Value = { Reading };
+    ghost Value = { DispositionValue };
 
     ghost view = { λ d. record { form = d.form.items; parameters = views d.parameters.items } };
 }
 
 impl Disposition {
     ghost use Rattle.std.specs.Option.{option_copied};
-    ghost use Rattle.dep_params.specs.Grammar.{Reading, value_of};
+    ghost use Rattle.dep_params.specs.Grammar.{DispositionValue, value_of};
     ghost use Rattle.dep_params.specs.Stored.{views};
 
     pub(crate) fn of(form: Vec<u8>, parameters: Vec<Parameter>) -> Disposition

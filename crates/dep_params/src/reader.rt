@@ -4,7 +4,7 @@ ghost use Rattle.std.specs.Bool.{Decides};
 ghost use Rattle.std.specs.List.{IsDistinct};
 ghost use Rattle.std.specs.Option.{option_copied};
 ghost use Rattle.std.specs.Str.{str_to_ascii_lowercase};
-ghost use Rattle.dep_params.specs.Grammar.{AreParameters, HasDistinctNames, IsDisposition, NamedValue, Reading};
+ghost use Rattle.dep_params.specs.Grammar.{AreParameters, HasDistinctNames, IsDisposition, NamedValue, DispositionValue};
 ghost use Rattle.dep_params.specs.Reading.{Gives, Refuses, behind_name, named, semicolon_read, value_read};
 ghost use Rattle.dep_params.specs.Stored.{names_in, view, views};
 
@@ -22,9 +22,9 @@ pub fn read_disposition(alloc: Global, text: &[u8]) -> Result<Disposition, Param
     ensures read { IfOk result (λ reading.
         IsDisposition text.now reading × HasDistinctNames reading) }
     ensures malformed { result ≡ Err ParamFault.Malformed →
-        (reading : Reading) → ¬ IsDisposition text.now reading }
+        (reading : DispositionValue) → ¬ IsDisposition text.now reading }
     ensures repeated { result ≡ Err ParamFault.Repeated →
-        (reading : Reading) × IsDisposition text.now reading × ¬ HasDistinctNames reading }
+        (reading : DispositionValue) × IsDisposition text.now reading × ¬ HasDistinctNames reading }
     ensures never_of_names { result ≢ Err ParamFault.NoName }
 {
     let (form, rest) = split_token(text);

@@ -33,7 +33,8 @@ pub fn spell_head(alloc: Global, reply: &Reply) -> Result<Vec<u8>, AllocError>
 
 #[tactic(auto, unfolding(crate::specs::Head::status_line))]
 fn push_status_line(head: &mut Vec<u8>, status: Status) -> Result<(), AllocError>
-    ensures { OnOk result (Grows head.old.items head.new.items (status_line (status_number status))) }
+    ensures { OnOk result
+        (Grows head.old.items head.new.items (status_line (status_number status))) }
 {
     let mut digits = Buffer::new();
     head.extend_from_slice(b"HTTP/1.1 ")?;
@@ -53,7 +54,8 @@ fn push_field(head: &mut Vec<u8>, name: &str, value: &[u8]) -> Result<(), AllocE
 }
 
 fn push_text(head: &mut Vec<u8>, name: &str, value: Option<&str>) -> Result<(), AllocError>
-    ensures { OnOk result (Grows head.old.items head.new.items (optional name.now (option_copied value.entry))) }
+    ensures { OnOk result
+        (Grows head.old.items head.new.items (optional name.now (option_copied value.entry))) }
 {
     let Some(text) = value else {
         return Ok(());
@@ -62,7 +64,8 @@ fn push_text(head: &mut Vec<u8>, name: &str, value: Option<&str>) -> Result<(), 
 }
 
 fn push_number(head: &mut Vec<u8>, name: &str, value: Option<u64>) -> Result<(), AllocError>
-    ensures { OnOk result (Grows head.old.items head.new.items (optional name.now (option_map decimal value))) }
+    ensures { OnOk result
+        (Grows head.old.items head.new.items (optional name.now (option_map decimal value))) }
 {
     let Some(number) = value else {
         return Ok(());
@@ -73,7 +76,8 @@ fn push_number(head: &mut Vec<u8>, name: &str, value: Option<u64>) -> Result<(),
 
 fn push_tag(head: &mut Vec<u8>, value: Option<u64>) -> Result<(), AllocError>
     ensures { OnOk result
-        (Grows head.old.items head.new.items (optional (codes "ETag") (option_map quoted_tag value))) }
+        (Grows head.old.items head.new.items
+        (optional (codes "ETag") (option_map quoted_tag value))) }
 {
     let Some(tag) = value else {
         return Ok(());

@@ -1,4 +1,5 @@
--- Which resource a path names, and which methods it has (SWORD 3.0; RFC 9110, sections 9.1 and 15.5.6).
+-- Which resource a path names, and which methods it has (SWORD 3.0; RFC 9110, sections 9.1
+-- and 15.5.6).
 use Rattle.std.specs.Prelude.{ℕ, ◌==◌, Bool, true, false, List, [], ◌∷◌, Option, Some, None, option_and_then, option_map, codes, bytes_eq, find, if◌then◌else◌}
 use Rattle.std.specs.List.{join_by, join_with_byte, slice_split}
 use Rattle.percent_encoding.specs.Percent.{percent_decode}
@@ -63,7 +64,8 @@ resource_of ([] ∷ name ∷ n ∷ []) = option_and_then (numbered name) (number
 resource_of ([] ∷ name ∷ n ∷ part ∷ []) =
     of_object name (option_and_then (λ k. object_part k part) (number_in n))
 resource_of ([] ∷ name ∷ n ∷ part ∷ r ∷ rest) =
-    of_object name (option_and_then (λ k. within_part k part (join_with_byte 47 (r ∷ rest))) (number_in n))
+    of_object name
+    (option_and_then (λ k. within_part k part (join_with_byte 47 (r ∷ rest))) (number_in n))
 resource_of _ = None
 
 -- the methods of a resource

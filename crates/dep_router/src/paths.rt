@@ -42,8 +42,10 @@ fn at_root(name: &[u8]) -> Option<Resource>
 
 // What stands below a name: a number, and perhaps more.
 fn resource_below(alloc: Global, name: &[u8], path: &[u8]) -> Result<Option<Resource>, AllocError>
-    ensures ok { IfOk result (λ resource. resource ≡ resource_of ([] ∷ name.now ∷ segments path.now)) }
-    ensures err { OnErr result (is_bag_file (resource_of ([] ∷ name.now ∷ segments path.now)) ≡ true) }
+    ensures ok { IfOk result (λ resource.
+        resource ≡ resource_of ([] ∷ name.now ∷ segments path.now)) }
+    ensures err { OnErr result
+        (is_bag_file (resource_of ([] ∷ name.now ∷ segments path.now)) ≡ true) }
 {
     let (number, after) = next_segment(path);
     let Some(number) = number_in(number) else {

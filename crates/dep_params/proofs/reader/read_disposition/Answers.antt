@@ -2,13 +2,13 @@ use Rattle.std.proofs.Common.{◌≡◌, ◌∙◌, ℕ, List, Result, Ok, Err, 
 use Rattle.std.specs.List.{IsDistinct}
 use Rattle.std.specs.Result.{IsErrAnd}
 use Rattle.std.specs.Str.{str_to_ascii_lowercase}
-use Rattle.dep_params.specs.Grammar.{AreParameters, NamedValue, Reading}
+use Rattle.dep_params.specs.Grammar.{AreParameters, NamedValue, DispositionValue}
 use Rattle.dep_params.specs.Reading.{Refuses, token_len}
 use Rattle.dep_params.specs.Stored.{views}
 use Rattle.dep_params.specs.declared.disposition.ParamFault.{ParamFault}
 use Rattle.dep_params.specs.declared.disposition.ParamFault.TheVariants.{Malformed}
 use Rattle.dep_params.specs.declared.disposition.Parameter.{Parameter}
-use Rattle.dep_params.proofs.Places.{is_named, is_unnamed}
+use Rattle.dep_params.proofs.Slots.{is_named, is_unnamed}
 use Rattle.dep_params.proofs.Dispositions.{split, joined, names-views}
 use Rattle.dep_params.proofs.reader.read_disposition.Goals as goal
 
@@ -37,7 +37,7 @@ pub returns-then-branch-clause-repeated : goal.returns-then-branch-clause-repeat
 returns-then-branch-clause-repeated c = λ h.
     let text = c.args.text.now in
     let ps = c.in_ok-parameters.parameters.items in
-    let reading : Reading = record { form = str_to_ascii_lowercase (take (token_len text) text); parameters = views ps } in
+    let reading : DispositionValue = record { form = str_to_ascii_lowercase (take (token_len text) text); parameters = views ps } in
     let named = is_named text _ _ c.split_token.ensures.token c.is_empty.ensures c.if-is_empty.false in
     let parameters : AreParameters (drop (token_len text) text) (views ps) = subst (λ (t : List ℕ). AreParameters t (views ps)) c.split_token.ensures.rest c.in_ok-parameters.ensures.read in (
       reading,

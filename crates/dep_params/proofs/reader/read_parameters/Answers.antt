@@ -3,7 +3,7 @@ use Rattle.std.proofs.lemmas.List.{map-append}
 use Rattle.dep_params.specs.Grammar.{AreParameters, NamedValue}
 use Rattle.dep_params.specs.Reading.{Fails, semicolon_read, parameter_read}
 use Rattle.dep_params.specs.Stored.{view, views}
-use Rattle.dep_params.proofs.Places.{semicolon-shorter, parameter-shorter, parameters-end, parameters-empty, parameters-holds, empty-left, holds-left, refuses-semicolon, refuses-parameter, is_named, is_unnamed, refused_by, parameter-behind}
+use Rattle.dep_params.proofs.Slots.{semicolon-shorter, parameter-shorter, parameters-end, parameters-empty, parameters-holds, empty-left, holds-left, refuses-semicolon, refuses-parameter, is_named, is_unnamed, refused_by, parameter-behind}
 use Rattle.dep_params.proofs.Values.{parameter_read-sound}
 use Rattle.dep_params.proofs.reader.read_parameters.Goals as goal
 

@@ -7,7 +7,7 @@ use Rattle.std.specs.List.{list_all, flat_map, filter_map, prefix_len, AllByRecu
 use Rattle.std.specs.Result.{IsErrAnd, IfErr}
 use Rattle.std.specs.Str.{str_to_ascii_lowercase}
 use Rattle.dep_octets.specs.Octets.{is_token, is_token_octet, is_blank, trim_start}
-use Rattle.dep_params.specs.Grammar.{NamedValue, value_text, value_octets, is_bare_octet, Place, Empty, Holds, IsPlace, place_text, place_parameter, are_blanks, AreParameters}
+use Rattle.dep_params.specs.Grammar.{NamedValue, value_text, value_octets, is_bare_octet, ParameterSlot, Empty, Holds, IsSlot, slot_text, slot_parameter, are_blanks, AreParameters}
 use Rattle.dep_params.specs.Reading.{Fails, Refuses, at_semicolon, semicolon_read, token_len, parameter_read, named, behind_name}
 use Rattle.dep_params.specs.declared.disposition.ParamFault.{ParamFault}
 use Rattle.dep_params.specs.declared.disposition.ParamFault.TheVariants.{Malformed, Repeated, NoName, Memory}
@@ -105,52 +105,52 @@ pub record IsFront (text : List ℕ) (ps : List NamedValue) : Type 0 where
   pub none : token_len (trim_start text) ≡ 0
   pub trimmed : AreParameters (trim_start text) ps
 
-front_of : (text : List ℕ) (ps : List NamedValue) (places : List Place) (last : List ℕ) → AllByRecursion IsPlace places → are_blanks last ≡ true
-    → text ≡ flat_map place_text places ++ last → ps ≡ filter_map place_parameter places → IsFront text ps
+front_of : (text : List ℕ) (ps : List NamedValue) (slots : List ParameterSlot) (last : List ℕ) → AllByRecursion IsSlot slots → are_blanks last ≡ true
+    → text ≡ flat_map slot_text slots ++ last → ps ≡ filter_map slot_parameter slots → IsFront text ps
 front_of text ps [] last formed blank written told =
     let trimmed : trim_start text ≡ [] = ap trim_start written ∙ trim_all last blank in
     let stop = stops last [] blank stop-end in
     record {
       stop = subst IsStop (ap (λ t. t) (append-nil last) ∙ sym written) stop;
       none = ap token_len trimmed;
-      trimmed = record { places = []; last = []; well_formed = tt; blank = refl; written = trimmed; told = told };
+      trimmed = record { slots = []; last = []; well_formed = tt; blank = refl; written = trimmed; told = told };
     }
 front_of text ps (Empty before after ∷ more) last formed blank written told =
-    let tail = flat_map place_text more ++ last in
-    let is = written ∙ empty_text before after (flat_map place_text more) last in
+    let tail = flat_map slot_text more ++ last in
+    let is = written ∙ empty_text before after (flat_map slot_text more) last in
     let trimmed : trim_start text ≡ 59 ∷ (after ++ tail) = ap trim_start is ∙ trim_blanks before (59 ∷ (after ++ tail)) formed.0.0 in
     record {
       stop = subst IsStop (sym is) (stops before (59 ∷ (after ++ tail)) formed.0.0 (stop-semicolon (after ++ tail)));
       none = ap token_len trimmed;
       trimmed = record {
-        places = Empty [] after ∷ more;
+        slots = Empty [] after ∷ more;
         last = last;
         well_formed = ((refl, formed.0.1), formed.1);
         blank = blank;
-        written = trimmed ∙ sym (empty_text [] after (flat_map place_text more) last);
+        written = trimmed ∙ sym (empty_text [] after (flat_map slot_text more) last);
         told = told;
       };
     }
 front_of text ps (Holds before after name value ∷ more) last formed blank written told =
-    let tail = flat_map place_text more ++ last in
+    let tail = flat_map slot_text more ++ last in
     let behind = after ++ (name ++ (61 ∷ (value_text value ++ tail))) in
-    let is = written ∙ holds_text before after name (value_text value) (flat_map place_text more) last in
+    let is = written ∙ holds_text before after name (value_text value) (flat_map slot_text more) last in
     let trimmed : trim_start text ≡ 59 ∷ behind = ap trim_start is ∙ trim_blanks before (59 ∷ behind) formed.0.0 in
     record {
       stop = subst IsStop (sym is) (stops before (59 ∷ behind) formed.0.0 (stop-semicolon behind));
       none = ap token_len trimmed;
       trimmed = record {
-        places = Holds [] after name value ∷ more;
+        slots = Holds [] after name value ∷ more;
         last = last;
         well_formed = ((refl, formed.0.1, formed.0.2, formed.0.3), formed.1);
         blank = blank;
-        written = trimmed ∙ sym (holds_text [] after name (value_text value) (flat_map place_text more) last);
+        written = trimmed ∙ sym (holds_text [] after name (value_text value) (flat_map slot_text more) last);
         told = told;
       };
     }
 
 pub front : (text : List ℕ) (ps : List NamedValue) → AreParameters text ps → IsFront text ps
-front text ps h = front_of text ps h.places h.last h.well_formed h.blank h.written h.told
+front text ps h = front_of text ps h.slots h.last h.well_formed h.blank h.written h.told
 
 -- the end, a semicolon with nothing behind it, or one with a parameter
 pub data First (text : List ℕ) (ps : List NamedValue) : Type 0 where
@@ -167,33 +167,33 @@ name_length (b ∷ name) rest h none =
     let size = rw first at none in
     omega (arith, size)
 
-first_of : (text : List ℕ) (ps : List NamedValue) (places : List Place) (last : List ℕ) → AllByRecursion IsPlace places → are_blanks last ≡ true
-    → text ≡ flat_map place_text places ++ last → ps ≡ filter_map place_parameter places → First text ps
+first_of : (text : List ℕ) (ps : List NamedValue) (slots : List ParameterSlot) (last : List ℕ) → AllByRecursion IsSlot slots → are_blanks last ≡ true
+    → text ≡ flat_map slot_text slots ++ last → ps ≡ filter_map slot_parameter slots → First text ps
 unfolding semicolon_read
 first_of text ps [] last formed blank written told =
     let trimmed : trim_start text ≡ [] = ap trim_start written ∙ trim_all last blank in
     Ends (ap at_semicolon trimmed) told
 first_of text ps (Empty before after ∷ more) last formed blank written told =
-    let tail = flat_map place_text more ++ last in
-    let is = written ∙ empty_text before after (flat_map place_text more) last in
+    let tail = flat_map slot_text more ++ last in
+    let is = written ∙ empty_text before after (flat_map slot_text more) last in
     let trimmed : trim_start text ≡ 59 ∷ (after ++ tail) = ap trim_start is ∙ trim_blanks before (59 ∷ (after ++ tail)) formed.0.0 in
-    let rest : AreParameters tail ps = record { places = more; last = last; well_formed = formed.1; blank = blank; written = refl; told = told } in
+    let rest : AreParameters tail ps = record { slots = more; last = last; well_formed = formed.1; blank = blank; written = refl; told = told } in
     let fronted = front tail ps rest in
     Passes (trim_start tail) (ap at_semicolon trimmed ∙ ap (λ r. Some (Some r)) (trim_blanks after tail formed.0.1)) fronted.none fronted.trimmed
 first_of text ps (Holds before after name value ∷ more) last formed blank written told =
-    let tail = flat_map place_text more ++ last in
+    let tail = flat_map slot_text more ++ last in
     let inner = name ++ (61 ∷ (value_text value ++ tail)) in
-    let is = written ∙ holds_text before after name (value_text value) (flat_map place_text more) last in
+    let is = written ∙ holds_text before after name (value_text value) (flat_map slot_text more) last in
     let trimmed : trim_start text ≡ 59 ∷ (after ++ inner) = ap trim_start is ∙ trim_blanks before (59 ∷ (after ++ inner)) formed.0.0 in
-    let others = filter_map place_parameter more in
-    let rest : AreParameters tail others = record { places = more; last = last; well_formed = formed.1; blank = blank; written = refl; told = refl } in
+    let others = filter_map slot_parameter more in
+    let rest : AreParameters tail others = record { slots = more; last = last; well_formed = formed.1; blank = blank; written = refl; told = refl } in
     let fronted = front tail others rest in
     let behind : trim_start (after ++ inner) ≡ inner = trim_blanks after inner formed.0.1 ∙ trim_token name (61 ∷ (value_text value ++ tail)) formed.0.2 in
     Takes inner tail _ others (ap at_semicolon trimmed ∙ ap (λ r. Some (Some r)) behind) (name_length name _ formed.0.2)
     (parameter_read-complete name value tail formed.0.2 formed.0.3 fronted.stop.bare) told rest
 
 pub first : (text : List ℕ) (ps : List NamedValue) → AreParameters text ps → First text ps
-first text ps h = first_of text ps h.places h.last h.well_formed h.blank h.written h.told
+first text ps h = first_of text ps h.slots h.last h.well_formed h.blank h.written h.told
 
 pub parameters-end : (text : List ℕ) → semicolon_read text ≡ Some None → AreParameters text []
 unfolding semicolon_read
@@ -201,7 +201,7 @@ parameters-end text h =
     let none : trim_start text ≡ [] = semicolon-none (trim_start text) h in
     let same : take (prefix_len is_blank text) text ≡ text = sym (append-nil _) ∙ ap (λ t. take (prefix_len is_blank text) text ++ t) (sym none) ∙ sym (blanks_first text) in
     record {
-      places = [];
+      slots = [];
       last = text;
       well_formed = tt;
       blank = subst (λ (t : List ℕ). are_blanks t ≡ true) same (run-passes is_blank text);
@@ -235,11 +235,11 @@ pub parameters-empty : (text r : List ℕ) (ps : List NamedValue) → semicolon_
 parameters-empty text r ps h rest =
     let found = semicolon-text text r h in
     record {
-      places = Empty found.0 found.1 ∷ rest.places;
+      slots = Empty found.0 found.1 ∷ rest.slots;
       last = rest.last;
       well_formed = ((found.2, found.3), rest.well_formed);
       blank = rest.blank;
-      written = found.4 ∙ ap (λ t. found.0 ++ (59 ∷ (found.1 ++ t))) rest.written ∙ sym (empty_text found.0 found.1 (flat_map place_text rest.places) rest.last);
+      written = found.4 ∙ ap (λ t. found.0 ++ (59 ∷ (found.1 ++ t))) rest.written ∙ sym (empty_text found.0 found.1 (flat_map slot_text rest.slots) rest.last);
       told = rest.told;
     }
 
@@ -249,12 +249,12 @@ parameters-holds text r rest p ps h is more =
     let found = semicolon-text text r h in
     let q : NamedValue = record { name = str_to_ascii_lowercase is.name; value = value_octets is.value } in
     record {
-      places = Holds found.0 found.1 is.name is.value ∷ more.places;
+      slots = Holds found.0 found.1 is.name is.value ∷ more.slots;
       last = more.last;
       well_formed = ((found.2, found.3, is.token, is.good), more.well_formed);
       blank = more.blank;
       written = found.4 ∙ ap (λ t. found.0 ++ (59 ∷ (found.1 ++ t))) (is.written ∙ ap (λ t. is.name ++ (61 ∷ (value_text is.value ++ t))) more.written)
-          ∙ sym (holds_text found.0 found.1 is.name (value_text is.value) (flat_map place_text more.places) more.last);
+          ∙ sym (holds_text found.0 found.1 is.name (value_text is.value) (flat_map slot_text more.slots) more.last);
       told = ap (λ q. q ∷ ps) is.told ∙ ap (λ qs. q ∷ qs) more.told;
     }
 
