@@ -1,6 +1,6 @@
 -- A disposition is of one kind, and the fields of a head tell one thing.
 use Rattle.std.proofs.Common.{◌≡◌, ◌∙◌, ℕ, List, Bool, true, false, Option, Some, codes, length, refl, sym, ap, subst, arith}
-use Rattle.dep_params.specs.Grammar.{Reading}
+use Rattle.dep_params.specs.Grammar.{DispositionValue}
 use Rattle.dep_params.proofs.Dispositions.{same_reading}
 use Rattle.dep_params.proofs.Extended.{same_told}
 use Rattle.dep_fixity.specs.declared.field.DigestList.{DigestList}
@@ -37,7 +37,7 @@ opening_or_segment form e f =
 same_value : {X : Type 0} (o : Option X) (a b : X) → o ≡ Some a → o ≡ Some b → a ≡ b
 same_value o a b e f = cc (e, f)
 
-same_kind : (r : Reading) (a b : Kind) → IsKindOf r a → IsKindOf r b → a ≡ b
+same_kind : (r : DispositionValue) (a b : Kind) → IsKindOf r a → IsKindOf r b → a ≡ b
 same_kind r (File a) (File b) h k = ap File (same_told _ _ a b h.1.told k.1.told)
 same_kind r (File a) Metadata h k = absurd (two_flags _ h.0.metadata_is k.metadata_is)
 same_kind r (File a) References h k = absurd (two_flags _ h.0.by_reference_is k.by_reference_is)
@@ -66,7 +66,7 @@ same_kind r (Segment a) (Segment b) h k = ap Segment (same_value _ a b h.segment
 
 pub one_kind : (text : List ℕ) (a b : Kind) → IsKind text a → IsKind text b → a ≡ b
 one_kind text a b is has =
-    same_kind has.reading a b (subst (λ (r : Reading). IsKindOf r a) (same_reading text is.reading has.reading is.read has.read) is.kind_is) has.kind_is
+    same_kind has.reading a b (subst (λ (r : DispositionValue). IsKindOf r a) (same_reading text is.reading has.reading is.read has.read) is.kind_is) has.kind_is
 
 -- a value and bad exclude each other, and there is one value
 one_read : (text : List ℕ) (a b : Field Kind) → IsRead (IsKind text) a → IsRead (IsKind text) b → a ≡ b

@@ -1,8 +1,8 @@
 -- What the fields of a head tell as a function is what they tell.
 use Rattle.std.proofs.Common.{◌≡◌, ◌∙◌, ℕ, List, Bool, true, false, codes, bytes_eq, Option, Some, None, option_map, option_and_then, refl, ap, subst, inl, inr}
 use Rattle.std.proofs.lemmas.Slice.Eq.{bytes_eq-Decides}
-use Rattle.dep_params.specs.Grammar.{Reading, names_of, value_of}
-use Rattle.dep_params.specs.Told.{file_name_of, is_each_once, reading_of}
+use Rattle.dep_params.specs.Grammar.{DispositionValue, names_of, value_of}
+use Rattle.dep_params.specs.Told.{file_name_of, is_each_once, disposition_of}
 use Rattle.dep_params.proofs.Runs.{chosen}
 use Rattle.dep_params.proofs.ToldReadings.{reading-sound, reading-complete, once-sound, once-complete}
 use Rattle.dep_params.proofs.ToldNames.{file_name-sound, file_name-complete}
@@ -18,14 +18,14 @@ use Rattle.dep_fields.specs.declared.kind.Opening.{Opening}
 
 -- ---- a disposition
 
-file-sound : (reading : Reading) (kind : Kind) (o : Option (List ℕ)) → IsAttachment reading false false → file_name_of reading ≡ o
+file-sound : (reading : DispositionValue) (kind : Kind) (o : Option (List ℕ)) → IsAttachment reading false false → file_name_of reading ≡ o
     → option_map (λ name. File name) o ≡ Some kind → IsKindOf reading kind
 file-sound reading kind None is named h = cc h
 file-sound reading kind (Some name) is named h =
     let same : File name ≡ kind = cc h in
     subst (IsKindOf reading) same (is, file_name-sound reading name named)
 
-attached-sound : (reading : Reading) (kind : Kind) (metadata by_reference : Option Bool) → reading.form ≡ codes "attachment"
+attached-sound : (reading : DispositionValue) (kind : Kind) (metadata by_reference : Option Bool) → reading.form ≡ codes "attachment"
     → flag (value_of (codes "metadata") reading) ≡ metadata → flag (value_of (codes "by-reference") reading) ≡ by_reference
     → attached reading metadata by_reference ≡ Some kind → IsKindOf reading kind
 attached-sound reading kind (Some true) (Some false) form e f h =
@@ -41,21 +41,21 @@ attached-sound reading kind (Some true) None form e f h = cc h
 attached-sound reading kind (Some false) None form e f h = cc h
 attached-sound reading kind None by_reference form e f h = cc h
 
-opening-sound : (reading : Reading) (kind : Kind) (o : Option Opening) → reading.form ≡ codes "segment-init" → opening_of reading ≡ o
+opening-sound : (reading : DispositionValue) (kind : Kind) (o : Option Opening) → reading.form ≡ codes "segment-init" → opening_of reading ≡ o
     → option_map (λ x. Opens x) o ≡ Some kind → IsKindOf reading kind
 opening-sound reading kind None form is h = cc h
 opening-sound reading kind (Some x) form is h =
     let same : Opens x ≡ kind = cc h in
     subst (IsKindOf reading) same (record { form = form; opening_is = is })
 
-segment-sound : (reading : Reading) (kind : Kind) (o : Option ℕ) → reading.form ≡ codes "segment" → number (value_of (codes "segment_number") reading) ≡ o
+segment-sound : (reading : DispositionValue) (kind : Kind) (o : Option ℕ) → reading.form ≡ codes "segment" → number (value_of (codes "segment_number") reading) ≡ o
     → option_map (λ n. Segment n) o ≡ Some kind → IsKindOf reading kind
 segment-sound reading kind None form is h = cc h
 segment-sound reading kind (Some n) form is h =
     let same : Segment n ≡ kind = cc h in
     subst (IsKindOf reading) same (record { form = form; segment_is = is })
 
-kind-sound : (reading : Reading) (kind : Kind) → kind_of reading ≡ Some kind → IsKindOf reading kind
+kind-sound : (reading : DispositionValue) (kind : Kind) → kind_of reading ≡ Some kind → IsKindOf reading kind
 unfolding kind_of
 kind-sound reading kind h = elim (chosen (bytes_eq reading.form (codes "attachment")) _ _ (Some kind) h) [
   | inl is ↦ attached-sound reading kind _ _ ((bytes_eq-Decides reading.form (codes "attachment")).0 is.0) refl refl is.1
@@ -68,14 +68,14 @@ kind-sound reading kind h = elim (chosen (bytes_eq reading.form (codes "attachme
   ]
 ]
 
-flags : (reading : Reading) (metadata by_reference : Bool) → IsAttachment reading metadata by_reference → kind_of reading ≡ attached reading (Some metadata) (Some by_reference)
+flags : (reading : DispositionValue) (metadata by_reference : Bool) → IsAttachment reading metadata by_reference → kind_of reading ≡ attached reading (Some metadata) (Some by_reference)
 unfolding kind_of
 flags reading metadata by_reference is =
     ap (λ f. kind_in f reading) is.form
     ∙ ap (λ o. attached reading o (flag (value_of (codes "by-reference") reading))) is.metadata_is
     ∙ ap (λ o. attached reading (Some metadata) o) is.by_reference_is
 
-kind-complete : (reading : Reading) (kind : Kind) → IsKindOf reading kind → kind_of reading ≡ Some kind
+kind-complete : (reading : DispositionValue) (kind : Kind) → IsKindOf reading kind → kind_of reading ≡ Some kind
 unfolding kind_of
 kind-complete reading (File name) is = flags reading false false is.0 ∙ ap (option_map (λ n. File n)) (file_name-complete reading name is.1)
 kind-complete reading Metadata is = flags reading true false is
@@ -85,7 +85,7 @@ kind-complete reading (Segment n) is = ap (λ f. kind_in f reading) is.form ∙ 
 
 -- ---- a text
 
-once-kind : (text : List ℕ) (kind : Kind) (o : Option Reading) → reading_of text ≡ o → option_and_then kind_once o ≡ Some kind → IsKind text kind
+once-kind : (text : List ℕ) (kind : Kind) (o : Option DispositionValue) → disposition_of text ≡ o → option_and_then kind_once o ≡ Some kind → IsKind text kind
 once-kind text kind None read h = cc h
 once-kind text kind (Some reading) read h = elim (chosen (is_each_once (names_of reading)) _ _ (Some kind) h) [
   | inl once ↦ record { reading = reading; read = reading-sound text reading read; distinct = once-sound (names_of reading) once.0; kind_is = kind-sound reading kind once.1 }
@@ -94,7 +94,7 @@ once-kind text kind (Some reading) read h = elim (chosen (is_each_once (names_of
 
 pub text-sound : (text : List ℕ) (kind : Kind) → kind_read text ≡ Some kind → IsKind text kind
 unfolding kind_read
-text-sound text kind h = once-kind text kind (reading_of text) refl h
+text-sound text kind h = once-kind text kind (disposition_of text) refl h
 
 pub text-complete : (text : List ℕ) (kind : Kind) → IsKind text kind → kind_read text ≡ Some kind
 unfolding kind_read

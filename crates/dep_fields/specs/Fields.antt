@@ -23,11 +23,16 @@ field_in fields name = single (values_of fields name)
 
 -- what the fields of a head tell
 pub record AreFields (fields : List (List ℕ × List ℕ)) (told : SwordFields) : Type 0 where
-  pub on_behalf_of : told.on_behalf_of ≡ read_from (if_passes is_behalf) (field_in fields (codes "On-Behalf-Of"))
-  pub disposition : IsReadFrom IsKind (field_in fields (codes "Content-Disposition")) told.disposition
+  pub on_behalf_of : told.on_behalf_of
+      ≡ read_from (if_passes is_behalf) (field_in fields (codes "On-Behalf-Of"))
+  pub disposition :
+      IsReadFrom IsKind (field_in fields (codes "Content-Disposition")) told.disposition
   pub in_progress : told.in_progress ≡ read_from truth (field_in fields (codes "In-Progress"))
   pub packaging : told.packaging ≡ read_from as_it_stands (field_in fields (codes "Packaging"))
-  pub metadata_format : told.metadata_format ≡ read_from as_it_stands (field_in fields (codes "Metadata-Format"))
-  pub content_type : told.content_type ≡ read_from (if_passes is_media) (field_in fields (codes "Content-Type"))
-  pub content_encoding : told.content_encoding ≡ read_from as_it_stands (field_in fields (codes "Content-Encoding"))
+  pub metadata_format : told.metadata_format
+      ≡ read_from as_it_stands (field_in fields (codes "Metadata-Format"))
+  pub content_type : told.content_type
+      ≡ read_from (if_passes is_media) (field_in fields (codes "Content-Type"))
+  pub content_encoding : told.content_encoding
+      ≡ read_from as_it_stands (field_in fields (codes "Content-Encoding"))
   pub digest : told.digest ≡ read_from digest_field (joined (values_of fields (codes "Digest")))

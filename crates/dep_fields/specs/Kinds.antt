@@ -5,7 +5,7 @@ use Rattle.std.specs.Str.{str_eq_ignore_ascii_case}
 use Rattle.dep_octets.specs.Octets.{decimal_number}
 use Rattle.dep_octets.specs.declared.numbers.Number.{Number}
 use Rattle.dep_octets.specs.declared.numbers.Number.TheVariants.{NotDigits, Above, Value}
-use Rattle.dep_params.specs.Grammar.{IsDisposition, Reading, names_of, value_of}
+use Rattle.dep_params.specs.Grammar.{IsDisposition, DispositionValue, names_of, value_of}
 use Rattle.dep_params.specs.Names.{IsFileName}
 use Rattle.dep_fixity.specs.Fixity.{digest_field}
 use Rattle.dep_fixity.specs.declared.field.DigestList.{DigestList}
@@ -49,7 +49,7 @@ promised None = Some (record { sha256 = None })
 promised (Some text) = digest_field text
 
 -- an attachment with these flags
-pub record IsAttachment (reading : Reading) (metadata by_reference : Bool) : Type 0 where
+pub record IsAttachment (reading : DispositionValue) (metadata by_reference : Bool) : Type 0 where
   pub form : reading.form ≡ codes "attachment"
   pub metadata_is : flag (value_of (codes "metadata") reading) ≡ Some metadata
   pub by_reference_is : flag (value_of (codes "by-reference") reading) ≡ Some by_reference
@@ -61,24 +61,25 @@ opening_by (Some size) (Some count) (Some segment_size) (Some digest) =
 opening_by _ _ _ _ = None
 
 -- what the parameters say is to be opened
-abbrev pub opening_of : Reading → Option Opening
+abbrev pub opening_of : DispositionValue → Option Opening
 opening_of reading =
     opening_by (positive (value_of (codes "size") reading))
     (positive (value_of (codes "segment_count") reading))
-    (positive (value_of (codes "segment_size") reading)) (promised (value_of (codes "digest") reading))
+    (positive (value_of (codes "segment_size") reading))
+    (promised (value_of (codes "digest") reading))
 
 -- an opening, with what is to be opened
-pub record IsOpening (reading : Reading) (opening : Opening) : Type 0 where
+pub record IsOpening (reading : DispositionValue) (opening : Opening) : Type 0 where
   pub form : reading.form ≡ codes "segment-init"
   pub opening_is : opening_of reading ≡ Some opening
 
 -- which segment it is
-pub record IsSegment (reading : Reading) (segment : ℕ) : Type 0 where
+pub record IsSegment (reading : DispositionValue) (segment : ℕ) : Type 0 where
   pub form : reading.form ≡ codes "segment"
   pub segment_is : number (value_of (codes "segment_number") reading) ≡ Some segment
 
 -- the disposition is of this kind
-abbrev pub IsKindOf : Reading → Kind → Type 0
+abbrev pub IsKindOf : DispositionValue → Kind → Type 0
 IsKindOf reading (File name) = IsAttachment reading false false × IsFileName reading name
 IsKindOf reading Metadata = IsAttachment reading true false
 IsKindOf reading References = IsAttachment reading false true
@@ -87,7 +88,7 @@ IsKindOf reading (Segment n) = IsSegment reading n
 
 -- the text is a disposition of this kind, in which no name stands twice
 pub record IsKind (text : List ℕ) (kind : Kind) : Type 0 where
-  pub reading : Reading
+  pub reading : DispositionValue
   pub read : IsDisposition text reading
   pub distinct : IsDistinct bytes_eq (names_of reading)
   pub kind_is : IsKindOf reading kind
