@@ -11,8 +11,8 @@ use Rattle.dep_types.specs.Maps.{◌>>=◌, provided}
 use Rattle.dep_types.specs.State.{Texts}
 use Rattle.dep_types.specs.Names.{if_passes, is_good_name, is_kept_name, is_media}
 use Rattle.dep_types.specs.declared.config.Config.{Config}
-use Rattle.dep_params.specs.Grammar.{Reading, names_of}
-use Rattle.dep_params.specs.Told.{file_name_of, is_each_once, reading_of}
+use Rattle.dep_params.specs.Grammar.{DispositionValue, names_of}
+use Rattle.dep_params.specs.Told.{file_name_of, is_each_once, disposition_of}
 use Rattle.dep_params.proofs.Runs.{chosen}
 use Rattle.dep_params.proofs.ToldNames.{file_name-sound}
 use Rattle.dep_docs_in.specs.Documents.{attachment_name, default_media, digest_of, document, each_read, form_name, has_type, keep, kept_texts, length_of, media_in, media_of, metadata_read, name_of, not_empty, packaging_of, reference_in, references_read, target_of, text_under, texts_in}
@@ -85,7 +85,7 @@ kept-found (e ∷ entries) name texts all h = elim (slice_cmp nat_cmp name e.0) 
 
 -- ---- references
 
-name-fit : (r : Reading) (name : List ℕ) → attachment_name r ≡ Some name → IsTrue (is_good_name name)
+name-fit : (r : DispositionValue) (name : List ℕ) → attachment_name r ≡ Some name → IsTrue (is_good_name name)
 name-fit r name h =
     let once = provided_by (is_each_once (names_of r)) (form_name r) name h in
     let form = provided_by (bytes_eq r.form (codes "attachment")) (file_name_of r) name once.1 in
@@ -94,7 +94,7 @@ name-fit r name h =
 name_of-fit : (d : Data) (name : List ℕ) → name_of d ≡ Some name → IsTrue (is_good_name name)
 unfolding name_of
 name_of-fit d name h =
-    let reading = bound (text_under (codes "contentDisposition") d >>= reading_of) attachment_name name h in
+    let reading = bound (text_under (codes "contentDisposition") d >>= disposition_of) attachment_name name h in
     name-fit reading.0 name reading.2
 
 media_in-fit : (d : Data) (media : List ℕ) → media_in d ≡ Some media → IsTrue (is_media media)

@@ -2,9 +2,9 @@
 use Rattle.std.proofs.Common.{◌≡◌, ℕ, List, Bool, true, false, Option, Some, None, refl, ap, ◌∙◌, bytes_eq, codes}
 use Rattle.std.specs.List.{IsDistinct}
 use Rattle.dep_types.specs.Maps.{◌>>=◌, provided}
-use Rattle.dep_params.specs.Grammar.{IsDisposition, Reading, names_of}
+use Rattle.dep_params.specs.Grammar.{IsDisposition, DispositionValue, names_of}
 use Rattle.dep_params.specs.Names.{IsFileName}
-use Rattle.dep_params.specs.Told.{file_name_of, reading_of}
+use Rattle.dep_params.specs.Told.{file_name_of, disposition_of}
 use Rattle.dep_params.proofs.ToldReadings.{reading-sound, reading-complete, once-sound, once-complete}
 use Rattle.dep_params.proofs.ToldNames.{file_name-sound, file_name-complete}
 use Rattle.dep_docs_in.specs.Documents.{attachment_name, form_name}
@@ -18,31 +18,31 @@ none_of : {X : Type 0} (P : X → Type 0) (o : Option X) → ((x : X) → o ≡ 
 none_of P None sound none = refl
 none_of P (Some x) sound none = absurd (none x (sound x refl))
 
-pub form_name-is : (r : Reading) (name : List ℕ) → bytes_eq r.form (codes "attachment") ≡ true → IsFileName r name → form_name r ≡ Some name
+pub form_name-is : (r : DispositionValue) (name : List ℕ) → bytes_eq r.form (codes "attachment") ≡ true → IsFileName r name → form_name r ≡ Some name
 form_name-is r name form is = ap (λ b. provided b (file_name_of r)) form ∙ file_name-complete r name is
 
-pub no_form_name : (r : Reading) → ((name : List ℕ) → ¬ IsFileName r name) → form_name r ≡ None
+pub no_form_name : (r : DispositionValue) → ((name : List ℕ) → ¬ IsFileName r name) → form_name r ≡ None
 no_form_name r none = nothing _ _ (none_of (IsFileName r) (file_name_of r) (file_name-sound r) none)
 
-pub name-is : (o : Option (List ℕ)) (text : List ℕ) (r : Reading) → o ≡ Some text → IsDisposition text r → IsDistinct bytes_eq (names_of r)
-    → (o >>= reading_of >>= attachment_name) ≡ form_name r
+pub name-is : (o : Option (List ℕ)) (text : List ℕ) (r : DispositionValue) → o ≡ Some text → IsDisposition text r → IsDistinct bytes_eq (names_of r)
+    → (o >>= disposition_of >>= attachment_name) ≡ form_name r
 name-is o text r e is distinct =
-    ap (λ o. o >>= reading_of >>= attachment_name) e
+    ap (λ o. o >>= disposition_of >>= attachment_name) e
     ∙ ap (λ o. o >>= attachment_name) (reading-complete text r is)
     ∙ ap (λ b. provided b (form_name r)) (once-complete (names_of r) distinct)
 
-pub no_name : (o : Option (List ℕ)) (text : List ℕ) → o ≡ Some text → ((r : Reading) → ¬ IsDisposition text r) → (o >>= reading_of >>= attachment_name) ≡ None
+pub no_name : (o : Option (List ℕ)) (text : List ℕ) → o ≡ Some text → ((r : DispositionValue) → ¬ IsDisposition text r) → (o >>= disposition_of >>= attachment_name) ≡ None
 no_name o text e none =
-    ap (λ o. o >>= reading_of >>= attachment_name) e
-    ∙ ap (λ o. o >>= attachment_name) (none_of (IsDisposition text) (reading_of text) (reading-sound text) none)
+    ap (λ o. o >>= disposition_of >>= attachment_name) e
+    ∙ ap (λ o. o >>= attachment_name) (none_of (IsDisposition text) (disposition_of text) (reading-sound text) none)
 
 false_of : (b : Bool) → (b ≡ true → ⊥) → b ≡ false
 false_of true f = absurd (f refl)
 false_of false f = refl
 
-pub name_of_none : (o : Option (List ℕ)) (text : List ℕ) (r : Reading) → o ≡ Some text → IsDisposition text r → ¬ IsDistinct bytes_eq (names_of r)
-    → (o >>= reading_of >>= attachment_name) ≡ None
+pub name_of_none : (o : Option (List ℕ)) (text : List ℕ) (r : DispositionValue) → o ≡ Some text → IsDisposition text r → ¬ IsDistinct bytes_eq (names_of r)
+    → (o >>= disposition_of >>= attachment_name) ≡ None
 name_of_none o text r e is twice =
-    ap (λ o. o >>= reading_of >>= attachment_name) e
+    ap (λ o. o >>= disposition_of >>= attachment_name) e
     ∙ ap (λ o. o >>= attachment_name) (reading-complete text r is)
     ∙ ap (λ b. provided b (form_name r)) (false_of _ (λ once. twice (once-sound (names_of r) once)))

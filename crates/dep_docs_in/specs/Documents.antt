@@ -15,8 +15,8 @@ use Rattle.dep_types.specs.State.{Texts}
 use Rattle.dep_types.specs.Names.{if_passes, is_kept_name, is_media}
 use Rattle.dep_types.specs.Numbers.{number_in}
 use Rattle.dep_types.specs.declared.config.Config.{Config}
-use Rattle.dep_params.specs.Grammar.{Reading, names_of}
-use Rattle.dep_params.specs.Told.{file_name_of, is_each_once, reading_of}
+use Rattle.dep_params.specs.Grammar.{DispositionValue, names_of}
+use Rattle.dep_params.specs.Told.{file_name_of, is_each_once, disposition_of}
 use Rattle.dep_fixity.specs.Fixity.{digest_field}
 use Rattle.dep_fixity.specs.declared.field.DigestList.{DigestList}
 use Rattle.dep_docs_in.specs.declared.reference.Reference.{Reference}
@@ -29,7 +29,9 @@ document content = provided (is_utf8 content) (read content)
 
 -- `@type` is absent, or this
 abbrev pub has_type : List ℕ → Data → Bool
-has_type name d = option_map_or (λ t. option_map_or (bytes_eq name) (as_str t) false) (get (codes "@type") d) true
+has_type name d =
+    option_map_or (λ t. option_map_or (bytes_eq name) (as_str t) false)
+    (get (codes "@type") d) true
 
 -- what each item says, where each says something
 unfoldable pub each_read : {X : Type 0} → (Data → Option X) → Items → Option (List X)
@@ -98,15 +100,15 @@ unfoldable pub target_of : Config → Data → Option Pointed
 target_of config d = option_map (pointed_by config) (text_under (codes "@id") d >>= spelled)
 
 -- the file name of an attachment
-abbrev pub form_name : Reading → Option (List ℕ)
+abbrev pub form_name : DispositionValue → Option (List ℕ)
 form_name r = provided (bytes_eq r.form (codes "attachment")) (file_name_of r)
 
 -- in which no name of a parameter stands twice
-abbrev pub attachment_name : Reading → Option (List ℕ)
+abbrev pub attachment_name : DispositionValue → Option (List ℕ)
 attachment_name r = provided (is_each_once (names_of r)) (form_name r)
 
 unfoldable pub name_of : Data → Option (List ℕ)
-name_of d = text_under (codes "contentDisposition") d >>= reading_of >>= attachment_name
+name_of d = text_under (codes "contentDisposition") d >>= disposition_of >>= attachment_name
 
 abbrev pub media_in : Data → Option (List ℕ)
 media_in d = as_str d >>= if_passes is_media
@@ -128,7 +130,9 @@ abbrev pub none_promised : DigestList
 none_promised = record { sha256 = None }
 
 unfoldable pub digest_of : Data → Option DigestList
-digest_of d = option_map_or (λ t. option_and_then digest_field (as_str t)) (get (codes "digest") d) (Some none_promised)
+digest_of d =
+    option_map_or (λ t. option_and_then digest_field (as_str t))
+    (get (codes "digest") d) (Some none_promised)
 
 unfoldable pub reference_in : Config → Data → Option Reference
 reference_in config d = do
@@ -138,7 +142,14 @@ reference_in config d = do
   length ← length_of d
   packaging ← packaging_of d
   digest ← digest_of d
-  Some (record { target = target; name = name; media = media; length = length; packaging = packaging; digest = digest })
+  Some (record {
+    target = target;
+    name = name;
+    media = media;
+    length = length;
+    packaging = packaging;
+    digest = digest;
+  })
 
 abbrev pub not_empty : {X : Type 0} → List X → Option (List X)
 not_empty [] = None
@@ -148,6 +159,7 @@ not_empty (x ∷ xs) = Some (x ∷ xs)
 abbrev pub references_read : Config → List ℕ → Option (List Reference)
 references_read config content = do
   d ← document content
-  items ← provided (has_type (codes "ByReference") d) (get (codes "byReferenceFiles") d >>= as_array)
+  items ← provided (has_type (codes "ByReference") d)
+      (get (codes "byReferenceFiles") d >>= as_array)
   entries ← each_read (reference_in config) items
   not_empty entries

@@ -12,7 +12,7 @@ use std::alloc::Global;
 
 /// The value that a content is (RFC 8259), nested at most 127 deep. Of members with one name the last stays.
 #[tactic(auto, unfolding(crate::specs::Documents::document))]
-pub fn document(alloc: Global, content: &[u8]) -> Result<Value, DocFault>
+pub(crate) fn document(alloc: Global, content: &[u8]) -> Result<Value, DocFault>
     ensures { GivesBy view result (document content.now) }
 {
     match Value::from_slice(alloc, content) {
@@ -25,7 +25,7 @@ pub fn document(alloc: Global, content: &[u8]) -> Result<Value, DocFault>
 }
 
 /// Whether `@type` is absent, or this name.
-pub fn has_type(document: &Value, name: &str) -> bool
+pub(crate) fn has_type(document: &Value, name: &str) -> bool
     ensures { result ≡ has_type name.now (view document.now) }
 {
     match document.get("@type") {
@@ -44,7 +44,7 @@ fn is_text(value: &Value, text: &str) -> bool
 }
 
 /// The text of a member that is there and is a text.
-pub fn text_of<'a>(document: &'a Value, name: &str) -> Option<&'a str>
+pub(crate) fn text_of<'a>(document: &'a Value, name: &str) -> Option<&'a str>
     ensures { option_copied result ≡ text_under name.now (view document.now) }
 {
     document.get(name).and_then(Value::as_str)

@@ -43,7 +43,8 @@ fn kept(alloc: Global, members: &Map<String, Value>) -> Result<Metadata, DocFaul
 
 // Puts the texts of a member under its name, where it has some.
 fn keep(alloc: Global, metadata: &mut Metadata, name: &str, value: &Value) -> Result<(), DocFault>
-    ensures { GivesBy (λ _. metadata.new) result (option_map (λ texts. keep name.now texts metadata.old) (texts_in (view value.now))) }
+    ensures { GivesBy (λ _. metadata.new) result
+        (option_map (λ texts. keep name.now texts metadata.old) (texts_in (view value.now))) }
 {
     let texts = texts(alloc, value)?;
     if texts.as_slice().is_empty() {

@@ -45,7 +45,8 @@ pub fn read_references(
 }
 
 fn entries_in(alloc: Global, config: &Config, entries: &[Value]) -> Result<Vec<Reference>, DocFault>
-    ensures { GivesBy (λ references. references.items) result (each_read (reference_in config.now) (items_view entries.now)) }
+    ensures { GivesBy (λ references. references.items) result
+        (each_read (reference_in config.now) (items_view entries.now)) }
 {
     let mut references = Vec::new(alloc);
     for entry in entries {

@@ -87,3 +87,8 @@ object_item {old} {opened} {between} {new} {ms} b m e =
 pub text_of : {opened between closed : List Token} {ms : List (List ℕ × Data)}
     → Adds [] opened (Token.begin_object ∷ []) → AddsMembers opened between ms → Adds between closed (Token.end_object ∷ []) → print closed ≡ compact_text (document ms)
 text_of {opened} {between} {closed} {ms} b m e = ap print (object_between b m e).is ∙ print-outline (document ms)
+
+-- the same where its object is begun and ended in one go
+pub whole_text : {opened between : List Token} {ms : List (List ℕ × Data)}
+    → opened ≡ Token.begin_object ∷ [] → AddsMembers opened between ms → print (between ++ Token.end_object ∷ []) ≡ compact_text (document ms)
+whole_text {opened} {between} {ms} begun members = text_of (record { is = begun }) members (record { is = refl })

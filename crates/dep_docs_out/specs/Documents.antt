@@ -73,22 +73,31 @@ service_places config root staging =
     ∷ (codes "version", text (codes "http://purl.org/net/sword/3.0"))
     ∷ []
 
+abbrev pub service_members : Config → (root staging : List ℕ) → List (List ℕ × Data)
+service_members config root staging =
+    service_offers root ++ service_limits config ++ service_places config root staging
+
 -- what the server offers, and its limits
 unfoldable pub service_data : Config → Data
 service_data config =
-    let root = url config (codes "/service") in
-    let staging = url config (codes "/staging") in
-    document (service_offers root ++ service_limits config ++ service_places config root staging)
+    document (service_members config (url config (codes "/service")) (url config (codes "/staging")))
+
+-- what the log tells of a refusal
+abbrev pub log_of : Refusal → List ℕ
+log_of refusal = codes "refusal " ++ decimal (facts_of refusal).number
+
+abbrev pub error_members : Refusal → (log : List ℕ) (clock : ℕ) → List (List ℕ × Data)
+error_members refusal log clock =
+    context
+    ∷ (codes "@type", text (facts_of refusal).name)
+    ∷ (codes "error", text (facts_of refusal).text)
+    ∷ (codes "log", text log)
+    ∷ (codes "timestamp", text (rfc3339_text clock))
+    ∷ []
 
 -- why a request was refused, at this second
 unfoldable pub error_data : Refusal → (clock : ℕ) → Data
-error_data refusal clock = document
-    (context
-    ∷ (codes "@type", text (facts_of refusal).name)
-    ∷ (codes "error", text (facts_of refusal).text)
-    ∷ (codes "log", text (codes "refusal " ++ decimal (facts_of refusal).number))
-    ∷ (codes "timestamp", text (rfc3339_text clock))
-    ∷ [])
+error_data refusal clock = document (error_members refusal (log_of refusal) clock)
 
 -- what may be done with an object
 unfoldable pub actions_data : Data
@@ -198,18 +207,24 @@ texts_data ss = text_list ss
 abbrev pub texts_members : Texts → List (List ℕ × Data)
 texts_members texts = map (λ e. (e.0, texts_data e.1)) (finmap.entries texts)
 
+-- metadata under its URL, and without one
+abbrev pub placed_metadata : (place : List ℕ) → Texts → List (List ℕ × Data)
+placed_metadata place texts =
+    context
+    ∷ (codes "@id", text place)
+    ∷ (codes "@type", text (codes "Metadata"))
+    ∷ texts_members texts
+
+abbrev pub unplaced_metadata : Texts → List (List ℕ × Data)
+unplaced_metadata texts = context ∷ (codes "@type", text (codes "Metadata")) ∷ texts_members texts
+
 -- the metadata of the object of this number
 unfoldable pub metadata_data : Config → (n : ℕ) → Texts → Data
-metadata_data config n texts = document
-    (context
-    ∷ (codes "@id", text (metadata_url config n))
-    ∷ (codes "@type", text (codes "Metadata"))
-    ∷ texts_members texts)
+metadata_data config n texts = document (placed_metadata (metadata_url config n) texts)
 
 -- the same in a bag, where it has no URL
 unfoldable pub bag_metadata_data : Texts → Data
-bag_metadata_data texts =
-    document (context ∷ (codes "@type", text (codes "Metadata")) ∷ texts_members texts)
+bag_metadata_data texts = document (unplaced_metadata texts)
 
 -- the segments of an upload that are still to come, where these were received
 abbrev pub expecting : (count : ℕ) (received : List ℕ) → List ℕ
@@ -225,14 +240,19 @@ segments_data row received = document
     ∷ (codes "size", whole row.size)
     ∷ [])
 
--- an upload of which these segments were received
-unfoldable pub upload_data : Config → UploadRow → (received : List ℕ) → Data
-upload_data config row received = document
-    (context
-    ∷ (codes "@id", text (upload_url config row.upload))
+abbrev pub upload_members : (place : List ℕ) → UploadRow → (received : List ℕ)
+    → List (List ℕ × Data)
+upload_members place row received =
+    context
+    ∷ (codes "@id", text place)
     ∷ (codes "@type", text (codes "Temporary"))
     ∷ (codes "segments", segments_data row received)
-    ∷ [])
+    ∷ []
+
+-- an upload of which these segments were received
+unfoldable pub upload_data : Config → UploadRow → (received : List ℕ) → Data
+upload_data config row received =
+    document (upload_members (upload_url config row.upload) row received)
 
 abbrev pub service_document : Config → List ℕ
 service_document config = compact_text (service_data config)

@@ -1,5 +1,5 @@
 //! A document of JSON that is being written.
-ghost use Rattle.std.specs.Prelude.{◌≡◌, ◌∷◌, [], IfOk, OnOk, decimal};
+ghost use Rattle.std.specs.Prelude.{◌≡◌, ◌∷◌, ◌++◌, [], IfOk, OnOk, decimal};
 ghost use Rattle.json.specs.Token.{begin_object, end_object, begin_array, end_array, key};
 ghost use Rattle.json.specs.Print.{print};
 ghost use Rattle.serde_json.specs.Data.{boolean};
@@ -36,14 +36,15 @@ impl Model for Document {
 }
 
 impl Document {
-    /// Nothing as yet.
-    pub fn new(alloc: Global) -> Result<Self, AllocError>
-        ensures { IfOk result (λ document. document ≡ []) }
+    /// The beginning of an object.
+    pub fn begun(alloc: Global) -> Result<Document, AllocError>
+        ensures { IfOk result (λ document. document ≡ begin_object ∷ []) }
     {
-        let text = Vec::with_capacity(alloc, 1024)?;
-        Ok(Document {
-            out: Writer::new(text),
-        })
+        let mut document = Document {
+            out: Writer::new(Vec::with_capacity(alloc, 1024)?),
+        };
+        document.begin_object()?;
+        Ok(document)
     }
 
     /// Begins an object.
@@ -149,10 +150,11 @@ impl Document {
         self.end_list()
     }
 
-    /// The text of the document.
-    pub fn into_text(self) -> Vec<u8>
-        ensures { result.items ≡ print self }
+    /// The text of the document, once its object ends.
+    pub fn ended(mut self) -> Result<Vec<u8>, AllocError>
+        ensures { IfOk result (λ text. text.items ≡ print (self ++ end_object ∷ [])) }
     {
-        self.out.into_inner()
+        self.end_object()?;
+        Ok(self.out.into_inner())
     }
 }

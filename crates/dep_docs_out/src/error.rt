@@ -1,7 +1,7 @@
 //! The error document.
-ghost use Rattle.std.specs.Prelude.{◌≡◌, ◌++◌, IfOk, codes, decimal, string_bytes};
-ghost use Rattle.dep_types.specs.Refusals.{facts_of};
+ghost use Rattle.std.specs.Prelude.{◌≡◌, IfOk, OnOk, string_bytes};
 ghost use Rattle.dep_docs_out.specs.Documents as spec;
+ghost use Rattle.dep_docs_out.specs.Json.{AddsMembers};
 
 use crate::document::{CONTEXT, Document};
 use dep_moment::Moment;
@@ -14,21 +14,31 @@ pub fn error_doc(alloc: Global, refusal: Refusal, clock: Moment) -> Result<Vec<u
     ensures { IfOk result (λ bytes. bytes.items ≡ spec.error_document refusal clock) }
 {
     let log = log_text(alloc, refusal)?;
-    let mut document = Document::new(alloc)?;
-    document.begin_object()?;
+    let mut document = Document::begun(alloc)?;
+    add_error(&mut document, refusal, log.as_str(), clock)?;
+    document.ended()
+}
+
+// Why the request was refused, and what the log tells of it.
+fn add_error(
+    document: &mut Document,
+    refusal: Refusal,
+    log: &str,
+    clock: Moment,
+) -> Result<(), AllocError>
+    ensures { OnOk result
+        (AddsMembers document.old document.new (spec.error_members refusal log.now clock)) }
+{
     document.text("@context", CONTEXT)?;
     document.text("@type", refusal.name())?;
     document.text("error", refusal.text())?;
-    document.text("log", log.as_str())?;
-    document.moment("timestamp", clock)?;
-    document.end_object()?;
-    Ok(document.into_text())
+    document.text("log", log)?;
+    document.moment("timestamp", clock)
 }
 
 // The number of the refusal, as the log tells it.
 fn log_text(alloc: Global, refusal: Refusal) -> Result<String, AllocError>
-    ensures { IfOk result (λ text.
-        string_bytes text ≡ codes "refusal " ++ decimal (facts_of refusal).number) }
+    ensures { IfOk result (λ text. string_bytes text ≡ spec.log_of refusal) }
 {
     let mut text = String::from_str(alloc, "refusal ")?;
     let mut digits = Buffer::new();

@@ -21,27 +21,38 @@ pub fn metadata_doc(
         bytes.items ≡ spec.metadata_document config.now object metadata.now) }
 {
     let place = metadata_url(alloc, config, object)?;
-    let mut document = Document::new(alloc)?;
-    document.begin_object()?;
+    let mut document = Document::begun(alloc)?;
+    add_placed(&mut document, place.as_str(), metadata)?;
+    document.ended()
+}
+
+// The metadata of the object whose Metadata-URL this is.
+fn add_placed(document: &mut Document, place: &str, metadata: &Metadata) -> Result<(), AllocError>
+    ensures { OnOk result
+        (AddsMembers document.old document.new (spec.placed_metadata place.now metadata.now)) }
+{
     document.text("@context", CONTEXT)?;
-    document.text("@id", place.as_str())?;
+    document.text("@id", place)?;
     document.text("@type", "Metadata")?;
-    add_metadata(&mut document, metadata)?;
-    document.end_object()?;
-    Ok(document.into_text())
+    add_metadata(document, metadata)
 }
 
 /// The metadata document of an object as it stands in the object's bag, where it has no URL.
 pub fn bag_metadata_doc(alloc: Global, metadata: &Metadata) -> Result<Vec<u8>, AllocError>
     ensures { IfOk result (λ bytes. bytes.items ≡ spec.bag_metadata_document metadata.now) }
 {
-    let mut document = Document::new(alloc)?;
-    document.begin_object()?;
+    let mut document = Document::begun(alloc)?;
+    add_unplaced(&mut document, metadata)?;
+    document.ended()
+}
+
+fn add_unplaced(document: &mut Document, metadata: &Metadata) -> Result<(), AllocError>
+    ensures { OnOk result
+        (AddsMembers document.old document.new (spec.unplaced_metadata metadata.now)) }
+{
     document.text("@context", CONTEXT)?;
     document.text("@type", "Metadata")?;
-    add_metadata(&mut document, metadata)?;
-    document.end_object()?;
-    Ok(document.into_text())
+    add_metadata(document, metadata)
 }
 
 fn add_metadata(document: &mut Document, metadata: &Metadata) -> Result<(), AllocError>

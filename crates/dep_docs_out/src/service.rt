@@ -14,13 +14,23 @@ pub fn service_doc(alloc: Global, config: &Config) -> Result<Vec<u8>, AllocError
 {
     let root = url(alloc, config, "/service")?;
     let staging = url(alloc, config, "/staging")?;
-    let mut document = Document::new(alloc)?;
-    document.begin_object()?;
-    add_offers(&mut document, root.as_str())?;
-    add_limits(&mut document, config)?;
-    add_places(&mut document, config, root.as_str(), staging.as_str())?;
-    document.end_object()?;
-    Ok(document.into_text())
+    let mut document = Document::begun(alloc)?;
+    add_service(&mut document, config, root.as_str(), staging.as_str())?;
+    document.ended()
+}
+
+fn add_service(
+    document: &mut Document,
+    config: &Config,
+    root: &str,
+    staging: &str,
+) -> Result<(), AllocError>
+    ensures { OnOk result (AddsMembers document.old document.new
+        (spec.service_members config.now root.now staging.now)) }
+{
+    add_offers(document, root)?;
+    add_limits(document, config)?;
+    add_places(document, config, root, staging)
 }
 
 // What the server takes.

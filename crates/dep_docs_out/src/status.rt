@@ -14,13 +14,11 @@ use std::alloc::{AllocError, Global};
 pub fn status_doc(alloc: Global, config: &Config, view: &ObjectView) -> Result<Vec<u8>, AllocError>
     ensures { IfOk result (λ bytes. bytes.items ≡ spec.status_document config.now view.now) }
 {
-    let mut document = Document::new(alloc)?;
-    document.begin_object()?;
+    let mut document = Document::begun(alloc)?;
     add_object(&mut document, alloc, config, &view.object)?;
     add_links(&mut document, alloc, config, view)?;
     add_state(&mut document, alloc, config, &view.object)?;
-    document.end_object()?;
-    Ok(document.into_text())
+    document.ended()
 }
 
 // Where the object stands, what may be done with it, and its tags.

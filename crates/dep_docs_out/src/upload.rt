@@ -24,14 +24,27 @@ pub fn upload_doc(
         bytes.items ≡ spec.upload_document config.now upload.now received.now) }
 {
     let place = upload_url(alloc, config, upload.upload)?;
-    let mut document = Document::new(alloc)?;
-    document.begin_object()?;
+    let mut document = Document::begun(alloc)?;
+    add_upload(&mut document, place.as_str(), upload, received)?;
+    document.ended()
+}
+
+// The upload whose Temporary-URL this is.
+fn add_upload(
+    document: &mut Document,
+    place: &str,
+    upload: &UploadRow,
+    received: &[u64],
+) -> Result<(), AllocError>
+    requires first { All (λ k. 1 ≤ k) received.now }
+    requires rising { IsStrictlyIncreasing received.now }
+    ensures { OnOk result (AddsMembers document.old document.new
+        (spec.upload_members place.now upload.now received.now)) }
+{
     document.text("@context", CONTEXT)?;
-    document.text("@id", place.as_str())?;
+    document.text("@id", place)?;
     document.text("@type", "Temporary")?;
-    add_segments(&mut document, upload, received)?;
-    document.end_object()?;
-    Ok(document.into_text())
+    add_segments(document, upload, received)
 }
 
 // Which segments it waits for, and which it has.
