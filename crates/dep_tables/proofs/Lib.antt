@@ -9,3 +9,4 @@ pub mod UploadsTable
 pub mod SegmentsTable
 pub mod TimedOutTable
 pub mod BlocksTable
+pub mod Refused

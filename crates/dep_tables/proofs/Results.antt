@@ -1,5 +1,5 @@
 -- Facts on a result that is passed on.
-use Rattle.std.proofs.Common.{Result, Ok, Err, OnOk, OnErr, IfOk}
+use Rattle.std.proofs.Common.{Result, Ok, Err, OnOk, OnErr, IfOk, IfErr, IsErrAnd}
 
 pub ok_then : {A E P Q : Type 0} (r : Result A E) → OnOk r P → (P → Q) → OnOk r Q
 ok_then (Ok x) p f = f p
@@ -16,3 +16,7 @@ if_then (Err e) p f = tt
 pub if_failed : {A E P : Type 0} (r : Result A E) → P → OnErr r P
 if_failed (Ok x) p = tt
 if_failed (Err e) p = p
+
+pub err_then : {A E : Type 0} {P Q : E → Type 0} (r : Result A E) → IsErrAnd r P → ((e : E) → P e → Q e) → IfErr r Q
+err_then (Ok x) p f = tt
+err_then (Err e) p f = f e p

@@ -1,5 +1,5 @@
 -- What the clauses of the statements say of the states before and after.
-use Rattle.std.specs.Prelude.{◌≡◌, ◌⊎◌, ℕ, List, IsTrue, Result, Err, OnOk, OnErr, IfOk, IfErr, map}
+use Rattle.std.specs.Prelude.{◌≡◌, ◌⊎◌, ◌≤◌, ℕ, List, All, IsTrue, Result, Err, OnOk, OnErr, IfOk, IfErr, length, map}
 use Rattle.sqlite.specs.Order.{Row}
 use Rattle.sqlite.specs.declared.error.Error.{Error}
 use Rattle.sqlite.specs.State.{State, HasCleanDisk, KeepsCommit, IsUnchanged, IsRolledBack, Survives, ExecutesInside, FailsToQuery, IsTooLate, Shown}
@@ -7,18 +7,20 @@ use Rattle.sqlite.specs.Given.{IsPlain}
 use Rattle.sqlite.specs.Listing.{understood}
 use Rattle.dep_statements.specs.Rows.{columns_from}
 use Rattle.dep_types.specs.declared.store_fault.StoreFault.{StoreFault}
-use Rattle.dep_types.specs.declared.store_fault.StoreFault.TheVariants.{Store}
+use Rattle.dep_types.specs.declared.store_fault.StoreFault.TheVariants.{Store, Memory}
 use Rattle.dep_tables.specs.Faults.{fault_for}
 use Rattle.dep_tables.specs.Tables.{Tables, tables_of, IsOurs, Leads}
 
 module _ {A E : Type 0} (old new : State) (result : Result A E) where
   -- inside a transaction over our tables, an Ok makes this of them
   abbrev pub Changes : (Tables → Tables) → Type 0
-  Changes change = HasCleanDisk new → IsTrue old.in_transaction → IsOurs old → OnOk result (Leads old new (change (tables_of old)))
+  Changes change = HasCleanDisk new → IsTrue old.in_transaction → IsOurs old
+      → OnOk result (Leads old new (change (tables_of old)))
 
   -- there an Ok tells this of what they were
   abbrev pub Shows : (Tables → Type 0) → Type 0
-  Shows told = HasCleanDisk new → IsTrue old.in_transaction → IsOurs old → OnOk result (told (tables_of old))
+  Shows told = HasCleanDisk new → IsTrue old.in_transaction → IsOurs old
+      → OnOk result (told (tables_of old))
 
   -- what is read of our tables
   abbrev pub Reads : (Tables → A → Type 0) → Type 0
@@ -30,11 +32,13 @@ module _ {A E : Type 0} (old new : State) (result : Result A E) where
 
   -- a failure has done nothing, or has ended the transaction as it began
   abbrev pub FailsWhole : Type 0
-  FailsWhole = HasCleanDisk new → IsTrue old.in_transaction → IsTrue new.is_open → OnErr result (IsUnchanged old new ⊎ IsRolledBack old new)
+  FailsWhole = HasCleanDisk new → IsTrue old.in_transaction → IsTrue new.is_open
+      → OnErr result (IsUnchanged old new ⊎ IsRolledBack old new)
 
   -- the same of a function that reads our tables
   abbrev pub FailsReading : Type 0
-  FailsReading = HasCleanDisk new → IsTrue old.in_transaction → IsOurs old → IsTrue new.is_open → OnErr result (IsUnchanged old new ⊎ IsRolledBack old new)
+  FailsReading = HasCleanDisk new → IsTrue old.in_transaction → IsOurs old → IsTrue new.is_open
+      → OnErr result (IsUnchanged old new ⊎ IsRolledBack old new)
 
   -- after an Ok the transaction goes on
   abbrev pub GoesOn : Type 0
@@ -51,19 +55,32 @@ module _ (old new : State) where
 
 -- the statement of this text was run, and its error is told by this fault
 abbrev pub FailsToRun : List ℕ → Row → State → State → StoreFault → Type 0
-FailsToRun sql params old new fault = (e : Error) × ExecutesInside 0 sql params old new (Err e) × (fault ≡ fault_for e)
+FailsToRun sql params old new fault =
+    (e : Error) × ExecutesInside 0 sql params old new (Err e) × (fault ≡ fault_for e)
 
 -- the query of this text was asked, and its error is told by this fault
 abbrev pub FailsToAsk : List ℕ → Row → State → State → StoreFault → Type 0
-FailsToAsk sql params old new fault = (e : Error) × (FailsToQuery sql params old new e ⊎ IsTooLate sql params old new e) × (fault ≡ fault_for e)
+FailsToAsk sql params old new fault =
+    (e : Error) × (FailsToQuery sql params old new e ⊎ IsTooLate sql params old new e)
+    × (fault ≡ fault_for e)
 
--- the same, or a row that it showed was not read
-abbrev pub FailsToRead : List ℕ → Row → State → State → StoreFault → Type 0
-FailsToRead sql params old new fault = FailsToAsk sql params old new fault ⊎ ((rows : List Row) × Shown sql params old new rows)
+-- each row is one of these, and there is one at most; there is just one
+abbrev pub AtMostOne : (Row → Type 0) → List Row → Type 0
+AtMostOne is_ours rows = All is_ours rows × (length rows ≤ 1)
+
+abbrev pub JustOne : (Row → Type 0) → List Row → Type 0
+JustOne is_ours rows = All is_ours rows × (length rows ≡ 1)
+
+-- The same, or it showed rows: where these are ours, the fault is want of memory.
+abbrev pub FailsToRead : (List Row → Type 0) → List ℕ → Row → State → State → StoreFault → Type 0
+FailsToRead are_ours sql params old new fault =
+    FailsToAsk sql params old new fault
+    ⊎ ((rows : List Row) × Shown sql params old new rows × (are_ours rows → fault ≡ Memory))
 
 -- the query of this text showed rows, whose first columns are these values
 abbrev pub ShowsColumns : List ℕ → Row → State → State → ℕ → List Row → Type 0
-ShowsColumns sql params old new width values = (rows : List Row) × Shown sql params old new rows × (values ≡ map (columns_from 0 width) rows)
+ShowsColumns sql params old new width values =
+    (rows : List Row) × Shown sql params old new rows × (values ≡ map (columns_from 0 width) rows)
 
 -- the text is a query with no RETURNING and no clock
 abbrev pub IsPlainIn : State → List ℕ → Type 0
@@ -76,8 +93,10 @@ module _ {A : Type 0} (old new : State) (result : Result A StoreFault) where
 
   -- Where all are, only the statement fails.
   abbrev pub FailsByRunning : Type 0 → List ℕ → Row → Type 0
-  FailsByRunning storable sql params = storable → HasCleanDisk new → IsTrue old.in_transaction → IfErr result (FailsToRun sql params old new)
+  FailsByRunning storable sql params = storable → HasCleanDisk new → IsTrue old.in_transaction
+      → IfErr result (FailsToRun sql params old new)
 
-  -- the same of a query
-  abbrev pub FailsByReading : Type 0 → List ℕ → Row → Type 0
-  FailsByReading storable sql params = storable → HasCleanDisk new → IfErr result (FailsToRead sql params old new)
+  -- the same of a query, which does not fail at rows of ours either, but for memory
+  abbrev pub FailsByReading : Type 0 → List ℕ → Row → (List Row → Type 0) → Type 0
+  FailsByReading storable sql params are_ours = storable → HasCleanDisk new
+      → IfErr result (FailsToRead are_ours sql params old new)

@@ -59,7 +59,9 @@ abbrev pub LacksMetadataRow : MetadataRow → Tables → Type 0
 LacksMetadataRow row t = list_any (has_metadata_key row) t.metadata ≡ false
 
 abbrev pub AreMetadataRowsOf : ℕ → Tables → List MetadataRow → Type 0
-AreMetadataRowsOf object t found = InOrder by_name_and_place (map shown_metadata (filter (has_number 1 object) t.metadata)) (map metadata_values found)
+AreMetadataRowsOf object t found =
+    InOrder by_name_and_place (map shown_metadata (filter (has_number 1 object) t.metadata))
+    (map metadata_values found)
 
 -- ---- files
 
@@ -113,7 +115,9 @@ abbrev pub LacksSegmentRow : SegmentRow → Tables → Type 0
 LacksSegmentRow row t = list_any (has_segment_key row) t.segments ≡ false
 
 abbrev pub AreSegmentRowsOf : ℕ → Tables → List SegmentRow → Type 0
-AreSegmentRowsOf upload t found = InOrder by_number (map shown_segment (filter (has_number 1 upload) t.segments)) (map segment_values found)
+AreSegmentRowsOf upload t found =
+    InOrder by_number (map shown_segment (filter (has_number 1 upload) t.segments))
+    (map segment_values found)
 
 -- ---- timed_out
 
@@ -136,7 +140,9 @@ without_blocks_of owner t = record t { blocks = filter (λ r. not (is_block_of o
 
 -- the blocks of one part of an upload are a file's
 abbrev pub with_part_moved : ℕ → ℕ → ℕ → Tables → Tables
-with_part_moved upload part file t = record t { blocks = map (λ r. if is_part_of (Upload upload) part r then moved_to (File file) r else r) t.blocks }
+with_part_moved upload part file t = record t {
+  blocks = map (λ r. if is_part_of (Upload upload) part r then moved_to (File file) r else r) t.blocks;
+}
 
 abbrev pub LacksBlock : BlockKey → Tables → Type 0
 LacksBlock key t = list_any (is_block key) t.blocks ≡ false
@@ -145,4 +151,6 @@ abbrev pub AreBytesAt : BlockKey → Tables → List Value → Type 0
 AreBytesAt key t found = map bytes_in (filter (is_block key) t.blocks) ≡ found
 
 abbrev pub IsBlockAfter : BlockKey → Tables → Option BlockPlace → Type 0
-IsBlockAfter key t found = IsFirst by_part_and_place (map shown_place (filter (is_later_block key) t.blocks)) (map place_values (option_to_list found))
+IsBlockAfter key t found =
+    IsFirst by_part_and_place (map shown_place (filter (is_later_block key) t.blocks))
+    (map place_values (option_to_list found))

@@ -1,4 +1,5 @@
 -- The fault of the store that stands for an error.
+use Rattle.std.specs.Prelude.{◌≡◌}
 use Rattle.sqlite.specs.declared.error.Error.{Error}
 use Rattle.sqlite.specs.declared.error.Error.TheVariants.{SqliteFailure}
 use Rattle.sqlite.specs.declared.error.ErrorCode.TheVariants.{OutOfMemory}
@@ -8,3 +9,7 @@ use Rattle.dep_types.specs.declared.store_fault.StoreFault.TheVariants.{Store, M
 abbrev pub fault_for : Error → StoreFault
 fault_for (SqliteFailure OutOfMemory) = Memory
 fault_for _ = Store
+
+-- where this holds, the error is want of memory
+abbrev pub IsMemoryWhere : Type 0 → Error → Type 0
+IsMemoryWhere good e = good → fault_for e ≡ Memory

@@ -1,5 +1,6 @@
 -- Rows of the tables as they are stored, where the column of a key is NULL, and as they are given and shown.
-use Rattle.std.specs.Prelude.{ℕ, ◌<◌, ◌^◌, pos, Bool, if◌then◌else◌, ◌&&◌, ◌||◌, List, [], ◌∷◌}
+-- Is..Row says that a row is what a query shows of one that was given.
+use Rattle.std.specs.Prelude.{◌≡◌, ◌⊎◌, ℕ, ◌<◌, ◌^◌, pos, Bool, if◌then◌else◌, ◌&&◌, ◌||◌, List, [], ◌∷◌, length, IfSome, IsUtf8}
 use Rattle.std.specs.declared.cmp.Ordering.{Ordering}
 use Rattle.std.specs.Ordering.{ordering_then, is_eq}
 use Rattle.sqlite.specs.declared.types.Value.{Value}
@@ -19,8 +20,27 @@ use Rattle.dep_tables.specs.declared.owner.BlockOwner.TheVariants.{File, Upload}
 use Rattle.dep_tables.specs.declared.owner.BlockKey.{BlockKey}
 use Rattle.dep_tables.specs.declared.owner.BlockPlace.{BlockPlace}
 
+-- the row has such a value in this column
+abbrev pub HasAt : (Value → Type 0) → Row → ℕ → Type 0
+HasAt is_ours row at = (at < length row) × is_ours (column row at)
+
+abbrev pub IsNumberValue : Value → Type 0
+IsNumberValue v = (n : ℕ) × (v ≡ Int (pos n))
+
+abbrev pub IsTextValue : Value → Type 0
+IsTextValue v = (t : List ℕ) × (v ≡ Text t) × IsUtf8 t
+
+abbrev pub IsDigestValue : Value → Type 0
+IsDigestValue v = (b : List ℕ) × (v ≡ Blob b) × (length b ≡ 32)
+
+abbrev pub IsNullOr : (Value → Type 0) → Value → Type 0
+IsNullOr is_ours v = (v ≡ Null) ⊎ is_ours v
+
 abbrev pub flag : Bool → Value
 flag b = Int (pos (if b then 1 else 0))
+
+abbrev pub IsFlagValue : Value → Type 0
+IsFlagValue v = (b : Bool) × (v ≡ flag b)
 
 -- ---- format
 
@@ -31,7 +51,9 @@ stored_format version = Int (pos 1) ∷ Null ∷ Int (pos version) ∷ []
 -- ---- state
 
 abbrev pub state_values : StateRow → Row
-state_values r = Int (pos r.clock) ∷ Int (pos r.next.object) ∷ Int (pos r.next.file) ∷ Int (pos r.next.upload) ∷ Int (pos r.next.change) ∷ []
+state_values r =
+    Int (pos r.clock) ∷ Int (pos r.next.object) ∷ Int (pos r.next.file) ∷ Int (pos r.next.upload)
+    ∷ Int (pos r.next.change) ∷ []
 
 abbrev pub stored_state : StateRow → Row
 stored_state r = Int (pos 1) ∷ Null ∷ state_values r
@@ -48,10 +70,16 @@ pub record IsStorableState (r : StateRow) : Type 0 where
   pub upload : r.next.upload < 2 ^ 63
   pub change : r.next.change < 2 ^ 63
 
+pub record IsStateRow (row : Row) : Type 0 where
+  pub given : StateRow
+  pub is : row ≡ state_values given
+
 -- ---- objects
 
 abbrev pub object_columns : ObjectRow → Row
-object_columns r = flag r.ingested ∷ Int (pos r.object_tag) ∷ Int (pos r.metadata_tag) ∷ Int (pos r.files_tag) ∷ Int (pos r.changed) ∷ []
+object_columns r =
+    flag r.ingested ∷ Int (pos r.object_tag) ∷ Int (pos r.metadata_tag) ∷ Int (pos r.files_tag)
+    ∷ Int (pos r.changed) ∷ []
 
 abbrev pub object_values : ObjectRow → Row
 object_values r = Int (pos r.object) ∷ object_columns r
@@ -69,6 +97,10 @@ pub record IsStorableObject (r : ObjectRow) : Type 0 where
   pub files_tag : r.files_tag < 2 ^ 63
   pub changed : r.changed < 2 ^ 63
 
+pub record IsObjectRow (row : Row) : Type 0 where
+  pub given : ObjectRow
+  pub is : row ≡ object_values given
+
 -- ---- metadata
 
 -- the table has no column for its rowid
@@ -84,17 +116,26 @@ by_name_and_place a b = ordering_then (value_cmp (column a 1) (column b 1)) (val
 
 -- the stored row has this one's object, name and place
 abbrev pub has_metadata_key : MetadataRow → Row → Bool
-has_metadata_key r stored = has_number 1 r.object stored && is_eq (value_cmp (column stored 2) (Text r.name)) && has_number 3 r.place stored
+has_metadata_key r stored =
+    has_number 1 r.object stored && is_eq (value_cmp (column stored 2) (Text r.name))
+    && has_number 3 r.place stored
 
 pub record IsStorableMetadata (r : MetadataRow) : Type 0 where
   pub object : r.object < 2 ^ 63
   pub place : r.place < 2 ^ 63
 
+pub record IsMetadataRow (row : Row) : Type 0 where
+  pub given : MetadataRow
+  pub name : IsUtf8 given.name
+  pub value : IsUtf8 given.value
+  pub is : row ≡ metadata_values given
+
 -- ---- files
 
 abbrev pub file_columns : FileRow → Row
 file_columns r =
-    Int (pos r.object) ∷ Text r.name ∷ Text r.media ∷ Int (pos r.size) ∷ Int (pos r.tag) ∷ Int (pos r.deposited) ∷ or_null Text r.behalf ∷ flag r.by_reference ∷ Blob r.sha256 ∷ []
+    Int (pos r.object) ∷ Text r.name ∷ Text r.media ∷ Int (pos r.size) ∷ Int (pos r.tag)
+    ∷ Int (pos r.deposited) ∷ or_null Text r.behalf ∷ flag r.by_reference ∷ Blob r.sha256 ∷ []
 
 abbrev pub file_values : FileRow → Row
 file_values r = Int (pos r.file) ∷ file_columns r
@@ -112,10 +153,20 @@ pub record IsStorableFile (r : FileRow) : Type 0 where
   pub tag : r.tag < 2 ^ 63
   pub deposited : r.deposited < 2 ^ 63
 
+pub record IsFileRow (row : Row) : Type 0 where
+  pub given : FileRow
+  pub name : IsUtf8 given.name
+  pub media : IsUtf8 given.media
+  pub behalf : IfSome given.behalf IsUtf8
+  pub sha256 : length given.sha256 ≡ 32
+  pub is : row ≡ file_values given
+
 -- ---- uploads
 
 abbrev pub upload_columns : UploadRow → Row
-upload_columns r = Int (pos r.size) ∷ Int (pos r.count) ∷ Int (pos r.segment_size) ∷ or_null Blob r.sha256 ∷ Int (pos r.last) ∷ []
+upload_columns r =
+    Int (pos r.size) ∷ Int (pos r.count) ∷ Int (pos r.segment_size) ∷ or_null Blob r.sha256
+    ∷ Int (pos r.last) ∷ []
 
 abbrev pub upload_values : UploadRow → Row
 upload_values r = Int (pos r.upload) ∷ upload_columns r
@@ -132,6 +183,11 @@ pub record IsStorableUpload (r : UploadRow) : Type 0 where
   pub count : r.count < 2 ^ 63
   pub segment_size : r.segment_size < 2 ^ 63
   pub last : r.last < 2 ^ 63
+
+pub record IsUploadRow (row : Row) : Type 0 where
+  pub given : UploadRow
+  pub sha256 : IfSome given.sha256 (λ digest. length digest ≡ 32)
+  pub is : row ≡ upload_values given
 
 -- ---- segments
 
@@ -153,11 +209,20 @@ pub record IsStorableSegment (r : SegmentRow) : Type 0 where
   pub number : r.number < 2 ^ 63
   pub size : r.size < 2 ^ 63
 
+pub record IsSegmentRow (row : Row) : Type 0 where
+  pub given : SegmentRow
+  pub is : row ≡ segment_values given
+
 -- ---- timed_out
 
 -- a number with nothing beside it
 abbrev pub stored_number : ℕ → Row
 stored_number n = Int (pos n) ∷ Null ∷ []
+
+-- a number alone
+pub record IsNumberRow (row : Row) : Type 0 where
+  pub given : ℕ
+  pub is : row ≡ Int (pos given) ∷ []
 
 -- ---- blocks
 
@@ -177,14 +242,20 @@ abbrev pub part_values : BlockOwner → ℕ → Row
 part_values o part = Int (pos (kind_of o)) ∷ Int (pos (number_of o)) ∷ Int (pos part) ∷ []
 
 abbrev pub key_values : BlockKey → Row
-key_values k = Int (pos (kind_of k.owner)) ∷ Int (pos (number_of k.owner)) ∷ Int (pos k.at.part) ∷ Int (pos k.at.place) ∷ []
+key_values k =
+    Int (pos (kind_of k.owner)) ∷ Int (pos (number_of k.owner)) ∷ Int (pos k.at.part)
+    ∷ Int (pos k.at.place) ∷ []
 
 abbrev pub block_values : BlockKey → List ℕ → Row
-block_values k bytes = Int (pos (kind_of k.owner)) ∷ Int (pos (number_of k.owner)) ∷ Int (pos k.at.part) ∷ Int (pos k.at.place) ∷ Blob bytes ∷ []
+block_values k bytes =
+    Int (pos (kind_of k.owner)) ∷ Int (pos (number_of k.owner)) ∷ Int (pos k.at.part)
+    ∷ Int (pos k.at.place) ∷ Blob bytes ∷ []
 
 -- the blocks of this part of an upload, and the file that they are moved to
 abbrev pub move_values : ℕ → ℕ → ℕ → Row
-move_values upload part file = Int (pos (kind_of (Upload upload))) ∷ Int (pos upload) ∷ Int (pos part) ∷ Int (pos (kind_of (File file))) ∷ Int (pos file) ∷ []
+move_values upload part file =
+    Int (pos (kind_of (Upload upload))) ∷ Int (pos upload) ∷ Int (pos part)
+    ∷ Int (pos (kind_of (File file))) ∷ Int (pos file) ∷ []
 
 abbrev pub place_values : BlockPlace → Row
 place_values p = Int (pos p.part) ∷ Int (pos p.place) ∷ []
@@ -198,6 +269,15 @@ shown_place = columns_from 3 2
 
 abbrev pub bytes_in : Row → Value
 bytes_in stored = column stored 5
+
+pub record IsPlaceRow (row : Row) : Type 0 where
+  pub given : BlockPlace
+  pub is : row ≡ place_values given
+
+-- bytes alone
+pub record IsBytesRow (row : Row) : Type 0 where
+  pub given : List ℕ
+  pub is : row ≡ Blob given ∷ []
 
 -- by part and place, of rows as they are shown
 abbrev pub by_part_and_place : Row → Row → Ordering
@@ -215,7 +295,10 @@ is_block k stored = is_part_of k.owner k.at.part stored && has_number 4 k.at.pla
 
 -- a block of the same owner that comes later
 abbrev pub is_later_block : BlockKey → Row → Bool
-is_later_block k stored = is_block_of k.owner stored && (exceeds_number 3 k.at.part stored || has_number 3 k.at.part stored && exceeds_number 4 k.at.place stored)
+is_later_block k stored =
+    is_block_of k.owner stored
+    && (exceeds_number 3 k.at.part stored
+    || has_number 3 k.at.part stored && exceeds_number 4 k.at.place stored)
 
 -- the block with another owner
 abbrev pub moved_to : BlockOwner → Row → Row

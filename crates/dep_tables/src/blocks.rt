@@ -5,13 +5,13 @@ ghost use Rattle.std.specs.Option.{option_to_list};
 ghost use Rattle.sqlite.specs.declared.types.Value.TheVariants.{Int, Blob};
 ghost use Rattle.sqlite.specs.Held.{state};
 ghost use Rattle.sqlite.specs.Values.{bound};
-ghost use Rattle.dep_tables.specs.Rows.{IsStorableOwner, owner_values, IsStorableKey, key_values, block_values, move_values, place_values};
+ghost use Rattle.dep_tables.specs.Rows.{IsStorableOwner, owner_values, IsStorableKey, key_values, block_values, move_values, place_values, IsBytesRow, IsPlaceRow};
 ghost use Rattle.dep_tables.specs.Edits.{with_new_block, without_blocks_of, with_part_moved, LacksBlock, AreBytesAt, IsBlockAfter};
-ghost use Rattle.dep_tables.specs.Clauses.{Changes, Shows, Reads, ReadsOnly, FailsWhole, FailsReading, GoesOn, StaysInside, CommitsNothing, RefusesNumbers, FailsByRunning, FailsByReading};
+ghost use Rattle.dep_tables.specs.Clauses.{AtMostOne, Changes, Shows, Reads, ReadsOnly, FailsWhole, FailsReading, GoesOn, StaysInside, CommitsNothing, RefusesNumbers, FailsByRunning, FailsByReading};
 ghost use Rattle.dep_tables.specs.Texts.{insert_block_text, delete_blocks_text, move_part_text, read_block_text, next_block_text};
 
 use crate::calls::run;
-use crate::numbers::LIMIT;
+use crate::numbers::{LIMIT, number_at};
 use crate::owner::{
     BlockKey, BlockOwner, BlockPlace, is_storable_key, is_storable_owner, key_params, owner_params,
     part_params,
@@ -126,27 +126,33 @@ pub fn move_part<S: Alter>(
 }
 
 impl FromRow for BlockPlace {
-    ghost use Rattle.dep_tables.specs.Rows.{place_values};
+    ghost use Rattle.dep_tables.specs.Rows.{place_values, IsPlaceRow};
 
     ghost width = { 2 };
 
     ghost values = { place_values };
 
+    ghost is_ours = { IsPlaceRow };
+
+    #[tactic(auto, using(crate::proofs::Refused::place_row))]
     fn from_row(row: &Row) -> Result<BlockPlace, Error> {
         Ok(BlockPlace {
-            part: row.get(0)?,
-            place: row.get(1)?,
+            part: number_at(row, 0)?,
+            place: number_at(row, 1)?,
         })
     }
 }
 
 impl FromRow for Vec<u8> {
+    ghost use Rattle.dep_tables.specs.Rows.{IsBytesRow};
     ghost use Rattle.std.specs.Prelude.{◌∷◌, []};
     ghost use Rattle.sqlite.specs.declared.types.Value.TheVariants.{Blob};
 
     ghost width = { 1 };
 
     ghost values = { λ bytes. Blob bytes.items ∷ [] };
+
+    ghost is_ours = { IsBytesRow };
 
     fn from_row(row: &Row) -> Result<Vec<u8>, Error> {
         row.get(0)
@@ -164,7 +170,7 @@ pub fn read_block<S: Alter>(
     ensures numbers { RefusesNumbers (state S.Store tx.old.conn.now) (state S.Store tx.new.conn.now) result
         (IsStorableKey key.now) }
     ensures cause { FailsByReading (state S.Store tx.old.conn.now) (state S.Store tx.new.conn.now) result
-        (IsStorableKey key.now) read_block_text (key_values key.now) }
+        (IsStorableKey key.now) read_block_text (key_values key.now) (AtMostOne IsBytesRow) }
     ensures err { FailsReading (state S.Store tx.old.conn.now) (state S.Store tx.new.conn.now) result }
     ensures inside { GoesOn (state S.Store tx.old.conn.now) (state S.Store tx.new.conn.now) result }
     ensures kept { StaysInside (state S.Store tx.old.conn.now) (state S.Store tx.new.conn.now) }
@@ -191,7 +197,7 @@ pub fn next_block<S: Alter>(
     ensures numbers { RefusesNumbers (state S.Store tx.old.conn.now) (state S.Store tx.new.conn.now) result
         (IsStorableKey after.now) }
     ensures cause { FailsByReading (state S.Store tx.old.conn.now) (state S.Store tx.new.conn.now) result
-        (IsStorableKey after.now) next_block_text (key_values after.now) }
+        (IsStorableKey after.now) next_block_text (key_values after.now) (AtMostOne IsPlaceRow) }
     ensures err { FailsReading (state S.Store tx.old.conn.now) (state S.Store tx.new.conn.now) result }
     ensures inside { GoesOn (state S.Store tx.old.conn.now) (state S.Store tx.new.conn.now) result }
     ensures kept { StaysInside (state S.Store tx.old.conn.now) (state S.Store tx.new.conn.now) }

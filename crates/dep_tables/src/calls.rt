@@ -21,7 +21,8 @@ pub fn run<S: Alter>(
         → OnOk result ((count : ℕ) × ExecutesInside 0 sql.now (bound params.now)
         (state S.Store tx.old.conn.now) (state S.Store tx.new.conn.now) (Ok count)) }
     ensures cause { HasCleanDisk (state S.Store tx.new.conn.now) → IsTrue (state S.Store tx.old.conn.now).in_transaction
-        → IfErr result (FailsToRun sql.now (bound params.now) (state S.Store tx.old.conn.now) (state S.Store tx.new.conn.now)) }
+        → IfErr result (FailsToRun sql.now (bound params.now)
+        (state S.Store tx.old.conn.now) (state S.Store tx.new.conn.now)) }
     ensures err { FailsWhole (state S.Store tx.old.conn.now) (state S.Store tx.new.conn.now) result }
     ensures inside { GoesOn (state S.Store tx.old.conn.now) (state S.Store tx.new.conn.now) result }
     ensures kept { StaysInside (state S.Store tx.old.conn.now) (state S.Store tx.new.conn.now) }
@@ -44,7 +45,8 @@ pub(crate) fn ask<S: Alter>(
         → IfOk result (λ rows. Shown sql.now (bound params.now)
         (state S.Store tx.old.conn.now) (state S.Store tx.new.conn.now) rows.items) }
     ensures cause { HasCleanDisk (state S.Store tx.new.conn.now)
-        → IfErr result (FailsToAsk sql.now (bound params.now) (state S.Store tx.old.conn.now) (state S.Store tx.new.conn.now)) }
+        → IfErr result (FailsToAsk sql.now (bound params.now)
+        (state S.Store tx.old.conn.now) (state S.Store tx.new.conn.now)) }
     ensures err { FailsWhole (state S.Store tx.old.conn.now) (state S.Store tx.new.conn.now) result }
     ensures inside { GoesOn (state S.Store tx.old.conn.now) (state S.Store tx.new.conn.now) result }
     ensures kept { StaysInside (state S.Store tx.old.conn.now) (state S.Store tx.new.conn.now) }

@@ -1,16 +1,16 @@
 //! The rows of the files.
 
-ghost use Rattle.std.specs.Prelude.{◌≡◌, ◌↔◌, pos, IsTrue, ◌<◌, ◌^◌, ◌∷◌, []};
+ghost use Rattle.std.specs.Prelude.{All, ◌≡◌, ◌↔◌, pos, IsTrue, ◌<◌, ◌^◌, ◌∷◌, []};
 ghost use Rattle.sqlite.specs.declared.types.Value.TheVariants.{Int};
 ghost use Rattle.sqlite.specs.Held.{state};
 ghost use Rattle.sqlite.specs.Values.{bound};
-ghost use Rattle.dep_tables.specs.Rows.{IsStorableFile, file_values};
+ghost use Rattle.dep_tables.specs.Rows.{IsStorableFile, file_values, IsFileRow};
 ghost use Rattle.dep_tables.specs.Edits.{with_new_file_row, without_file_row, without_file_rows, LacksFileRow, IsFileRowAt, AreFileRowsOf};
-ghost use Rattle.dep_tables.specs.Clauses.{Changes, Shows, Reads, ReadsOnly, FailsWhole, FailsReading, GoesOn, StaysInside, CommitsNothing, RefusesNumbers, FailsByRunning, FailsByReading};
+ghost use Rattle.dep_tables.specs.Clauses.{AtMostOne, Changes, Shows, Reads, ReadsOnly, FailsWhole, FailsReading, GoesOn, StaysInside, CommitsNothing, RefusesNumbers, FailsByRunning, FailsByReading};
 ghost use Rattle.dep_tables.specs.Texts.{insert_file_text, delete_file_text, delete_files_text, find_file_text, files_of_text};
 
 use crate::calls::run;
-use crate::numbers::{LIMIT, flag_at, flag_number, key_param, number};
+use crate::numbers::{LIMIT, flag_at, flag_number, key_param, number, number_at};
 use crate::reading::{FromRow, ask_all, ask_one};
 use crate::texts::{digest_at, text_at, text_or_null, text_or_null_at, text_value};
 use dep_types::{FileRow, StoreFault};
@@ -117,21 +117,24 @@ pub fn delete_files<S: Alter>(tx: &mut Transaction<'_, S>, object: u64) -> Resul
 }
 
 impl FromRow for FileRow {
-    ghost use Rattle.dep_tables.specs.Rows.{file_values};
+    ghost use Rattle.dep_tables.specs.Rows.{file_values, IsFileRow};
 
     ghost width = { 10 };
 
     ghost values = { file_values };
 
+    ghost is_ours = { IsFileRow };
+
+    #[tactic(auto, using(crate::proofs::Refused::file_row))]
     fn from_row(row: &Row) -> Result<FileRow, Error> {
         Ok(FileRow {
-            file: row.get(0)?,
-            object: row.get(1)?,
+            file: number_at(row, 0)?,
+            object: number_at(row, 1)?,
             name: text_at(row, 2)?,
             media: text_at(row, 3)?,
-            size: row.get(4)?,
-            tag: row.get(5)?,
-            deposited: row.get(6)?,
+            size: number_at(row, 4)?,
+            tag: number_at(row, 5)?,
+            deposited: number_at(row, 6)?,
             behalf: text_or_null_at(row, 7)?,
             by_reference: flag_at(row, 8)?,
             sha256: digest_at(row, 9)?,
@@ -149,7 +152,7 @@ pub fn find_file<S: Alter>(
     ensures numbers { RefusesNumbers (state S.Store tx.old.conn.now) (state S.Store tx.new.conn.now) result
         (file < 2 ^ 63) }
     ensures cause { FailsByReading (state S.Store tx.old.conn.now) (state S.Store tx.new.conn.now) result
-        (file < 2 ^ 63) find_file_text (Int (pos file) ∷ []) }
+        (file < 2 ^ 63) find_file_text (Int (pos file) ∷ []) (AtMostOne IsFileRow) }
     ensures err { FailsReading (state S.Store tx.old.conn.now) (state S.Store tx.new.conn.now) result }
     ensures inside { GoesOn (state S.Store tx.old.conn.now) (state S.Store tx.new.conn.now) result }
     ensures kept { StaysInside (state S.Store tx.old.conn.now) (state S.Store tx.new.conn.now) }
@@ -178,7 +181,7 @@ pub fn files_of<S: Alter>(
     ensures numbers { RefusesNumbers (state S.Store tx.old.conn.now) (state S.Store tx.new.conn.now) result
         (object < 2 ^ 63) }
     ensures cause { FailsByReading (state S.Store tx.old.conn.now) (state S.Store tx.new.conn.now) result
-        (object < 2 ^ 63) files_of_text (Int (pos object) ∷ []) }
+        (object < 2 ^ 63) files_of_text (Int (pos object) ∷ []) (All IsFileRow) }
     ensures err { FailsReading (state S.Store tx.old.conn.now) (state S.Store tx.new.conn.now) result }
     ensures inside { GoesOn (state S.Store tx.old.conn.now) (state S.Store tx.new.conn.now) result }
     ensures kept { StaysInside (state S.Store tx.old.conn.now) (state S.Store tx.new.conn.now) }

@@ -1,16 +1,16 @@
 //! The rows of the objects' metadata.
 
-ghost use Rattle.std.specs.Prelude.{◌≡◌, ◌↔◌, IsTrue, ◌<◌, ◌^◌, ◌∷◌, [], pos};
+ghost use Rattle.std.specs.Prelude.{All, ◌≡◌, ◌↔◌, IsTrue, ◌<◌, ◌^◌, ◌∷◌, [], pos};
 ghost use Rattle.sqlite.specs.declared.types.Value.TheVariants.{Int};
 ghost use Rattle.sqlite.specs.Held.{state};
 ghost use Rattle.sqlite.specs.Values.{bound};
-ghost use Rattle.dep_tables.specs.Rows.{IsStorableMetadata, metadata_values};
+ghost use Rattle.dep_tables.specs.Rows.{IsStorableMetadata, metadata_values, IsMetadataRow};
 ghost use Rattle.dep_tables.specs.Edits.{with_new_metadata_row, without_metadata_rows, LacksMetadataRow, AreMetadataRowsOf};
 ghost use Rattle.dep_tables.specs.Clauses.{Changes, Shows, Reads, ReadsOnly, FailsWhole, FailsReading, GoesOn, StaysInside, CommitsNothing, RefusesNumbers, FailsByRunning, FailsByReading};
 ghost use Rattle.dep_tables.specs.Texts.{insert_metadata_text, delete_metadata_text, metadata_of_text};
 
 use crate::calls::run;
-use crate::numbers::{LIMIT, key_param, number};
+use crate::numbers::{LIMIT, key_param, number, number_at};
 use crate::reading::{FromRow, ask_all};
 use crate::texts::{text_at, text_value};
 use dep_types::{StoreFault, Text};
@@ -100,17 +100,20 @@ pub fn delete_metadata<S: Alter>(tx: &mut Transaction<'_, S>, object: u64) -> Re
 }
 
 impl FromRow for MetadataRow {
-    ghost use Rattle.dep_tables.specs.Rows.{metadata_values};
+    ghost use Rattle.dep_tables.specs.Rows.{metadata_values, IsMetadataRow};
 
     ghost width = { 4 };
 
     ghost values = { metadata_values };
 
+    ghost is_ours = { IsMetadataRow };
+
+    #[tactic(auto, using(crate::proofs::Refused::metadata_row))]
     fn from_row(row: &Row) -> Result<MetadataRow, Error> {
         Ok(MetadataRow {
-            object: row.get(0)?,
+            object: number_at(row, 0)?,
             name: text_at(row, 1)?,
-            place: row.get(2)?,
+            place: number_at(row, 2)?,
             value: text_at(row, 3)?,
         })
     }
@@ -128,7 +131,7 @@ pub fn metadata_of<S: Alter>(
     ensures numbers { RefusesNumbers (state S.Store tx.old.conn.now) (state S.Store tx.new.conn.now) result
         (object < 2 ^ 63) }
     ensures cause { FailsByReading (state S.Store tx.old.conn.now) (state S.Store tx.new.conn.now) result
-        (object < 2 ^ 63) metadata_of_text (Int (pos object) ∷ []) }
+        (object < 2 ^ 63) metadata_of_text (Int (pos object) ∷ []) (All IsMetadataRow) }
     ensures err { FailsReading (state S.Store tx.old.conn.now) (state S.Store tx.new.conn.now) result }
     ensures inside { GoesOn (state S.Store tx.old.conn.now) (state S.Store tx.new.conn.now) result }
     ensures kept { StaysInside (state S.Store tx.old.conn.now) (state S.Store tx.new.conn.now) }

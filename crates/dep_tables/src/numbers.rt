@@ -1,10 +1,11 @@
 //! Numbers and flags as SQL keeps them.
 
-ghost use Rattle.std.specs.Prelude.{◌≡◌, ◌<◌, ◌^◌, pos, ◌∷◌, [], IfOk, if◌then◌else◌};
+ghost use Rattle.std.specs.Prelude.{◌≡◌, ◌<◌, ◌^◌, pos, ◌∷◌, [], IfOk, IfErr, if◌then◌else◌};
 ghost use Rattle.sqlite.specs.declared.types.Value.TheVariants.{Int};
 ghost use Rattle.sqlite.specs.Order.{column};
 ghost use Rattle.sqlite.specs.Values.{bound};
-ghost use Rattle.dep_tables.specs.Rows.{flag};
+ghost use Rattle.dep_tables.specs.Rows.{flag, HasAt, IsNumberValue, IsFlagValue};
+ghost use Rattle.dep_tables.specs.Faults.{IsMemoryWhere};
 
 use sqlite::types::ValueRef;
 use sqlite::{Error, Row};
@@ -28,6 +29,14 @@ pub(crate) fn key_param(key: u64) -> [ValueRef<'static>; 1]
     [ValueRef::Int(number(key))]
 }
 
+/// A number that `number` wrote.
+pub(crate) fn number_at(row: &Row, at: usize) -> Result<u64, Error>
+    ensures told { IfOk result (λ n. column row.now at ≡ Int (pos n)) }
+    ensures refused { IfErr result (IsMemoryWhere (HasAt IsNumberValue row.now at)) }
+{
+    row.get(at)
+}
+
 /// A flag as SQL keeps it.
 pub(crate) fn flag_number(b: bool) -> i64
     ensures { result ≡ pos (if b then 1 else 0) }
@@ -37,10 +46,10 @@ pub(crate) fn flag_number(b: bool) -> i64
 
 /// A flag that `flag_number` wrote.
 pub(crate) fn flag_at(row: &Row, at: usize) -> Result<bool, Error>
-    ensures { IfOk result (λ b. column row.now at ≡ flag b) }
+    ensures told { IfOk result (λ b. column row.now at ≡ flag b) }
+    ensures refused { IfErr result (IsMemoryWhere (HasAt IsFlagValue row.now at)) }
 {
-    let number: u64 = row.get(at)?;
-    match number {
+    match number_at(row, at)? {
         0 => Ok(false),
         1 => Ok(true),
         _ => Err(Error::IntegralValueOutOfRange(at)),

@@ -4,13 +4,13 @@ ghost use Rattle.std.specs.Prelude.{◌≡◌, ◌↔◌, pos, IsTrue, ◌<◌, 
 ghost use Rattle.sqlite.specs.declared.types.Value.TheVariants.{Int};
 ghost use Rattle.sqlite.specs.Held.{state};
 ghost use Rattle.sqlite.specs.Values.{bound};
-ghost use Rattle.dep_tables.specs.Rows.{IsStorableObject, object_values};
+ghost use Rattle.dep_tables.specs.Rows.{IsStorableObject, object_values, IsNumberRow, IsObjectRow};
 ghost use Rattle.dep_tables.specs.Edits.{with_new_object_row, with_object_row, without_object_row, LacksObjectRow, IsObjectRowAt, IsObjectAfter};
-ghost use Rattle.dep_tables.specs.Clauses.{Changes, Shows, Reads, ReadsOnly, FailsWhole, FailsReading, GoesOn, StaysInside, CommitsNothing, RefusesNumbers, FailsByRunning, FailsByReading};
+ghost use Rattle.dep_tables.specs.Clauses.{AtMostOne, Changes, Shows, Reads, ReadsOnly, FailsWhole, FailsReading, GoesOn, StaysInside, CommitsNothing, RefusesNumbers, FailsByRunning, FailsByReading};
 ghost use Rattle.dep_tables.specs.Texts.{insert_object_text, write_object_text, delete_object_text, find_object_text, next_object_text};
 
 use crate::calls::run;
-use crate::numbers::{LIMIT, flag_at, flag_number, key_param, number};
+use crate::numbers::{LIMIT, flag_at, flag_number, key_param, number, number_at};
 use crate::reading::{FromRow, ask_one};
 use dep_types::{ObjectRow, StoreFault};
 use sqlite::types::ValueRef;
@@ -121,20 +121,23 @@ pub fn delete_object<S: Alter>(tx: &mut Transaction<'_, S>, object: u64) -> Resu
 }
 
 impl FromRow for ObjectRow {
-    ghost use Rattle.dep_tables.specs.Rows.{object_values};
+    ghost use Rattle.dep_tables.specs.Rows.{object_values, IsObjectRow};
 
     ghost width = { 6 };
 
     ghost values = { object_values };
 
+    ghost is_ours = { IsObjectRow };
+
+    #[tactic(auto, using(crate::proofs::Refused::object_row))]
     fn from_row(row: &Row) -> Result<ObjectRow, Error> {
         Ok(ObjectRow {
-            object: row.get(0)?,
+            object: number_at(row, 0)?,
             ingested: flag_at(row, 1)?,
-            object_tag: row.get(2)?,
-            metadata_tag: row.get(3)?,
-            files_tag: row.get(4)?,
-            changed: row.get(5)?,
+            object_tag: number_at(row, 2)?,
+            metadata_tag: number_at(row, 3)?,
+            files_tag: number_at(row, 4)?,
+            changed: number_at(row, 5)?,
         })
     }
 }
@@ -149,7 +152,7 @@ pub fn find_object<S: Alter>(
     ensures numbers { RefusesNumbers (state S.Store tx.old.conn.now) (state S.Store tx.new.conn.now) result
         (object < 2 ^ 63) }
     ensures cause { FailsByReading (state S.Store tx.old.conn.now) (state S.Store tx.new.conn.now) result
-        (object < 2 ^ 63) find_object_text (Int (pos object) ∷ []) }
+        (object < 2 ^ 63) find_object_text (Int (pos object) ∷ []) (AtMostOne IsObjectRow) }
     ensures err { FailsReading (state S.Store tx.old.conn.now) (state S.Store tx.new.conn.now) result }
     ensures inside { GoesOn (state S.Store tx.old.conn.now) (state S.Store tx.new.conn.now) result }
     ensures kept { StaysInside (state S.Store tx.old.conn.now) (state S.Store tx.new.conn.now) }
@@ -176,7 +179,7 @@ pub fn next_object<S: Alter>(
     ensures numbers { RefusesNumbers (state S.Store tx.old.conn.now) (state S.Store tx.new.conn.now) result
         (after < 2 ^ 63) }
     ensures cause { FailsByReading (state S.Store tx.old.conn.now) (state S.Store tx.new.conn.now) result
-        (after < 2 ^ 63) next_object_text (Int (pos after) ∷ []) }
+        (after < 2 ^ 63) next_object_text (Int (pos after) ∷ []) (AtMostOne IsNumberRow) }
     ensures err { FailsReading (state S.Store tx.old.conn.now) (state S.Store tx.new.conn.now) result }
     ensures inside { GoesOn (state S.Store tx.old.conn.now) (state S.Store tx.new.conn.now) result }
     ensures kept { StaysInside (state S.Store tx.old.conn.now) (state S.Store tx.new.conn.now) }

@@ -1,6 +1,6 @@
 //! What is read from the rows that a query shows.
 
-ghost use Rattle.std.specs.Prelude.{◌≡◌, ℕ, ◌∷◌, [], pos, IfOk, IfErr, OnOk, map};
+ghost use Rattle.std.specs.Prelude.{◌≡◌, ℕ, ◌∷◌, [], pos, All, IfOk, IfErr, OnOk, map};
 ghost use Rattle.std.specs.Option.{option_to_list};
 ghost use Rattle.sqlite.specs.Order.{Row as Values};
 ghost use Rattle.sqlite.specs.declared.types.Value.TheVariants.{Int};
@@ -8,10 +8,14 @@ ghost use Rattle.sqlite.specs.State.{HasCleanDisk, IsUnchanged};
 ghost use Rattle.sqlite.specs.Held.{state};
 ghost use Rattle.sqlite.specs.Values.{bound};
 ghost use Rattle.dep_statements.specs.Rows.{columns_from};
-ghost use Rattle.dep_tables.specs.Clauses.{FailsToRead, FailsWhole, ShowsColumns, IsPlainIn, GoesOn, StaysInside, CommitsNothing};
+ghost use Rattle.dep_types.specs.declared.store_fault.StoreFault.TheVariants.{Memory};
+ghost use Rattle.dep_tables.specs.Faults.{IsMemoryWhere};
+ghost use Rattle.dep_tables.specs.Rows.{IsNumberRow};
+ghost use Rattle.dep_tables.specs.Clauses.{AtMostOne, FailsToRead, FailsWhole, ShowsColumns, IsPlainIn, GoesOn, StaysInside, CommitsNothing};
 
 use crate::calls::ask;
 use crate::fault::fault_of;
+use crate::numbers::number_at;
 use dep_types::StoreFault;
 use sqlite::types::ValueRef;
 use sqlite::{Alter, Error, Row, Transaction};
@@ -25,9 +29,13 @@ pub(crate) trait FromRow: Sized {
     /// The values of its columns.
     ghost values: { Self → Values };
 
-    /// What the row stands for, if each column is of its type.
+    /// Whether a query shows such a row of one that our statements write.
+    ghost is_ours: { Values → Type 0 };
+
+    /// What the row stands for, if each column is of its type. With a row of ours it fails only for memory.
     fn from_row(row: &Row) -> Result<Self, Error>
-        ensures { IfOk result (λ r. values r ≡ columns_from 0 width row.now) };
+        ensures told { IfOk result (λ r. values r ≡ columns_from 0 width row.now) }
+        ensures refused { IfErr result (IsMemoryWhere (is_ours row.now)) };
 }
 
 impl FromRow for u64 {
@@ -35,14 +43,17 @@ impl FromRow for u64 {
 
     ghost values = { λ n. Int (pos n) ∷ [] };
 
+    ghost is_ours = { IsNumberRow };
+
     fn from_row(row: &Row) -> Result<u64, Error> {
-        row.get(0)
+        number_at(row, 0)
     }
 }
 
 /// What at most one row stands for. It is a fault of the store where there are more.
 fn at_most_one<R: FromRow>(rows: &[Row]) -> Result<Option<R>, StoreFault>
-    ensures { IfOk result (λ found. map R.values (option_to_list found) ≡ map (columns_from 0 R.width) rows.now) }
+    ensures told { IfOk result (λ found. map R.values (option_to_list found) ≡ map (columns_from 0 R.width) rows.now) }
+    ensures refused { IfErr result (λ fault. AtMostOne R.is_ours rows.now → fault ≡ Memory) }
 {
     match rows {
         [] => Ok(None),
@@ -56,7 +67,8 @@ fn at_most_one<R: FromRow>(rows: &[Row]) -> Result<Option<R>, StoreFault>
 
 /// What each row stands for.
 fn all<R: FromRow + Drop>(alloc: Global, rows: &[Row]) -> Result<Vec<R>, StoreFault>
-    ensures { IfOk result (λ found. map R.values found.items ≡ map (columns_from 0 R.width) rows.now) }
+    ensures told { IfOk result (λ found. map R.values found.items ≡ map (columns_from 0 R.width) rows.now) }
+    ensures refused { IfErr result (λ fault. All R.is_ours rows.now → fault ≡ Memory) }
 {
     let mut found = Vec::new(alloc);
     'rows: for row in rows {
@@ -81,7 +93,8 @@ pub(crate) fn ask_one<S: Alter, R: FromRow>(
         → IfOk result (λ found. ShowsColumns sql.now (bound params.now)
         (state S.Store tx.old.conn.now) (state S.Store tx.new.conn.now) R.width (map R.values (option_to_list found))) }
     ensures cause { HasCleanDisk (state S.Store tx.new.conn.now)
-        → IfErr result (FailsToRead sql.now (bound params.now) (state S.Store tx.old.conn.now) (state S.Store tx.new.conn.now)) }
+        → IfErr result (FailsToRead (AtMostOne R.is_ours) sql.now (bound params.now)
+        (state S.Store tx.old.conn.now) (state S.Store tx.new.conn.now)) }
     ensures same { HasCleanDisk (state S.Store tx.new.conn.now) → IsPlainIn (state S.Store tx.old.conn.now) sql.now
         → OnOk result (IsUnchanged (state S.Store tx.old.conn.now) (state S.Store tx.new.conn.now)) }
     ensures err { IsPlainIn (state S.Store tx.old.conn.now) sql.now
@@ -106,7 +119,8 @@ pub(crate) fn ask_all<S: Alter, R: FromRow + Drop>(
         → IfOk result (λ found. ShowsColumns sql.now (bound params.now)
         (state S.Store tx.old.conn.now) (state S.Store tx.new.conn.now) R.width (map R.values found.items)) }
     ensures cause { HasCleanDisk (state S.Store tx.new.conn.now)
-        → IfErr result (FailsToRead sql.now (bound params.now) (state S.Store tx.old.conn.now) (state S.Store tx.new.conn.now)) }
+        → IfErr result (FailsToRead (All R.is_ours) sql.now (bound params.now)
+        (state S.Store tx.old.conn.now) (state S.Store tx.new.conn.now)) }
     ensures same { HasCleanDisk (state S.Store tx.new.conn.now) → IsPlainIn (state S.Store tx.old.conn.now) sql.now
         → OnOk result (IsUnchanged (state S.Store tx.old.conn.now) (state S.Store tx.new.conn.now)) }
     ensures err { IsPlainIn (state S.Store tx.old.conn.now) sql.now

@@ -1,16 +1,16 @@
 //! The rows of the segments of staged uploads.
 
-ghost use Rattle.std.specs.Prelude.{◌≡◌, ◌↔◌, IsTrue, ◌<◌, ◌^◌, ◌∷◌, [], pos};
+ghost use Rattle.std.specs.Prelude.{All, ◌≡◌, ◌↔◌, IsTrue, ◌<◌, ◌^◌, ◌∷◌, [], pos};
 ghost use Rattle.sqlite.specs.declared.types.Value.TheVariants.{Int};
 ghost use Rattle.sqlite.specs.Held.{state};
 ghost use Rattle.sqlite.specs.Values.{bound};
-ghost use Rattle.dep_tables.specs.Rows.{IsStorableSegment, segment_values};
+ghost use Rattle.dep_tables.specs.Rows.{IsStorableSegment, segment_values, IsSegmentRow};
 ghost use Rattle.dep_tables.specs.Edits.{with_new_segment_row, without_segment_rows, LacksSegmentRow, AreSegmentRowsOf};
 ghost use Rattle.dep_tables.specs.Clauses.{Changes, Shows, Reads, ReadsOnly, FailsWhole, FailsReading, GoesOn, StaysInside, CommitsNothing, RefusesNumbers, FailsByRunning, FailsByReading};
 ghost use Rattle.dep_tables.specs.Texts.{insert_segment_text, delete_segments_text, segments_of_text};
 
 use crate::calls::run;
-use crate::numbers::{LIMIT, key_param, number};
+use crate::numbers::{LIMIT, key_param, number, number_at};
 use crate::reading::{FromRow, ask_all};
 use dep_types::StoreFault;
 use sqlite::types::ValueRef;
@@ -98,17 +98,20 @@ pub fn delete_segments<S: Alter>(tx: &mut Transaction<'_, S>, upload: u64) -> Re
 }
 
 impl FromRow for SegmentRow {
-    ghost use Rattle.dep_tables.specs.Rows.{segment_values};
+    ghost use Rattle.dep_tables.specs.Rows.{segment_values, IsSegmentRow};
 
     ghost width = { 3 };
 
     ghost values = { segment_values };
 
+    ghost is_ours = { IsSegmentRow };
+
+    #[tactic(auto, using(crate::proofs::Refused::segment_row))]
     fn from_row(row: &Row) -> Result<SegmentRow, Error> {
         Ok(SegmentRow {
-            upload: row.get(0)?,
-            number: row.get(1)?,
-            size: row.get(2)?,
+            upload: number_at(row, 0)?,
+            number: number_at(row, 1)?,
+            size: number_at(row, 2)?,
         })
     }
 }
@@ -125,7 +128,7 @@ pub fn segments_of<S: Alter>(
     ensures numbers { RefusesNumbers (state S.Store tx.old.conn.now) (state S.Store tx.new.conn.now) result
         (upload < 2 ^ 63) }
     ensures cause { FailsByReading (state S.Store tx.old.conn.now) (state S.Store tx.new.conn.now) result
-        (upload < 2 ^ 63) segments_of_text (Int (pos upload) ∷ []) }
+        (upload < 2 ^ 63) segments_of_text (Int (pos upload) ∷ []) (All IsSegmentRow) }
     ensures err { FailsReading (state S.Store tx.old.conn.now) (state S.Store tx.new.conn.now) result }
     ensures inside { GoesOn (state S.Store tx.old.conn.now) (state S.Store tx.new.conn.now) result }
     ensures kept { StaysInside (state S.Store tx.old.conn.now) (state S.Store tx.new.conn.now) }

@@ -5,13 +5,13 @@ ghost use Rattle.sqlite.specs.declared.types.Value.TheVariants.{Int};
 ghost use Rattle.sqlite.specs.State.{HasCleanDisk};
 ghost use Rattle.sqlite.specs.Held.{state};
 ghost use Rattle.sqlite.specs.Values.{bound};
-ghost use Rattle.dep_tables.specs.Rows.{IsStorableState, state_values};
+ghost use Rattle.dep_tables.specs.Rows.{IsStorableState, IsStateRow, state_values};
 ghost use Rattle.dep_tables.specs.Edits.{with_state_row, HasStateRow};
-ghost use Rattle.dep_tables.specs.Clauses.{Changes, Reads, ReadsOnly, FailsWhole, FailsReading, GoesOn, StaysInside, CommitsNothing, RefusesNumbers, FailsByRunning, FailsToRead};
+ghost use Rattle.dep_tables.specs.Clauses.{Changes, Reads, ReadsOnly, FailsWhole, FailsReading, GoesOn, StaysInside, CommitsNothing, RefusesNumbers, FailsByRunning, FailsToRead, JustOne};
 ghost use Rattle.dep_tables.specs.Texts.{write_state_text, read_state_text};
 
 use crate::calls::run;
-use crate::numbers::{LIMIT, number};
+use crate::numbers::{LIMIT, number, number_at};
 use crate::reading::{FromRow, ask_one};
 use dep_types::{Counters, StoreFault};
 use sqlite::types::ValueRef;
@@ -72,20 +72,23 @@ pub fn write_state<S: Alter>(tx: &mut Transaction<'_, S>, row: &StateRow) -> Res
 }
 
 impl FromRow for StateRow {
-    ghost use Rattle.dep_tables.specs.Rows.{state_values};
+    ghost use Rattle.dep_tables.specs.Rows.{state_values, IsStateRow};
 
     ghost width = { 5 };
 
     ghost values = { state_values };
 
+    ghost is_ours = { IsStateRow };
+
+    #[tactic(auto, using(crate::proofs::Refused::state_row))]
     fn from_row(row: &Row) -> Result<StateRow, Error> {
         Ok(StateRow {
-            clock: row.get(0)?,
+            clock: number_at(row, 0)?,
             next: Counters {
-                object: row.get(1)?,
-                file: row.get(2)?,
-                upload: row.get(3)?,
-                change: row.get(4)?,
+                object: number_at(row, 1)?,
+                file: number_at(row, 2)?,
+                upload: number_at(row, 3)?,
+                change: number_at(row, 4)?,
             },
         })
     }
@@ -96,7 +99,8 @@ pub fn read_state<S: Alter>(tx: &mut Transaction<'_, S>) -> Result<StateRow, Sto
     ensures ok { Reads (state S.Store tx.old.conn.now) (state S.Store tx.new.conn.now) result HasStateRow }
     ensures same { ReadsOnly (state S.Store tx.old.conn.now) (state S.Store tx.new.conn.now) result }
     ensures cause { HasCleanDisk (state S.Store tx.new.conn.now)
-        → IfErr result (FailsToRead read_state_text [] (state S.Store tx.old.conn.now) (state S.Store tx.new.conn.now)) }
+        → IfErr result (FailsToRead (JustOne IsStateRow) read_state_text []
+        (state S.Store tx.old.conn.now) (state S.Store tx.new.conn.now)) }
     ensures err { FailsReading (state S.Store tx.old.conn.now) (state S.Store tx.new.conn.now) result }
     ensures inside { GoesOn (state S.Store tx.old.conn.now) (state S.Store tx.new.conn.now) result }
     ensures kept { StaysInside (state S.Store tx.old.conn.now) (state S.Store tx.new.conn.now) }

@@ -1,10 +1,12 @@
 //! Texts and digests as SQL keeps them.
 
-ghost use Rattle.std.specs.Prelude.{◌≡◌, IfOk};
+ghost use Rattle.std.specs.Prelude.{◌≡◌, IfOk, IfErr, length};
 ghost use Rattle.sqlite.specs.declared.types.Value.TheVariants.{Text as TextValue, Blob};
 ghost use Rattle.sqlite.specs.Order.{column};
 ghost use Rattle.sqlite.specs.Values.{or_null};
 ghost use Rattle.sqlite_value.specs.Value.{owned};
+ghost use Rattle.dep_tables.specs.Faults.{IsMemoryWhere};
+ghost use Rattle.dep_tables.specs.Rows.{HasAt, IsTextValue, IsDigestValue, IsNullOr};
 
 use dep_types::Text;
 use sqlite::types::ValueRef;
@@ -19,7 +21,8 @@ pub(crate) fn text_value(text: &Text) -> ValueRef<'_>
 
 /// A text that `text_value` wrote.
 pub(crate) fn text_at(row: &Row, at: usize) -> Result<Text, Error>
-    ensures { IfOk result (λ read. column row.now at ≡ TextValue read) }
+    ensures told { IfOk result (λ read. column row.now at ≡ TextValue read) }
+    ensures refused { IfErr result (IsMemoryWhere (HasAt IsTextValue row.now at)) }
 {
     Ok(Text::new(row.get(at)?))
 }
@@ -36,7 +39,8 @@ pub(crate) fn text_or_null(text: &Option<Text>) -> ValueRef<'_>
 
 /// A text that `text_or_null` wrote.
 pub(crate) fn text_or_null_at(row: &Row, at: usize) -> Result<Option<Text>, Error>
-    ensures { IfOk result (λ read. column row.now at ≡ or_null TextValue read) }
+    ensures told { IfOk result (λ read. column row.now at ≡ or_null TextValue read) }
+    ensures refused { IfErr result (IsMemoryWhere (HasAt (IsNullOr IsTextValue) row.now at)) }
 {
     let text: Option<String> = row.get(at)?;
     match text {
@@ -56,7 +60,8 @@ pub(crate) fn digest_or_null(digest: &Option<[u8; 32]>) -> ValueRef<'_>
 }
 
 fn digest_of(bytes: Vec<u8>, at: usize) -> Result<[u8; 32], Error>
-    ensures { IfOk result (λ digest. digest ≡ bytes.items) }
+    ensures told { IfOk result (λ digest. digest ≡ bytes.items) }
+    ensures refused { IfErr result (IsMemoryWhere (length bytes.items ≡ 32)) }
 {
     match <[u8; 32]>::try_from(bytes) {
         Ok(digest) => Ok(digest),
@@ -66,14 +71,16 @@ fn digest_of(bytes: Vec<u8>, at: usize) -> Result<[u8; 32], Error>
 
 /// A digest of 32 bytes.
 pub(crate) fn digest_at(row: &Row, at: usize) -> Result<[u8; 32], Error>
-    ensures { IfOk result (λ read. column row.now at ≡ Blob read) }
+    ensures told { IfOk result (λ read. column row.now at ≡ Blob read) }
+    ensures refused { IfErr result (IsMemoryWhere (HasAt IsDigestValue row.now at)) }
 {
     digest_of(row.get(at)?, at)
 }
 
 /// A digest that `digest_or_null` wrote.
 pub(crate) fn digest_or_null_at(row: &Row, at: usize) -> Result<Option<[u8; 32]>, Error>
-    ensures { IfOk result (λ read. column row.now at ≡ or_null Blob read) }
+    ensures told { IfOk result (λ read. column row.now at ≡ or_null Blob read) }
+    ensures refused { IfErr result (IsMemoryWhere (HasAt (IsNullOr IsDigestValue) row.now at)) }
 {
     let bytes: Option<Vec<u8>> = row.get(at)?;
     match bytes {

@@ -4,13 +4,13 @@ ghost use Rattle.std.specs.Prelude.{◌≡◌, ◌↔◌, pos, IsTrue, ◌<◌, 
 ghost use Rattle.sqlite.specs.declared.types.Value.TheVariants.{Int};
 ghost use Rattle.sqlite.specs.Held.{state};
 ghost use Rattle.sqlite.specs.Values.{bound};
-ghost use Rattle.dep_tables.specs.Rows.{IsStorableUpload, upload_values};
+ghost use Rattle.dep_tables.specs.Rows.{IsStorableUpload, upload_values, IsNumberRow, IsUploadRow};
 ghost use Rattle.dep_tables.specs.Edits.{with_new_upload_row, with_upload_row, without_upload_row, LacksUploadRow, IsUploadRowAt, IsUploadAfter};
-ghost use Rattle.dep_tables.specs.Clauses.{Changes, Shows, Reads, ReadsOnly, FailsWhole, FailsReading, GoesOn, StaysInside, CommitsNothing, RefusesNumbers, FailsByRunning, FailsByReading};
+ghost use Rattle.dep_tables.specs.Clauses.{AtMostOne, Changes, Shows, Reads, ReadsOnly, FailsWhole, FailsReading, GoesOn, StaysInside, CommitsNothing, RefusesNumbers, FailsByRunning, FailsByReading};
 ghost use Rattle.dep_tables.specs.Texts.{insert_upload_text, write_upload_text, delete_upload_text, find_upload_text, next_upload_text};
 
 use crate::calls::run;
-use crate::numbers::{LIMIT, key_param, number};
+use crate::numbers::{LIMIT, key_param, number, number_at};
 use crate::reading::{FromRow, ask_one};
 use crate::texts::{digest_or_null, digest_or_null_at};
 use dep_types::{StoreFault, UploadRow};
@@ -122,20 +122,23 @@ pub fn delete_upload<S: Alter>(tx: &mut Transaction<'_, S>, upload: u64) -> Resu
 }
 
 impl FromRow for UploadRow {
-    ghost use Rattle.dep_tables.specs.Rows.{upload_values};
+    ghost use Rattle.dep_tables.specs.Rows.{upload_values, IsUploadRow};
 
     ghost width = { 6 };
 
     ghost values = { upload_values };
 
+    ghost is_ours = { IsUploadRow };
+
+    #[tactic(auto, using(crate::proofs::Refused::upload_row))]
     fn from_row(row: &Row) -> Result<UploadRow, Error> {
         Ok(UploadRow {
-            upload: row.get(0)?,
-            size: row.get(1)?,
-            count: row.get(2)?,
-            segment_size: row.get(3)?,
+            upload: number_at(row, 0)?,
+            size: number_at(row, 1)?,
+            count: number_at(row, 2)?,
+            segment_size: number_at(row, 3)?,
             sha256: digest_or_null_at(row, 4)?,
-            last: row.get(5)?,
+            last: number_at(row, 5)?,
         })
     }
 }
@@ -150,7 +153,7 @@ pub fn find_upload<S: Alter>(
     ensures numbers { RefusesNumbers (state S.Store tx.old.conn.now) (state S.Store tx.new.conn.now) result
         (upload < 2 ^ 63) }
     ensures cause { FailsByReading (state S.Store tx.old.conn.now) (state S.Store tx.new.conn.now) result
-        (upload < 2 ^ 63) find_upload_text (Int (pos upload) ∷ []) }
+        (upload < 2 ^ 63) find_upload_text (Int (pos upload) ∷ []) (AtMostOne IsUploadRow) }
     ensures err { FailsReading (state S.Store tx.old.conn.now) (state S.Store tx.new.conn.now) result }
     ensures inside { GoesOn (state S.Store tx.old.conn.now) (state S.Store tx.new.conn.now) result }
     ensures kept { StaysInside (state S.Store tx.old.conn.now) (state S.Store tx.new.conn.now) }
@@ -177,7 +180,7 @@ pub fn next_upload<S: Alter>(
     ensures numbers { RefusesNumbers (state S.Store tx.old.conn.now) (state S.Store tx.new.conn.now) result
         (after < 2 ^ 63) }
     ensures cause { FailsByReading (state S.Store tx.old.conn.now) (state S.Store tx.new.conn.now) result
-        (after < 2 ^ 63) next_upload_text (Int (pos after) ∷ []) }
+        (after < 2 ^ 63) next_upload_text (Int (pos after) ∷ []) (AtMostOne IsNumberRow) }
     ensures err { FailsReading (state S.Store tx.old.conn.now) (state S.Store tx.new.conn.now) result }
     ensures inside { GoesOn (state S.Store tx.old.conn.now) (state S.Store tx.new.conn.now) result }
     ensures kept { StaysInside (state S.Store tx.old.conn.now) (state S.Store tx.new.conn.now) }

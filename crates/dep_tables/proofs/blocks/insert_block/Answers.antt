@@ -8,3 +8,6 @@ returns-clause-ok g c clean inside ours = ok_then c.run.result (c.run.ensures.ru
 
 pub returns-clause-free : goal.returns-clause-free
 returns-clause-free g c clean inside ours = ok_then c.run.result (c.run.ensures.runs clean inside) (λ ran. (inserts_block (state g.S.Store c.args.tx.now.conn.now) (state g.S.Store c.run.new.tx.conn.now) c.args.key.now c.args.bytes.now ran.0 ours (rw c.block_params.ensures at ran.1)).1)
+
+pub returns-clause-cause : goal.returns-clause-cause
+returns-clause-cause g c storable clean inside = rw c.block_params.ensures at (c.run.ensures.cause clean inside)

@@ -5,3 +5,6 @@ use Rattle.dep_tables.proofs.segments.delete_segments.Goals as goal
 
 pub returns-clause-ok : goal.returns-clause-ok
 returns-clause-ok g c clean inside ours = ok_then c.run.result (c.run.ensures.runs clean inside) (λ ran. deletes_segments (state g.S.Store c.args.tx.now.conn.now) (state g.S.Store c.run.new.tx.conn.now) c.args.upload ran.0 ours (rw c.key_param.ensures at ran.1))
+
+pub returns-clause-cause : goal.returns-clause-cause
+returns-clause-cause g c storable clean inside = rw c.key_param.ensures at (c.run.ensures.cause clean inside)

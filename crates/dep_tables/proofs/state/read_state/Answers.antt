@@ -1,7 +1,11 @@
-use Rattle.std.proofs.Common.{inl, rules}
+use Rattle.std.proofs.Common.{◌≡◌, inl, [], sym, subst, rules}
 use Rattle.sqlite.specs.Held.{state}
 use Rattle.dep_tables.specs.Texts.{read_state_text}
 use Rattle.dep_tables.proofs.Leading.{plain_here}
+use Rattle.dep_tables.specs.Rows.{IsStateRow}
+use Rattle.dep_tables.specs.Clauses.{FailsToRead, JustOne}
+use Rattle.dep_tables.proofs.Results.{err_then}
+use Rattle.dep_tables.proofs.Refused.{refused_one}
 use Rattle.dep_tables.proofs.StateTable.{reads_state, read_is}
 use Rattle.dep_tables.proofs.state.read_state.Goals as goal
 
@@ -17,3 +21,10 @@ returns-in-None-clause-err g c clean inside ours is_open = inl (c.in_ok-found.en
 pub returns-in_err-found-clause-err : goal.returns-in_err-found-clause-err
 returns-in_err-found-clause-err g c clean inside ours is_open =
     let failed = c.in_err-found.ensures.err (plain_here (state g.S.Store c.args.tx.now.conn.now) read_state_text ours read_is.plain) clean inside is_open in search rules
+
+pub returns-in_err-found-clause-cause : goal.returns-in_err-found-clause-cause
+returns-in_err-found-clause-cause g c clean =
+    let old = state g.S.Store c.args.tx.now.conn.now in
+    let new = state g.S.Store c.ask_one.new.tx.conn.now in
+    let failed = refused_one IsStateRow read_state_text [] old new c.in_err-found.field-0.0 (c.in_err-found.ensures.cause clean) in
+    err_then c.from_residual.result c.from_residual.ensures.1 (λ e is. let same : e ≡ c.in_err-found.field-0.0 = cc in subst (FailsToRead (JustOne IsStateRow) read_state_text [] old new) (sym same) failed)

@@ -8,3 +8,6 @@ returns-clause-ok g c clean inside ours = ok_then c.run.result (c.run.ensures.ru
 
 pub returns-clause-free : goal.returns-clause-free
 returns-clause-free g c clean inside ours = ok_then c.run.result (c.run.ensures.runs clean inside) (λ ran. (inserts_timed_out (state g.S.Store c.args.tx.now.conn.now) (state g.S.Store c.run.new.tx.conn.now) c.args.upload ran.0 ours (rw c.key_param.ensures at ran.1)).1)
+
+pub returns-clause-cause : goal.returns-clause-cause
+returns-clause-cause g c storable clean inside = rw c.key_param.ensures at (c.run.ensures.cause clean inside)

@@ -5,3 +5,6 @@ use Rattle.dep_tables.proofs.uploads.write_upload.Goals as goal
 
 pub returns-clause-ok : goal.returns-clause-ok
 returns-clause-ok g c clean inside ours = ok_then c.run.result (c.run.ensures.runs clean inside) (λ ran. writes_upload (state g.S.Store c.args.tx.now.conn.now) (state g.S.Store c.run.new.tx.conn.now) c.args.row.now ran.0 ours (rw c.upload_params.ensures at ran.1))
+
+pub returns-clause-cause : goal.returns-clause-cause
+returns-clause-cause g c storable clean inside = rw c.upload_params.ensures at (c.run.ensures.cause clean inside)
