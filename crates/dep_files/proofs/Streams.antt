@@ -17,8 +17,8 @@ use Rattle.dep_tables.specs.Tables.{Tables}
 use Rattle.dep_tables.specs.declared.owner.BlockOwner.TheVariants as owner
 use Rattle.dep_streams.specs.Sent as sent
 use Rattle.dep_streams.specs.Sent.{blob_of, BeginsBlocks, SendsBlocks}
-use Rattle.dep_streams.specs.declared.fault.StreamFault as blocks
-use Rattle.dep_streams.specs.declared.fault.StreamFault.TheVariants as blocks_fault
+use Rattle.dep_streams.specs.declared.fault.BlockFault.{BlockFault}
+use Rattle.dep_streams.specs.declared.fault.BlockFault.TheVariants as blocks_fault
 use Rattle.dep_row_maps.specs.Owned.{placed}
 use Rattle.dep_row_maps.specs.Stored.{block_seen, block_rows, part_rows, blocks_of, file_stored, is_file_of}
 use Rattle.dep_row_maps.specs.TablesAre.{TablesAre, files_at, joined}
@@ -115,7 +115,7 @@ all_sent t s f size bytes done x h z h2 = record { object = z.object; file = z.f
         let whole = begun t s z.object f z.file bytes h z.held b in
         whole ∙ ap (λ l. bytes ++ l) (none_after bytes b.rest (sym (ap length whole) ∙ sym z.sized ∙ sym h2.1)) ∙ append-nil bytes
 
-pub some_sent : (t : Tables) (s : State) (f size : ℕ) (bytes : List ℕ) (fault : blocks.StreamFault) → TablesAre t s → IsSized s f size → SendsBlocks (filter (is_block_of (owner.File f)) t.blocks) size bytes (Err fault) → IsStreamed {X = Unit {0}} s f bytes (Err (fault_of_blocks fault))
+pub some_sent : (t : Tables) (s : State) (f size : ℕ) (bytes : List ℕ) (fault : BlockFault) → TablesAre t s → IsSized s f size → SendsBlocks (filter (is_block_of (owner.File f)) t.blocks) size bytes (Err fault) → IsStreamed {X = Unit {0}} s f bytes (Err (fault_of_blocks fault))
 some_sent t s f size bytes blocks_fault.Writer h z b =
     record { whole = z.file.content; has = record { object = z.object; file = z.file; held = z.held; is = refl }; front = record { rest = b.0.rest; joined = begun t s z.object f z.file bytes h z.held b.0; short = b.1 } }
 some_sent t s f size bytes blocks_fault.Store h z b = short b.0

@@ -14,7 +14,7 @@ ghost use Rattle.dep_files.specs.Sent.{IsLoaded};
 ghost use Rattle.dep_files.specs.Faults.{fault_of_store, fault_of_blocks, load_fault};
 
 use crate::sizes::find_size;
-use dep_streams::stream_blocks;
+use dep_streams::{BlockFault, stream_blocks};
 use dep_tables::BlockOwner;
 use dep_types::{Octets, Outlet, StoreFault, StreamFault, Through};
 use sqlite::{Alter, Connection};
@@ -29,13 +29,13 @@ fn fault_of_store(fault: StoreFault) -> StreamFault
     }
 }
 
-fn fault_of_blocks(fault: dep_streams::StreamFault) -> StreamFault
+fn fault_of_blocks(fault: BlockFault) -> StreamFault
     ensures { result ≡ fault_of_blocks fault }
 {
     match fault {
-        dep_streams::StreamFault::Writer => StreamFault::Writer,
-        dep_streams::StreamFault::Store => StreamFault::Store,
-        dep_streams::StreamFault::Memory => StreamFault::Memory,
+        BlockFault::Writer => StreamFault::Writer,
+        BlockFault::Store => StreamFault::Store,
+        BlockFault::Memory => StreamFault::Memory,
     }
 }
 

@@ -10,8 +10,8 @@ use Rattle.sqlite.specs.State.{State, Survives, CommitsShowing, IsUnchanged, IsR
 use Rattle.sqlite.specs.Clock.{timed}
 use Rattle.sqlite.proofs.StateLemmas.{survives_weaker}
 use Rattle.sqlite.proofs.Callers.{IsPlain, never_commits, unchanged_then}
-use Rattle.dep_streams.specs.declared.fault.StreamFault.{StreamFault}
-use Rattle.dep_streams.specs.declared.fault.StreamFault.TheVariants.{Writer, Store, Memory}
+use Rattle.dep_streams.specs.declared.fault.BlockFault.{BlockFault}
+use Rattle.dep_streams.specs.declared.fault.BlockFault.TheVariants.{Writer, Store, Memory}
 use Rattle.dep_streams.specs.Sent.{blob_of, joined, IsOfStore, GivesRow, StopsBetween, SendsSized}
 
 pub commits_nothing : (sql : List ℕ) (params : Row) (old new : State) → IsPlain (understood old.now.schema sql) → Survives old new (CommitsShowing sql params old) → Survives old new (λ _. ⊥)
@@ -57,15 +57,20 @@ refused_left sql params old new e plain (inr h) =
     let none = (subst IsPlain h.1.is plain).0 in
     inl (subst (FailsToShow old new sql h.0 (timed params h.0.formats h.1.now) e) none h.2).3
 
+-- a plain query that was under way
+pub failed_then : (sql : List ℕ) (params : Row) (first old new : State) (e : Error) → IsPlain (understood first.now.schema sql) → IsUnchanged first old → FailsToQuery sql params old new e → IsUnchanged first new ⊎ IsRolledBack first new
+failed_then sql params first old new e plain same failed =
+    rolled_then first old new same (refused_left sql params old new e (subst (λ (d : Database). IsPlain (understood d.schema sql)) (sym same.0.now_is) plain) failed)
+
 pub left_by : {A E : Type 0} (r : Result A E) (a b : State) → OnOk r (IsUnchanged a b) → OnErr r (IsUnchanged a b ⊎ IsRolledBack a b) → IsUnchanged a b ⊎ IsRolledBack a b
 left_by (Ok x) a b ok err = inl ok
 left_by (Err e) a b ok err = err
 
-pub stops_sized : (sql : List ℕ) (params : Row) (old : State) (size : ℕ) (sent : List ℕ) (fault : StreamFault) → IsOfStore fault → length sent < size → StopsBetween sql params old sent → SendsSized sql params old size sent (Err fault)
+pub stops_sized : (sql : List ℕ) (params : Row) (old : State) (size : ℕ) (sent : List ℕ) (fault : BlockFault) → IsOfStore fault → length sent < size → StopsBetween sql params old sent → SendsSized sql params old size sent (Err fault)
 stops_sized sql params old size sent fault (inl e) low h = rw e (h, low)
 stops_sized sql params old size sent fault (inr e) low h = rw e (h, low)
 
-pub cut_sized : (sql : List ℕ) (params : Row) (old : State) (size : ℕ) (start held next : Option (List ℕ)) (sent : List ℕ) (row : Row) (Clean Plain : Type 0) (fault : StreamFault)
+pub cut_sized : (sql : List ℕ) (params : Row) (old : State) (size : ℕ) (start held next : Option (List ℕ)) (sent : List ℕ) (row : Row) (Clean Plain : Type 0) (fault : BlockFault)
     → Appends start held sent → GivesRow held next (blob_of row) (Err fault) → length sent < size
     → (Clean → Plain → (given : List Row) × Begins sql params old given × Begins sql params old (given ++ row ∷ []) × (sent ≡ joined given))
     → (more : List ℕ) × Appends start next more × (Clean → Plain → SendsSized sql params old size more (Err fault))

@@ -8,8 +8,8 @@ use Rattle.sqlite.specs.declared.types.Value.TheVariants.{Blob}
 use Rattle.sqlite.specs.State.{State, Begins}
 use Rattle.dep_statements.specs.Rows.{InOrder}
 use Rattle.dep_tables.specs.Rows.{shown_block, by_part_and_place}
-use Rattle.dep_streams.specs.declared.fault.StreamFault.{StreamFault}
-use Rattle.dep_streams.specs.declared.fault.StreamFault.TheVariants.{Writer, Store, Memory}
+use Rattle.dep_streams.specs.declared.fault.BlockFault.{BlockFault}
+use Rattle.dep_streams.specs.declared.fault.BlockFault.TheVariants.{Writer, Store, Memory}
 
 -- the bytes of a value that is a blob
 abbrev pub blob_in : Value → List ℕ
@@ -25,10 +25,10 @@ abbrev pub joined : List Row → List ℕ
 joined [] = []
 joined (row ∷ rows) = blob_of row ++ joined rows
 
-abbrev pub IsOfStore : StreamFault → Type 0
+abbrev pub IsOfStore : BlockFault → Type 0
 IsOfStore fault = (fault ≡ Store) ⊎ (fault ≡ Memory)
 
-abbrev pub GivesRow : Option (List ℕ) → Option (List ℕ) → List ℕ → Result (Unit {0}) StreamFault → Type 0
+abbrev pub GivesRow : Option (List ℕ) → Option (List ℕ) → List ℕ → Result (Unit {0}) BlockFault → Type 0
 GivesRow old new bytes (Ok done) = Appends old new bytes
 GivesRow old new bytes (Err Writer) = TakesPart old new bytes
 GivesRow old new bytes (Err Store) = new ≡ old
@@ -49,12 +49,12 @@ pub record StopsWithin (sql : List ℕ) (params : Row) (old : State) (sent : Lis
   pub short : IsProperPrefix part (blob_of row)
   pub sends : sent ≡ joined given ++ part
 
-abbrev pub GivesSized : Option (List ℕ) → Option (List ℕ) → List ℕ → Result ℕ StreamFault → Type 0
+abbrev pub GivesSized : Option (List ℕ) → Option (List ℕ) → List ℕ → Result ℕ BlockFault → Type 0
 GivesSized old new bytes (Ok n) = Appends old new bytes × (n ≡ length bytes)
 GivesSized old new bytes (Err fault) = GivesRow old new bytes (Err fault)
 
 -- the first rows of an answer, up to so many bytes
-abbrev pub SendsSized : List ℕ → Row → State → ℕ → List ℕ → Result (Unit {0}) StreamFault → Type 0
+abbrev pub SendsSized : List ℕ → Row → State → ℕ → List ℕ → Result (Unit {0}) BlockFault → Type 0
 SendsSized sql params old size sent (Ok done) = StopsBetween sql params old sent × (length sent ≡ size)
 SendsSized sql params old size sent (Err Writer) = StopsWithin sql params old sent
 SendsSized sql params old size sent (Err Store) = StopsBetween sql params old sent × (length sent < size)
@@ -67,8 +67,9 @@ pub record BeginsBlocks (stored : List Row) (sent : List ℕ) : Type 0 where
   pub rest : List ℕ
   pub whole : joined all ≡ sent ++ rest
 
--- So many bytes of the blocks, by part and place; fewer where the store failed, and where the outlet failed the first bytes and not all.
-abbrev pub SendsBlocks : List Row → ℕ → List ℕ → Result (Unit {0}) StreamFault → Type 0
+-- So many bytes of the blocks, by part and place; fewer where the store failed, and where the outlet failed
+-- the first bytes and not all.
+abbrev pub SendsBlocks : List Row → ℕ → List ℕ → Result (Unit {0}) BlockFault → Type 0
 SendsBlocks stored size sent (Ok done) = ((sent ≡ []) ⊎ BeginsBlocks stored sent) × (length sent ≡ size)
 SendsBlocks stored size sent (Err Writer) = (h : BeginsBlocks stored sent) × (h.rest ≢ [])
 SendsBlocks stored size sent (Err Store) = ((sent ≡ []) ⊎ BeginsBlocks stored sent) × (length sent < size)

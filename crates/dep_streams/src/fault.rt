@@ -7,7 +7,7 @@ use std::fmt;
 
 /// Why blocks were not all sent.
 #[derive(Clone, Copy, Debug, PartialEq, Eq)]
-pub enum StreamFault {
+pub enum BlockFault {
     /// The outlet failed.
     Writer,
     /// The database failed, or has fewer bytes than were asked for.
@@ -16,23 +16,23 @@ pub enum StreamFault {
     Memory,
 }
 
-impl fmt::Display for StreamFault {
+impl fmt::Display for BlockFault {
     fn fmt<W: fmt::Write>(&self, f: &mut fmt::Formatter<W>) -> fmt::Result {
         match self {
-            StreamFault::Writer => write!(f, "the outlet failed"),
-            StreamFault::Store => write!(f, "the store failed"),
-            StreamFault::Memory => write!(f, "out of memory"),
+            BlockFault::Writer => write!(f, "the outlet failed"),
+            BlockFault::Store => write!(f, "the store failed"),
+            BlockFault::Memory => write!(f, "out of memory"),
         }
     }
 }
 
-impl std::error::Error for StreamFault {}
+impl std::error::Error for BlockFault {}
 
-pub(crate) fn stream_fault_of(error: Error) -> StreamFault
+pub(crate) fn block_fault_of(error: Error) -> BlockFault
     ensures { IsOfStore result }
 {
     match error {
-        Error::SqliteFailure(ErrorCode::OutOfMemory) => StreamFault::Memory,
-        _ => StreamFault::Store,
+        Error::SqliteFailure(ErrorCode::OutOfMemory) => BlockFault::Memory,
+        _ => BlockFault::Store,
     }
 }

@@ -6,4 +6,4 @@ mod fault;
 mod sending;
 
 pub use blocks::{stream_blocks, stream_part};
-pub use fault::StreamFault;
+pub use fault::BlockFault;

@@ -5,13 +5,13 @@ use Rattle.sqlite.specs.Held.{state}
 use Rattle.sqlite.specs.Values.{bound}
 use Rattle.sqlite.proofs.Callers.{begun_plain, unchanged_then, given_begin}
 use Rattle.dep_streams.specs.Sent.{blob_of, GivesRow, GivesSized}
-use Rattle.dep_streams.proofs.SendingLemmas.{commits_nothing, begins_from, joined_push, refused_left, stops_sized, cut_sized}
+use Rattle.dep_streams.proofs.SendingLemmas.{commits_nothing, failed_then, begins_from, joined_push, refused_left, stops_sized, cut_sized}
 use Rattle.dep_streams.proofs.sending.stream_sized.Goals as goal
 
 pub returns-in-Err-clause-streams : goal.returns-in-Err-clause-streams
 returns-in-Err-clause-streams g c =
     let some : 0 < c.args.size = search rules in
-    ([], Appends-nil _, λ clean plain. stops_sized _ _ _ _ [] _ c.stream_fault_of.ensures some (record { given = []; begins = inl refl; sends = refl }))
+    ([], Appends-nil _, λ clean plain. stops_sized _ _ _ _ [] _ c.block_fault_of.ensures some (record { given = []; begins = inl refl; sends = refl }))
 
 pub returns-in-Err-clause-err : goal.returns-in-Err-clause-err
 returns-in-Err-clause-err g c clean plain =
@@ -56,7 +56,7 @@ returns-in-Err-next-clause-streams g c =
           let late : HasCleanDisk (state g.S.Store now) = search rules in
           let was = c.rows.invariant.7 (omega (arith, moved.survives.clean)) plain in
           let begun = begins_from c.args.sql.now (bound c.args.params.now) (state g.S.Store c.args.connection.now) (state g.S.Store c.rows.rows.conn.now) was.0 was.2 (given_begin g.S.Store _ _ c.rows.rows.conn.now was.0 was.1) in
-          stops_sized _ _ _ _ _ _ c.stream_fault_of-in-Err-next.ensures low (record { given = was.0; begins = inr begun; sends = was.3 }),
+          stops_sized _ _ _ _ _ _ c.block_fault_of-in-Err-next.ensures low (record { given = was.0; begins = inr begun; sends = was.3 }),
     )
 
 pub returns-in_default-clause-streams : goal.returns-in_default-clause-streams
@@ -148,3 +148,50 @@ rows-preserved g c =
           ),
       λ late. c.rows.invariant.8 (omega (arith, late, moved.survives.clean)),
     )
+
+pub returns-in-Err-next-clause-err : goal.returns-in-Err-next-clause-err
+returns-in-Err-next-clause-err g c clean plain =
+    let moved = c.next.follows.holds-at-none in
+    let now = c.next.follows.lender-at-none.conn.now in
+    let late : HasCleanDisk (state g.S.Store now) = search rules in
+    let was = c.rows.invariant.7 (omega (arith, moved.survives.clean)) plain in
+    let failed = (rw c.in-Err-next.is at (moved.err late)) c.args.sql.now (bound c.args.params.now) was.0 was.1 in
+    let left = failed_then c.args.sql.now (bound c.args.params.now) (state g.S.Store c.args.connection.now) (state g.S.Store c.rows.rows.conn.now) (state g.S.Store now) _ plain was.2 failed in
+    search rules
+
+pub returns-in_default-clause-err : goal.returns-in_default-clause-err
+returns-in_default-clause-err g c clean plain =
+    let moved = c.next.follows.holds-at-none in
+    let now = c.next.follows.lender-at-none.conn.now in
+    let late : HasCleanDisk (state g.S.Store now) = search rules in
+    let was = c.rows.invariant.7 (omega (arith, moved.survives.clean)) plain in
+    let same : IsUnchanged (state g.S.Store c.rows.rows.conn.now) (state g.S.Store now) = search rules in
+    let whole = unchanged_then (state g.S.Store c.args.connection.now) (state g.S.Store c.rows.rows.conn.now) (state g.S.Store now) was.2 same in
+    search rules
+
+pub returns-in-Err-give_sized-clause-err : goal.returns-in-Err-give_sized-clause-err
+returns-in-Err-give_sized-clause-err g c clean plain =
+    let moved = c.next.follows.holds-at-none in
+    let now = c.next.follows.lender-at-none.conn.now in
+    let late : HasCleanDisk (state g.S.Store now) = search rules in
+    let was = c.rows.invariant.7 (omega (arith, moved.survives.clean)) plain in
+    let same : IsUnchanged (state g.S.Store c.rows.rows.conn.now) (state g.S.Store now) = search rules in
+    let whole = unchanged_then (state g.S.Store c.args.connection.now) (state g.S.Store c.rows.rows.conn.now) (state g.S.Store now) was.2 same in
+    search rules
+
+pub returns-clause-err : goal.returns-clause-err
+returns-clause-err g c clean plain =
+    let late : HasCleanDisk (state g.S.Store c.rows.rows.conn.now) = search rules in
+    let was = c.rows.invariant.7 late plain in
+    let whole : IsUnchanged (state g.S.Store c.args.connection.now) (state g.S.Store c.rows.rows.conn.now) = was.2 in
+    search rules
+
+pub returns-then-left-eq0-clause-ok : goal.returns-then-left-eq0-clause-ok
+returns-then-left-eq0-clause-ok g c clean plain =
+    let moved = c.next.follows.holds-at-none in
+    let now = c.next.follows.lender-at-none.conn.now in
+    let late : HasCleanDisk (state g.S.Store now) = search rules in
+    let was = c.rows.invariant.7 (omega (arith, moved.survives.clean)) plain in
+    let same : IsUnchanged (state g.S.Store c.rows.rows.conn.now) (state g.S.Store now) = search rules in
+    let whole = unchanged_then (state g.S.Store c.args.connection.now) (state g.S.Store c.rows.rows.conn.now) (state g.S.Store now) was.2 same in
+    search rules
