@@ -1,5 +1,5 @@
 -- What is under a number once an entry is inserted or removed.
-use Rattle.std.proofs.Common.{◌≡◌, ◌≢◌, ◌⊎◌, inl, inr, ℕ, false, cond, Some, None, refl, sym, ap, ◌∙◌, Ordering, Less, Equal, Greater, is_eq, nat_cmp}
+use Rattle.std.proofs.Common.{◌≡◌, ◌≢◌, ◌⊎◌, inl, inr, ℕ, Bool, true, false, cond, Option, Some, None, refl, sym, ap, ◌∙◌, Ordering, Less, Equal, Greater, is_eq, nat_cmp}
 use Rattle.std.specs.Option.{option_map_or}
 use Rattle.std.proofs.lemmas.Cmp.{nat_cmp_total, tied_itself}
 use Rattle.std.specs.Ordering.{eq_by_cmp}
@@ -61,6 +61,17 @@ insert_again m k x there = finmap.same_map nat_cmp_total finmap.nat_cmp-IsAntisy
     go q Less is = rw is refl
     go q Equal is = rw is (sym there ∙ ap (finmap.get m) (sym (finmap.nat_cmp-IsAntisymmetric q k is)))
     go q Greater is = rw is refl
+
+-- what was inserted before under the same number is gone
+pub insert_twice : {X : Type 0} (m : Numbered X) (k : ℕ) (x y : X) → finmap.insert (finmap.insert m k x) k y ≡ finmap.insert m k y
+insert_twice {X} m k x y =
+    finmap.same_map nat_cmp_total finmap.nat_cmp-IsAntisymmetric _ _ (λ q. finmap.get-insert nat_cmp_total (finmap.insert m k x) k y q
+    ∙ ap (λ (o : Option X). cond (is_eq (nat_cmp q k)) (Some y) o) (finmap.get-insert nat_cmp_total m k x q)
+    ∙ again (is_eq (nat_cmp q k)) (finmap.get m q) ∙ sym (finmap.get-insert nat_cmp_total m k y q))
+  where
+    again : (b : Bool) (was : Option X) → cond b (Some y) (cond b (Some x) was) ≡ cond b (Some y) was
+    again true was = refl
+    again false was = refl
 
 -- an entry that has the same row leaves the rows as they are
 pub rows_same : {X : Type 0} (row : ℕ → X → Row) → Keyed row → (m : Numbered X) (k : ℕ) (x y : X) → finmap.get m k ≡ Some x → row k y ≡ row k x → rows_of row (finmap.insert m k y) ≡ rows_of row m

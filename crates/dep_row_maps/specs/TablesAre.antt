@@ -1,4 +1,5 @@
--- The rows of all tables are the state's, key by key, and the version is ours. Nothing is said of whether the state is sound.
+-- The rows of all tables are the state's, key by key, and the version is ours. Nothing is said of whether the
+-- state is sound.
 use Rattle.std.specs.Prelude.{◌≡◌, ℕ, List, [], ◌∷◌, filter, Some, None, is_some}
 use Rattle.std.specs.Option.{option_map_or}
 use Rattle.std.specs.FinMap as map
