@@ -82,9 +82,12 @@ pub record StandsBeside (old new : State) : Type 0 where
 
 -- a database with no table at all, one with no table `format`, or one with our tables and our version
 abbrev pub IsOpenable : State → Type 0
-IsOpenable s = (s.now.schema ≡ no_schema) ⊎ (LacksFormat s.now.schema ⊎ (IsOurs s × HasVersion our_version (tables_of s)))
+IsOpenable s =
+    (s.now.schema ≡ no_schema)
+    ⊎ (LacksFormat s.now.schema ⊎ (IsOurs s × HasVersion our_version (tables_of s)))
 
--- what is committed by the schema that is there: what is there where it is ours, the tables of a new store where there is none, and the same beside the tables of others where our names are free
+-- what is committed by the schema that is there: what is there where it is ours, the tables of a new store where
+-- there is none, and the same beside the tables of others where our names are free
 pub record CommitsBySchema (s : State) (trees : Trees) : Type 0 where
   pub found : IsOurs s → trees ≡ s.now.trees
   pub new : s.now.schema ≡ no_schema → Holds trees first_tables

@@ -164,7 +164,8 @@ fn create_blocks<S: Alter>(tx: &mut Transaction<'_, S>) -> Result<(), StoreFault
 
 /// Version 1.
 fn add_format<S: Alter>(tx: &mut Transaction<'_, S>) -> Result<(), StoreFault>
-    ensures beside { HasCleanDisk (state S.Store tx.new.conn.now) → IsTrue (state S.Store tx.old.conn.now).in_transaction
+    ensures beside { HasCleanDisk (state S.Store tx.new.conn.now)
+        → IsTrue (state S.Store tx.old.conn.now).in_transaction
         → (others : Schema) → AreFree others → (state S.Store tx.old.conn.now).now.schema ≡ with_ours others
         → OnOk result (Puts (next_tree others) (stored_format our_version)
         (state S.Store tx.old.conn.now).now (state S.Store tx.new.conn.now).now) }
@@ -178,7 +179,8 @@ fn add_format<S: Alter>(tx: &mut Transaction<'_, S>) -> Result<(), StoreFault>
 
 /// The clock at 0, and each counter at 1.
 fn add_state<S: Alter>(tx: &mut Transaction<'_, S>) -> Result<(), StoreFault>
-    ensures beside { HasCleanDisk (state S.Store tx.new.conn.now) → IsTrue (state S.Store tx.old.conn.now).in_transaction
+    ensures beside { HasCleanDisk (state S.Store tx.new.conn.now)
+        → IsTrue (state S.Store tx.old.conn.now).in_transaction
         → (others : Schema) → AreFree others → (state S.Store tx.old.conn.now).now.schema ≡ with_ours others
         → OnOk result (Puts (next_tree (created others format_table)) (stored_state first_state)
         (state S.Store tx.old.conn.now).now (state S.Store tx.new.conn.now).now) }
@@ -238,11 +240,13 @@ fn create_last<S: Alter>(tx: &mut Transaction<'_, S>) -> Result<(), StoreFault>
 
 /// The rows of a new store.
 fn add_rows<S: Alter>(tx: &mut Transaction<'_, S>) -> Result<(), StoreFault>
-    ensures beside { HasCleanDisk (state S.Store tx.new.conn.now) → IsTrue (state S.Store tx.old.conn.now).in_transaction
+    ensures beside { HasCleanDisk (state S.Store tx.new.conn.now)
+        → IsTrue (state S.Store tx.old.conn.now).in_transaction
         → (others : Schema) → AreFree others → (state S.Store tx.old.conn.now).now.schema ≡ with_ours others
         → OnOk result ((next : Database)
         × Puts (next_tree others) (stored_format our_version) (state S.Store tx.old.conn.now).now next
-        × Puts (next_tree (created others format_table)) (stored_state first_state) next (state S.Store tx.new.conn.now).now) }
+        × Puts (next_tree (created others format_table)) (stored_state first_state) next
+        (state S.Store tx.new.conn.now).now) }
     ensures inside { GoesOn (state S.Store tx.old.conn.now) (state S.Store tx.new.conn.now) result }
     ensures kept { StaysInside (state S.Store tx.old.conn.now) (state S.Store tx.new.conn.now) }
     ensures same_reference { tx.new.conn.ghost_name ≡ tx.old.conn.ghost_name }
@@ -255,7 +259,8 @@ fn add_rows<S: Alter>(tx: &mut Transaction<'_, S>) -> Result<(), StoreFault>
 /// The tables of a new store, where their names are free.
 pub(crate) fn make_tables<S: Alter>(tx: &mut Transaction<'_, S>) -> Result<(), StoreFault>
     ensures ok { HasCleanDisk (state S.Store tx.new.conn.now) → IsTrue (state S.Store tx.old.conn.now).in_transaction
-        → (state S.Store tx.old.conn.now).now.schema ≡ no_schema → OnOk result (Sees (state S.Store tx.new.conn.now) first_tables) }
+        → (state S.Store tx.old.conn.now).now.schema ≡ no_schema
+        → OnOk result (Sees (state S.Store tx.new.conn.now) first_tables) }
     ensures gains { Turns (state S.Store tx.old.conn.now) (state S.Store tx.new.conn.now) result
         GainsOurs }
     ensures inside { GoesOn (state S.Store tx.old.conn.now) (state S.Store tx.new.conn.now) result }

@@ -90,14 +90,19 @@ fn is_missing(fault: &CompileError) -> bool
 
 /// Whether there is a table `format`, which then has to tell version 1.
 fn find_format<S: Alter>(tx: &mut Transaction<'_, S>) -> Result<bool, OpenFault>
-    ensures empty { HasCleanDisk (state S.Store tx.new.conn.now) → (state S.Store tx.old.conn.now).now.schema ≡ no_schema
+    ensures empty { HasCleanDisk (state S.Store tx.new.conn.now)
+        → (state S.Store tx.old.conn.now).now.schema ≡ no_schema
         → MatchResult result (λ found. found ≡ false) (λ fault. fault ≢ OpenFault.UnknownVersion) }
     ensures ours { HasCleanDisk (state S.Store tx.new.conn.now) → IsOurs (state S.Store tx.old.conn.now)
-        → MatchResult result (λ found. IsTrue found × HasVersion our_version (tables_of (state S.Store tx.old.conn.now)))
-        (λ fault. fault ≡ OpenFault.UnknownVersion → HasVersion our_version (tables_of (state S.Store tx.old.conn.now)) → ⊥) }
-    ensures lacking { HasCleanDisk (state S.Store tx.new.conn.now) → LacksFormat (state S.Store tx.old.conn.now).now.schema
+        → MatchResult result
+        (λ found. IsTrue found × HasVersion our_version (tables_of (state S.Store tx.old.conn.now)))
+        (λ fault. fault ≡ OpenFault.UnknownVersion
+        → HasVersion our_version (tables_of (state S.Store tx.old.conn.now)) → ⊥) }
+    ensures lacking { HasCleanDisk (state S.Store tx.new.conn.now)
+        → LacksFormat (state S.Store tx.old.conn.now).now.schema
         → MatchResult result (λ found. found ≡ false) (λ fault. fault ≢ OpenFault.UnknownVersion) }
-    ensures same { HasCleanDisk (state S.Store tx.new.conn.now) → IsOurs (state S.Store tx.old.conn.now) ⊎ ((state S.Store tx.old.conn.now).now.schema ≡ no_schema)
+    ensures same { HasCleanDisk (state S.Store tx.new.conn.now)
+        → IsOurs (state S.Store tx.old.conn.now) ⊎ ((state S.Store tx.old.conn.now).now.schema ≡ no_schema)
         → OnOk result (IsUnchanged (state S.Store tx.old.conn.now) (state S.Store tx.new.conn.now)) }
     ensures left { HasCleanDisk (state S.Store tx.new.conn.now) → LacksFormat (state S.Store tx.old.conn.now).now.schema
         → OnOk result (IsUnchanged (state S.Store tx.old.conn.now) (state S.Store tx.new.conn.now)) }
@@ -128,14 +133,16 @@ fn find_format<S: Alter>(tx: &mut Transaction<'_, S>) -> Result<bool, OpenFault>
 /// Makes the tables where there are none.
 fn find_or_make<S: Alter>(tx: &mut Transaction<'_, S>) -> Result<(), OpenFault>
     ensures empty { HasCleanDisk (state S.Store tx.new.conn.now) → IsTrue (state S.Store tx.old.conn.now).in_transaction
-        → (state S.Store tx.old.conn.now).now.schema ≡ no_schema → OnOk result (Sees (state S.Store tx.new.conn.now) first_tables) }
+        → (state S.Store tx.old.conn.now).now.schema ≡ no_schema
+        → OnOk result (Sees (state S.Store tx.new.conn.now) first_tables) }
     ensures ours { HasCleanDisk (state S.Store tx.new.conn.now) → IsOurs (state S.Store tx.old.conn.now)
         → OnOk result (HasVersion our_version (tables_of (state S.Store tx.old.conn.now))
         × ((state S.Store tx.new.conn.now).now ≡ (state S.Store tx.old.conn.now).now)) }
     ensures version { HasCleanDisk (state S.Store tx.new.conn.now) → result ≡ Err OpenFault.UnknownVersion
         → HasOtherVersion (state S.Store tx.old.conn.now) }
     ensures gains { HasCleanDisk (state S.Store tx.new.conn.now) → IsTrue (state S.Store tx.old.conn.now).in_transaction
-        → LacksFormat (state S.Store tx.old.conn.now).now.schema → OnOk result (GainsOurs (state S.Store tx.old.conn.now).now (state S.Store tx.new.conn.now).now) }
+        → LacksFormat (state S.Store tx.old.conn.now).now.schema
+        → OnOk result (GainsOurs (state S.Store tx.old.conn.now).now (state S.Store tx.new.conn.now).now) }
     ensures lacking { HasCleanDisk (state S.Store tx.new.conn.now) → result ≡ Err OpenFault.UnknownVersion
         → LacksFormat (state S.Store tx.old.conn.now).now.schema → ⊥ }
     ensures inside { GoesOn (state S.Store tx.old.conn.now) (state S.Store tx.new.conn.now) result }
@@ -166,7 +173,8 @@ fn prepare<S: Alter>(connection: &mut Connection<S>) -> Result<(), OpenFault>
     ensures free { HasCleanDisk (state S.Store connection.new) → LacksFormat (state S.Store connection.old).now.schema
         → OnOk result (AreFree (state S.Store connection.old).now.schema) }
     ensures beside { HasCleanDisk (state S.Store connection.new) → LacksFormat (state S.Store connection.old).now.schema
-        → HasCounters (state S.Store connection.old).now.schema → OnOk result (StandsBeside (state S.Store connection.old) (state S.Store connection.new)) }
+        → HasCounters (state S.Store connection.old).now.schema
+        → OnOk result (StandsBeside (state S.Store connection.old) (state S.Store connection.new)) }
     ensures left { HasCleanDisk (state S.Store connection.new) → IsTrue (state S.Store connection.new).is_open
         → OnErr result (IsBack (state S.Store connection.old) (state S.Store connection.new)) }
     ensures opened { HasCleanDisk (state S.Store connection.new)
@@ -214,7 +222,8 @@ pub fn open<S: Alter>(
         (λ schema. (state S.Store schema.connection).in_transaction ≡ false)
         (λ e. (state S.Store e.1).in_transaction ≡ false) }
     ensures crash { MatchResult result
-        (λ schema. Survives (state S.Store connection) (state S.Store schema.connection) (CommitsOpen (state S.Store connection)))
+        (λ schema. Survives (state S.Store connection) (state S.Store schema.connection)
+        (CommitsOpen (state S.Store connection)))
         (λ e. Survives (state S.Store connection) (state S.Store e.1) (CommitsOpen (state S.Store connection))) }
 {
     let _schema = connection.schema();
