@@ -77,8 +77,15 @@ fn framed(limit: u64, continued: bool, head: Head, end: usize, bytes: &[u8]) -> 
     ensures { FindsHead limit continued bytes.now result }
 {
     match framing(&head, limit) {
-        Err(fault) => FirstHead::Fault(refusal_for(fault), is_without_body(&head)),
-        Ok(framing) if !continued && awaits_continue(&head, framing) => FirstHead::Continue,
+        Err(fault) => {
+            let bare = is_without_body(&head);
+            drop(head);
+            FirstHead::Fault(refusal_for(fault), bare)
+        }
+        Ok(framing) if !continued && awaits_continue(&head, framing) => {
+            drop(head);
+            FirstHead::Continue
+        }
         Ok(framing) => FirstHead::Head(FramedHead {
             head,
             length: end,

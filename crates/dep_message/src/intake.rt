@@ -9,6 +9,7 @@ use crate::work::{Found, Work};
 use dep_types::Refusal;
 use std::alloc::{AllocError, Global};
 use std::marker::Model;
+use std::mem;
 
 /// What stands next on a stream.
 #[derive(Drop)]
@@ -73,7 +74,8 @@ impl Intake {
     pub fn shut(&mut self)
         ensures { self.new ≡ record self.old { place = Shut } }
     {
-        self.work = Work::new(self.work.alloc, self.work.limit);
+        let work = Work::new(self.work.alloc, self.work.limit);
+        drop(mem::replace(&mut self.work, work));
         self.is_shut = true;
     }
 

@@ -131,6 +131,7 @@ impl Work {
         let behind = &self.buffer.as_slice()[head_length..];
         let come = behind.len().min(size);
         let Ok(content) = Vec::from_slice(self.alloc, &behind[..come]) else {
+            drop(head);
             return Err(AllocError);
         };
         if come == size {
@@ -189,15 +190,15 @@ impl Work {
             Ok(Fed::Done(used)) => {
                 Ok(self.take(read + used, request.head, request.reader.content()))
             }
-            Ok(Fed::Bad) => Ok(fault_of(&request.head, FrameFault::Bad)),
-            Ok(Fed::TooLarge) => Ok(fault_of(&request.head, FrameFault::TooLarge)),
+            Ok(Fed::Bad) => Ok(fault_of(request.head, FrameFault::Bad)),
+            Ok(Fed::TooLarge) => Ok(fault_of(request.head, FrameFault::TooLarge)),
         }
     }
 
     fn keep_place(&mut self, progress: Progress)
         ensures { self.new ≡ record self.old { progress = progress } }
     {
-        self.progress = progress;
+        drop(mem::replace(&mut self.progress, progress));
     }
 
     // Takes a whole request, which has so many bytes of the buffer.
@@ -216,8 +217,10 @@ impl Work {
     }
 }
 
-fn fault_of(head: &Head, fault: FrameFault) -> Found
-    ensures { result ≡ Found.Fault (refusal_of fault) (is_bare head.now) }
+fn fault_of(head: Head, fault: FrameFault) -> Found
+    ensures { result ≡ Found.Fault (refusal_of fault) (is_bare head) }
 {
-    Found::Fault(refusal_for(fault), is_without_body(head))
+    let bare = is_without_body(&head);
+    drop(head);
+    Found::Fault(refusal_for(fault), bare)
 }
