@@ -46,7 +46,8 @@ told_tag_manifest view = manifest_of sha256_digest (told_listed view)
 
 -- the files that are not payload
 abbrev pub told_tag_files : ObjectView → List Entry
-told_tag_files view = told_listed view ++ (codes "tagmanifest-sha256.txt", told_tag_manifest view) ∷ []
+told_tag_files view =
+    told_listed view ++ (codes "tagmanifest-sha256.txt", told_tag_manifest view) ∷ []
 
 -- the paths of the bag, in order
 abbrev pub told_paths : ObjectView → List (List ℕ)

@@ -98,5 +98,6 @@ pub record IsValidBag (b : Bag) : Type 0 where
   pub declared : finmap.get b.files (codes "bagit.txt") ≡ Some bagit_text
   pub folder : Contains b.folders (codes "data") ⊎ (payload_in b ≢ [])
   pub manifest : IsPayloadManifest sha256_digest b (codes "manifest-sha256.txt")
-  pub tag_manifest : IsTagManifest sha256_digest b (codes "tagmanifest-sha256.txt") (codes "manifest-sha256.txt")
+  pub tag_manifest : IsTagManifest sha256_digest b
+      (codes "tagmanifest-sha256.txt") (codes "manifest-sha256.txt")
   pub oxum : TellsOxum b

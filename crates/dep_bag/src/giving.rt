@@ -37,7 +37,8 @@ pub(crate) fn give_tag_files<K: BagSink>(
 
 // Gives a file with these bytes.
 fn give_text<K: BagSink>(sink: &mut K, path: &str, text: Vec<u8>) -> Result<(), ExportFault>
-    ensures gives { Gives (K.taken sink.old) (K.taken sink.new) (file_given (path.now, text.items)) result }
+    ensures gives { Gives (K.taken sink.old) (K.taken sink.new)
+        (file_given (path.now, text.items)) result }
     ensures count { OnOk result (K.failures sink.new ≡ K.failures sink.old) }
     ensures cause { HasCause result (K.failures sink.old) (K.failures sink.new) }
 {
@@ -89,6 +90,7 @@ fn give_stored<S: BagSource, K: BagSink>(
 {
     let path = payload_path(alloc, row)?;
     sink.begin(path.as_str())?;
+    drop(path);
     match source.stream(row.file, sink) {
         Ok(()) => {}
         Err(StreamFault::Writer) => return Err(ExportFault::Sink),

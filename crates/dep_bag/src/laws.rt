@@ -74,5 +74,6 @@ pub fn manifest_of_example()
 
 /// Five bytes in two files.
 pub fn oxum_of_example()
-    ensures { oxum ((codes "data/1/a", codes "abc") ∷ (codes "data/2/b", codes "de") ∷ []) ≡ codes "5.2" }
+    ensures { oxum ((codes "data/1/a", codes "abc") ∷ (codes "data/2/b", codes "de") ∷ [])
+        ≡ codes "5.2" }
 {}

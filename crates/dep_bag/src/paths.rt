@@ -1,5 +1,5 @@
 //! The paths of a bag.
-ghost use Rattle.std.specs.Prelude.{◌≡◌, ◌≢◌, ◌++◌, ℕ, List, IfOk, MatchOption, bytes_eq, map};
+ghost use Rattle.std.specs.Prelude.{◌≡◌, ◌≢◌, ◌++◌, ◌∷◌, [], ℕ, List, IfOk, OnOk, MatchOption, bytes_eq, map};
 ghost use Rattle.std.specs.List.{list_any};
 ghost use Rattle.dep_types.specs.BagPaths.{tag_paths};
 ghost use Rattle.dep_bag.specs.Parts.{in_folder, row_path, told_paths};
@@ -34,12 +34,19 @@ fn tag_file_paths(alloc: Global) -> Result<Vec<Text>, AllocError>
     ensures { IfOk result (λ paths. paths.items ≡ tag_paths) }
 {
     let mut paths = Vec::new(alloc);
-    paths.push(Text::copied(alloc, BAGIT)?)?;
-    paths.push(Text::copied(alloc, BAG_INFO)?)?;
-    paths.push(Text::copied(alloc, MANIFEST)?)?;
-    paths.push(Text::copied(alloc, METADATA)?)?;
-    paths.push(Text::copied(alloc, TAG_MANIFEST)?)?;
+    add_path(alloc, &mut paths, BAGIT)?;
+    add_path(alloc, &mut paths, BAG_INFO)?;
+    add_path(alloc, &mut paths, MANIFEST)?;
+    add_path(alloc, &mut paths, METADATA)?;
+    add_path(alloc, &mut paths, TAG_MANIFEST)?;
     Ok(paths)
+}
+
+fn add_path(alloc: Global, paths: &mut Vec<Text>, path: &str) -> Result<(), AllocError>
+    ensures { OnOk result (paths.new.items ≡ paths.old.items ++ path.now ∷ []) }
+{
+    paths.push(Text::copied(alloc, path)?)?;
+    Ok(())
 }
 
 /// Where a file stands: `data/NUMBER/NAME`.
