@@ -22,7 +22,7 @@ use Rattle.dep_bag.specs.Bag.{listed_files, tag_manifest, bag_files}
 use Rattle.dep_bag.proofs.Files.{payload_entry}
 use Rattle.dep_bag.proofs.ToldBag.{same_listed}
 use Rattle.dep_answers.specs.Answers.{ReplyContent, StoredContent, bytes_of}
-use Rattle.dep_answers.specs.Bags.{Place, places, tag_places, payload_place, shown_in_bag}
+use Rattle.dep_answers.specs.Bags.{BagEntry, bag_entries, tags_shown, payload_shown, shown_in_bag}
 use Rattle.dep_answers.specs.Told.{content_of, form_at}
 
 -- a path, and what is shown there, if it is known
@@ -32,20 +32,20 @@ Known = List ℕ × Option ReplyContent
 abbrev shown_file : File → ReplyContent
 shown_file file = StoredContent file.media file.content
 
-abbrev told_place : Object → List ℕ × BagPart → Known
-told_place o (path, Bytes text) = (path, Some (content_of (form_at path) text))
-told_place o (path, Stored f) = (path, option_map shown_file (finmap.get o.files f))
+abbrev told_entry : Object → List ℕ × BagPart → Known
+told_entry o (path, Bytes text) = (path, Some (content_of (form_at path) text))
+told_entry o (path, Stored f) = (path, option_map shown_file (finmap.get o.files f))
 
-abbrev held_place : Place → Known
-held_place place = (place.0, Some place.1)
+abbrev held_entry : BagEntry → Known
+held_entry place = (place.0, Some place.1)
 
 -- ---- what a view tells is the bag
 
 payload_told : (n : ℕ) (o : Object) (es : List (ℕ × File)) → All (λ e. finmap.get o.files e.0 ≡ Some e.1) es
-    → each (told_place o) (each stored_part (each (λ e. file_row n e.0 e.1) es)) ≡ each held_place (each payload_place es)
+    → each (told_entry o) (each stored_part (each (λ e. file_row n e.0 e.1) es)) ≡ each held_entry (each payload_shown es)
 payload_told n o [] h = refl
 payload_told n o (e ∷ es) h = λ i.
-    ((payload_place e).0, option_map shown_file (All-head (λ e. finmap.get o.files e.0 ≡ Some e.1) e es h i))
+    ((payload_shown e).0, option_map shown_file (All-head (λ e. finmap.get o.files e.0 ≡ Some e.1) e es h i))
     ∷ payload_told n o es (All-tail (λ e. finmap.get o.files e.0 ≡ Some e.1) e es h) i
 
 -- the parts by the tag files that are listed
@@ -55,18 +55,18 @@ parts_by n o listed =
     ++ text_part (codes "tagmanifest-sha256.txt", manifest_of sha256_digest listed)
     ∷ each stored_part (object_view n o).files
 
-places_told : (n : ℕ) (o : Object) → each (told_place o) (told_parts (object_view n o)) ≡ each held_place (places o)
-places_told n o =
+entries_told : (n : ℕ) (o : Object) → each (told_entry o) (told_parts (object_view n o)) ≡ each held_entry (bag_entries o)
+entries_told n o =
     let held = entries-held nat_cmp_total finmap.nat_cmp-IsAntisymmetric o.files in
-    ap (λ (listed : List Entry). each (told_place o) (parts_by n o listed)) (same_listed n o)
-    ∙ ap (λ (l : List Known). each held_place (tag_places o) ++ l) (payload_told n o (finmap.entries o.files) held)
+    ap (λ (listed : List Entry). each (told_entry o) (parts_by n o listed)) (same_listed n o)
+    ∙ ap (λ (l : List Known). each held_entry (tags_shown o) ++ l) (payload_told n o (finmap.entries o.files) held)
 
 -- the files of the bag
-pub shown_files : (o : Object) → each (λ (p : Place). (p.0, bytes_of p.1)) (places o) ≡ bag_files o
+pub shown_files : (o : Object) → each (λ (p : BagEntry). (p.0, bytes_of p.1)) (bag_entries o) ≡ bag_files o
 unfolding bag_files
 shown_files o = ap (λ (l : List Entry). listed_files o ++ tag_manifest o ∷ l) (same_payload (finmap.entries o.files))
   where
-    same_payload : (es : List (ℕ × File)) → each (λ (p : Place). (p.0, bytes_of p.1)) (each payload_place es) ≡ each payload_entry es
+    same_payload : (es : List (ℕ × File)) → each (λ (p : BagEntry). (p.0, bytes_of p.1)) (each payload_shown es) ≡ each payload_entry es
     same_payload [] = refl
     same_payload (e ∷ es) = ap (λ (l : List Entry). payload_entry e ∷ l) (same_payload es)
 
@@ -102,18 +102,18 @@ module _ (n : ℕ) (o : Object) (path : List ℕ) where
   abbrev part : Option (List ℕ × BagPart)
   part = find (λ p. bytes_eq path p.0) (told_parts (object_view n o))
 
-  abbrev place : Option Place
-  place = find (λ p. bytes_eq path p.0) (places o)
+  abbrev place : Option BagEntry
+  place = find (λ p. bytes_eq path p.0) (bag_entries o)
 
-  same_path : (p : List ℕ × BagPart) → (told_place o p).0 ≡ p.0
+  same_path : (p : List ℕ × BagPart) → (told_entry o p).0 ≡ p.0
   same_path (q, Bytes text) = refl
   same_path (q, Stored f) = refl
 
-  both_found : option_map (told_place o) part ≡ option_map held_place place
+  both_found : option_map (told_entry o) part ≡ option_map held_entry place
   both_found =
-      sym (found_through path (λ (p : List ℕ × BagPart). p.0) (λ (k : Known). k.0) (told_place o) same_path (told_parts (object_view n o)))
-      ∙ ap (find (λ (k : Known). bytes_eq path k.0)) (places_told n o)
-      ∙ found_through path (λ (p : Place). p.0) (λ (k : Known). k.0) held_place (λ p. refl) (places o)
+      sym (found_through path (λ (p : List ℕ × BagPart). p.0) (λ (k : Known). k.0) (told_entry o) same_path (told_parts (object_view n o)))
+      ∙ ap (find (λ (k : Known). bytes_eq path k.0)) (entries_told n o)
+      ∙ found_through path (λ (p : BagEntry). p.0) (λ (k : Known). k.0) held_entry (λ p. refl) (bag_entries o)
 
   right_path : (p : List ℕ × BagPart) → part ≡ Some p → p.0 ≡ path
   right_path p e =
@@ -129,14 +129,14 @@ same_stored f g e = cc
 not_stored : (f : ℕ) (text : List ℕ) → Some (Bytes text) ≡ Some (Stored f) → ⊥
 not_stored f text e = cc
 
-by_bytes : (o : Object) (path : List ℕ) (p : Option (List ℕ × BagPart)) (q : Option Place)
-    → option_map (told_place o) p ≡ option_map held_place q → ((x : List ℕ × BagPart) → p ≡ Some x → x.0 ≡ path)
+by_bytes : (o : Object) (path : List ℕ) (p : Option (List ℕ × BagPart)) (q : Option BagEntry)
+    → option_map (told_entry o) p ≡ option_map held_entry q → ((x : List ℕ × BagPart) → p ≡ Some x → x.0 ≡ path)
     → (text : List ℕ) → Some (Bytes text) ≡ option_map (λ x. x.1) p
     → option_map (λ x. x.1) q ≡ Some (content_of (form_at path) text)
 by_bytes o path None q e right text is = absurd (cc)
 by_bytes o path (Some (r, Bytes t)) None e right text is = absurd (cc)
 by_bytes o path (Some (r, Bytes t)) (Some place) e right text is =
-    let known : Some (content_of (form_at r) t) ≡ Some place.1 = ap (λ (k : Known). k.1) (same_some (r, Some (content_of (form_at r) t)) (held_place place) e) in
+    let known : Some (content_of (form_at r) t) ≡ Some place.1 = ap (λ (k : Known). k.1) (same_some (r, Some (content_of (form_at r) t)) (held_entry place) e) in
     sym known ∙ (λ i. Some (content_of (form_at (right (r, Bytes t) refl i)) (same_text t text (sym is) i)))
 by_bytes o path (Some (r, Stored f)) q e right text is = absurd (not_stored f text is)
 
@@ -146,7 +146,7 @@ known_file : (m : Option File) (c : ReplyContent) → option_map shown_file m �
 known_file None c e = absurd (cc)
 known_file (Some it) c e = (it, (refl, sym e))
 
-by_stored : (o : Object) (p : Option (List ℕ × BagPart)) (q : Option Place) → option_map (told_place o) p ≡ option_map held_place q
+by_stored : (o : Object) (p : Option (List ℕ × BagPart)) (q : Option BagEntry) → option_map (told_entry o) p ≡ option_map held_entry q
     → (f : ℕ) → Some (Stored f) ≡ option_map (λ x. x.1) p
     → (it : File) × ((finmap.get o.files f ≡ Some it) × (option_map (λ x. x.1) q ≡ Some (shown_file it)))
 by_stored o None q e f is = absurd (cc)
@@ -154,11 +154,11 @@ by_stored o (Some (r, Bytes t)) q e f is = absurd (not_stored f t (sym is))
 by_stored o (Some (r, Stored g)) None e f is = absurd (cc)
 by_stored o (Some (r, Stored g)) (Some place) e f is =
     let known : option_map shown_file (finmap.get o.files g) ≡ Some place.1 =
-    ap (λ (k : Known). k.1) (same_some (r, option_map shown_file (finmap.get o.files g)) (held_place place) e) in
+    ap (λ (k : Known). k.1) (same_some (r, option_map shown_file (finmap.get o.files g)) (held_entry place) e) in
     let file = known_file (finmap.get o.files g) place.1 known in
     (file.0, (ap (finmap.get o.files) (same_stored f g is) ∙ file.1.0, file.1.1))
 
-by_none : (o : Object) (p : Option (List ℕ × BagPart)) (q : Option Place) → option_map (told_place o) p ≡ option_map held_place q
+by_none : (o : Object) (p : Option (List ℕ × BagPart)) (q : Option BagEntry) → option_map (told_entry o) p ≡ option_map held_entry q
     → None ≡ option_map (λ x. x.1) p → option_map (λ x. x.1) q ≡ None
 by_none o None None e is = refl
 by_none o None (Some place) e is = absurd (cc)

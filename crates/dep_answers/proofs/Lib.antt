@@ -8,3 +8,4 @@ pub mod Made
 pub mod WrittenOut
 pub mod Present
 pub mod Changed
+pub mod RefusedSteps

@@ -13,7 +13,7 @@ use Rattle.dep_types.specs.declared.target.Resource.{Resource}
 use Rattle.dep_types.specs.declared.target.Resource.TheVariants as at
 use Rattle.dep_decisions.specs.Rules.{presence_refusal, has_object, has_bag_path}
 use Rattle.dep_soundness.proofs.FoundInMaps.{unless-none}
-use Rattle.dep_answers.specs.Bags.{Place, places, payload_place, shown_in_bag}
+use Rattle.dep_answers.specs.Bags.{BagEntry, bag_entries, payload_shown, shown_in_bag}
 use Rattle.dep_answers.specs.Laws.{is_shown}
 use Rattle.dep_answers.specs.Replies.{content_at}
 
@@ -28,31 +28,31 @@ some_upload false false e = absurd (cc)
 
 -- ---- bags
 
-found_path : (path : List ℕ) (ps : List Place) → list_any (bytes_eq path) (each (λ (p : Place). p.0) ps) ≡ true
-    → is_some (option_map (λ (p : Place). p.1) (find (λ (p : Place). bytes_eq path p.0) ps)) ≡ true
+found_path : (path : List ℕ) (ps : List BagEntry) → list_any (bytes_eq path) (each (λ (p : BagEntry). p.0) ps) ≡ true
+    → is_some (option_map (λ (p : BagEntry). p.1) (find (λ (p : BagEntry). bytes_eq path p.0) ps)) ≡ true
 found_path path [] e = absurd (cc)
 found_path path (p ∷ ps) e = go (bytes_eq path p.0) e (found_path path ps)
   where
-    rest : Option Place
-    rest = find (λ (p : Place). bytes_eq path p.0) ps
+    rest : Option BagEntry
+    rest = find (λ (p : BagEntry). bytes_eq path p.0) ps
 
-    go : (b : Bool) → (b || list_any (bytes_eq path) (each (λ (p : Place). p.0) ps)) ≡ true
-        → (list_any (bytes_eq path) (each (λ (p : Place). p.0) ps) ≡ true → is_some (option_map (λ (p : Place). p.1) rest) ≡ true)
-        → is_some (option_map (λ (p : Place). p.1) (cond b (Some p) rest)) ≡ true
+    go : (b : Bool) → (b || list_any (bytes_eq path) (each (λ (p : BagEntry). p.0) ps)) ≡ true
+        → (list_any (bytes_eq path) (each (λ (p : BagEntry). p.0) ps) ≡ true → is_some (option_map (λ (p : BagEntry). p.1) rest) ≡ true)
+        → is_some (option_map (λ (p : BagEntry). p.1) (cond b (Some p) rest)) ≡ true
     go true e later = refl
     go false e later = later e
 
-payload_paths_are : (es : List (ℕ × File)) → each (λ (p : Place). p.0) (each payload_place es) ≡ each (λ (e : ℕ × File). payload_path e.0 e.1.name) es
+payload_paths_are : (es : List (ℕ × File)) → each (λ (p : BagEntry). p.0) (each payload_shown es) ≡ each (λ (e : ℕ × File). payload_path e.0 e.1.name) es
 payload_paths_are [] = refl
 payload_paths_are (e ∷ es) = ap (λ (l : List (List ℕ)). payload_path e.0 e.1.name ∷ l) (payload_paths_are es)
 
-paths_are : (o : Object) → each (λ (p : Place). p.0) (places o) ≡ bag_paths o
+paths_are : (o : Object) → each (λ (p : BagEntry). p.0) (bag_entries o) ≡ bag_paths o
 paths_are o = ap (λ (l : List (List ℕ)). tag_paths ++ l) (payload_paths_are (finmap.entries o.files))
 
 bag_shown : (path : List ℕ) (o : Option Object) → option_map_or (λ (x : Object). list_any (bytes_eq path) (bag_paths x)) o false ≡ true
     → is_some (option_and_then (λ (x : Object). shown_in_bag x path) o) ≡ true
 bag_shown path None e = absurd (cc)
-bag_shown path (Some o) e = found_path path (places o) (ap (list_any (bytes_eq path)) (paths_are o) ∙ e)
+bag_shown path (Some o) e = found_path path (bag_entries o) (ap (list_any (bytes_eq path)) (paths_are o) ∙ e)
 
 -- ---- resources
 

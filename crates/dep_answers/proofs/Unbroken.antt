@@ -21,7 +21,7 @@ use Rattle.dep_reply.proofs.BaseLemmas.{unbroken_base}
 use Rattle.dep_docs_out.specs.Documents.{object_url, upload_url}
 use Rattle.dep_bag.proofs.Keys.{entries-held}
 use Rattle.dep_answers.specs.Answers.{Answer, ReplyContent, Document, StoredContent, media_of, head_of}
-use Rattle.dep_answers.specs.Bags.{Place, places, payload_place, shown_in_bag}
+use Rattle.dep_answers.specs.Bags.{BagEntry, bag_entries, payload_shown, shown_in_bag}
 use Rattle.dep_answers.specs.Replies.{content_at, shown_answer, status_answer, answer_to, refused_answer, last_object, last_upload}
 
 -- no text of the answer breaks a line
@@ -53,24 +53,24 @@ file_content s sound n f (Some o) there (Some file) e = file_media s sound n o t
 
 -- ---- bags
 
-abbrev IsPlainPlace : Place → Type 0
-IsPlainPlace place = IsTrue (is_unbroken (media_of place.1))
+abbrev IsPlainEntry : BagEntry → Type 0
+IsPlainEntry place = IsTrue (is_unbroken (media_of place.1))
 
-found_plain : (path : List ℕ) (ps : List Place) → AllByRecursion IsPlainPlace ps
-    → IfSome (option_map (λ (place : Place). place.1) (find (λ (place : Place). bytes_eq path place.0) ps)) (λ c. IsTrue (is_unbroken (media_of c)))
+found_plain : (path : List ℕ) (ps : List BagEntry) → AllByRecursion IsPlainEntry ps
+    → IfSome (option_map (λ (place : BagEntry). place.1) (find (λ (place : BagEntry). bytes_eq path place.0) ps)) (λ c. IsTrue (is_unbroken (media_of c)))
 found_plain path [] all = tt
 found_plain path (p ∷ ps) all = go (bytes_eq path p.0) (found_plain path ps all.1)
   where
-    rest : Option Place
-    rest = find (λ (place : Place). bytes_eq path place.0) ps
+    rest : Option BagEntry
+    rest = find (λ (place : BagEntry). bytes_eq path place.0) ps
 
-    go : (b : Bool) → IfSome (option_map (λ (place : Place). place.1) rest) (λ c. IsTrue (is_unbroken (media_of c)))
-        → IfSome (option_map (λ (place : Place). place.1) (cond b (Some p) rest)) (λ c. IsTrue (is_unbroken (media_of c)))
+    go : (b : Bool) → IfSome (option_map (λ (place : BagEntry). place.1) rest) (λ c. IsTrue (is_unbroken (media_of c)))
+        → IfSome (option_map (λ (place : BagEntry). place.1) (cond b (Some p) rest)) (λ c. IsTrue (is_unbroken (media_of c)))
     go true later = all.0
     go false later = later
 
 payload_plain : (s : State) → IsSound s → (n : ℕ) (o : Object) → finmap.get s.objects n ≡ Some o → (es : List (ℕ × File))
-    → All (λ e. finmap.get o.files e.0 ≡ Some e.1) es → AllByRecursion IsPlainPlace (each payload_place es)
+    → All (λ e. finmap.get o.files e.0 ≡ Some e.1) es → AllByRecursion IsPlainEntry (each payload_shown es)
 payload_plain s sound n o there [] held = tt
 payload_plain s sound n o there (e ∷ es) held = (
   file_media s sound n o there e.0 e.1 (All-head (λ e. finmap.get o.files e.0 ≡ Some e.1) e es held),
@@ -82,7 +82,7 @@ bag_content : (s : State) → IsSound s → (n : ℕ) (path : List ℕ) (o : Opt
 bag_content s sound n path None there = tt
 bag_content s sound n path (Some o) there =
     let payload = payload_plain s sound n o there (finmap.entries o.files) (entries-held nat_cmp_total finmap.nat_cmp-IsAntisymmetric o.files) in
-    found_plain path (places o) (refl, (refl, (refl, (refl, (refl, payload)))))
+    found_plain path (bag_entries o) (refl, (refl, (refl, (refl, (refl, payload)))))
 
 -- ---- documents and URLs
 

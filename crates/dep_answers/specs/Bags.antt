@@ -9,12 +9,12 @@ use Rattle.dep_bag.specs.Manifest.{sha256_digest, manifest_of}
 use Rattle.dep_answers.specs.Answers.{ReplyContent, Document, PlainText, StoredContent}
 
 -- a path, and what is shown there
-abbrev pub Place : Type 0
-Place = List ℕ × ReplyContent
+abbrev pub BagEntry : Type 0
+BagEntry = List ℕ × ReplyContent
 
 -- the tag files: texts, and the metadata as a document
-abbrev pub tag_places : Object → List Place
-tag_places o =
+abbrev pub tags_shown : Object → List BagEntry
+tags_shown o =
     (codes "bagit.txt", PlainText bagit_text)
     ∷ (codes "bag-info.txt", PlainText (info_text o.changed (oxum (payload o))))
     ∷ (codes "manifest-sha256.txt", PlainText (manifest_of sha256_digest (payload o)))
@@ -23,13 +23,14 @@ tag_places o =
     ∷ []
 
 -- a file of the object, under its own media type
-abbrev pub payload_place : ℕ × File → Place
-payload_place e = (payload_path e.0 e.1.name, StoredContent e.1.media e.1.content)
+abbrev pub payload_shown : ℕ × File → BagEntry
+payload_shown e = (payload_path e.0 e.1.name, StoredContent e.1.media e.1.content)
 
 -- the files of the bag, in the order of its list
-abbrev pub places : Object → List Place
-places o = tag_places o ++ map payload_place (finmap.entries o.files)
+abbrev pub bag_entries : Object → List BagEntry
+bag_entries o = tags_shown o ++ map payload_shown (finmap.entries o.files)
 
 -- what stands at a path, which is compared whole
 abbrev pub shown_in_bag : Object → (path : List ℕ) → Option ReplyContent
-shown_in_bag o path = option_map (λ place. place.1) (find (λ place. bytes_eq path place.0) (places o))
+shown_in_bag o path =
+    option_map (λ entry. entry.1) (find (λ entry. bytes_eq path entry.0) (bag_entries o))

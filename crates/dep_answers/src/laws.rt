@@ -15,23 +15,26 @@ ghost use Rattle.dep_decisions.specs.declared.operation.Operation.{Operation as 
 ghost use Rattle.dep_reply.specs.Lines.{is_unbroken, IsUnbroken};
 ghost use Rattle.dep_bag.specs.Bag.{bag_files};
 ghost use Rattle.dep_answers.specs.Answers.{bytes_of, head_of};
-ghost use Rattle.dep_answers.specs.Bags.{places};
+ghost use Rattle.dep_answers.specs.Bags.{bag_entries};
 ghost use Rattle.dep_docs_out.specs.ExampleDocuments.{example_config};
 ghost use Rattle.dep_answers.specs.Examples.{example_state, created_reply, upload_reply, file_head, changed_reply};
 ghost use Rattle.dep_answers.specs.Laws.{IsToldObject, IsToldUpload, is_shown};
 ghost use Rattle.dep_answers.specs.Replies.{answer_to, content_at, refused_answer, front_text, stored_text};
-ghost use Rattle.dep_answers.specs.Steps.{accepted_answer};
+ghost use Rattle.dep_answers.specs.Steps.{accepted_answer, is_head, operation_step};
 
 /// What is shown at the paths of an object's bag are the files of the bag.
 pub fn bags_show_their_files()
-    ensures { (o : StateObject) → each (λ place. (place.0, bytes_of place.1)) (places o) ≡ bag_files o }
+    ensures { (o : StateObject)
+        → each (λ entry. (entry.0, bytes_of entry.1)) (bag_entries o) ≡ bag_files o }
 {}
 
 /// No text in the head of an answer breaks a line, whatever was deposited, so that none can begin
 /// another field or another reply (RFC 9112, section 11.1).
 pub fn answers_are_unbroken()
-    ensures accepted { (config : AConfig) (s : State) (r : AResource) (m : AMethod) (clock : ℕ) (closes : Bool)
-        → IsBase config.base → IsSound s → IsUnbroken (head_of (answer_to config s r m) clock closes) }
+    ensures accepted { (config : AConfig) (s : State) (r : AResource) (m : AMethod) (clock : ℕ)
+        (closes : Bool)
+        → IsBase config.base → IsSound s
+        → IsUnbroken (head_of (answer_to config s r m) clock closes) }
     ensures refused { (r : ARefusal) (allow : Option (List ℕ)) (clock : ℕ) (closes : Bool)
         → IfSome allow (λ text. IsTrue (is_unbroken text))
         → IsUnbroken (head_of (refused_answer clock r allow) clock closes) }
@@ -50,19 +53,32 @@ pub fn deposits_are_told_their_object()
         → op.target.method ≡ APost → refusal config s op ≡ None → IsToldObject config s op }
 {}
 
-/// An opening is answered with the upload that it made, under the number that was next, all of whose
-/// segments are still to come, and with its URL.
+/// An opening is answered with the upload that it made, under the number that was next, all of
+/// whose segments are still to come, and with its URL.
 pub fn openings_are_told_their_upload()
     ensures { (config : AConfig) (s : State) (op : AnOperation) → op.target.resource ≡ AStaging
         → op.target.method ≡ APost → refusal config s op ≡ None → IsToldUpload config s op }
 {}
 
-/// A POST and a PUT on an Object-URL are answered with the number of the change as the object's tag.
+/// A POST and a PUT on an Object-URL are answered with the number of the change as the object's
+/// tag.
 pub fn changes_are_told_their_tag()
     ensures { (config : AConfig) (s : State) (op : AnOperation) (n : ℕ)
         → op.target.resource ≡ AnObject n → (op.target.method ≡ APost) ⊎ (op.target.method ≡ APut)
         → refusal config s op ≡ None
         → (accepted_answer config (effect config s op) op).tag ≡ Some s.next.change }
+{}
+
+/// A refused request changes nothing: it leaves the state as it was, and is sent the reply to its
+/// refusal, without the document where it is a HEAD, and nothing behind it.
+pub fn refused_requests_change_nothing()
+    ensures state { (config : AConfig) (s : State) (op : AnOperation) (r : ARefusal)
+        → refusal config s op ≡ Some r → (operation_step config s op).state ≡ s }
+    ensures reply { (config : AConfig) (s : State) (op : AnOperation) (r : ARefusal)
+        → refusal config s op ≡ Some r → (operation_step config s op).front
+        ≡ front_text (refused_answer s.clock r None) s.clock (is_head op.target.method) op.closes }
+    ensures alone { (config : AConfig) (s : State) (op : AnOperation) (r : ARefusal)
+        → refusal config s op ≡ Some r → (operation_step config s op).stored ≡ [] }
 {}
 
 /// The whole reply to a deposit of one file.
@@ -73,21 +89,25 @@ pub fn deposit_of_example()
 
 /// The whole reply to a GET of an upload, after which the connection is closed.
 pub fn upload_of_example()
-    ensures { front_text (answer_to example_config example_state (AnUpload 1) AGet) 1523836800 false true
+    ensures { front_text
+        (answer_to example_config example_state (AnUpload 1) AGet) 1523836800 false true
         ≡ upload_reply }
 {}
 
 /// The head of the reply to a GET of a file, which is that of the HEAD, and the content behind it.
 pub fn file_of_example()
     ensures head { (is_bare : Bool) → front_text
-        (answer_to example_config example_state (AFile 1 1) AGet) 1523836800 is_bare false ≡ file_head }
+        (answer_to example_config example_state (AFile 1 1) AGet) 1523836800 is_bare false
+        ≡ file_head }
     ensures sent { stored_text (answer_to example_config example_state (AFile 1 1) AGet) false
         ≡ codes "abc" }
-    ensures unsent { stored_text (answer_to example_config example_state (AFile 1 1) AGet) true ≡ [] }
+    ensures unsent { stored_text (answer_to example_config example_state (AFile 1 1) AGet) true
+        ≡ [] }
 {}
 
 /// The whole reply to a PUT of metadata.
 pub fn metadata_of_example()
-    ensures { front_text (answer_to example_config example_state (AMetadata 1) APut) 1523836800 false false
+    ensures { front_text
+        (answer_to example_config example_state (AMetadata 1) APut) 1523836800 false false
         ≡ changed_reply }
 {}

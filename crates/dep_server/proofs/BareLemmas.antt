@@ -22,7 +22,7 @@ use Rattle.dep_decisions.specs.declared.operation.Operation.{Operation}
 use Rattle.dep_soundness.proofs.FoundInMaps.{unless-none}
 use Rattle.dep_soundness.proofs.ReadAlone.{reads_keep}
 use Rattle.dep_answers.specs.Answers.{Answer, ReplyContent, Document, PlainText, StoredContent, bytes_of, document_of, stored_of, head_of}
-use Rattle.dep_answers.specs.Bags.{Place, places, payload_place, shown_in_bag}
+use Rattle.dep_answers.specs.Bags.{BagEntry, bag_entries, payload_shown, shown_in_bag}
 use Rattle.dep_answers.specs.Replies.{front_text, stored_text, content_at, shown_answer, refused_answer}
 use Rattle.dep_answers.specs.Steps.{Stepped, answered_step, refused_step, accepted_answer, accepted_step, step_by, operation_step}
 use Rattle.dep_router.specs.Targets.{target, to_resource, segments, resource_of, allow_text}
@@ -66,8 +66,8 @@ upload_there true c e = refl
 upload_there false true e = cc
 upload_there false false e = cc
 
-found_by : (b : Bool) (p : Place) (rest : Option Place) → (b ≡ false → (content : ReplyContent) × (option_map (λ (p : Place). p.1) rest ≡ Some content))
-    → (content : ReplyContent) × (option_map (λ (p : Place). p.1) (if b then Some p else rest) ≡ Some content)
+found_by : (b : Bool) (p : BagEntry) (rest : Option BagEntry) → (b ≡ false → (content : ReplyContent) × (option_map (λ (p : BagEntry). p.1) rest ≡ Some content))
+    → (content : ReplyContent) × (option_map (λ (p : BagEntry). p.1) (if b then Some p else rest) ≡ Some content)
 found_by true p rest f = (p.1, refl)
 found_by false p rest f = f refl
 
@@ -75,24 +75,24 @@ behind : (b c : Bool) → (b || c) ≡ true → b ≡ false → c ≡ true
 behind true c e f = cc
 behind false c e f = e
 
-found : (path : List ℕ) (them : List Place) → list_any (bytes_eq path) (map (λ (p : Place). p.0) them) ≡ true
-    → (content : ReplyContent) × (option_map (λ (p : Place). p.1) (find (λ (p : Place). bytes_eq path p.0) them) ≡ Some content)
+found : (path : List ℕ) (them : List BagEntry) → list_any (bytes_eq path) (map (λ (p : BagEntry). p.0) them) ≡ true
+    → (content : ReplyContent) × (option_map (λ (p : BagEntry). p.1) (find (λ (p : BagEntry). bytes_eq path p.0) them) ≡ Some content)
 found path [] e = cc
 found path (p ∷ them) e =
-    found_by (bytes_eq path p.0) p (find (λ (q : Place). bytes_eq path q.0) them)
-    (λ f. found path them (behind (bytes_eq path p.0) (list_any (bytes_eq path) (map (λ (q : Place). q.0) them)) e f))
+    found_by (bytes_eq path p.0) p (find (λ (q : BagEntry). bytes_eq path q.0) them)
+    (λ f. found path them (behind (bytes_eq path p.0) (list_any (bytes_eq path) (map (λ (q : BagEntry). q.0) them)) e f))
 
-payload_at : (es : List (ℕ × File)) → map (λ (p : Place). p.0) (map payload_place es) ≡ map (λ (e : ℕ × File). payload_path e.0 e.1.name) es
+payload_at : (es : List (ℕ × File)) → map (λ (p : BagEntry). p.0) (map payload_shown es) ≡ map (λ (e : ℕ × File). payload_path e.0 e.1.name) es
 payload_at [] = refl
 payload_at (e ∷ es) = ap (λ l. payload_path e.0 e.1.name ∷ l) (payload_at es)
 
-places_at : (o : Object) → map (λ (p : Place). p.0) (places o) ≡ bag_paths o
-places_at o = ap (λ l. tag_paths ++ l) (payload_at (finmap.entries o.files))
+entries_at : (o : Object) → map (λ (p : BagEntry). p.0) (bag_entries o) ≡ bag_paths o
+entries_at o = ap (λ l. tag_paths ++ l) (payload_at (finmap.entries o.files))
 
 in_bag : (path : List ℕ) (o : Option Object) → option_map_or (λ (x : Object). list_any (bytes_eq path) (bag_paths x)) o false ≡ true
     → (content : ReplyContent) × (option_and_then (λ (x : Object). shown_in_bag x path) o ≡ Some content)
 in_bag path None e = cc
-in_bag path (Some o) e = found path (places o) (ap (λ l. list_any (bytes_eq path) l) (places_at o) ∙ e)
+in_bag path (Some o) e = found path (bag_entries o) (ap (λ l. list_any (bytes_eq path) l) (entries_at o) ∙ e)
 
 -- a resource that has a GET
 abbrev is_shown : Resource → Bool

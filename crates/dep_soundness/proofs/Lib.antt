@@ -12,3 +12,4 @@ pub mod Lengths
 pub mod InOrder
 pub mod Referred
 pub mod Deposited
+pub mod FilesStay

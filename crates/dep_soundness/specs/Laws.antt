@@ -1,12 +1,13 @@
 -- Words of the laws.
-use Rattle.std.specs.Prelude.{◌≡◌, ◌⊎◌, ℕ, ◌<◌, ◌≤◌, Bool, true, false, length, Some, None, IsTrue}
+use Rattle.std.specs.Prelude.{◌≡◌, ◌⊎◌, ℕ, ◌==◌, ◌<◌, ◌≤◌, ◌&&◌, Bool, true, false, length, Some, None, IsTrue}
 use Rattle.std.specs.FinMap as map
 use Rattle.dep_types.specs.State.{State, Object, File, Upload, file_at}
 use Rattle.dep_types.specs.Uploads.{assembled}
 use Rattle.dep_types.specs.declared.target.Resource.{Resource}
-use Rattle.dep_types.specs.declared.target.Resource.TheVariants.{Object as AnObject, FileSet as AFileSet, Upload as AnUpload}
+use Rattle.dep_types.specs.declared.target.Resource.TheVariants.{Object as AnObject, FileSet as AFileSet, File as AFile, Upload as AnUpload}
 use Rattle.dep_types.specs.declared.target.Method.{Method}
-use Rattle.dep_types.specs.declared.target.Method.TheVariants.{Get, Head, Delete}
+use Rattle.dep_types.specs.declared.target.Method.TheVariants.{Get, Head, Put, Delete}
+use Rattle.dep_types.specs.declared.target.Target.{Target}
 use Rattle.dep_fixity.specs.Fixity.{digests_of, is_kept, keeps}
 use Rattle.dep_docs_in.specs.declared.reference.Reference.{Reference}
 use Rattle.dep_docs_in.specs.declared.reference.Pointed.TheVariants.{Upload as Pointing}
@@ -19,7 +20,8 @@ pub record IsNew (next after number : ℕ) : Type 0 where
   pub from : next ≤ number
   pub below : number < after
 
--- what stands at a number stood there before, or its number is new; and what is changed has a new tag
+-- what stands at a number stood there before, or its number is new; and what is changed has a new
+-- tag
 pub record AreGivenOnce (s t : State) : Type 0 where
   pub objects : (n : ℕ) (o : Object) → map.get t.objects n ≡ Some o
       → ((old : Object) × (map.get s.objects n ≡ Some old)) ⊎ IsNew s.next.object t.next.object n
@@ -28,7 +30,8 @@ pub record AreGivenOnce (s t : State) : Type 0 where
   pub uploads : (n : ℕ) (u : Upload) → map.get t.uploads n ≡ Some u
       → ((old : Upload) × (map.get s.uploads n ≡ Some old)) ⊎ IsNew s.next.upload t.next.upload n
   pub tags : (n : ℕ) (o : Object) → map.get t.objects n ≡ Some o
-      → (map.get s.objects n ≡ Some o) ⊎ ((o.tag ≡ s.next.change) × IsNew s.next.change t.next.change o.tag)
+      → (map.get s.objects n ≡ Some o)
+      ⊎ ((o.tag ≡ s.next.change) × IsNew s.next.change t.next.change o.tag)
 
 -- ---- requests that read alone
 
@@ -42,6 +45,24 @@ abbrev pub reads_no_further : Resource → Method → Bool
 reads_no_further (AnUpload u) Delete = true
 reads_no_further resource method = is_read method
 
+-- ---- files that are replaced or deleted
+
+abbrev pub puts_or_deletes : Method → Bool
+puts_or_deletes Put = true
+puts_or_deletes Delete = true
+puts_or_deletes method = false
+
+-- the file itself, the files of its object, and the object
+abbrev pub has_file_in : (object file : ℕ) → Resource → Bool
+has_file_in n f (AnObject m) = m == n
+has_file_in n f (AFileSet m) = m == n
+has_file_in n f (AFile m g) = (m == n) && (g == f)
+has_file_in n f resource = false
+
+-- what is asked for replaces the file or deletes it
+abbrev pub takes_file : (object file : ℕ) → Target → Bool
+takes_file n f t = puts_or_deletes t.method && has_file_in n f t.resource
+
 -- ---- deposits by reference
 
 -- the object that takes what is deposited there
@@ -50,8 +71,8 @@ deposited_object s (AnObject n) = n
 deposited_object s (AFileSet n) = n
 deposited_object s resource = s.next.object
 
--- the file is the upload that the entry points at, joined by number, with the size that was told and
--- each digest that was promised, and the upload is gone
+-- the file is the upload that the entry points at, joined by number, with the size that was told
+-- and each digest that was promised, and the upload is gone
 pub record IsDepositedFrom (s t : State) (r : Reference) (file : File) : Type 0 where
   pub upload : ℕ
   pub target : r.target ≡ Pointing upload
