@@ -81,7 +81,8 @@ referred_files op refs = filter_map (referred_file op) refs
 -- what the content deposits, with the references that it tells
 abbrev pub deposit_by : Option (List Reference) → Operation → Kind → Option Deposit
 deposit_by refs op (of.File name) = Some (deposit.Files (posted_file op name ∷ []))
-deposit_by refs op of.Metadata = option_map (λ texts. deposit.Metadata texts) (metadata_read op.content)
+deposit_by refs op of.Metadata =
+    option_map (λ texts. deposit.Metadata texts) (metadata_read op.content)
 deposit_by refs op of.References =
     option_map (λ entries. deposit.Files (referred_files op entries)) refs
 deposit_by refs op _ = None

@@ -43,7 +43,8 @@ file_from s content new = record {
 }
 
 -- new files take this number and those behind it, in order
-unfoldable pub added_from : ℕ → State → (content : List ℕ) → List NewFile → Numbered File → Numbered File
+unfoldable pub added_from : ℕ → State → (content : List ℕ) → List NewFile
+    → Numbered File → Numbered File
 added_from number s content [] files = files
 added_from number s content (new ∷ more) files =
     added_from (number + 1) s content more (finmap.insert files number (file_from s content new))

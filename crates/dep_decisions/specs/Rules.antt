@@ -95,7 +95,8 @@ tag_at s (FileSet n) = option_map (λ o. o.files_tag) (finmap.get s.objects n)
 tag_at s (File n f) = option_map (λ file. file.tag) (file_at s n f)
 tag_at s _ = None
 
-abbrev pub tag_refusal : (required : Bool) → Option (List (List ℕ)) → (tag : Option ℕ) → Option Refusal
+abbrev pub tag_refusal : (required : Bool) → Option (List (List ℕ)) → (tag : Option ℕ)
+    → Option Refusal
 tag_refusal required members None = None
 tag_refusal required None (Some tag) = when required ETagRequired
 tag_refusal required (Some members) (Some tag) = unless (holds members tag) ETagNotMatched

@@ -54,7 +54,9 @@ fn posted(
     read: ReadContent,
 ) -> Result<Decision, AllocError>
     requires { IsRead operation.now read }
-    ensures { IfOk result (λ d. d ≡ asked_at (option_copied references.entry) operation.now operation.now.target.resource Post) }
+    ensures { IfOk result (λ d.
+        d ≡ asked_at (option_copied references.entry) operation.now
+        operation.now.target.resource Post) }
 {
     match operation.target.resource {
         Resource::Service => match deposit(alloc, operation, references, read)? {
@@ -87,7 +89,9 @@ fn put(
     read: ReadContent,
 ) -> Result<Decision, AllocError>
     requires { IsRead operation.now read }
-    ensures { IfOk result (λ d. d ≡ asked_at (option_copied references.entry) operation.now operation.now.target.resource Put) }
+    ensures { IfOk result (λ d.
+        d ≡ asked_at (option_copied references.entry) operation.now
+        operation.now.target.resource Put) }
 {
     match operation.target.resource {
         Resource::Object(object) => match deposit(alloc, operation, references, read)? {
@@ -120,7 +124,8 @@ fn put(
 
 // What a DELETE asks for.
 fn dropped(alloc: Global, resource: &Resource) -> Decision
-    ensures { (refs : Option (List AReference)) (op : AnOperation) → result ≡ asked_at refs op resource.now Delete }
+    ensures { (refs : Option (List AReference)) (op : AnOperation)
+        → result ≡ asked_at refs op resource.now Delete }
 {
     match *resource {
         Resource::Object(object) => Decision::DropObject { object },
