@@ -7,16 +7,16 @@ use Rattle.std.proofs.lemmas.List.Folds.{length-prefix_len}
 use Rattle.std.specs.List.{list_all, flat_map, prefix_len}
 use Rattle.std.specs.Str.{str_to_ascii_lowercase}
 use Rattle.dep_octets.specs.Octets.{is_token, is_token_octet}
-use Rattle.dep_params.specs.Grammar.{NamedValue, Piece, Plain, Escaped, is_piece, piece_text, piece_octet, is_control, is_bare_octet, Value, Bare, Quoted, is_value, value_text, value_octets}
+use Rattle.dep_params.specs.Grammar.{NamedValue, QuotedOctet, Plain, Escaped, is_quoted_octet, quoted_octet_text, octet_of, is_control, is_bare_octet, Value, Bare, Quoted, is_value, value_text, value_octets}
 use Rattle.dep_params.specs.Reading.{quoted, with_octet, is_plain_octet, bare, value_read, behind_name, named, token_len, parameter_read}
 use Rattle.dep_params.proofs.Runs.{and_both, not_is, same_number, chosen, prefix_len-stopped, run-passes}
 
--- the text is pieces, a quotation mark and the rest
+-- the text is quoted octets, a quotation mark and the rest
 pub record IsQuoted (text octets rest : List ℕ) : Type 0 where
-  pub pieces : List Piece
-  pub good : list_all is_piece pieces ≡ true
-  pub written : text ≡ flat_map piece_text pieces ++ 34 ∷ rest
-  pub told : octets ≡ map piece_octet pieces
+  pub between : List QuotedOctet
+  pub good : list_all is_quoted_octet between ≡ true
+  pub written : text ≡ flat_map quoted_octet_text between ++ 34 ∷ rest
+  pub told : octets ≡ map octet_of between
 
 with_octet_some : (b : ℕ) (read : Option (List ℕ × List ℕ)) (x : List ℕ × List ℕ) → with_octet b read ≡ Some x
     → (y : List ℕ × List ℕ) × (read ≡ Some y) × (x.0 ≡ b ∷ y.0) × (x.1 ≡ y.1)
@@ -43,7 +43,7 @@ quoted-sound (b ∷ rest) false x h = elim (chosen (b == 34) _ _ (Some x) h) [
   | inl quote ↦
       let same : x ≡ ([], rest) = cc (quote.1) in
       record {
-        pieces = [];
+        between = [];
         good = refl;
         written = rw (same_number b 34 quote.0, same) refl;
         told = ap (λ z. z.0) same;
@@ -53,7 +53,7 @@ quoted-sound (b ∷ rest) false x h = elim (chosen (b == 34) _ _ (Some x) h) [
         let found = quoted-sound rest true x backslash.1 in
         let inner = found.6 in
         record {
-          pieces = Escaped found.0 ∷ inner.pieces;
+          between = Escaped found.0 ∷ inner.between;
           good = rw (found.4, inner.good) refl;
           written = rw (same_number b 92 backslash.0, found.3, inner.written) refl;
           told = found.5 ∙ ap (λ o. found.0 ∷ o) inner.told;
@@ -63,9 +63,9 @@ quoted-sound (b ∷ rest) false x h = elim (chosen (b == 34) _ _ (Some x) h) [
           let read = with_octet_some b (quoted false rest) x good.1 in
           let inner = quoted-sound rest false read.0 read.1 in
           record {
-            pieces = Plain b ∷ inner.pieces;
+            between = Plain b ∷ inner.between;
             good = rw (good.0, inner.good) refl;
-            written = ap (λ t. b ∷ t) (inner.written ∙ ap (λ r. flat_map piece_text inner.pieces ++ 34 ∷ r) (sym read.3));
+            written = ap (λ t. b ∷ t) (inner.written ∙ ap (λ r. flat_map quoted_octet_text inner.between ++ 34 ∷ r) (sym read.3));
             told = read.2 ∙ ap (λ o. b ∷ o) inner.told;
           }
       | inr bad ↦ cc (bad.1)
@@ -73,20 +73,20 @@ quoted-sound (b ∷ rest) false x h = elim (chosen (b == 34) _ _ (Some x) h) [
   ]
 ]
 
-pub quoted-complete : (pieces : List Piece) (tail : List ℕ) → list_all is_piece pieces ≡ true
-    → quoted false (flat_map piece_text pieces ++ 34 ∷ tail) ≡ Some (map piece_octet pieces, tail)
+pub quoted-complete : (between : List QuotedOctet) (tail : List ℕ) → list_all is_quoted_octet between ≡ true
+    → quoted false (flat_map quoted_octet_text between ++ 34 ∷ tail) ≡ Some (map octet_of between, tail)
 unfolding quoted
 quoted-complete [] tail h = refl
-quoted-complete (Plain b ∷ pieces) tail h =
-    let both = and_both (is_plain_octet b) (list_all is_piece pieces) h in
+quoted-complete (Plain b ∷ between) tail h =
+    let both = and_both (is_plain_octet b) (list_all is_quoted_octet between) h in
     let parts = and_both _ _ both.0 in
     let others = and_both _ _ parts.0 in
     let quote = not_is (b == 34) others.1 in
     let backslash = not_is (b == 92) parts.1 in
-    rw (both.0, quote, backslash, quoted-complete pieces tail both.1) refl
-quoted-complete (Escaped b ∷ pieces) tail h =
-    let both = and_both (not (is_control b)) (list_all is_piece pieces) h in
-    rw (not_is (is_control b) both.0, quoted-complete pieces tail both.1) refl
+    rw (both.0, quote, backslash, quoted-complete between tail both.1) refl
+quoted-complete (Escaped b ∷ between) tail h =
+    let both = and_both (not (is_control b)) (list_all is_quoted_octet between) h in
+    rw (not_is (is_control b) both.0, quoted-complete between tail both.1) refl
 
 bare-run : (run tail : List ℕ) → nat_lt 0 (length run) ≡ true → list_all is_bare_octet run ≡ true → prefix_len is_bare_octet tail ≡ 0
     → bare (run ++ tail) ≡ Some (run, tail)
@@ -107,8 +107,8 @@ value_read-complete (Bare (b ∷ run)) tail h stops =
     let first = and_both (is_bare_octet b) (list_all is_bare_octet run) both.1 in
     let quote = not_is (b == 34) (and_both _ _ first.0).1 in
     value_read-bare b (run ++ tail) quote ∙ bare-run (b ∷ run) tail both.0 both.1 stops
-value_read-complete (Quoted pieces) tail h stops =
-    rw (append_assoc (flat_map piece_text pieces) (34 ∷ []) tail) (quoted-complete pieces tail h)
+value_read-complete (Quoted between) tail h stops =
+    rw (append_assoc (flat_map quoted_octet_text between) (34 ∷ []) tail) (quoted-complete between tail h)
 
 -- the text is a value and the rest
 pub record IsValue (text octets rest : List ℕ) : Type 0 where
@@ -142,9 +142,9 @@ value_read-sound (b ∷ rest) x h = elim (chosen (b == 34) _ _ (Some x) h) [
   | inl quote ↦
       let found = quoted-sound rest false x quote.1 in
       record {
-        value = Quoted found.pieces;
+        value = Quoted found.between;
         good = found.good;
-        written = ap (λ n. n ∷ rest) (same_number b 34 quote.0) ∙ ap (λ t. 34 ∷ t) (found.written ∙ sym (append_assoc (flat_map piece_text found.pieces) (34 ∷ []) x.1));
+        written = ap (λ n. n ∷ rest) (same_number b 34 quote.0) ∙ ap (λ t. 34 ∷ t) (found.written ∙ sym (append_assoc (flat_map quoted_octet_text found.between) (34 ∷ []) x.1));
         told = found.told;
       }
   | inr other ↦ bare-sound (b ∷ rest) x other.1

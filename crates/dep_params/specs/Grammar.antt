@@ -18,22 +18,22 @@ pub record DispositionValue : Type 0 where
 abbrev pub is_control : ℕ → Bool
 is_control b = nat_lt b 32 || b == 127
 
--- a piece of a quoted string: an octet that stands for itself, or one behind a backslash
-pub data Piece : Type 0 where
-  Plain : ℕ → Piece
-  Escaped : ℕ → Piece
+-- an octet of a quoted string, which stands for itself, or behind a backslash
+pub data QuotedOctet : Type 0 where
+  Plain : ℕ → QuotedOctet
+  Escaped : ℕ → QuotedOctet
 
-abbrev pub is_piece : Piece → Bool
-is_piece (Plain b) = (not (is_control b) || b == 9) && not (b == 34) && not (b == 92)
-is_piece (Escaped b) = not (is_control b)
+abbrev pub is_quoted_octet : QuotedOctet → Bool
+is_quoted_octet (Plain b) = (not (is_control b) || b == 9) && not (b == 34) && not (b == 92)
+is_quoted_octet (Escaped b) = not (is_control b)
 
-abbrev pub piece_text : Piece → List ℕ
-piece_text (Plain b) = b ∷ []
-piece_text (Escaped b) = 92 ∷ b ∷ []
+abbrev pub quoted_octet_text : QuotedOctet → List ℕ
+quoted_octet_text (Plain b) = b ∷ []
+quoted_octet_text (Escaped b) = 92 ∷ b ∷ []
 
-abbrev pub piece_octet : Piece → ℕ
-piece_octet (Plain b) = b
-piece_octet (Escaped b) = b
+abbrev pub octet_of : QuotedOctet → ℕ
+octet_of (Plain b) = b
+octet_of (Escaped b) = b
 
 -- what a bare value is made of
 abbrev pub is_bare_octet : ℕ → Bool
@@ -42,19 +42,19 @@ is_bare_octet b = nat_le 33 b && nat_le b 126 && not (b == 59) && not (b == 34)
 -- a value as it is written
 pub data Value : Type 0 where
   Bare : List ℕ → Value
-  Quoted : List Piece → Value
+  Quoted : List QuotedOctet → Value
 
 abbrev pub is_value : Value → Bool
 is_value (Bare text) = nat_lt 0 (length text) && list_all is_bare_octet text
-is_value (Quoted pieces) = list_all is_piece pieces
+is_value (Quoted between) = list_all is_quoted_octet between
 
 abbrev pub value_text : Value → List ℕ
 value_text (Bare text) = text
-value_text (Quoted pieces) = 34 ∷ flat_map piece_text pieces ++ 34 ∷ []
+value_text (Quoted between) = 34 ∷ flat_map quoted_octet_text between ++ 34 ∷ []
 
 abbrev pub value_octets : Value → List ℕ
 value_octets (Bare text) = text
-value_octets (Quoted pieces) = map piece_octet pieces
+value_octets (Quoted between) = map octet_of between
 
 -- a semicolon with the blanks about it, and behind it a parameter or nothing
 pub data ParameterSlot : Type 0 where
