@@ -5,10 +5,10 @@ ghost use Rattle.std.specs.FinMap as finmap;
 ghost use Rattle.sqlite.specs.Held.{state};
 ghost use Rattle.dep_types.specs.State.{Object, File, file_at};
 ghost use Rattle.dep_types.specs.Rows.{file_row};
-ghost use Rattle.dep_tables.specs.Tables.{tables_of, IsOurs};
+ghost use Rattle.dep_tables.specs.Tables.{tables_of};
 ghost use Rattle.dep_tables.specs.Clauses.{GoesOn, StaysInside, CommitsNothing};
 ghost use Rattle.dep_row_maps.specs.TablesAre.{TablesAre};
-ghost use Rattle.dep_row_maps.specs.Clauses.{Becomes, FromMaps, KeepsOurs, FailsUncommitted};
+ghost use Rattle.dep_row_maps.specs.Clauses.{Becomes, FromMaps, KeepsOurs, FailsUncommitted, FailsReadingUncommitted};
 ghost use Rattle.dep_files.specs.Edits.{with_file, without_file, without_files, without_contents};
 
 use crate::blocks::put_blocks;
@@ -101,8 +101,7 @@ pub fn delete_files<S: Alter>(
         → OnOk result (TablesAre (tables_of (state S.Store tx.new.conn.now))
         (without_files s object o))) }
     ensures ours { KeepsOurs (state S.Store tx.old.conn.now) (state S.Store tx.new.conn.now) result }
-    ensures err { IsOurs (state S.Store tx.old.conn.now)
-        → FailsUncommitted (state S.Store tx.old.conn.now) (state S.Store tx.new.conn.now) result }
+    ensures err { FailsReadingUncommitted (state S.Store tx.old.conn.now) (state S.Store tx.new.conn.now) result }
     ensures inside { GoesOn (state S.Store tx.old.conn.now) (state S.Store tx.new.conn.now) result }
     ensures kept { StaysInside (state S.Store tx.old.conn.now) (state S.Store tx.new.conn.now) }
     ensures same_reference { tx.new.conn.ghost_name ≡ tx.old.conn.ghost_name }

@@ -1,4 +1,5 @@
-//! The files of objects with their contents. Each call inside a transaction changes one map of the archive's state, or reads it; after an Err the caller gives the transaction back.
+//! The files of objects with their contents. Each call inside a transaction changes one map of the
+//! archive's state, or reads it; after an Err the caller gives the transaction back.
 #![tactic(auto)]
 
 mod blocks;

@@ -68,7 +68,8 @@ pub(crate) fn find_size<S: Alter>(
         → OnErr result ((connection.new ≡ connection.old)
         ⊎ (IsUnchanged (state S.Store connection.old) (state S.Store connection.new)
         ⊎ IsRolledBack (state S.Store connection.old) (state S.Store connection.new))) }
-    ensures found { HasCleanDisk (state S.Store connection.new) → OnOk result (IsTrue (state S.Store connection.old).is_open) }
+    ensures found { HasCleanDisk (state S.Store connection.new)
+        → OnOk result (IsTrue (state S.Store connection.old).is_open) }
     ensures open { HasCleanDisk (state S.Store connection.new)
         → IsTrue (state S.Store connection.new).is_open → IsTrue (state S.Store connection.old).is_open }
     ensures clean { HasCleanDisk (state S.Store connection.new) → HasCleanDisk (state S.Store connection.old) }

@@ -85,7 +85,8 @@ fn gathered(alloc: Global, rows: Vec<MetadataRow>) -> Result<Metadata, StoreFaul
     Ok(metadata)
 }
 
-/// The metadata of an object; none where there is no such object. A number of 2^63 or more is a fault of the store.
+/// The metadata of an object; none where there is no such object. A number of 2^63 or more is a fault
+/// of the store.
 pub(crate) fn load_metadata<S: Alter>(
     tx: &mut Transaction<'_, S>,
     alloc: Global,

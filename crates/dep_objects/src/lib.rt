@@ -1,5 +1,5 @@
-//! The objects of the store as a map: calls inside a transaction that each read or change one map of the state. The
-//! owner of the transaction gives it back where a call fails.
+//! The objects of the store as a map: calls inside a transaction that each read or change one map of
+//! the state. The owner of the transaction gives it back where a call fails.
 #![tactic(auto)]
 
 mod clock;

@@ -106,7 +106,8 @@ fn put_entries<S: Alter>(
     Ok(())
 }
 
-/// Gives an object that is there this metadata in place of its own. A number of 2^63 or more is a fault of the store.
+/// Gives an object that is there this metadata in place of its own. A number of 2^63 or more is a fault
+/// of the store.
 pub fn set_metadata<S: Alter>(
     tx: &mut Transaction<'_, S>,
     alloc: Global,
@@ -114,7 +115,8 @@ pub fn set_metadata<S: Alter>(
     metadata: &Metadata,
 ) -> Result<(), StoreFault>
     ensures map { FromMaps (state S.Store tx.old.conn.now) (state S.Store tx.new.conn.now)
-        (λ s. (o : Object) → map.get s.objects object ≡ Some o → OnOk result (SeesState (state S.Store tx.new.conn.now)
+        (λ s. (o : Object) → map.get s.objects object ≡ Some o
+        → OnOk result (SeesState (state S.Store tx.new.conn.now)
         (with_object s object (with_metadata o metadata.now)))) }
     ensures ours { KeepsOurs (state S.Store tx.old.conn.now) (state S.Store tx.new.conn.now) result }
     ensures err { FailsUncommitted (state S.Store tx.old.conn.now) (state S.Store tx.new.conn.now) result }
@@ -127,7 +129,8 @@ pub fn set_metadata<S: Alter>(
     put_entries(tx, alloc, object, &Metadata::new(alloc), metadata.entries())
 }
 
-/// Puts the texts of each name behind those that an object that is there has. A number of 2^63 or more is a fault of the store.
+/// Puts the texts of each name behind those that an object that is there has. A number of 2^63 or more
+/// is a fault of the store.
 pub fn append_metadata<S: Alter>(
     tx: &mut Transaction<'_, S>,
     alloc: Global,
@@ -135,7 +138,8 @@ pub fn append_metadata<S: Alter>(
     more: &Metadata,
 ) -> Result<(), StoreFault>
     ensures map { FromMaps (state S.Store tx.old.conn.now) (state S.Store tx.new.conn.now)
-        (λ s. (o : Object) → map.get s.objects object ≡ Some o → OnOk result (SeesState (state S.Store tx.new.conn.now)
+        (λ s. (o : Object) → map.get s.objects object ≡ Some o
+        → OnOk result (SeesState (state S.Store tx.new.conn.now)
         (with_object s object (with_metadata o
         (joined (map.entries more.now) o.metadata))))) }
     ensures ours { KeepsOurs (state S.Store tx.old.conn.now) (state S.Store tx.new.conn.now) result }

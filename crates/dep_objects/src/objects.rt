@@ -1,11 +1,14 @@
 //! The objects, by number.
 
-ghost use Rattle.std.specs.Prelude.{◌≡◌, IfOk, OnOk, option_map};
+ghost use Rattle.std.specs.Prelude.{◌≡◌, ◌<◌, ◌^◌, pos, [], ◌∷◌, IfOk, OnOk, option_map};
 ghost use Rattle.std.specs.FinMap as map;
 ghost use Rattle.sqlite.specs.Held.{state};
+ghost use Rattle.sqlite.specs.declared.types.Value.TheVariants.{Int};
 ghost use Rattle.dep_types.specs.Rows.{object_row};
 ghost use Rattle.dep_types.specs.Sound.{IsSound};
-ghost use Rattle.dep_tables.specs.Clauses.{ReadsOnly, FailsReading, GoesOn, StaysInside, CommitsNothing};
+ghost use Rattle.dep_tables.specs.Clauses.{AtMostOne, ReadsOnly, FailsReading, FailsByReading, GoesOn, StaysInside, CommitsNothing, RefusesNumbers};
+ghost use Rattle.dep_tables.specs.Rows.{IsNumberRow, IsObjectRow};
+ghost use Rattle.dep_tables.specs.Texts.{find_object_text, next_object_text};
 ghost use Rattle.dep_row_maps.specs.Keyed.{next_entry};
 ghost use Rattle.dep_row_maps.specs.TablesAre.{metadata_at, files_at, with_object, without_object};
 ghost use Rattle.dep_row_maps.specs.Clauses.{FromMaps, KeepsOurs, SeesState, FailsUncommitted};
@@ -24,7 +27,8 @@ pub struct DescribedObject {
     pub metadata: Metadata,
 }
 
-/// The object of this number, if there is one. It reads the object's own rows alone. A number of 2^63 or more is a fault of the store.
+/// The object of this number, if there is one. It reads the object's own rows alone. A number of 2^63
+/// or more is a fault of the store.
 pub fn load_object<S: Alter>(
     tx: &mut Transaction<'_, S>,
     alloc: Global,
@@ -48,7 +52,8 @@ pub fn load_object<S: Alter>(
     Ok(Some(DescribedObject { row, metadata }))
 }
 
-/// The row of an object, without its metadata and files, if there is one. A number of 2^63 or more is a fault of the store.
+/// The row of an object, without its metadata and files, if there is one. A number of 2^63 or more is a
+/// fault of the store.
 pub fn find_object<S: Alter>(
     tx: &mut Transaction<'_, S>,
     object: u64,
@@ -57,6 +62,10 @@ pub fn find_object<S: Alter>(
         (λ s. IfOk result (λ found. found ≡ option_map (object_row object) (map.get s.objects object))) }
     ensures same { ReadsOnly (state S.Store tx.old.conn.now) (state S.Store tx.new.conn.now) result }
     ensures ours { KeepsOurs (state S.Store tx.old.conn.now) (state S.Store tx.new.conn.now) result }
+    ensures numbers { RefusesNumbers (state S.Store tx.old.conn.now) (state S.Store tx.new.conn.now) result
+        (object < 2 ^ 63) }
+    ensures cause { FailsByReading (state S.Store tx.old.conn.now) (state S.Store tx.new.conn.now) result
+        (object < 2 ^ 63) find_object_text (Int (pos object) ∷ []) (AtMostOne IsObjectRow) }
     ensures err { FailsReading (state S.Store tx.old.conn.now) (state S.Store tx.new.conn.now) result }
     ensures inside { GoesOn (state S.Store tx.old.conn.now) (state S.Store tx.new.conn.now) result }
     ensures kept { StaysInside (state S.Store tx.old.conn.now) (state S.Store tx.new.conn.now) }
@@ -75,6 +84,10 @@ pub fn next_object<S: Alter>(
         (λ s. IfOk result (λ found. found ≡ option_map (λ e. e.0) (next_entry s.objects after))) }
     ensures same { ReadsOnly (state S.Store tx.old.conn.now) (state S.Store tx.new.conn.now) result }
     ensures ours { KeepsOurs (state S.Store tx.old.conn.now) (state S.Store tx.new.conn.now) result }
+    ensures numbers { RefusesNumbers (state S.Store tx.old.conn.now) (state S.Store tx.new.conn.now) result
+        (after < 2 ^ 63) }
+    ensures cause { FailsByReading (state S.Store tx.old.conn.now) (state S.Store tx.new.conn.now) result
+        (after < 2 ^ 63) next_object_text (Int (pos after) ∷ []) (AtMostOne IsNumberRow) }
     ensures err { FailsReading (state S.Store tx.old.conn.now) (state S.Store tx.new.conn.now) result }
     ensures inside { GoesOn (state S.Store tx.old.conn.now) (state S.Store tx.new.conn.now) result }
     ensures kept { StaysInside (state S.Store tx.old.conn.now) (state S.Store tx.new.conn.now) }
@@ -84,7 +97,8 @@ pub fn next_object<S: Alter>(
     dep_tables::next_object(tx, after)
 }
 
-/// Puts an object in, or writes it in the place of the one that is there, which keeps its metadata and files. A number of 2^63 or more is a fault of the store.
+/// Puts an object in, or writes it in the place of the one that is there, which keeps its metadata and
+/// files. A number of 2^63 or more is a fault of the store.
 pub fn put_object<S: Alter>(tx: &mut Transaction<'_, S>, row: &ObjectRow) -> Result<(), StoreFault>
     ensures map { FromMaps (state S.Store tx.old.conn.now) (state S.Store tx.new.conn.now)
         (λ s. OnOk result (SeesState (state S.Store tx.new.conn.now)
@@ -103,7 +117,8 @@ pub fn put_object<S: Alter>(tx: &mut Transaction<'_, S>, row: &ObjectRow) -> Res
     }
 }
 
-/// Deletes an object that has no files, with its metadata, if there is one. A number of 2^63 or more is a fault of the store.
+/// Deletes an object that has no files, with its metadata, if there is one. A number of 2^63 or more is
+/// a fault of the store.
 pub fn delete_object<S: Alter>(tx: &mut Transaction<'_, S>, object: u64) -> Result<(), StoreFault>
     ensures map { FromMaps (state S.Store tx.old.conn.now) (state S.Store tx.new.conn.now)
         (λ s. files_at s.objects object ≡ map.empty
