@@ -1,5 +1,5 @@
 -- Uploads that time out one after another, by ascending number.
-use Rattle.std.proofs.Common.{◌≡◌, ◌≢◌, ◌⊎◌, inl, inr, ℕ, ◌<◌, ◌≤◌, Bool, true, false, not, ◌||◌, ◌&&◌, cond, Option, Some, None, is_some, refl, sym, ap, subst, ◌∙◌, nat_cmp, is_eq, arith}
+use Rattle.std.proofs.Common.{◌≡◌, ◌≢◌, ◌⊎◌, inl, inr, ℕ, ◌<◌, ◌≤◌, max, min, IsTrue, Bool, true, false, not, ◌||◌, ◌&&◌, cond, Option, Some, None, is_some, refl, sym, ap, subst, ◌∙◌, nat_cmp, is_eq, arith}
 use Rattle.std.specs.Prelude.{if◌then◌else◌, nat_le}
 use Rattle.std.specs.Option.{option_map_or}
 use Rattle.std.specs.Ordering.{eq_by_cmp}
@@ -8,15 +8,24 @@ use Rattle.std.specs.FinSet as set
 use Rattle.std.proofs.lemmas.Cmp.{nat_cmp_total, tied_itself}
 use Rattle.std.proofs.lemmas.Bool.{cases_lt}
 use Rattle.std.proofs.lemmas.Bool.Decides.{nat_tests}
+use Rattle.sqlite.specs.State as db
+use Rattle.dep_types.specs.declared.store_fault.StoreFault.{StoreFault}
 use Rattle.dep_types.specs.Maps.{Numbered, Numbers}
 use Rattle.dep_types.specs.State.{State, Upload, is_idle, expires, expired, unexpired, clock_at, tick}
 use Rattle.dep_types.specs.declared.counters.Counters.{Counters}
 use Rattle.dep_types.specs.declared.config.Config.{Config}
+use Rattle.dep_types.specs.Limits.{greatest_moment}
+use Rattle.dep_types.specs.Sound.{IsSound}
 use Rattle.dep_types.proofs.TickLemmas.{get-unexpired, contains-expired}
+use Rattle.dep_tables.specs.Rows.{IsStorableState}
 use Rattle.dep_tables.specs.Tables.{Tables}
+use Rattle.dep_tables.specs.declared.state.StateRow.{StateRow}
+use Rattle.dep_row_maps.specs.Stored.{state_row}
 use Rattle.dep_row_maps.specs.TablesAre.{TablesAre}
 use Rattle.dep_row_maps.proofs.Files.{same_number}
 use Rattle.dep_row_maps.proofs.Lens.{tied_not, get_gone, get_left}
+use Rattle.dep_staging.specs.Causes.{FailsToExpireAll, HasStorableNumbers}
+use Rattle.dep_staging.specs.Causes.FailsToExpireAll.{next as next_fails, found as found_fails, ended as ended_fails}
 use Rattle.dep_staging.specs.Expiring.{timed_out, expired_at, expired_all}
 use Rattle.dep_staging.proofs.Next.{IsNextOf}
 
@@ -201,3 +210,56 @@ pub tick_is : (config : Config) (s : State) (moment clock : ℕ) (next : Counter
 tick_is config s moment clock next now given =
     ap (λ c. expired_all config c (record s { clock = c; next = next })) now
     ∙ ap (λ (n : Counters). expired_all config (clock_at s moment) (record s { clock = clock_at s moment; next = n })) given
+
+-- ---- its row and its numbers
+
+pub ticked_clock : (s : State) (moment : ℕ) (row : StateRow) (clock : ℕ) → row ≡ state_row s → clock ≡ max row.clock (min moment greatest_moment) → clock ≡ clock_at s moment
+ticked_clock s moment row clock is e = e ∙ ap (λ (r : StateRow). max r.clock (min moment greatest_moment)) is
+
+pub ticked_row : (config : Config) (s : State) (moment : ℕ) (row : StateRow) (clock : ℕ) → row ≡ state_row s → clock ≡ clock_at s moment → record row { clock = clock } ≡ state_row (tick config s moment)
+ticked_row config s moment row clock is now = ap (λ (r : StateRow). record r { clock = clock }) is ∙ ap (λ k. record (state_row s) { clock = k }) now
+
+pub storable_tick : (config : Config) (s : State) (moment : ℕ) → IsSound s → IsStorableState (state_row (tick config s moment))
+storable_tick config s moment sound = record {
+  clock = omega (arith, sound.clock);
+  object = sound.object_bound;
+  file = sound.file_bound;
+  upload = sound.upload_bound;
+  change = sound.change_bound;
+}
+
+-- no upload of a sound state has the number 0
+pub no_upload_0 : (s : State) → IsSound s → finmap.get s.uploads 0 ≡ None
+no_upload_0 s sound = go (finmap.get s.uploads 0) refl
+  where
+    go : (x : Option Upload) → finmap.get s.uploads 0 ≡ x → x ≡ None
+    go None e = refl
+    go (Some it) e = absurd (omega (arith, (sound.uploads 0 it e).number_given.least))
+
+pub storable_uploads : (s : State) → IsSound s → HasStorableNumbers s.uploads
+storable_uploads s sound u it there = omega (arith, (sound.uploads u it there).number_given.below, sound.upload_bound)
+
+-- one that expires later was there to expire
+pub expires_still : (config : Config) (clock last : ℕ) (s : State) (t : Tables) → (z : IsExpiredTo config clock last s t) → (u : ℕ) → IsTrue (expires config clock z.uploads u) → IsTrue (expires config clock s.uploads u)
+expires_still config clock last s t z u idle = place (cases_lt last u)
+  where
+    alike : finmap.get z.uploads u ≡ finmap.get s.uploads u → IsTrue (expires config clock s.uploads u)
+    alike same = subst (λ x. IsTrue (option_map_or (is_idle config clock) x false)) same idle
+
+    go : (b : Bool) → expires config clock s.uploads u ≡ b → finmap.get z.uploads u ≡ cond (not b) (finmap.get s.uploads u) None → IsTrue (expires config clock s.uploads u)
+    go true is e = is
+    go false is e = alike e
+
+    place : (last < u) ⊎ (u ≤ last) → IsTrue (expires config clock s.uploads u)
+    place (inl above) = alike (z.above u above)
+    place (inr low) = go (expires config clock s.uploads u) refl (z.below u low ∙ get-unexpired config clock s.uploads u)
+
+-- the statements that end those are among the statements that end these
+pub expire_fails : (config : Config) (clock last : ℕ) (s : State) (t : Tables) → (z : IsExpiredTo config clock last s t) → (at now : db.State) (fault : StoreFault)
+    → FailsToExpireAll config clock z.uploads at now fault → FailsToExpireAll config clock s.uploads at now fault
+expire_fails config clock last s t z at now fault (next_fails u failed) = next_fails u failed
+expire_fails config clock last s t z at now fault (found_fails u failed) = found_fails u failed
+expire_fails config clock last s t z at now fault (ended_fails u idle failed) = ended_fails u (expires_still config clock last s t z u idle) failed
+
+pub next_there : (config : Config) (clock last k : ℕ) (s : State) (t : Tables) → (z : IsExpiredTo config clock last s t) → IsNextOf z.uploads last k → (it : Upload) × (finmap.get s.uploads k ≡ Some it)
+next_there config clock last k s t z next = (next.value, sym (z.above k next.after) ∙ next.held)

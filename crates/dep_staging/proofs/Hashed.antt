@@ -10,7 +10,7 @@ use Rattle.std.proofs.lemmas.Cmp.{nat_cmp_total, tied_itself}
 use Rattle.std.proofs.lemmas.Bool.{cases_lt}
 use Rattle.sqlite.specs.declared.types.Value.TheVariants.{Blob}
 use Rattle.dep_types.specs.State.{State}
-use Rattle.dep_tables.specs.Rows.{bytes_in, is_block}
+use Rattle.dep_tables.specs.Rows.{bytes_in, is_block, IsStorableKey, IsStorableSegment}
 use Rattle.dep_tables.specs.Tables.{Tables}
 use Rattle.dep_tables.specs.declared.segments.SegmentRow.{SegmentRow}
 use Rattle.dep_tables.specs.declared.owner.BlockOwner.TheVariants as owner
@@ -18,6 +18,7 @@ use Rattle.dep_row_maps.specs.Stored.{block_key, segment_row, blocks_of}
 use Rattle.dep_row_maps.specs.TablesAre.{TablesAre, segments_at}
 use Rattle.dep_row_maps.proofs.Picked.{block_at}
 use Rattle.dep_files.proofs.Cuts.{block_count}
+use Rattle.dep_staging.specs.Causes.{HasStorableSegments}
 use Rattle.dep_staging.specs.Hashing.{IsSegmentOf}
 use Rattle.dep_staging.proofs.Next.{both, passed, none_below}
 
@@ -38,6 +39,18 @@ block_is t s row bytes items place h z read =
     let there = ap (λ m. finmap.get m row.number) (h.uploads_parts row.upload) ∙ z.received in
     got (blocks_of bytes) place items (picked items (slice_get (blocks_of bytes) place)
     (sym read ∙ block_at t.blocks h.parts h.blocks (owner.Upload row.upload) row.number bytes there place))
+
+none_within : (bs : List (List ℕ)) (i : ℕ) → i < length bs → [] ≡ option_to_list (option_map Blob (slice_get bs i)) → ⊥
+none_within [] i within e = omega (arith, within)
+none_within (b ∷ bs) zero within e = cc
+none_within (b ∷ bs) (suc i) within e = none_within bs i (omega (arith, within)) e
+
+-- it is there where the segment has so many
+pub block_there : (t : Tables) (s : State) (row : SegmentRow) (bytes : List ℕ) (place : ℕ) → TablesAre t s → IsSegmentOf s row bytes → place < length (blocks_of bytes)
+    → map bytes_in (filter (is_block (block_key (owner.Upload row.upload) row.number place)) t.blocks) ≡ [] → ⊥
+block_there t s row bytes place h z within read =
+    let there = ap (λ m. finmap.get m row.number) (h.uploads_parts row.upload) ∙ z.received in
+    none_within (blocks_of bytes) place within (sym read ∙ block_at t.blocks h.parts h.blocks (owner.Upload row.upload) row.number bytes there place)
 
 -- so many blocks has the segment
 pub counted : (s : State) (row : SegmentRow) (bytes : List ℕ) → IsSegmentOf s row bytes → div_ceil row.size 65536 ≡ length (blocks_of bytes)
@@ -98,3 +111,20 @@ segment_is s u i row e =
       received = finmap.get-entries (segments_at s.uploads u) e.number ∙ e.found;
       sized = refl;
     })
+
+-- ---- numbers of SQL
+
+few_blocks : (n : ℕ) → div_ceil n 65536 ≤ n
+few_blocks n = omega arith
+
+pub storable_key : (row : SegmentRow) (place : ℕ) → IsStorableSegment row → place < div_ceil row.size 65536 → IsStorableKey (block_key (owner.Upload row.upload) row.number place)
+storable_key row place storable within = record {
+  owner = storable.upload;
+  part = storable.number;
+  place = omega (arith, within, few_blocks row.size, storable.size);
+}
+
+pub storable_segment : (s : State) (u i : ℕ) (row : SegmentRow) → HasStorableSegments s u → (e : IsEntryAt u (finmap.entries (segments_at s.uploads u)) i row) → IsStorableSegment row
+storable_segment s u i row storable e =
+    let it = storable.segments e.number e.bytes (finmap.get-entries (segments_at s.uploads u) e.number ∙ e.found) in
+    subst IsStorableSegment (sym e.is) (record { upload = storable.upload; number = it.0; size = it.1 })

@@ -1,9 +1,8 @@
 -- What the calls on the uploads come to.
-use Rattle.std.proofs.Common.{◌≡◌, ◌⊎◌, ◌≢◌, inl, inr, ℕ, pos, not, List, length, filter, Option, Some, None, refl, sym, ap, subst, ◌∙◌}
+use Rattle.std.proofs.Common.{◌≡◌, ℕ, pos, not, List, length, filter, Option, Some, None, refl, sym, ap, subst, ◌∙◌}
 use Rattle.std.specs.Prelude.{option_map}
 use Rattle.std.specs.Option.{option_map_or}
 use Rattle.std.specs.FinMap as finmap
-use Rattle.std.proofs.lemmas.Cmp.{nat_cmp_total}
 use Rattle.sqlite_trees.specs.Tree.{put_row, without_rowid}
 use Rattle.dep_types.specs.Maps.{Numbered}
 use Rattle.dep_types.specs.State.{State, Upload}
@@ -16,8 +15,7 @@ use Rattle.dep_tables.specs.declared.segments.SegmentRow.{SegmentRow}
 use Rattle.dep_tables.specs.declared.owner.BlockOwner.TheVariants as owner
 use Rattle.dep_row_maps.specs.Stored.{upload_stored, is_of, segment_row, blocks_of, put_blocks}
 use Rattle.dep_row_maps.specs.TablesAre.{TablesAre, segments_at, with_upload}
-use Rattle.dep_row_maps.proofs.Files.{same_number}
-use Rattle.dep_row_maps.proofs.Lens.{get_here, get_there}
+use Rattle.dep_row_maps.proofs.Lens.{get_here, insert_twice}
 use Rattle.dep_row_maps.proofs.Whole.{upload_put, upload_written, upload_removed, upload_found}
 use Rattle.dep_row_maps.proofs.Posted.{segment_received}
 
@@ -42,13 +40,6 @@ dropped a b c d s u h first second third =
     subst (λ t. TablesAre t (record s { uploads = finmap.remove s.uploads u }))
     (sym (third ∙ ap (λ (t : Tables). record t { uploads = without_rowid (pos u) t.uploads }) (second ∙ ap (λ (t : Tables). record t { segments = filter (λ r. not (is_of u r)) t.segments }) first)))
     (upload_removed a s h u)
-
-insert_twice : {X : Type 0} (m : Numbered X) (k : ℕ) (x y : X) → finmap.insert (finmap.insert m k x) k y ≡ finmap.insert m k y
-insert_twice {X} m k x y = finmap.same_map nat_cmp_total finmap.nat_cmp-IsAntisymmetric _ _ (λ q. go q (same_number q k))
-  where
-    go : (q : ℕ) → (q ≡ k) ⊎ (q ≢ k) → finmap.get (finmap.insert (finmap.insert m k x) k y) q ≡ finmap.get (finmap.insert m k y) q
-    go q (inl is) = ap (finmap.get (finmap.insert (finmap.insert m k x) k y)) is ∙ get_here (finmap.insert m k x) k y ∙ sym (get_here m k y) ∙ ap (finmap.get (finmap.insert m k y)) (sym is)
-    go q (inr apart) = get_there (finmap.insert m k x) k y q apart ∙ get_there m k x q apart ∙ sym (get_there m k y q apart)
 
 pub received : (a b c d : Tables) (s : State) (row : UploadRow) (segment : SegmentRow) (bytes : List ℕ) (was it : Upload) → TablesAre a s → IsOrdered a.segments → IsOrdered a.blocks → IsOrdered a.uploads
     → finmap.get s.uploads row.upload ≡ Some was → finmap.get was.segments segment.number ≡ None → row ≡ upload_row row.upload it → segment ≡ segment_row row.upload segment.number (length bytes) → it.segments ≡ finmap.insert was.segments segment.number bytes

@@ -14,6 +14,8 @@ gone_upload s u = if set.contains s.timed_out u then TimedOut else Unknown
 
 -- the row and the segments of an upload, or what became of it
 abbrev pub IsFound : State → ℕ → FoundUpload → Type 0
-IsFound s u (Live found) = (it : Staged) × (map.get s.uploads u ≡ Some it) × (found.row ≡ upload_row u it) × (found.received.items ≡ each (λ e. segment_row u e.0 (length e.1)) (map.entries it.segments))
+IsFound s u (Live found) =
+    (it : Staged) × (map.get s.uploads u ≡ Some it) × (found.row ≡ upload_row u it)
+    × (found.received.items ≡ each (λ e. segment_row u e.0 (length e.1)) (map.entries it.segments))
 IsFound s u TimedOut = (map.get s.uploads u ≡ None) × (gone_upload s u ≡ TimedOut)
 IsFound s u Unknown = (map.get s.uploads u ≡ None) × (gone_upload s u ≡ Unknown)

@@ -26,7 +26,10 @@ fn move_parts<S: Alter>(
     file: u64,
 ) -> Result<(), StoreFault>
     ensures ok { Becomes (state S.Store tx.old.conn.now) (state S.Store tx.new.conn.now) result
-        (λ t. record t { blocks = move_parts (owner.Upload upload) (owner.File file) (range_with_len 1 count) t.blocks }) }
+        (λ t. record t {
+          blocks = move_parts (owner.Upload upload) (owner.File file)
+              (range_with_len 1 count) t.blocks;
+        }) }
     ensures err { FailsUncommitted (state S.Store tx.old.conn.now) (state S.Store tx.new.conn.now) result }
     ensures inside { GoesOn (state S.Store tx.old.conn.now) (state S.Store tx.new.conn.now) result }
     ensures kept { StaysInside (state S.Store tx.old.conn.now) (state S.Store tx.new.conn.now) }

@@ -1,6 +1,6 @@
 //! The SHA-256 of what the segments of an upload make, taken one block at a time.
 
-ghost use Rattle.std.specs.Prelude.{◌≡◌, ◌++◌, ℕ, List, [], Some, OnOk, IsTrue, slice_index_or};
+ghost use Rattle.std.specs.Prelude.{◌≡◌, ◌<◌, ◌++◌, ℕ, List, [], length, Some, OnOk, IfErr, IsTrue, slice_index_or};
 ghost use Rattle.std.specs.FinMap as finmap;
 ghost use Rattle.sha2.specs.Sha256.{sha256};
 ghost use Rattle.sha2.specs.Hashers.{Holds256};
@@ -10,10 +10,13 @@ ghost use Rattle.dep_types.specs.State.{State, Upload};
 ghost use Rattle.dep_types.specs.Uploads.{assembled};
 ghost use Rattle.dep_tables.specs.Tables.{tables_of, IsOurs};
 ghost use Rattle.dep_tables.specs.Clauses.{ReadsOnly, FailsReading, GoesOn, StaysInside, CommitsNothing};
-ghost use Rattle.dep_row_maps.specs.Stored.{blocks_of};
+ghost use Rattle.dep_tables.specs.Rows.{IsStorableKey, IsStorableSegment};
+ghost use Rattle.dep_tables.specs.declared.owner.BlockOwner.TheVariants as owner;
+ghost use Rattle.dep_row_maps.specs.Stored.{blocks_of, block_key};
 ghost use Rattle.dep_row_maps.specs.Laws.{HasSegmentsWithin};
 ghost use Rattle.dep_row_maps.specs.TablesAre.{TablesAre};
 ghost use Rattle.dep_files.specs.Reading.{Tells};
+ghost use Rattle.dep_staging.specs.Causes.{FailsSince, FailsToHash, HasStorableSegments};
 ghost use Rattle.dep_staging.specs.Hashing.{IsSegmentOf, received_bytes};
 
 use dep_files::BLOCK_SIZE;
@@ -32,6 +35,11 @@ fn segment_block<S: Alter>(
         (λ s found. (bytes : List ℕ) → IsSegmentOf s segment.now bytes
         → found.items ≡ slice_index_or (blocks_of bytes) place []) }
     ensures same { ReadsOnly (state S.Store tx.old.conn.now) (state S.Store tx.new.conn.now) result }
+    ensures cause { HasCleanDisk (state S.Store tx.new.conn.now) → IsOurs (state S.Store tx.old.conn.now)
+        → (s : State) → TablesAre (tables_of (state S.Store tx.old.conn.now)) s
+        → (bytes : List ℕ) → IsSegmentOf s segment.now bytes → place < length (blocks_of bytes)
+        → IsStorableKey (block_key (owner.Upload segment.now.upload) segment.now.number place)
+        → IfErr result (FailsSince S.Store (FailsToHash segment.now.upload) tx.old.conn.now tx.new.conn.now) }
     ensures err { FailsReading (state S.Store tx.old.conn.now) (state S.Store tx.new.conn.now) result }
     ensures inside { GoesOn (state S.Store tx.old.conn.now) (state S.Store tx.new.conn.now) result }
     ensures kept { StaysInside (state S.Store tx.old.conn.now) (state S.Store tx.new.conn.now) }
@@ -63,6 +71,11 @@ fn hash_segment<S: Alter>(
         → OnOk result (Holds256 hasher.new (message ++ bytes)) }
     ensures same { IsTrue (state S.Store tx.old.conn.now).is_open
         → ReadsOnly (state S.Store tx.old.conn.now) (state S.Store tx.new.conn.now) result }
+    ensures cause { HasCleanDisk (state S.Store tx.new.conn.now) → IsOurs (state S.Store tx.old.conn.now)
+        → IsTrue (state S.Store tx.old.conn.now).is_open
+        → (s : State) → TablesAre (tables_of (state S.Store tx.old.conn.now)) s
+        → (bytes : List ℕ) → IsSegmentOf s segment.now bytes → IsStorableSegment segment.now
+        → IfErr result (FailsSince S.Store (FailsToHash segment.now.upload) tx.old.conn.now tx.new.conn.now) }
     ensures err { FailsReading (state S.Store tx.old.conn.now) (state S.Store tx.new.conn.now) result }
     ensures inside { GoesOn (state S.Store tx.old.conn.now) (state S.Store tx.new.conn.now) result }
     ensures kept { StaysInside (state S.Store tx.old.conn.now) (state S.Store tx.new.conn.now) }
@@ -91,6 +104,10 @@ pub fn hash_upload<S: Alter>(
         (λ s digest. (it : Upload) → finmap.get s.uploads upload ≡ Some it → HasSegmentsWithin it
         → digest ≡ sha256 (assembled it)) }
     ensures same { ReadsOnly (state S.Store tx.old.conn.now) (state S.Store tx.new.conn.now) result }
+    ensures cause { HasCleanDisk (state S.Store tx.new.conn.now) → IsOurs (state S.Store tx.old.conn.now)
+        → (s : State) → TablesAre (tables_of (state S.Store tx.old.conn.now)) s
+        → HasStorableSegments s upload
+        → IfErr result (FailsSince S.Store (FailsToHash upload) tx.old.conn.now tx.new.conn.now) }
     ensures err { FailsReading (state S.Store tx.old.conn.now) (state S.Store tx.new.conn.now) result }
     ensures inside { GoesOn (state S.Store tx.old.conn.now) (state S.Store tx.new.conn.now) result }
     ensures kept { StaysInside (state S.Store tx.old.conn.now) (state S.Store tx.new.conn.now) }

@@ -1,4 +1,5 @@
-//! Staged uploads, with the clock that ends them. Each call inside a transaction changes the archive's state as the machine does, or reads it; after an Err the caller gives the transaction back.
+//! Staged uploads, with the clock that ends them. Each call inside a transaction changes the archive's
+//! state as the machine does, or reads it; after an Err the caller gives the transaction back.
 #![tactic(auto)]
 
 mod assembling;

@@ -1,16 +1,20 @@
 //! The clock, and the uploads that it ends.
 
-ghost use Rattle.std.specs.Prelude.{◌≡◌, None, OnOk, IfOk, nat_lt, ◌-◌, false};
+ghost use Rattle.std.specs.Prelude.{◌≡◌, ◌<◌, ◌^◌, None, OnOk, IfOk, IfErr, nat_lt, ◌-◌, false};
 ghost use Rattle.std.specs.Option.{option_map_or};
 ghost use Rattle.std.specs.FinMap as finmap;
 ghost use Rattle.sqlite.specs.Held.{state};
+ghost use Rattle.dep_types.specs.Sound.{IsSound};
 ghost use Rattle.dep_types.specs.State as machine;
 ghost use Rattle.dep_tables.specs.Tables.{tables_of};
-ghost use Rattle.dep_tables.specs.Clauses.{GoesOn, StaysInside, CommitsNothing};
+ghost use Rattle.dep_tables.specs.Clauses.{FailsByRunning, FailsWhole, GoesOn, StaysInside, CommitsNothing};
+ghost use Rattle.dep_tables.specs.Rows.{IsStorableState, state_values};
+ghost use Rattle.dep_tables.specs.Texts.{write_state_text};
 ghost use Rattle.dep_row_maps.specs.Stored.{state_row};
 ghost use Rattle.dep_row_maps.specs.TablesAre.{TablesAre, with_counters};
-ghost use Rattle.dep_row_maps.specs.Clauses.{FromMaps, KeepsOurs};
+ghost use Rattle.dep_row_maps.specs.Clauses.{FromMaps, KeepsOurs, FailsUncommitted, FailsReadingUncommitted};
 ghost use Rattle.dep_staging.specs.Expiring.{timed_out, expired_at, expired_all};
+ghost use Rattle.dep_staging.specs.Causes.{FailsByOne, FailsSince, FailsToExpire, FailsToExpireAll, FailsToTick, HasStorableNumbers};
 
 use crate::uploads::drop_upload;
 use dep_tables::{StateRow, find_upload, insert_timed_out, next_upload, read_state, write_state};
@@ -33,6 +37,9 @@ fn expire<S: Alter>(tx: &mut Transaction<'_, S>, upload: u64) -> Result<(), Stor
         (λ s. OnOk result (TablesAre (tables_of (state S.Store tx.new.conn.now))
         (timed_out upload s))) }
     ensures ours { KeepsOurs (state S.Store tx.old.conn.now) (state S.Store tx.new.conn.now) result }
+    ensures cause { FailsByOne S.Store tx.old.conn.now tx.new.conn.now result
+        (upload < 2 ^ 63) (FailsToExpire upload) }
+    ensures err { FailsUncommitted (state S.Store tx.old.conn.now) (state S.Store tx.new.conn.now) result }
     ensures inside { GoesOn (state S.Store tx.old.conn.now) (state S.Store tx.new.conn.now) result }
     ensures kept { StaysInside (state S.Store tx.old.conn.now) (state S.Store tx.new.conn.now) }
     ensures same_reference { tx.new.conn.ghost_name ≡ tx.old.conn.ghost_name }
@@ -52,6 +59,11 @@ fn expire_if_idle<S: Alter>(
         (λ s. OnOk result (TablesAre (tables_of (state S.Store tx.new.conn.now))
         (expired_at config.now clock upload s))) }
     ensures ours { KeepsOurs (state S.Store tx.old.conn.now) (state S.Store tx.new.conn.now) result }
+    ensures cause { FromMaps (state S.Store tx.old.conn.now) (state S.Store tx.new.conn.now)
+        (λ s. upload < 2 ^ 63
+        → IfErr result (FailsSince S.Store (FailsToExpireAll config.now clock s.uploads)
+        tx.old.conn.now tx.new.conn.now)) }
+    ensures err { FailsReadingUncommitted (state S.Store tx.old.conn.now) (state S.Store tx.new.conn.now) result }
     ensures inside { GoesOn (state S.Store tx.old.conn.now) (state S.Store tx.new.conn.now) result }
     ensures kept { StaysInside (state S.Store tx.old.conn.now) (state S.Store tx.new.conn.now) }
     ensures same_reference { tx.new.conn.ghost_name ≡ tx.old.conn.ghost_name }
@@ -75,13 +87,18 @@ fn expire_idle<S: Alter>(
         → OnOk result (TablesAre (tables_of (state S.Store tx.new.conn.now))
         (expired_all config.now clock s))) }
     ensures ours { KeepsOurs (state S.Store tx.old.conn.now) (state S.Store tx.new.conn.now) result }
+    ensures cause { FromMaps (state S.Store tx.old.conn.now) (state S.Store tx.new.conn.now)
+        (λ s. finmap.get s.uploads 0 ≡ None → HasStorableNumbers s.uploads
+        → IfErr result (FailsSince S.Store (FailsToExpireAll config.now clock s.uploads)
+        tx.old.conn.now tx.new.conn.now)) }
+    ensures err { FailsReadingUncommitted (state S.Store tx.old.conn.now) (state S.Store tx.new.conn.now) result }
     ensures inside { GoesOn (state S.Store tx.old.conn.now) (state S.Store tx.new.conn.now) result }
     ensures kept { StaysInside (state S.Store tx.old.conn.now) (state S.Store tx.new.conn.now) }
     ensures same_reference { tx.new.conn.ghost_name ≡ tx.old.conn.ghost_name }
     ensures survives { CommitsNothing (state S.Store tx.old.conn.now) (state S.Store tx.new.conn.now) }
 {
     let mut last = 0;
-    'uploads: for _ in 0..u64::MAX {
+    'uploads: for passed in 0..u64::MAX {
         let Some(upload) = next_upload(tx, last)? else {
             return Ok(());
         };
@@ -102,6 +119,10 @@ fn set_clock<S: Alter>(
         → OnOk result (TablesAre (tables_of (state S.Store tx.new.conn.now))
         (with_counters s clock s.next))) }
     ensures ours { KeepsOurs (state S.Store tx.old.conn.now) (state S.Store tx.new.conn.now) result }
+    ensures cause { FailsByRunning (state S.Store tx.old.conn.now) (state S.Store tx.new.conn.now) result
+        (IsStorableState (record row.now { clock = clock }))
+        write_state_text (state_values (record row.now { clock = clock })) }
+    ensures err { FailsWhole (state S.Store tx.old.conn.now) (state S.Store tx.new.conn.now) result }
     ensures inside { GoesOn (state S.Store tx.old.conn.now) (state S.Store tx.new.conn.now) result }
     ensures kept { StaysInside (state S.Store tx.old.conn.now) (state S.Store tx.new.conn.now) }
     ensures same_reference { tx.new.conn.ghost_name ≡ tx.old.conn.ghost_name }
@@ -133,6 +154,11 @@ pub fn tick<S: Alter>(
         × TablesAre (tables_of (state S.Store tx.new.conn.now))
         (machine.tick config.now s moment))) }
     ensures ours { KeepsOurs (state S.Store tx.old.conn.now) (state S.Store tx.new.conn.now) result }
+    ensures cause { FromMaps (state S.Store tx.old.conn.now) (state S.Store tx.new.conn.now)
+        (λ s. IsSound s
+        → IfErr result (FailsSince S.Store (FailsToTick config.now s moment)
+        tx.old.conn.now tx.new.conn.now)) }
+    ensures err { FailsReadingUncommitted (state S.Store tx.old.conn.now) (state S.Store tx.new.conn.now) result }
     ensures inside { GoesOn (state S.Store tx.old.conn.now) (state S.Store tx.new.conn.now) result }
     ensures kept { StaysInside (state S.Store tx.old.conn.now) (state S.Store tx.new.conn.now) }
     ensures same_reference { tx.new.conn.ghost_name ≡ tx.old.conn.ghost_name }

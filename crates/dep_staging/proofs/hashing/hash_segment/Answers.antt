@@ -11,7 +11,9 @@ use Rattle.dep_row_maps.specs.TablesAre.{TablesAre}
 use Rattle.dep_files.proofs.Results.{still_ours, same_tables}
 use Rattle.dep_files.proofs.Cuts.{one_block_more, all_blocks}
 use Rattle.dep_staging.proofs.Chains.{was_clean, failed_since}
-use Rattle.dep_staging.proofs.Hashed.{counted}
+use Rattle.dep_staging.specs.Causes.{FailsToHash}
+use Rattle.dep_staging.proofs.Causes.{fails_later}
+use Rattle.dep_staging.proofs.Hashed.{counted, storable_key}
 use Rattle.dep_staging.proofs.hashing.hash_segment.Goals as goal
 
 pub loop-place-init : goal.loop-place-init
@@ -66,3 +68,17 @@ returns-in_err-block-clause-err g c clean inside ours is_open =
     let was_open = (inv.4 before inside).was_open ((c.segment_block.ensures.kept clean within).was_open is_open) in
     let same = inv.5 was_open before ours in
     if_failed _ (failed_since old mid new same (c.in_err-block.ensures.err clean within (still_ours old mid same ours) is_open))
+
+pub returns-in_err-block-clause-cause : goal.returns-in_err-block-clause-cause
+returns-in_err-block-clause-cause g c clean ours is_open s are bytes its storable =
+    let old = c.args.tx.now.conn.now in
+    let mid = c.loop-place.tx.conn.now in
+    let new = c.segment_block.new.tx.conn.now in
+    let inv = c.loop-place.invariant in
+    let same = inv.5 is_open (was_clean (state g.S.Store mid) (state g.S.Store new) c.segment_block.ensures.survives clean) ours in
+    let are_mid = subst (λ (t : Tables). TablesAre t s) (sym (same_tables (state g.S.Store old) (state g.S.Store mid) same)) are in
+    let within : c.loop-place.place < length (blocks_of bytes) = subst (λ n. c.loop-place.place < n) (inv.0 ∙ counted s c.args.segment.now bytes its) c.loop-place-test.true in
+    let key = storable_key c.args.segment.now c.loop-place.place storable (subst (λ n. c.loop-place.place < n) inv.0 c.loop-place-test.true) in
+    let known = fails_later g.S.Store old mid new inv.2 (FailsToHash c.args.segment.now.upload) (FailsToHash c.args.segment.now.upload) (λ at now fault failed. failed) _
+    (c.in_err-block.ensures.cause clean (still_ours (state g.S.Store old) (state g.S.Store mid) same ours) s are_mid bytes its within key) in
+    search rules

@@ -17,7 +17,10 @@ use Rattle.dep_row_maps.proofs.Readings.{segments_read}
 use Rattle.dep_row_maps.proofs.Whole.{segments_there}
 use Rattle.dep_files.proofs.Results.{still_ours, same_tables}
 use Rattle.dep_staging.proofs.Chains.{was_clean, failed_since}
-use Rattle.dep_staging.proofs.Hashed.{of_entry, entry_of, segment_is}
+use Rattle.dep_staging.specs.Causes.{FailsToHash}
+use Rattle.dep_staging.specs.Causes.FailsToHash.{segments}
+use Rattle.dep_staging.proofs.Causes.{fails_then, fails_later, survives_itself}
+use Rattle.dep_staging.proofs.Hashed.{of_entry, entry_of, segment_is, storable_segment}
 use Rattle.dep_staging.proofs.hashing.hash_upload.Goals as goal
 
 pub rows-init : goal.rows-init
@@ -86,3 +89,34 @@ returns-in_err-hash_segment-clause-err g c clean inside ours is_open =
     let before = was_clean mid new c.hash_segment.ensures.survives clean in
     let same = inv.4 before ours in
     if_failed _ (failed_since old mid new same (c.in_err-hash_segment.ensures.err clean (inv.2 before inside) (still_ours old mid same ours) is_open))
+
+pub returns-in_err-rows-clause-cause : goal.returns-in_err-rows-clause-cause
+returns-in_err-rows-clause-cause g c clean ours s are storable =
+    let old = c.args.tx.now.conn.now in
+    let known = fails_then g.S.Store old old c.segments_of.new.tx.conn.now (survives_itself (state g.S.Store old)) (FailsToHash c.args.upload) _
+    (segments (c.in_err-rows.ensures.cause storable.upload clean)) in
+    search rules
+
+pub returns-in_err-hash_segment-clause-cause : goal.returns-in_err-hash_segment-clause-cause
+returns-in_err-hash_segment-clause-cause g c clean ours s are storable =
+    let old = c.args.tx.now.conn.now in
+    let first = c.segments_of.new.tx.conn.now in
+    let mid = c.rows.tx.conn.now in
+    let new = c.hash_segment.new.tx.conn.now in
+    let u = c.args.upload in
+    let inv = c.rows.invariant in
+    let before = was_clean (state g.S.Store mid) (state g.S.Store new) c.hash_segment.ensures.survives clean in
+    let same = inv.4 before ours in
+    let are_mid = subst (λ (t : Tables). TablesAre t s) (sym (same_tables (state g.S.Store old) (state g.S.Store mid) same)) are in
+    let es = finmap.entries (segments_at s.uploads u) in
+    let listed : c.in_ok-rows.rows.items ≡ map (of_entry u) es =
+    segments_read (tables_of (state g.S.Store old)) s are u c.in_ok-rows.rows.items (c.in_ok-rows.ensures.ok (was_clean (state g.S.Store first) (state g.S.Store mid) inv.1 before) ours) in
+    let none : SegmentRow = record { upload = 0; number = 0; size = 0 } in
+    let e = entry_of u es c.as_slice-row-items.result.now (finmap.entries_sorted (segments_at s.uploads u)) c.rows.row-index none
+    (c.as_slice-row-items.ensures.value ∙ listed) c.rows-test.true in
+    let its = segment_is s u c.rows.row-index _ e in
+    let known = fails_later g.S.Store old mid new
+    (survives_then (state g.S.Store old) (state g.S.Store first) (state g.S.Store mid) _ _ (λ _. ⊥) (λ _ db none. none) (λ _ db none. none) c.segments_of.ensures.survives inv.1)
+    _ (FailsToHash u) (λ at now fault failed. subst (λ k. FailsToHash k at now fault) (ap (λ (r : SegmentRow). r.upload) e.is) failed) _
+    (c.in_err-hash_segment.ensures.cause clean (still_ours (state g.S.Store old) (state g.S.Store mid) same ours) same.0.is_open s are_mid e.bytes its (storable_segment s u c.rows.row-index _ storable e)) in
+    search rules

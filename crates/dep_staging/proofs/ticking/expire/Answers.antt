@@ -1,4 +1,4 @@
-use Rattle.std.proofs.Common.{arith, sym, subst}
+use Rattle.std.proofs.Common.{arith, sym, subst, rules}
 use Rattle.std.specs.FinMap as finmap
 use Rattle.sqlite.specs.State.{HasCleanDisk}
 use Rattle.sqlite.specs.Held.{state}
@@ -8,6 +8,10 @@ use Rattle.dep_tables.proofs.Results.{ok_then}
 use Rattle.dep_row_maps.specs.TablesAre.{TablesAre}
 use Rattle.dep_row_maps.proofs.Whole.{timed_out_put}
 use Rattle.dep_staging.specs.Expiring.{timed_out}
+use Rattle.dep_staging.specs.Causes.{FailsToDrop, FailsToExpire}
+use Rattle.dep_staging.specs.Causes.FailsToExpire.{drop, number}
+use Rattle.dep_staging.proofs.Causes.{fails_then, fails_later, if_err_then, survives_itself}
+use Rattle.dep_staging.proofs.Chains.{was_clean}
 use Rattle.dep_staging.proofs.ticking.expire.Goals as goal
 
 pub returns-clause-map : goal.returns-clause-map
@@ -23,3 +27,20 @@ returns-clause-kept g c clean inside =
     let mid = state g.S.Store c.drop_upload.new.tx.conn.now in
     let before : HasCleanDisk mid = omega (arith, clean, c.insert_timed_out.ensures.survives.clean) in
     keeps_then (state g.S.Store c.args.tx.now.conn.now) mid (state g.S.Store c.insert_timed_out.new.tx.conn.now) (c.drop_upload.ensures.kept before inside) (c.insert_timed_out.ensures.kept clean (c.in_ok-drop_upload.ensures.inside before inside))
+
+pub returns-in_err-drop_upload-clause-cause : goal.returns-in_err-drop_upload-clause-cause
+returns-in_err-drop_upload-clause-cause g c storable clean inside =
+    let old = c.args.tx.now.conn.now in
+    let u = c.args.upload in
+    let known = fails_later g.S.Store old old c.drop_upload.new.tx.conn.now (survives_itself (state g.S.Store old)) (FailsToDrop u) (FailsToExpire u)
+    (λ at now fault failed. drop failed) _ (c.in_err-drop_upload.ensures.cause storable clean inside) in
+    search rules
+
+pub returns-clause-cause : goal.returns-clause-cause
+returns-clause-cause g c storable clean inside =
+    let old = c.args.tx.now.conn.now in
+    let mid = c.drop_upload.new.tx.conn.now in
+    let new = c.insert_timed_out.new.tx.conn.now in
+    let before = was_clean (state g.S.Store mid) (state g.S.Store new) c.insert_timed_out.ensures.survives clean in
+    if_err_then c.insert_timed_out.result (c.insert_timed_out.ensures.cause storable clean (c.in_ok-drop_upload.ensures.inside before inside))
+    (λ fault failed. fails_then g.S.Store old mid new c.drop_upload.ensures.survives (FailsToExpire c.args.upload) fault (number failed))

@@ -1,4 +1,4 @@
-use Rattle.std.proofs.Common.{refl, sym, subst, ◌∙◌, rules}
+use Rattle.std.proofs.Common.{refl, sym, subst, ◌∙◌, arith, rules}
 use Rattle.sqlite.specs.Held.{state}
 use Rattle.sqlite.proofs.StateLemmas.{survives_then}
 use Rattle.sqlite.proofs.InsideLemmas.{keeps_then}
@@ -9,7 +9,10 @@ use Rattle.dep_row_maps.proofs.Readings.{next_upload_read}
 use Rattle.dep_files.proofs.Results.{still_ours, same_tables}
 use Rattle.dep_staging.specs.Expiring.{expired_all}
 use Rattle.dep_staging.proofs.Next.{next_of, none_after}
-use Rattle.dep_staging.proofs.Expired.{none_expired, one_more, all_expired}
+use Rattle.dep_staging.specs.Causes.{FailsToExpireAll}
+use Rattle.dep_staging.specs.Causes.FailsToExpireAll.{next}
+use Rattle.dep_staging.proofs.Causes.{fails_then, fails_later}
+use Rattle.dep_staging.proofs.Expired.{none_expired, one_more, all_expired, next_there, expire_fails}
 use Rattle.dep_staging.proofs.Chains.{was_clean}
 use Rattle.dep_staging.proofs.ticking.expire_idle.Goals as goal
 
@@ -45,6 +48,15 @@ uploads-preserved g c =
           let next = next_of z.uploads c.uploads.last c.in-Some.upload (sym c.in-Some.is ∙ next_upload_read (tables_of mid) was z.are c.uploads.last c.in_ok-upload.field-0 (c.in_ok-upload.ensures.ok before ours_mid)) in
           one_more c.args.config.now c.args.clock c.uploads.last c.in-Some.upload s (tables_of mid) z next (tables_of new)
           (c.in_ok-expire_if_idle.ensures.map clean (c.in_ok-upload.ensures.inside before within) (still_ours mid seen same ours_mid) was (subst (λ (t : Tables). TablesAre t was) (sym (same_tables mid seen same)) z.are)),
+      λ clean inside ours s are zero_free storable.
+          let before = clean_seen clean in
+          let ours_mid = inv.4 (clean_mid before) inside ours in
+          let z = inv.5 (clean_mid before) inside ours s are zero_free in
+          let last = inv.6 (clean_mid before) inside ours s are zero_free storable in
+          let was : State = record s { uploads = z.uploads; timed_out = z.numbers } in
+          let next = next_of z.uploads c.uploads.last c.in-Some.upload (sym c.in-Some.is ∙ next_upload_read (tables_of mid) was z.are c.uploads.last c.in_ok-upload.field-0 (c.in_ok-upload.ensures.ok before ours_mid)) in
+          let it = next_there c.args.config.now c.args.clock c.uploads.last c.in-Some.upload s (tables_of mid) z next in
+          (storable c.in-Some.upload it.0 it.1, omega (arith, last.1, next.after)),
     )
 
 pub returns-in_default-clause-map : goal.returns-in_default-clause-map
@@ -68,4 +80,46 @@ uploads-init g c = (
   search rules,
   λ clean inside ours. ours,
   λ clean inside ours s are zero_free. none_expired c.args.config.now c.args.clock s (tables_of (state g.S.Store c.args.tx.now.conn.now)) are zero_free,
+  λ clean inside ours s are zero_free storable. (omega arith, omega arith),
 )
+
+pub returns-in_err-upload-clause-cause : goal.returns-in_err-upload-clause-cause
+returns-in_err-upload-clause-cause g c clean inside ours s are zero_free storable =
+    let old = c.args.tx.now.conn.now in
+    let mid = c.uploads.tx.conn.now in
+    let new = c.next_upload.new.tx.conn.now in
+    let inv = c.uploads.invariant in
+    let before = was_clean (state g.S.Store mid) (state g.S.Store new) c.next_upload.ensures.survives clean in
+    let last = inv.6 before inside ours s are zero_free storable in
+    let known = fails_then g.S.Store old mid new inv.1 (FailsToExpireAll c.args.config.now c.args.clock s.uploads) _ (next c.uploads.last (c.in_err-upload.ensures.cause last.0 clean)) in
+    search rules
+
+pub returns-in_err-expire_if_idle-clause-cause : goal.returns-in_err-expire_if_idle-clause-cause
+returns-in_err-expire_if_idle-clause-cause g c clean inside ours s are zero_free storable =
+    let config = c.args.config.now in
+    let clock = c.args.clock in
+    let old = c.args.tx.now.conn.now in
+    let mid = c.uploads.tx.conn.now in
+    let seen = c.next_upload.new.tx.conn.now in
+    let new = c.expire_if_idle.new.tx.conn.now in
+    let inv = c.uploads.invariant in
+    let clean_seen = was_clean (state g.S.Store seen) (state g.S.Store new) c.expire_if_idle.ensures.survives clean in
+    let clean_mid = was_clean (state g.S.Store mid) (state g.S.Store seen) c.next_upload.ensures.survives clean_seen in
+    let within = inv.2 clean_mid inside in
+    let ours_mid = inv.4 clean_mid inside ours in
+    let z = inv.5 clean_mid inside ours s are zero_free in
+    let same = c.in_ok-upload.ensures.same clean_seen ours_mid in
+    let was : State = record s { uploads = z.uploads; timed_out = z.numbers } in
+    let after = next_of z.uploads c.uploads.last c.in-Some.upload (sym c.in-Some.is ∙ next_upload_read (tables_of (state g.S.Store mid)) was z.are c.uploads.last c.in_ok-upload.field-0 (c.in_ok-upload.ensures.ok clean_seen ours_mid)) in
+    let it = next_there config clock c.uploads.last c.in-Some.upload s (tables_of (state g.S.Store mid)) z after in
+    let since = survives_then (state g.S.Store old) (state g.S.Store mid) (state g.S.Store seen) _ _ (λ _. ⊥) (λ _ db none. none) (λ _ db none. none) inv.1 c.next_upload.ensures.survives in
+    let known = fails_later g.S.Store old seen new since (FailsToExpireAll config clock z.uploads) (FailsToExpireAll config clock s.uploads)
+    (λ at now fault failed. expire_fails config clock c.uploads.last s (tables_of (state g.S.Store mid)) z at now fault failed) _
+    (c.in_err-expire_if_idle.ensures.cause clean (c.in_ok-upload.ensures.inside clean_seen within) (still_ours (state g.S.Store mid) (state g.S.Store seen) same ours_mid) was
+    (subst (λ (t : Tables). TablesAre t was) (sym (same_tables (state g.S.Store mid) (state g.S.Store seen) same)) z.are) (storable c.in-Some.upload it.0 it.1)) in
+    search rules
+
+pub returns-clause-cause : goal.returns-clause-cause
+returns-clause-cause g c clean inside ours s are zero_free storable =
+    let last = c.uploads.invariant.6 clean inside ours s are zero_free storable in
+    absurd (omega (arith, last.0, last.1, c.uploads-test.false))

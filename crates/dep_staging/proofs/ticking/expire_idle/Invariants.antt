@@ -1,10 +1,11 @@
-use Rattle.std.proofs.Common.{◌≡◌, None, IsTrue}
+use Rattle.std.proofs.Common.{◌≡◌, ◌<◌, ◌≤◌, ◌^◌, None, IsTrue}
 use Rattle.std.specs.FinMap as finmap
 use Rattle.sqlite.specs.State.{HasCleanDisk, KeepsCommit, Survives}
 use Rattle.sqlite.specs.Held.{state}
 use Rattle.dep_types.specs.State.{State}
 use Rattle.dep_tables.specs.Tables.{tables_of, IsOurs}
 use Rattle.dep_row_maps.specs.TablesAre.{TablesAre}
+use Rattle.dep_staging.specs.Causes.{HasStorableNumbers}
 use Rattle.dep_staging.proofs.Expired.{IsExpiredTo}
 use Rattle.dep_staging.proofs.ticking.expire_idle.Given as goal
 
@@ -17,3 +18,4 @@ invariant-uploads g l =
     × (HasCleanDisk now → IsTrue old.in_transaction → KeepsCommit old now)
     × (HasCleanDisk now → IsTrue old.in_transaction → IsOurs old → IsOurs now)
     × (HasCleanDisk now → IsTrue old.in_transaction → IsOurs old → (s : State) → TablesAre (tables_of old) s → finmap.get s.uploads 0 ≡ None → IsExpiredTo l.config l.clock l.last s (tables_of now))
+    × (HasCleanDisk now → IsTrue old.in_transaction → IsOurs old → (s : State) → TablesAre (tables_of old) s → finmap.get s.uploads 0 ≡ None → HasStorableNumbers s.uploads → (l.last < 2 ^ 63) × (l.passed ≤ l.last))

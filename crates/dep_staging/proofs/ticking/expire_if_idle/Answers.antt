@@ -1,14 +1,17 @@
-use Rattle.std.proofs.Common.{◌≡◌, ◌∙◌, true, false, arith, sym, subst}
+use Rattle.std.proofs.Common.{◌≡◌, ◌∙◌, true, false, arith, sym, subst, rules}
 use Rattle.std.specs.Prelude.{if◌then◌else◌}
 use Rattle.sqlite.specs.State.{HasCleanDisk}
 use Rattle.sqlite.specs.Held.{state}
 use Rattle.dep_types.specs.State.{expires}
 use Rattle.dep_tables.specs.Tables.{Tables, tables_of}
-use Rattle.dep_tables.proofs.Results.{ok_then}
+use Rattle.dep_tables.proofs.Results.{ok_then, if_failed}
 use Rattle.dep_row_maps.specs.TablesAre.{TablesAre}
-use Rattle.dep_files.proofs.Results.{still_ours, same_tables}
+use Rattle.dep_files.proofs.Results.{still_ours, same_tables, left_whole}
 use Rattle.dep_staging.specs.Expiring.{timed_out}
 use Rattle.dep_staging.proofs.Loaded.{idle_is}
+use Rattle.dep_staging.specs.Causes.{FailsToExpire, FailsToExpireAll}
+use Rattle.dep_staging.specs.Causes.FailsToExpireAll.{found, ended}
+use Rattle.dep_staging.proofs.Causes.{fails_then, fails_later, if_err_then, survives_itself}
 use Rattle.dep_staging.proofs.ticking.expire_if_idle.Goals as goal
 
 pub returns-then-is_idle-clause-map : goal.returns-then-is_idle-clause-map
@@ -31,3 +34,26 @@ returns-else-is_idle-clause-map g c clean inside ours s are =
     let same = c.in_ok-found.ensures.same clean ours in
     let no : expires c.args.config.now c.args.clock s.uploads u ≡ false = sym (idle_is (tables_of old) s c.args.config.now c.args.clock u c.in_ok-found.found are (c.in_ok-found.ensures.ok clean ours)) ∙ sym c.is_idle.ensures ∙ c.if-is_idle.false in
     subst (λ b. TablesAre (tables_of mid) (if b then timed_out u s else s)) (sym no) (subst (λ (t : Tables). TablesAre t s) (sym (same_tables old mid same)) are)
+
+pub returns-in_err-found-clause-cause : goal.returns-in_err-found-clause-cause
+returns-in_err-found-clause-cause g c clean inside ours s are storable =
+    let old = c.args.tx.now.conn.now in
+    let known = fails_then g.S.Store old old c.find_upload.new.tx.conn.now (survives_itself (state g.S.Store old)) (FailsToExpireAll c.args.config.now c.args.clock s.uploads) _
+    (found c.args.upload (c.in_err-found.ensures.cause storable clean)) in
+    search rules
+
+pub returns-then-is_idle-clause-cause : goal.returns-then-is_idle-clause-cause
+returns-then-is_idle-clause-cause g c clean inside ours s are storable =
+    let old = c.args.tx.now.conn.now in
+    let mid = c.find_upload.new.tx.conn.now in
+    let new = c.expire.new.tx.conn.now in
+    let u = c.args.upload in
+    let before : HasCleanDisk (state g.S.Store mid) = omega (arith, clean, c.expire.ensures.survives.clean) in
+    let yes : expires c.args.config.now c.args.clock s.uploads u ≡ true = sym (idle_is (tables_of (state g.S.Store old)) s c.args.config.now c.args.clock u c.in_ok-found.found are (c.in_ok-found.ensures.ok before ours)) ∙ sym c.is_idle.ensures ∙ c.if-is_idle.true in
+    if_err_then c.expire.result (c.expire.ensures.cause storable clean (c.in_ok-found.ensures.inside before inside))
+    (λ fault failed. fails_later g.S.Store old mid new c.find_upload.ensures.survives (FailsToExpire u) (FailsToExpireAll c.args.config.now c.args.clock s.uploads)
+    (λ at now f it. ended u yes it) fault failed)
+
+pub returns-in_err-found-clause-err : goal.returns-in_err-found-clause-err
+returns-in_err-found-clause-err g c ours clean inside is_open =
+    if_failed _ (left_whole (state g.S.Store c.args.tx.now.conn.now) (state g.S.Store c.find_upload.new.tx.conn.now) inside is_open (c.in_err-found.ensures.err clean inside ours is_open))

@@ -1,10 +1,15 @@
-use Rattle.std.proofs.Common.{arith}
+use Rattle.std.proofs.Common.{arith, rules}
 use Rattle.sqlite.specs.State.{HasCleanDisk}
 use Rattle.sqlite.specs.Held.{state}
 use Rattle.sqlite.proofs.InsideLemmas.{keeps_then}
 use Rattle.dep_tables.specs.Tables.{tables_of}
 use Rattle.dep_tables.proofs.Results.{ok_then}
 use Rattle.dep_staging.proofs.UploadCalls.{dropped}
+use Rattle.sqlite.proofs.StateLemmas.{survives_then}
+use Rattle.dep_staging.specs.Causes.{FailsToDrop}
+use Rattle.dep_staging.specs.Causes.FailsToDrop.{blocks, segments, row}
+use Rattle.dep_staging.proofs.Causes.{fails_then, if_err_then, survives_itself}
+use Rattle.dep_staging.proofs.Chains.{was_clean}
 use Rattle.dep_staging.proofs.uploads.drop_upload.Goals as goal
 
 pub returns-clause-map : goal.returns-clause-map
@@ -30,3 +35,40 @@ returns-clause-kept g c clean inside =
     let within = c.in_ok-delete_blocks.ensures.inside clean_one inside in
     keeps_then old two (state g.S.Store c.delete_upload.new.tx.conn.now) (keeps_then old one two (c.delete_blocks.ensures.kept clean_one inside) (c.delete_segments.ensures.kept clean_two within))
     (c.delete_upload.ensures.kept clean (c.in_ok-delete_segments.ensures.inside clean_two within))
+
+pub returns-in_err-delete_blocks-clause-cause : goal.returns-in_err-delete_blocks-clause-cause
+returns-in_err-delete_blocks-clause-cause g c storable clean inside =
+    let old = c.args.tx.now.conn.now in
+    let known = fails_then g.S.Store old old c.delete_blocks.new.tx.conn.now (survives_itself (state g.S.Store old)) (FailsToDrop c.args.upload) _
+    (blocks (c.in_err-delete_blocks.ensures.cause storable clean inside)) in
+    search rules
+
+pub returns-in_err-delete_segments-clause-cause : goal.returns-in_err-delete_segments-clause-cause
+returns-in_err-delete_segments-clause-cause g c storable clean inside =
+    let old = c.args.tx.now.conn.now in
+    let one = c.delete_blocks.new.tx.conn.now in
+    let new = c.delete_segments.new.tx.conn.now in
+    let before = was_clean (state g.S.Store one) (state g.S.Store new) c.delete_segments.ensures.survives clean in
+    let known = fails_then g.S.Store old one new c.delete_blocks.ensures.survives (FailsToDrop c.args.upload) _
+    (segments (c.in_err-delete_segments.ensures.cause storable clean (c.in_ok-delete_blocks.ensures.inside before inside))) in
+    search rules
+
+pub returns-clause-cause : goal.returns-clause-cause
+returns-clause-cause g c storable clean inside =
+    let old = c.args.tx.now.conn.now in
+    let one = c.delete_blocks.new.tx.conn.now in
+    let two = c.delete_segments.new.tx.conn.now in
+    let new = c.delete_upload.new.tx.conn.now in
+    let clean_two = was_clean (state g.S.Store two) (state g.S.Store new) c.delete_upload.ensures.survives clean in
+    let clean_one = was_clean (state g.S.Store one) (state g.S.Store two) c.delete_segments.ensures.survives clean_two in
+    let since = survives_then (state g.S.Store old) (state g.S.Store one) (state g.S.Store two) _ _ (λ _. ⊥) (λ _ db none. none) (λ _ db none. none)
+    c.delete_blocks.ensures.survives c.delete_segments.ensures.survives in
+    let within = c.in_ok-delete_segments.ensures.inside clean_two (c.in_ok-delete_blocks.ensures.inside clean_one inside) in
+    if_err_then c.delete_upload.result (c.delete_upload.ensures.cause storable clean within)
+    (λ fault failed. fails_then g.S.Store old two new since (FailsToDrop c.args.upload) fault (row failed))
+
+pub returns-in_err-delete_segments-clause-numbers : goal.returns-in_err-delete_segments-clause-numbers
+returns-in_err-delete_segments-clause-numbers g c great = absurd (let never = (c.in_ok-delete_blocks.ensures.numbers great).0 in cc)
+
+pub returns-clause-numbers : goal.returns-clause-numbers
+returns-clause-numbers g c great = absurd (let never = (c.in_ok-delete_blocks.ensures.numbers great).0 in cc)

@@ -1,0 +1,89 @@
+-- Why a call of several statements fails: one of its statements does.
+use Rattle.std.specs.Prelude.{◌≡◌, ℕ, ◌<◌, ◌^◌, pos, List, [], ◌∷◌, length, Some, All, IsTrue, Result, IfErr}
+use Rattle.std.specs.FinMap as map
+use Rattle.sqlite.specs.State as db
+use Rattle.sqlite.specs.State.{HasCleanDisk, Survives}
+use Rattle.sqlite.specs.Held.{Held, state}
+use Rattle.sqlite.specs.declared.types.Value.TheVariants.{Int}
+use Rattle.sqlite_trees.specs.declared.store.Store.{Ghosts}
+use Rattle.dep_types.specs.Maps.{Numbered}
+use Rattle.dep_types.specs.State.{State, Upload, clock_at, expires, tick}
+use Rattle.dep_types.specs.declared.config.Config.{Config}
+use Rattle.dep_types.specs.declared.store_fault.StoreFault.{StoreFault}
+use Rattle.dep_tables.specs.Clauses.{AtMostOne, FailsToRead, FailsToRun, JustOne}
+use Rattle.dep_tables.specs.Rows.{IsBytesRow, IsNumberRow, IsSegmentRow, IsStateRow, IsUploadRow, key_values, owner_values, state_values}
+use Rattle.dep_tables.specs.Texts.{delete_blocks_text, delete_segments_text, delete_upload_text, find_upload_text, insert_timed_out_text, next_upload_text, read_block_text, read_state_text, segments_of_text, write_state_text}
+use Rattle.dep_tables.specs.declared.owner.BlockOwner.TheVariants as owner
+use Rattle.dep_row_maps.specs.Stored.{block_key, state_row}
+use Rattle.dep_row_maps.specs.TablesAre.{segments_at}
+
+-- a statement fails so, after others that committed nothing and forgot no fault
+pub record FailsSince {S : Type 0} (g : Ghosts S)
+    (fails : db.State → db.State → StoreFault → Type 0)
+    (old new : Held S) (fault : StoreFault) : Type 0 where
+  pub at : Held S
+  pub since : Survives (state g old) (state g at) (λ _. ⊥)
+  pub by : fails (state g at) (state g new) fault
+
+-- inside a transaction, where the numbers are SQL's, a failure is that of one of these statements
+abbrev pub FailsByOne : {S A : Type 0} (g : Ghosts S) (old new : Held S)
+    (result : Result A StoreFault) → Type 0 → (db.State → db.State → StoreFault → Type 0) → Type 0
+FailsByOne g old new result storable fails =
+    storable → HasCleanDisk (state g new) → IsTrue (state g old).in_transaction
+    → IfErr result (FailsSince g fails old new)
+
+-- the numbers of the uploads are SQL's
+abbrev pub HasStorableNumbers : Numbered Upload → Type 0
+HasStorableNumbers uploads = (u : ℕ) (it : Upload) → map.get uploads u ≡ Some it → u < 2 ^ 63
+
+-- so are those of an upload's segments, and their sizes
+pub record HasStorableSegments (s : State) (u : ℕ) : Type 0 where
+  pub upload : u < 2 ^ 63
+  pub segments : (k : ℕ) (bytes : List ℕ) → map.get (segments_at s.uploads u) k ≡ Some bytes
+      → (k < 2 ^ 63) × (length bytes < 2 ^ 63)
+
+-- one of the statements that delete an upload
+pub data FailsToDrop (u : ℕ) (at new : db.State) (fault : StoreFault) : Type 0 where
+  blocks : FailsToRun delete_blocks_text (owner_values (owner.Upload u)) at new fault
+      → FailsToDrop u at new fault
+  segments : FailsToRun delete_segments_text (Int (pos u) ∷ []) at new fault
+      → FailsToDrop u at new fault
+  row : FailsToRun delete_upload_text (Int (pos u) ∷ []) at new fault → FailsToDrop u at new fault
+
+-- one of those that end an upload which was left idle
+pub data FailsToExpire (u : ℕ) (at new : db.State) (fault : StoreFault) : Type 0 where
+  drop : FailsToDrop u at new fault → FailsToExpire u at new fault
+  number : FailsToRun insert_timed_out_text (Int (pos u) ∷ []) at new fault
+      → FailsToExpire u at new fault
+
+-- one of those that end every upload which was left idle
+pub data FailsToExpireAll (config : Config) (clock : ℕ) (uploads : Numbered Upload)
+    (at new : db.State) (fault : StoreFault) : Type 0 where
+  next : (u : ℕ)
+      → FailsToRead (AtMostOne IsNumberRow) next_upload_text (Int (pos u) ∷ []) at new fault
+      → FailsToExpireAll config clock uploads at new fault
+  found : (u : ℕ)
+      → FailsToRead (AtMostOne IsUploadRow) find_upload_text (Int (pos u) ∷ []) at new fault
+      → FailsToExpireAll config clock uploads at new fault
+  ended : (u : ℕ) → IsTrue (expires config clock uploads u) → FailsToExpire u at new fault
+      → FailsToExpireAll config clock uploads at new fault
+
+-- one of those of a tick
+pub data FailsToTick (config : Config) (s : State) (moment : ℕ)
+    (at new : db.State) (fault : StoreFault) : Type 0 where
+  read : FailsToRead (JustOne IsStateRow) read_state_text [] at new fault
+      → FailsToTick config s moment at new fault
+  written : FailsToRun write_state_text (state_values (state_row (tick config s moment)))
+      at new fault
+      → FailsToTick config s moment at new fault
+  expired : FailsToExpireAll config (clock_at s moment) s.uploads at new fault
+      → FailsToTick config s moment at new fault
+
+-- one of those that read what was received of an upload
+pub data FailsToHash (u : ℕ) (at new : db.State) (fault : StoreFault) : Type 0 where
+  segments : FailsToRead (All IsSegmentRow) segments_of_text (Int (pos u) ∷ []) at new fault
+      → FailsToHash u at new fault
+  block : (part place : ℕ)
+      → FailsToRead (AtMostOne IsBytesRow) read_block_text
+      (key_values (block_key (owner.Upload u) part place)) at new fault
+      → FailsToHash u at new fault
