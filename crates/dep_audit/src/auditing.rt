@@ -66,6 +66,9 @@ pub fn audit_files<S: Alter>(
 ) -> Result<Audit, StoreFault>
     ensures audits { HasCleanDisk (state S.Store connection.new) → IsOurs (state S.Store connection.old)
         → IfOk result (IsAudited (tables_of (state S.Store connection.old)) files.now) }
+    ensures ok { HasCleanDisk (state S.Store connection.new) → IsOurs (state S.Store connection.old)
+        → IsTrue (state S.Store connection.old).is_open
+        → OnOk result (IsUnchanged (state S.Store connection.old) (state S.Store connection.new)) }
     ensures same { HasCleanDisk (state S.Store connection.new) → IsOurs (state S.Store connection.old)
         → IsKept (state S.Store connection.old) (state S.Store connection.new) }
     ensures clean { HasCleanDisk (state S.Store connection.new)

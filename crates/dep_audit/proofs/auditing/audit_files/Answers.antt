@@ -70,6 +70,9 @@ returns-clause-audits g c clean ours =
       damaged = done.2 ∙ ap (λ (l : List FileRow). flat_map number_of (zip l done.0)) whole;
     }
 
+pub returns-clause-ok : goal.returns-clause-ok
+returns-clause-ok g c clean ours opened = (c.files.invariant.2 clean ours).unchanged opened
+
 pub returns-clause-same : goal.returns-clause-same
 returns-clause-same g c clean ours = kept_still _ _ (c.files.invariant.2 clean ours)
 
