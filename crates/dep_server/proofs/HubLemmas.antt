@@ -343,3 +343,9 @@ pub rests : {S : Type 0} (g : Ghosts S) (hub : Hub S g) → Settles (store_of g 
 rests g hub settles first records h =
     leaves_wider (store_of g hub) _ _ (λ c e. subst (λ s. Run hub.config first (records ++ stopped ∷ []) (first_world s)) (sym e) (stops h.run))
     (stays_as (store_of g hub) h.world.state settles h.at.state)
+
+-- the store is the one of before, and so is what a stop leaves
+pub leaves_as_before : {S : Type 0} (g : Ghosts S) (old : Hub S g) (store : Held S) → store ≡ old.store → Settles (store_of g old)
+    → (w : World) → StandsAt g old w → Leaves (state g store) (λ found. found ≡ w.state)
+leaves_as_before g old store same settles w at =
+    subst (λ (x : Held _). Leaves (state g x) (λ found. found ≡ w.state)) (sym same) (stays_as (store_of g old) w.state settles at.state)

@@ -4,11 +4,16 @@ mod ServingLemmas
 mod SendingLemmas
 mod ConnectionLemmas
 pub mod HubLemmas
+mod OpeningLemmas
 pub mod TalkLemmas
 mod CalmLemmas
 mod StreamLemmas
 mod SoundLemmas
 mod RunKeeps
 mod SegmentsStay
+mod MovesLead
+mod FilesStay
+mod UploadsStay
+mod Refusing
 mod BareLemmas
 mod HeadLemmas

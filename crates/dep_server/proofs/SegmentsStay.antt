@@ -53,7 +53,7 @@ received_once a false second e h = cc
 -- ---- in one map
 
 module _ (u k : ℕ) (bytes : List ℕ) where
-  abbrev Holds : Numbered Upload → Type 0
+  abbrev pub Holds : Numbered Upload → Type 0
   Holds m = (upload : Upload) × (map.get m u ≡ Some upload) × (map.get upload.segments k ≡ Some bytes)
 
   abbrev HoldsStill : Numbered Upload → Type 0
@@ -70,8 +70,8 @@ module _ (u k : ℕ) (bytes : List ℕ) where
   left_or_gone m us h = same_or_none m (without m us) (map.get (without m us) u) refl (λ x e. without-was m us u x e) h
 
   -- another upload is put in
-  beside : (m : Numbered Upload) (v : ℕ) (x : Upload) → u ≢ v → Holds m → HoldsStill (map.insert m v x)
-  beside m v x apart h = inl (h.0, get-insert_other m v x u apart ∙ h.1, h.2)
+  pub beside : (m : Numbered Upload) (v : ℕ) (x : Upload) → u ≢ v → Holds m → Holds (map.insert m v x)
+  beside m v x apart h = (h.0, get-insert_other m v x u apart ∙ h.1, h.2)
 
   -- another segment of the upload is put in
   not_again : (upload : Upload) (j : ℕ) (content : List ℕ) → segment_refusal upload j content ≡ None → map.get upload.segments k ≡ Some bytes → k ≢ j
@@ -83,18 +83,17 @@ module _ (u k : ℕ) (bytes : List ℕ) where
       → map.get (with_segment s j content upload).segments k ≡ Some bytes
   grown s j content upload apart h = get-insert_other upload.segments j content k apart ∙ h
 
-  with_other : (s : State) (m : Numbered Upload) (v j : ℕ) (content : List ℕ) → u ≢ v → (o : Option Upload) → map.get m v ≡ o → Holds m → HoldsStill (at m v (with_segment s j content))
-  with_other s m v j content apart None e h = inl (h.0, ap (λ n. map.get n u) (at-none m v (with_segment s j content) e) ∙ h.1, h.2)
+  with_other : (s : State) (m : Numbered Upload) (v j : ℕ) (content : List ℕ) → u ≢ v → (o : Option Upload) → map.get m v ≡ o → Holds m → Holds (at m v (with_segment s j content))
+  with_other s m v j content apart None e h = (h.0, ap (λ n. map.get n u) (at-none m v (with_segment s j content) e) ∙ h.1, h.2)
   with_other s m v j content apart (Some x) e h =
-      inl (h.0, ap (λ n. map.get n u) (at-some m v (with_segment s j content) x e) ∙ (get-insert_other m v (with_segment s j content x) u apart ∙ h.1), h.2)
+      (h.0, ap (λ n. map.get n u) (at-some m v (with_segment s j content) x e) ∙ (get-insert_other m v (with_segment s j content x) u apart ∙ h.1), h.2)
 
-  with_more : (s : State) (m : Numbered Upload) (v j : ℕ) (content : List ℕ) (b : Bool) → (u == v) ≡ b
-      → ((upload : Upload) → map.get m v ≡ Some upload → segment_refusal upload j content ≡ None) → Holds m → HoldsStill (at m v (with_segment s j content))
+  pub with_more : (s : State) (m : Numbered Upload) (v j : ℕ) (content : List ℕ) (b : Bool) → (u == v) ≡ b
+      → ((upload : Upload) → map.get m v ≡ Some upload → segment_refusal upload j content ≡ None) → Holds m → Holds (at m v (with_segment s j content))
   with_more s m v j content true e fit h =
       let same : u ≡ v = eqb-true u v e in
       let there : map.get m v ≡ Some h.0 = subst (λ n. map.get m n ≡ Some h.0) same h.1 in
-      let apart = not_again h.0 j content (fit h.0 there) h.2 in
-      inl (
+      let apart = not_again h.0 j content (fit h.0 there) h.2 in (
         with_segment s j content h.0,
         ap (λ n. map.get n u) (at-some m v (with_segment s j content) h.0 there)
             ∙ subst (λ n. map.get (map.insert m v (with_segment s j content h.0)) n ≡ Some (with_segment s j content h.0)) (sym same) (get-insert_same m v (with_segment s j content h.0)),
@@ -115,8 +114,8 @@ module _ (u k : ℕ) (bytes : List ℕ) where
     left d same h = subst (λ (m : Numbered Upload). HoldsStill u k bytes m) (sym same) (left_or_gone u k bytes s.uploads (used d) h)
 
     kept_by : (d : Decision) → IsFitDecision s content d → Holds u k bytes s.uploads → HoldsStill u k bytes (effect_of s content d).uploads
-    kept_by (Open o) fit h = beside u k bytes s.uploads s.next.upload (fresh s o) (λ e. let low = given.below in omega (arith, low, e)) h
-    kept_by (Receive v j) fit h = with_more u k bytes s s.uploads v j content (u == v) refl fit h
+    kept_by (Open o) fit h = inl (beside u k bytes s.uploads s.next.upload (fresh s o) (λ e. let low = given.below in omega (arith, low, e)) h)
+    kept_by (Receive v j) fit h = inl (with_more u k bytes s s.uploads v j content (u == v) refl fit h)
     kept_by Show fit h = left Show refl h
     kept_by (Create d ingests) fit h = left (Create d ingests) refl h
     kept_by (Append n d ingests) fit h = left (Append n d ingests) refl h

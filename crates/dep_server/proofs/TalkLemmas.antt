@@ -19,7 +19,7 @@ use Rattle.dep_store.proofs.Transacting.{leaves_wider}
 use Rattle.dep_server.proofs.Leaving.{Settles, stays_as}
 use Rattle.dep_server.proofs.SendingLemmas.{appends_none, appends_both}
 use Rattle.dep_server.proofs.HubLemmas.{keeps_same}
-use Rattle.dep_server.specs.Turns.{Turn, pieces_of, replies_of, record_of, records_of, EndsAs, last_answer, IsPiece, ArePieces, most_reads, with_opened, with_closed, Exchanges, none_yet, one_more, IsEndedBy}
+use Rattle.dep_server.specs.Turns.{Turn, pieces_of, replies_of, record_of, records_of, EndsAs, last_answer, IsPiece, ArePieces, most_reads, with_opened, with_closed, Exchanges, none_yet, one_more, LeftByExchanges, IsEndedBy}
 use Rattle.dep_server.specs.Conversation.{Wire, Session, session, Transfers, Rests, Clocks, Converses, IsAnswered, IsUnserved, ConversesOver, next_after, AddsAll, StopsAll, Talk, OneTurn, NoTurn, TurnsTo, TalksUntil, Talks, silent, turn}
 use Rattle.dep_server.specs.declared.connection.Served.{Served}
 use Rattle.dep_server.specs.declared.connection.Served.TheVariants.{Ended, Closed, Unserved, ReadFault, WriteFault, Bound}
@@ -112,6 +112,11 @@ module _ {S : Type 0} (g : Ghosts S) where
         moments = folds_more (λ before (v : Turn) after. ticks before v.moment after) old.clock t.turns mid.clock new.clock u t.moments o.ticked;
         answered = last_more t.turns u;
       }
+
+  -- a turn of the same connection
+  pub turn_at : {C : Type 0} (ticks : C → ℕ → C → Type 0) (n m : ℕ) (old new : Session g C) (served : Option Served) → n ≡ m
+      → TurnsTo g ticks n old new served → TurnsTo g ticks m old new served
+  turn_at ticks n m old new served same t = subst (λ (k : ℕ). TurnsTo g ticks k old new served) same t
 
   -- nothing more was read
   pub talk_same : {C : Type 0} (ticks : C → ℕ → C → Type 0) (n : ℕ) (old mid new : Session g C) (k : ℕ)
@@ -240,6 +245,19 @@ left_same : {piece : List ℕ} {moment : ℕ} {line after : Line} {s left : Stat
 left_same {piece} {moment} {line} {after} {s} {left} {sent} {answer} given config same a found l =
     subst (λ (x : Config). (b : Arrives x piece moment line s sent left after answer) × LeftByArrival b found) same (a, l)
 
+-- an arrival carried over to the same configuration leaves the same by a stop, and so do turns
+left_along : {piece : List ℕ} {moment : ℕ} {line after : Line} {s left : State} {sent : List ℕ} {answer : Arrived} (given config : Config) (same : given ≡ config)
+    (a : Arrives given piece moment line s sent left after answer) (found : State) → LeftByArrival a found
+    → LeftByArrival (subst (λ (x : Config). Arrives x piece moment line s sent left after answer) same a) found
+left_along {piece} {moment} {line} {after} {s} {left} {sent} {answer} given config same a found l =
+    (subst (λ (x : Config). (b : Arrives x piece moment line s sent left after answer) × LeftByArrival b found) same (a, l)).1
+
+exchanged_along : {n : ℕ} {first w : World} {turns : List Turn} (given config : Config) (same : given ≡ config)
+    (e : Exchanges given n first turns w) (found : State) → LeftByExchanges e found
+    → LeftByExchanges (subst (λ (x : Config). Exchanges x n first turns w) same e) found
+exchanged_along {n} {first} {w} {turns} given config same e found l =
+    (subst (λ (x : Config). (b : Exchanges x n first turns w) × LeftByExchanges b found) same (e, l)).1
+
 -- ---- from hubs to the machine
 
 opened_is : {config : Config} {w : World} {n : ℕ} {v : World} {sent : List ℕ} → Happens config w (Connect n) sent v → v ≡ with_opened n w
@@ -255,6 +273,8 @@ module _ {S : Type 0} (g : Ghosts S) where
     pub exchanges : Exchanges config n w turns talked
     pub stays : last_answer turns ≡ StaysOpen → StandsAt g new talked
     pub at : IsClean g new → StandsAt g new talked
+    pub rests : IsClean g new → Leaves (store_of g new) (λ found. found ≡ talked.state)
+    pub stop : Leaves (store_of g new) (LeftByExchanges exchanges)
 
   talks_honest : (n : ℕ) (old new : Hub S g) (failures failures_after : ℕ) (turns : List Turn) → Talks g n old failures turns new failures_after → IsHonest g new → IsHonest g old
   talks_honest n old new failures failures_after turns silent honest = honest
@@ -267,17 +287,26 @@ module _ {S : Type 0} (g : Ghosts S) where
       talks_clean n old mid failures between before talks (a.clean clean)
 
   -- what the hub answered is what the machine answers
-  talks_exchange : (n : ℕ) (old new : Hub S g) (failures failures_after : ℕ) (turns : List Turn) → Talks g n old failures turns new failures_after
+  talks_exchange : (n : ℕ) (old new : Hub S g) (failures failures_after : ℕ) (turns : List Turn) → Settles (store_of g old) → Talks g n old failures turns new failures_after
       → IsHonest g new → (w : World) → StandsAt g old w → Exchanged old.config n new turns w
-  talks_exchange n old new failures failures_after turns silent honest w at = record { talked = w; exchanges = none_yet; stays = λ _. at; at = λ _. at }
-  talks_exchange n old new failures failures_after turns (turn {mid = mid} {before = between} {turns = before} t talks stays same a) honest w at =
-      let h = talks_exchange n old mid failures between before talks (a.honest honest) w at in
+  talks_exchange n old new failures failures_after turns settles silent honest w at = record {
+    talked = w;
+    exchanges = none_yet;
+    stays = λ _. at;
+    at = λ _. at;
+    rests = λ _. stays_as (store_of g old) w.state settles at.state;
+    stop = stays_as (store_of g old) w.state settles at.state;
+  }
+  talks_exchange n old new failures failures_after turns settles (turn {mid = mid} {before = between} {turns = before} t talks stays same a) honest w at =
+      let h = talks_exchange n old mid failures between before settles talks (a.honest honest) w at in
       let b = a.answers honest h.talked (h.stays stays) in
       record {
         talked = record { state = b.left; line = with_line n b.line h.talked.line };
         exchanges = one_more t h.exchanges stays (subst (λ (x : Config). Arrives x t.piece t.moment (h.talked.line n) h.talked.state t.sent b.left b.line t.answer) same b.arrives);
         stays = λ e. b.stands (b.stays_clean (sym (last_more before t) ∙ e));
         at = b.stands;
+        rests = b.rests;
+        stop = leaves_wider (store_of g new) _ _ (λ c l. left_along mid.config old.config same b.arrives c l) b.stop;
       }
 
   -- what a stop now leaves goes on from the turns
@@ -290,7 +319,7 @@ module _ {S : Type 0} (g : Ghosts S) where
       (subst (λ s. Run old.config first (records ++ stopped ∷ []) (first_world s)) (sym e) (stops run)))
       (stays_as (store_of g old) w.state settles at.state)
   talks_stop n old new failures failures_after turns settles (turn {mid = mid} {before = between} {turns = before} t talks stays same a) honest first records w run at =
-      let h = talks_exchange n old mid failures between before talks (a.honest honest) w at in
+      let h = talks_exchange n old mid failures between before settles talks (a.honest honest) w at in
       let b = a.answers honest h.talked (h.stays stays) in
       let so_far : Run old.config first (records ++ map (record_of n) before) h.talked = exchanges_run old.config n first records w h.talked before run h.exchanges in
       leaves_wider (store_of g new) _ _
@@ -306,16 +335,22 @@ module _ {S : Type 0} (g : Ghosts S) where
     to_talked : (P : db.State → Type 0) → P (store_of g new) → P (store_of g talked)
     to_talked P h = subst (λ (x : Held S). P (state g x)) same_store h
 
+    from_talked : (P : db.State → Type 0) → P (store_of g talked) → P (store_of g new)
+    from_talked P h = subst (λ (x : Held S). P (state g x)) (sym same_store) h
+
     answered : IsHonest g new → (w : World) → StandsAt g old w → IsAnswered g old new n turns w
     answered honest w at =
         let o = opens w at in
-        let t = talks_exchange n opened talked failures failures_after turns talks (to_talked db.HasCleanDisk honest) (with_opened n w) (subst (λ v. StandsAt g opened v) (opened_is o.1) o.2) in
+        let t = talks_exchange n opened talked failures failures_after turns settles talks (to_talked db.HasCleanDisk honest) (with_opened n w) (subst (λ v. StandsAt g opened v) (opened_is o.1) o.2) in
         record {
           talked = t.talked;
           exchanges = subst (λ (x : Config). Exchanges x n (with_opened n w) turns t.talked) same_opened t.exchanges;
           at = λ clean.
               let c = closes t.talked (t.at (to_talked (λ d. IsTrue d.is_open) clean)) in
               subst (λ v. StandsAt g new v) (closed_is c.1) c.2;
+          rests = λ clean. from_talked (λ d. Leaves d (λ found. found ≡ t.talked.state)) (t.rests (to_talked (λ d. IsTrue d.is_open) clean));
+          stop = from_talked (λ d. Leaves d (LeftByExchanges (subst (λ (x : Config). Exchanges x n (with_opened n w) turns t.talked) same_opened t.exchanges)))
+              (leaves_wider (store_of g talked) _ _ (λ c l. exchanged_along opened.config old.config same_opened t.exchanges c l) t.stop);
         }
 
     all_added : (IsClean g new → IsHonest g new) → AddsAll g old new (records_of n turns)
@@ -386,11 +421,13 @@ module _ {S : Type 0} (g : Ghosts S) where
 
   -- not opened
   pub unserved : (old new : Hub S g) (wire : Wire) → ((w : World) → StandsAt g old w → StandsAt g new w) → new.store ≡ old.store
+      → ((w : World) → StandsAt g old w → Leaves (store_of g new) (λ found. found ≡ w.state))
       → ((first : State) (records : List Record) → StandsAfter g old first records → StandsAfter g new first records)
       → IsUnserved g old new wire wire
-  unserved old new wire at store same = record {
+  unserved old new wire at store stays same = record {
     same = at;
     same_store = store;
+    stays = stays;
     adds = λ clean first records h. subst (λ rs. StandsAfter g new first rs) (sym (append-nil records)) (same first records h);
     rests = record { pieces = keeps_same wire.unread; replies = keeps_same wire.taken; failures = refl };
   }

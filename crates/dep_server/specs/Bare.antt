@@ -8,7 +8,8 @@ use Rattle.dep_message.specs.declared.message.Message.{Message}
 abbrev pub request_by : List ℕ → Message → Message
 request_by method m = record m { head = record m.head { method = method } }
 
--- two steps that differ in the body of the reply alone: one sends it, and the other only tells its length
+-- two steps that differ in the body of the reply alone: one sends it, and the other only tells its
+-- length
 pub record IsWithoutBody (whole bare : Stepped) : Type 0 where
   pub state : bare.state ≡ whole.state
   pub closes : bare.closes ≡ whole.closes

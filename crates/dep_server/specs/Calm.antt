@@ -24,7 +24,8 @@ pub data CalmServes {config : Config} {reads : List Item → Place → Type 0} {
     (number : ℕ)
     : (sent : List ℕ) → (left : State) → (at : Place) → (answer : Arrived)
     → Serves config reads s moment sent left at answer → List SteppedItem → Type 0 where
-  all_served : (items : List Item) {at : Place} (r : reads items at) (w : Waits config.max_upload at)
+  all_served : (items : List Item) {at : Place} (r : reads items at)
+      (w : Waits config.max_upload at)
       → CalmServes number _ _ _ _ (serves_all items r w) (steps_of number moment items)
 
 -- an arrival at a connection
@@ -60,7 +61,8 @@ pub data CalmRun {config : Config} {first : State}
       {steps next : List SteppedItem}
       (r : Run config first records w) (h : Happens config w event sent w')
       → CalmRun _ _ r steps → Calm _ _ _ h next → CalmRun _ _ (goes_on r h) (steps ++ next)
-  stop : {records : List Record} {w : World} {steps : List SteppedItem} (r : Run config first records w)
+  stop : {records : List Record} {w : World} {steps : List SteppedItem}
+      (r : Run config first records w)
       → CalmRun _ _ r steps → CalmRun _ _ (stops r) steps
 
 -- an event of the connection of this number

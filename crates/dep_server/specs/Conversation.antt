@@ -7,15 +7,15 @@ use Rattle.dep_types.specs.State.{State}
 use Rattle.dep_store.specs.Standing.{Leaves}
 use Rattle.dep_server.specs.Records.{World, Connect, Close, Record, stopped, Run, first_world}
 use Rattle.dep_server.specs.Standing.{StandsAt, StandsAfter, IsClean, IsHonest, Moves, IsArrival, intake_of, store_of}
-use Rattle.dep_server.specs.Turns.{Turn, pieces_of, replies_of, record_of, records_of, most_read, ArePieces, last_answer, with_opened, with_closed, Exchanges, EndsAs}
+use Rattle.dep_server.specs.Turns.{Turn, pieces_of, replies_of, record_of, records_of, most_read, ArePieces, last_answer, with_opened, with_closed, Exchanges, LeftByExchanges, EndsAs}
 use Rattle.dep_server.specs.declared.hub.Hub.{Hub}
 use Rattle.dep_server.specs.declared.arrived.Arrived.{Arrived}
 use Rattle.dep_server.specs.declared.arrived.Arrived.TheVariants.{Open as StaysOpen, Closed as HasClosed, Cut}
 use Rattle.dep_server.specs.declared.connection.Served.{Served}
 use Rattle.dep_server.specs.declared.connection.Served.TheVariants.{Ended, Closed, Unserved, ReadFault, WriteFault, Bound}
 
--- the bytes that a reader has left, and those that an outlet took, where they tell them; and how often the outlet
--- has failed
+-- the bytes that a reader has left, and those that an outlet took, where they tell them; and how
+-- often the outlet has failed
 pub record Wire : Type 0 where
   pub unread : Option (List ℕ)
   pub taken : Option (List ℕ)
@@ -59,20 +59,23 @@ module _ {S : Type 0} (g : Ghosts S) where
   abbrev pub session : {C : Type 0} → Hub S g → Wire → C → Session C
   session hub ends clock = record { hub = hub; wire = ends; clock = clock }
 
-  -- for all records that it stood for, the hub stands for them with these after them, if its store is open
+  -- for all records that it stood for, the hub stands for them with these after them, if its store
+  -- is open
   abbrev pub AddsAll : Hub S g → Hub S g → List Record → Type 0
   AddsAll old new more = IsClean g new → (first : State) (records : List Record)
       → StandsAfter g old first records
       → StandsAfter g new first (records ++ more)
 
-  -- what a stop now leaves stands for all records that the hub stood for, with these after them and a stop
+  -- what a stop now leaves stands for all records that the hub stood for, with these after them and
+  -- a stop
   abbrev pub StopsAll : Hub S g → Hub S g → List Record → Type 0
   StopsAll old new more = IsHonest g new → (first : State) (records : List Record)
       → StandsAfter g old first records
       → Leaves (store_of g new)
       (λ found. Run old.config first ((records ++ more) ++ stopped ∷ []) (first_world found))
 
-  -- the turns leave the connection open, one after another, each with the outlet's failures that the one before left
+  -- the turns leave the connection open, one after another, each with the outlet's failures that
+  -- the one before left
   pub data Talks (number : ℕ)
       : Hub S g → (failures : ℕ) → List Turn → Hub S g → (failures_after : ℕ) → Type 0 where
     silent : {hub : Hub S g} {failures : ℕ} → Talks number hub failures [] hub failures
@@ -94,7 +97,8 @@ module _ {S : Type 0} (g : Ghosts S) where
     pub answered : last_answer turns ≡ answer
 
   -- one turn
-  pub record OneTurn {C : Type 0} (ticks : C → ℕ → C → Type 0) (number : ℕ) (before after : Session C)
+  pub record OneTurn {C : Type 0} (ticks : C → ℕ → C → Type 0)
+      (number : ℕ) (before after : Session C)
       (answer : Arrived) : Type 0 where
     pub piece : List ℕ
     pub moment : ℕ
@@ -112,7 +116,8 @@ module _ {S : Type 0} (g : Ghosts S) where
     pub rests : Rests before.wire after.wire
     pub same_clock : after.clock ≡ before.clock
 
-  abbrev pub TurnsTo : {C : Type 0} → (C → ℕ → C → Type 0) → ℕ → (before after : Session C) → Option Served
+  abbrev pub TurnsTo : {C : Type 0} → (C → ℕ → C → Type 0) → ℕ → (before after : Session C)
+      → Option Served
       → Type 0
   TurnsTo ticks number before after None = OneTurn ticks number before after StaysOpen
   TurnsTo ticks number before after (Some Closed) = OneTurn ticks number before after HasClosed
@@ -123,22 +128,29 @@ module _ {S : Type 0} (g : Ghosts S) where
   TurnsTo ticks number before after (Some Bound) = ⊥
 
   -- the turns up to the end
-  pub record TalksUntil {C : Type 0} (ticks : C → ℕ → C → Type 0) (number : ℕ) (before after : Session C)
+  pub record TalksUntil {C : Type 0} (ticks : C → ℕ → C → Type 0)
+      (number : ℕ) (before after : Session C)
       (served : Served) : Type 0 where
     pub count : ℕ
     pub answer : Arrived
     pub talk : Talk ticks number before after count answer
     pub ends : EndsAs after.wire.unread talk.turns served
 
-  -- what the machine makes of the turns, from whatever machine the hub kept: it answers them as they were answered,
-  -- and the hub keeps what it comes to, if its store is open
-  pub record IsAnswered (old new : Hub S g) (number : ℕ) (turns : List Turn) (w : World) : Type 0 where
+  -- what the machine makes of the turns, from whatever machine the hub kept: it answers them as
+  -- they were answered, and the hub keeps what it comes to, if its store is open; a stop then
+  -- leaves just that, and where the store is shut what it may leave after the last turn
+  pub record IsAnswered (old new : Hub S g) (number : ℕ) (turns : List Turn)
+      (w : World) : Type 0 where
     pub talked : World
     pub exchanges : Exchanges old.config number (with_opened number w) turns talked
     pub at : IsClean g new → StandsAt g new (with_closed number talked)
+    pub rests : IsClean g new → Leaves (store_of g new) (λ found. found ≡ talked.state)
+    pub stop : Leaves (store_of g new) (LeftByExchanges exchanges)
 
-  -- one connection: what was read are its pieces, what was written is what was sent, each at the clock's answer
-  pub record Converses {C : Type 0} (ticks : C → ℕ → C → Type 0) (before : Session C) (new : Hub S g)
+  -- one connection: what was read are its pieces, what was written is what was sent, each at the
+  -- clock's answer
+  pub record Converses {C : Type 0} (ticks : C → ℕ → C → Type 0)
+      (before : Session C) (new : Hub S g)
       (after : Wire) (served : Served) : Type 0 where
     pub number : ℕ
     pub turns : List Turn
@@ -164,10 +176,12 @@ module _ {S : Type 0} (g : Ghosts S) where
   pub record IsUnserved (old new : Hub S g) (before after : Wire) : Type 0 where
     pub same : (w : World) → StandsAt g old w → StandsAt g new w
     pub same_store : new.store ≡ old.store
+    pub stays : (w : World) → StandsAt g old w → Leaves (store_of g new) (λ found. found ≡ w.state)
     pub adds : AddsAll old new []
     pub rests : Rests before after
 
-  abbrev pub ConversesOver : {C : Type 0} → (C → ℕ → C → Type 0) → (before : Session C) → (new : Hub S g)
+  abbrev pub ConversesOver : {C : Type 0} → (C → ℕ → C → Type 0) → (before : Session C)
+      → (new : Hub S g)
       → (after : Wire)
       → Served → Type 0
   ConversesOver ticks before new after Unserved = IsUnserved before.hub new before.wire after

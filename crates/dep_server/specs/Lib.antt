@@ -5,7 +5,11 @@ pub mod Stops
 pub mod Records
 pub mod Calm
 pub mod Streams
+pub mod Moves
+pub mod Refused
+pub mod Deposited
 pub mod Acknowledged
+pub mod Opening
 pub mod Causes
 pub mod Sending
 pub mod Serving

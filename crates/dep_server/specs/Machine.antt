@@ -19,7 +19,8 @@ use Rattle.dep_answers.specs.Steps.{Stepped, sent_by, refused_step, operation_st
 use Rattle.dep_server.specs.declared.arrived.Arrived.{Arrived}
 use Rattle.dep_server.specs.declared.arrived.Arrived.TheVariants.{Open as StaysOpen, Closed, Cut}
 
--- the request that a message is, where its path names this resource and the resource has this method
+-- the request that a message is, where its path names this resource and the resource has this
+-- method
 abbrev pub operation_of : Message → Target → Operation
 operation_of m t = record {
   target = t;
@@ -85,7 +86,8 @@ pub data SendsUpTo (whole : List ℕ) : List ℕ → Arrived → Type 0 where
 -- a step that fails
 pub data Fails (config : Config) (s : State) (item : Item) (moment : ℕ)
     : List ℕ → State → Arrived → Type 0 where
-  -- a fixed reply in place of its own: the state is that of before, or that with which the step begins
+  -- a fixed reply in place of its own: the state is that of before, or that with which the step
+  -- begins
   given_up : {fixed sent : List ℕ} {left : State} {answer : Arrived}
       → (fixed ≡ want_of_memory) ⊎ (fixed ≡ store_fault)
       → SendsUpTo fixed sent answer
@@ -108,7 +110,8 @@ answer_at_place Shut = Closed
 pub data Serves (config : Config) (reads : List Item → Place → Type 0) (s : State) (moment : ℕ)
     : (sent : List ℕ) → (left : State) → (at : Place) → (answer : Arrived) → Type 0 where
   serves_all : (items : List Item) {at : Place} → reads items at → Waits config.max_upload at
-      → Serves config reads s moment (replies config s items moment) (state_after config s items moment)
+      → Serves config reads s moment (replies config s items moment)
+      (state_after config s items moment)
       at (answer_at_place at)
   -- a step fails, and the connection makes no more
   step_fails : (items : List Item) (item : Item) (at : Place) {sent : List ℕ} {left : State}

@@ -1,4 +1,5 @@
--- Where a connection stands in the list, how the numbers follow one another, and how far connections go.
+-- Where a connection stands in the list, how the numbers follow one another, and how far
+-- connections go.
 use Rattle.std.specs.Prelude.{◌==◌, ◌+◌, ◌≤◌, ℕ, List, [], ◌∷◌, Option, position}
 use Rattle.std.specs.Coded.{×_prop, le_prop}
 use Rattle.dep_server.specs.declared.connections.Connection.{Connection}
@@ -15,7 +16,8 @@ Ascends low (c ∷ connections) high = (low ≤ c.number) × Ascends (c.number +
 pub Ascends-prop : (low : ℕ) (connections : List Connection) (high : ℕ)
     → IsProp (Ascends low connections high)
 Ascends-prop low [] high = le_prop
-Ascends-prop low (c ∷ connections) high = ×_prop le_prop (Ascends-prop (c.number + 1) connections high)
+Ascends-prop low (c ∷ connections) high =
+    ×_prop le_prop (Ascends-prop (c.number + 1) connections high)
 
 -- how many connections a hub has at most
 abbrev pub most_connections : ℕ

@@ -9,8 +9,8 @@ use Rattle.dep_server.specs.Stops.{LeftByServing}
 use Rattle.dep_server.specs.declared.arrived.Arrived.{Arrived}
 use Rattle.dep_server.specs.declared.arrived.Arrived.TheVariants.{Closed}
 
--- what happens to a server: a connection is opened, bytes of one arrive at a moment, one is closed; or the
--- server stops, which ends every connection
+-- what happens to a server: a connection is opened, bytes of one arrive at a moment, one is closed;
+-- or the server stops, which ends every connection
 pub data Event : Type 0 where
   Connect : (number : ℕ) → Event
   Arrive : (number : ℕ) (piece : List ℕ) (moment : ℕ) → Event
@@ -39,7 +39,8 @@ with_line number line lines n = if n == number then line else lines n
 abbrev pub first_world : State → World
 first_world s = record { state = s; line = λ _. Absent }
 
--- a live connection goes on with its longer stream; where the reading has come to an end it has ended
+-- a live connection goes on with its longer stream; where the reading has come to an end it has
+-- ended
 abbrev pub line_after : List ℕ → Place → Line
 line_after stream (Open continued rest) = Live stream
 line_after stream Shut = ShutLine
@@ -56,11 +57,13 @@ pub data Arrives (config : Config) (piece : List ℕ) (moment : ℕ)
     : Line → State → (sent : List ℕ) → State → Line → Arrived → Type 0 where
   at_live : {stream sent : List ℕ} {s left : State} {at : Place} {answer : Arrived}
       → Serves config (ReadsBeyond config.max_upload stream piece) s moment sent left at answer
-      → Arrives config piece moment (Live stream) s sent left (line_after (stream ++ piece) at) answer
+      → Arrives config piece moment (Live stream) s sent left
+      (line_after (stream ++ piece) at) answer
   at_shut_line : {s : State} → Arrives config piece moment ShutLine s [] s ShutLine Closed
 
 -- what a stop may leave at the end of an arrival
-abbrev pub LeftByArrival : {config : Config} {piece : List ℕ} {moment : ℕ} {line after : Line} {s left : State}
+abbrev pub LeftByArrival : {config : Config} {piece : List ℕ} {moment : ℕ} {line after : Line}
+    {s left : State}
     {sent : List ℕ} {answer : Arrived}
     → Arrives config piece moment line s sent left after answer → State → Type 0
 LeftByArrival (at_live serves) found = LeftByServing serves found
@@ -94,6 +97,8 @@ pub data Run (config : Config) (first : State) : List Record → World → Type 
   breaks : {records : List Record} {n moment : ℕ} {piece sent : List ℕ} {w : World} {left : State}
       {line : Line} {answer : Arrived} (found : State)
       → Run config first records w
-      → (a : Arrives config piece moment (w.line n) w.state sent left line answer) → LeftByArrival a found
-      → Run config first (records ++ record { event = Arrive n piece moment; sent = sent } ∷ stopped ∷ [])
+      → (a : Arrives config piece moment (w.line n) w.state sent left line answer)
+      → LeftByArrival a found
+      → Run config first
+      (records ++ record { event = Arrive n piece moment; sent = sent } ∷ stopped ∷ [])
       (first_world found)

@@ -5,8 +5,8 @@ use Rattle.dep_message.specs.Stream.{Item, Fault, Continue, Request}
 use Rattle.dep_reply.specs.Head.{ReplyHead, head_text}
 use Rattle.dep_reply.specs.Lines.{head_lines, lines_of}
 
--- a head and perhaps a document: the first empty line is the head's end, whatever is sent behind, and up to
--- there stand the head's own lines
+-- a head and perhaps a document: the first empty line is the head's end, whatever is sent behind,
+-- and up to there stand the head's own lines
 pub record IsWholeReply (front : List ℕ) : Type 0 where
   pub head : ReplyHead
   pub document : List ℕ

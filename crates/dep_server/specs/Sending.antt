@@ -39,8 +39,8 @@ abbrev pub reply_to : StoreFault → List ℕ
 reply_to Store = store_fault
 reply_to Memory = want_of_memory
 
--- what lies outside the machine: the bytes that the outlet took, where it tells them, how often it has failed, and
--- the store
+-- what lies outside the machine: the bytes that the outlet took, where it tells them, how often it
+-- has failed, and the store
 pub record Outside : Type 1 where
   pub taken : Option (List ℕ)
   pub failures : ℕ
@@ -49,8 +49,8 @@ pub record Outside : Type 1 where
 abbrev pub outside : (taken : Option (List ℕ)) → (failures : ℕ) → (store : db.State) → Outside
 outside taken failures store = record { taken = taken; failures = failures; store = store }
 
--- from one to the other these bytes were sent; and where the disk has told no lie up to the second, or the store is
--- open there, it was so at the first
+-- from one to the other these bytes were sent; and where the disk has told no lie up to the second,
+-- or the store is open there, it was so at the first
 pub record Passes (old new : Outside) (sent : List ℕ) : Type 0 where
   pub appends : Appends old.taken new.taken sent
   pub honest : db.HasCleanDisk new.store → db.HasCleanDisk old.store

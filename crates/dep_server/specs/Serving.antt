@@ -22,8 +22,9 @@ answer_after CutShort = Cut
 answer_after GaveUp = Closed
 answer_after Sent = Closed
 
--- A step that failed, from a state that the store stood for. While the store is open it stands for what the failure
--- left; and whether it is or not, a stop leaves what it may leave there. A cut has a cause.
+-- A step that failed, from a state that the store stood for. While the store is open it stands for
+-- what the failure left; and whether it is or not, a stop leaves what it may leave there. A cut has
+-- a cause.
 pub record FailsFrom (config : Config) (s : State) (item : Item) (moment : ℕ) (sent : List ℕ)
     (old new : Outside) (answer : Arrived) : Type 0 where
   pub left : State
@@ -33,16 +34,19 @@ pub record FailsFrom (config : Config) (s : State) (item : Item) (moment : ℕ) 
   pub cause : answer ≡ Cut → HasRisen old.failures new.failures ⊎ IsCutInContent fails
 
 -- a step, or one that fails
-abbrev pub IsAnsweredBy : Config → State → Item → ℕ → List ℕ → (old new : Outside) → Answered → Type 0
-IsAnsweredBy config s item moment sent old new Sent = SendsAll (step config s item moment) old new sent
+abbrev pub IsAnsweredBy : Config → State → Item → ℕ → List ℕ → (old new : Outside) → Answered
+    → Type 0
+IsAnsweredBy config s item moment sent old new Sent =
+    SendsAll (step config s item moment) old new sent
 IsAnsweredBy config s item moment sent old new GaveUp =
     FailsFrom config s item moment sent old new Closed
 IsAnsweredBy config s item moment sent old new CutShort =
     FailsFrom config s item moment sent old new Cut
 
--- An item is answered. The bytes are known without the state: whatever state the store stood for, they are
--- sent for it.
-pub record Answers (config : Config) (old new : Outside) (item : Item) (moment : ℕ) (answer : Answered)
+-- An item is answered. The bytes are known without the state: whatever state the store stood for,
+-- they are sent for it.
+pub record Answers (config : Config) (old new : Outside) (item : Item) (moment : ℕ)
+    (answer : Answered)
     : Type 0 where
   pub sent : List ℕ
   pub passes : Passes old new sent
@@ -78,9 +82,10 @@ pub record Progress (config : Config) (a : Arrival) (old now : Outside) (at : Pl
   pub replied : db.HasCleanDisk now.store → (s : State) → StandsFor old.store s
       → Replied config a s items sent old now
 
--- it was served from what the intake keeps and from a state that the store stood for; a connection that stays open
--- has an open store
-pub record ServesFrom (config : Config) (a : Arrival) (s : State) (sent : List ℕ) (old new : Outside) (at : Place)
+-- it was served from what the intake keeps and from a state that the store stood for; a connection
+-- that stays open has an open store
+pub record ServesFrom (config : Config) (a : Arrival) (s : State) (sent : List ℕ)
+    (old new : Outside) (at : Place)
     (answer : Arrived) : Type 0 where
   pub left : State
   pub serves : Serves config (ReadsWith a) s a.moment sent left at answer
@@ -90,7 +95,8 @@ pub record ServesFrom (config : Config) (a : Arrival) (s : State) (sent : List �
   pub cause : answer ≡ Cut → HasRisen old.failures new.failures ⊎ EndsInContent serves
 
 -- the same over an outlet and a store, for an intake with the limit of the configuration
-pub record ServesOver (config : Config) (a : Arrival) (old new : Outside) (at : Place) (answer : Arrived)
+pub record ServesOver (config : Config) (a : Arrival) (old new : Outside) (at : Place)
+    (answer : Arrived)
     : Type 0 where
   pub sent : List ℕ
   pub passes : Passes old new sent

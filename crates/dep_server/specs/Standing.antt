@@ -78,15 +78,17 @@ module _ {S : Type 0} (g : Ghosts S) where
   Moves old new event sent = (w : World) → StandsAt old w
       → (w' : World) × Happens old.config w event sent w' × StandsAt new w'
 
-  -- What an arrival comes to, from a world at which the hub stood. While the store is open the hub stands at the
-  -- next one, and a stop leaves just that; whether it is or not, a stop leaves what it may leave after the arrival.
-  -- A connection that stays open has an open store, and a cut has a cause, on the bytes that were sent.
+  -- What an arrival comes to, from a world at which the hub stood. While the store is open the hub
+  -- stands at the next one, and a stop leaves just that; whether it is or not, a stop leaves what
+  -- it may leave after the arrival. A connection that stays open has an open store, and a cut has a
+  -- cause, on the bytes that were sent.
   pub record ArrivesTo (config : Config) (new : Hub S g) (number : ℕ) (piece : List ℕ) (moment : ℕ)
       (sent : List ℕ) (failures failures_after : ℕ) (answer : Arrived) (w : World) : Type 0 where
     pub left : State
     pub line : Line
     pub arrives : Arrives config piece moment (w.line number) w.state sent left line answer
-    pub stands : IsClean new → StandsAt new (record { state = left; line = with_line number line w.line })
+    pub stands : IsClean new
+        → StandsAt new (record { state = left; line = with_line number line w.line })
     pub rests : IsClean new → Leaves (store_of new) (λ found. found ≡ left)
     pub stays_clean : answer ≡ StaysOpen → IsClean new
     pub stop : Leaves (store_of new) (LeftByArrival arrives)
@@ -100,7 +102,8 @@ module _ {S : Type 0} (g : Ghosts S) where
       (records ++ record { event = event; sent = sent } ∷ stopped ∷ []) (first_world found))
 
   -- an arrival at a connection that is there: what is sent for it is a run's, and so is the answer
-  pub record IsArrival (old new : Hub S g) (number : ℕ) (piece : List ℕ) (moment : ℕ) (sent : List ℕ)
+  pub record IsArrival (old new : Hub S g) (number : ℕ) (piece : List ℕ) (moment : ℕ)
+      (sent : List ℕ)
       (failures failures_after : ℕ) (answer : Arrived) : Type 0 where
     pub adds : IsClean new → Adds old new (Arrive number piece moment) sent
     pub stops : StopsAfter old new (Arrive number piece moment) sent
@@ -110,7 +113,8 @@ module _ {S : Type 0} (g : Ghosts S) where
         → ArrivesTo old.config new number piece moment sent failures failures_after answer w
 
   -- what was sent over an outlet for an arrival, by what the outlet tells before and after
-  pub record ArrivesOver (held holds : Option (List ℕ)) (failures failures_after : ℕ) (old new : Hub S g)
+  pub record ArrivesOver (held holds : Option (List ℕ)) (failures failures_after : ℕ)
+      (old new : Hub S g)
       (number : ℕ) (piece : List ℕ) (moment : ℕ) (answer : Arrived) : Type 0 where
     pub sent : List ℕ
     pub appends : Appends held holds sent
@@ -123,7 +127,8 @@ module _ {S : Type 0} (g : Ghosts S) where
     pub sends_nothing : Keeps held holds
 
   -- what an arrival comes to, over an outlet
-  abbrev pub ComesTo : (held holds : Option (List ℕ)) → (failures failures_after : ℕ) → (old new : Hub S g)
+  abbrev pub ComesTo : (held holds : Option (List ℕ)) → (failures failures_after : ℕ)
+      → (old new : Hub S g)
       → (number : ℕ) → (piece : List ℕ) → (moment : ℕ) → Arrived → Type 0
   ComesTo held holds failures failures_after old new number piece moment NoSuch =
       IsNoSuch held holds old new number

@@ -7,16 +7,20 @@ use Rattle.dep_message.specs.Stream.{Item}
 use Rattle.dep_server.specs.Machine.{step, starting_state, Fails, given_up, cut_short, Serves, serves_all, step_fails, gives_up}
 use Rattle.dep_server.specs.declared.arrived.Arrived.{Arrived}
 
--- after a fixed reply: the state of before, the one with which the step begins, or the step's; after a part of its
--- own reply: the step's
+-- after a fixed reply: the state of before, the one with which the step begins, or the step's;
+-- after a part of its own reply: the step's
 abbrev pub LeftByFailure : {config : Config} {s : State} {item : Item} {moment : ℕ} {sent : List ℕ}
     {left : State} {answer : Arrived}
     → Fails config s item moment sent left answer → State → Type 0
-LeftByFailure {config = config} {s = s} {item = item} {moment = moment} (given_up fixed sends leaves) found =
-    (found ≡ s) ⊎ ((found ≡ starting_state config s item moment) ⊎ (found ≡ (step config s item moment).state))
+LeftByFailure {config = config} {s = s} {item = item} {moment = moment}
+    (given_up fixed sends leaves) found =
+    (found ≡ s)
+    ⊎ ((found ≡ starting_state config s item moment)
+    ⊎ (found ≡ (step config s item moment).state))
 LeftByFailure {left = left} (cut_short part leaves) found = found ≡ left
 
-abbrev pub LeftByServing : {config : Config} {reads : List Item → Place → Type 0} {s : State} {moment : ℕ}
+abbrev pub LeftByServing : {config : Config} {reads : List Item → Place → Type 0}
+    {s : State} {moment : ℕ}
     {sent : List ℕ} {left : State} {at : Place} {answer : Arrived}
     → Serves config reads s moment sent left at answer → State → Type 0
 LeftByServing {left = left} (serves_all items reads waits) found = found ≡ left

@@ -17,7 +17,8 @@ all_streams s = s.closed ++ option_map_or (λ stream. stream ∷ []) s.current [
 
 -- a piece goes on with the stream that is open, if there is one; a stop ends it
 abbrev pub with_event : ℕ → Streams → Event → Streams
-with_event n s (Connect m) = if n == m then record { closed = all_streams s; current = Some [] } else s
+with_event n s (Connect m) =
+    if n == m then record { closed = all_streams s; current = Some [] } else s
 with_event n s (Arrive m piece moment) =
     if n == m then record s { current = option_map (λ stream. stream ++ piece) s.current } else s
 with_event n s (Close m) = if n == m then record { closed = all_streams s; current = None } else s
@@ -39,7 +40,8 @@ items_of n steps =
 -- the streams spell these items, one stream after another
 pub data AreSpelled (limit : ℕ) : List (List ℕ) → List Item → Type 0 where
   no_stream : AreSpelled limit [] []
-  first_stream : {stream : List ℕ} {streams : List (List ℕ)} {items later : List Item} {left : Place}
+  first_stream : {stream : List ℕ} {streams : List (List ℕ)} {items later : List Item}
+      {left : Place}
       → Spells limit stream items left → AreSpelled limit streams later
       → AreSpelled limit (stream ∷ streams) (items ++ later)
 

@@ -4,7 +4,7 @@ use Rattle.std.specs.List.{flat_map}
 use Rattle.std.specs.Io.KnownBytes.{IsAtEnd}
 use Rattle.dep_types.specs.State.{State}
 use Rattle.dep_types.specs.declared.config.Config.{Config}
-use Rattle.dep_server.specs.Records.{World, Line, Live, Absent, with_line, Connect, Arrive, Close, Record, Arrives}
+use Rattle.dep_server.specs.Records.{World, Line, Live, Absent, with_line, Connect, Arrive, Close, Record, Arrives, LeftByArrival}
 use Rattle.dep_server.specs.declared.arrived.Arrived.{Arrived}
 use Rattle.dep_server.specs.declared.arrived.Arrived.TheVariants.{Open as StaysOpen, Closed as HasClosed, Cut, NoSuch}
 use Rattle.dep_server.specs.declared.connection.Served.{Served}
@@ -60,8 +60,8 @@ with_opened number w = record w { line = with_line number (Live []) w.line }
 abbrev pub with_closed : ℕ → World → World
 with_closed number w = record w { line = with_line number Absent w.line }
 
--- the machine answers the turns one after another, each from where the one before left it; a turn that did not
--- leave the connection open is the last
+-- the machine answers the turns one after another, each from where the one before left it; a turn
+-- that did not leave the connection open is the last
 pub data Exchanges (config : Config) (number : ℕ) (first : World) : List Turn → World → Type 0 where
   none_yet : Exchanges config number first [] first
   one_more : {turns : List Turn} {w : World} {left : State} {line : Line} (t : Turn)
@@ -70,16 +70,25 @@ pub data Exchanges (config : Config) (number : ℕ) (first : World) : List Turn 
       → Exchanges config number first (turns ++ t ∷ [])
       (record { state = left; line = with_line number line w.line })
 
+-- what a stop may leave at the end of the turns: what it may leave at the end of the last, or the
+-- first world's state where there is none
+abbrev pub LeftByExchanges : {config : Config} {number : ℕ} {first w : World} {turns : List Turn}
+    → Exchanges config number first turns w → State → Type 0
+LeftByExchanges {first = first} none_yet found = found ≡ first.state
+LeftByExchanges (one_more t exchanges stays arrives) found = LeftByArrival arrives found
+
 -- why a connection was served no longer
 abbrev pub EndsAs : Option (List ℕ) → List Turn → Served → Type 0
-EndsAs left turns Ended = IsAtEnd left × (last_answer turns ≡ StaysOpen) × (length turns < most_reads)
+EndsAs left turns Ended = IsAtEnd left × (last_answer turns ≡ StaysOpen)
+    × (length turns < most_reads)
 EndsAs left turns Closed = (last_answer turns ≡ HasClosed) × (length turns ≤ most_reads)
 EndsAs left turns WriteFault = (last_answer turns ≡ Cut) × (length turns ≤ most_reads)
 EndsAs left turns ReadFault = (last_answer turns ≡ StaysOpen) × (length turns < most_reads)
 EndsAs left turns Bound = (last_answer turns ≡ StaysOpen) × (length turns ≡ most_reads)
 EndsAs left turns Unserved = ⊥
 
--- what the answer to a turn says of the turns behind it, and of why the connection was served no longer
+-- what the answer to a turn says of the turns behind it, and of why the connection was served no
+-- longer
 abbrev pub IsEndedBy : Arrived → List Turn → Served → Type 0
 IsEndedBy StaysOpen behind _ = Unit {0}
 IsEndedBy HasClosed behind served = (behind ≡ []) × (served ≡ Closed)

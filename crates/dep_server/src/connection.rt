@@ -1,5 +1,5 @@
 //! One connection over a reader and an outlet.
-ghost use Rattle.std.specs.Prelude.{◌≡◌, ◌≢◌, ◌<◌, ℕ, IsSome, length};
+ghost use Rattle.std.specs.Prelude.{◌≡◌, ◌<◌, IsSome, length};
 ghost use Rattle.dep_server.specs.Standing.{intake_of, IsClean, IsHonest};
 ghost use Rattle.dep_server.specs.Turns.{most_read};
 ghost use Rattle.dep_server.specs.Conversation.{session, wire, ConversesOver, TalksUntil, TurnsTo, next_after};
@@ -34,6 +34,13 @@ const MOST_READS: u32 = 1_048_576;
 
 const MOST_READ: usize = 65_536;
 
+/// The connection that is served, and room for one piece of its stream.
+#[derive(Drop)]
+struct Incoming {
+    connection: ConnId,
+    buffer: Vec<u8>,
+}
+
 /// Serves one fresh connection, from its opening to its close.
 pub fn serve_connection<S: Alter, R: Read, W: Outlet, C: FnMut() -> Moment>(
     alloc: Global,
@@ -47,25 +54,20 @@ pub fn serve_connection<S: Alter, R: Read, W: Outlet, C: FnMut() -> Moment>(
     ensures converses { ConversesOver S.Store C.step
         (session S.Store hub.old
         (wire (R.remaining reader.old) (W.taken writer.old) (W.failures writer.old)) clock)
-        hub.new (wire (R.remaining reader.new) (W.taken writer.new) (W.failures writer.new)) result }
+        hub.new (wire (R.remaining reader.new) (W.taken writer.new)
+        (W.failures writer.new)) result }
     ensures clean { IsClean S.Store hub.new → IsClean S.Store hub.old }
     ensures honest { IsHonest S.Store hub.new → IsHonest S.Store hub.old }
     ensures next { hub.new.next ≡ next_after hub.old.next result }
 {
-    let Ok(mut buffer) = vec![in alloc; 0u8; MOST_READ] else {
+    let Ok(buffer) = vec![in alloc; 0u8; MOST_READ] else {
         return Served::Unserved;
     };
     let Ok(connection) = hub.connect() else {
         return Served::Unserved;
     };
-    let served = converse(
-        reader,
-        writer,
-        hub,
-        &mut clock,
-        connection,
-        buffer.as_mut_slice(),
-    );
+    let mut incoming = Incoming { connection, buffer };
+    let served = converse(reader, writer, hub, &mut clock, &mut incoming);
     hub.close(connection);
     served
 }
@@ -76,22 +78,22 @@ fn converse<S: Alter, R: Read, W: Outlet, C: FnMut() -> Moment>(
     writer: &mut W,
     hub: &mut Hub<S>,
     clock: &mut C,
-    connection: ConnId,
-    buffer: &mut [u8],
+    incoming: &mut Incoming,
 ) -> Served
     requires call { C.IsAlwaysCallable clock.old }
-    requires there { IsSome (intake_of hub.old.connections.items connection) }
-    requires room { length buffer.old ≡ most_read }
+    requires there { IsSome (intake_of hub.old.connections.items incoming.old.connection) }
+    requires room { length incoming.old.buffer.items ≡ most_read }
     ensures config { hub.new.config ≡ hub.old.config }
     ensures next { hub.new.next ≡ hub.old.next }
-    ensures talks { TalksUntil S.Store C.step connection
+    ensures talks { TalksUntil S.Store C.step incoming.old.connection
         (session S.Store hub.old
         (wire (R.remaining reader.old) (W.taken writer.old) (W.failures writer.old)) clock.old)
         (session S.Store hub.new
-        (wire (R.remaining reader.new) (W.taken writer.new) (W.failures writer.new)) clock.new) result }
+        (wire (R.remaining reader.new) (W.taken writer.new)
+        (W.failures writer.new)) clock.new) result }
 {
     for count in 0..MOST_READS {
-        if let Some(end) = turn(reader, writer, hub, clock, connection, buffer) {
+        if let Some(end) = turn(reader, writer, hub, clock, incoming) {
             return end;
         }
     }
@@ -104,29 +106,30 @@ fn turn<S: Alter, R: Read, W: Outlet, C: FnMut() -> Moment>(
     writer: &mut W,
     hub: &mut Hub<S>,
     clock: &mut C,
-    connection: ConnId,
-    buffer: &mut [u8],
+    incoming: &mut Incoming,
 ) -> Option<Served>
     requires call { C.IsAlwaysCallable clock.old }
-    requires there { IsSome (intake_of hub.old.connections.items connection) }
-    requires room { length buffer.old ≡ most_read }
+    requires there { IsSome (intake_of hub.old.connections.items incoming.old.connection) }
+    requires room { length incoming.old.buffer.items ≡ most_read }
     ensures call { C.IsAlwaysCallable clock.new }
-    ensures there { IsSome (intake_of hub.new.connections.items connection) }
-    ensures room { length buffer.new ≡ most_read }
+    ensures there { IsSome (intake_of hub.new.connections.items incoming.old.connection) }
+    ensures room { length incoming.new.buffer.items ≡ most_read }
+    ensures same { incoming.new.connection ≡ incoming.old.connection }
     ensures config { hub.new.config ≡ hub.old.config }
     ensures next { hub.new.next ≡ hub.old.next }
-    ensures turn { TurnsTo S.Store C.step connection
+    ensures turn { TurnsTo S.Store C.step incoming.old.connection
         (session S.Store hub.old
         (wire (R.remaining reader.old) (W.taken writer.old) (W.failures writer.old)) clock.old)
         (session S.Store hub.new
-        (wire (R.remaining reader.new) (W.taken writer.new) (W.failures writer.new)) clock.new) result }
+        (wire (R.remaining reader.new) (W.taken writer.new)
+        (W.failures writer.new)) clock.new) result }
 {
-    match reader.read(buffer) {
+    match reader.read(incoming.buffer.as_mut_slice()) {
         Err(_) => Some(Served::ReadFault),
         Ok(0) => Some(Served::Ended),
         Ok(n) => {
             let moment = clock();
-            match hub.arrive(connection, &buffer[..n], moment, writer) {
+            match hub.arrive(incoming.connection, &incoming.buffer[..n], moment, writer) {
                 Arrived::Open => None,
                 Arrived::Closed => Some(Served::Closed),
                 Arrived::Cut => Some(Served::WriteFault),

@@ -119,21 +119,29 @@ impl<S: Alter> Hub<S> {
     /// Opens a connection.
     pub fn connect(&mut self) -> Result<ConnId, ConnectFault>
         ensures adds { IfOk result (λ number. Adds S.Store self.old self.new (Connect number) []) }
-        ensures moves { IfOk result (λ number. Moves S.Store self.old self.new (Connect number) []) }
-        ensures same { OnErr result ((w : World) → StandsAt S.Store self.old w → StandsAt S.Store self.new w) }
+        ensures moves { IfOk result
+            (λ number. Moves S.Store self.old self.new (Connect number) []) }
+        ensures same { OnErr result ((w : World) → StandsAt S.Store self.old w
+            → StandsAt S.Store self.new w) }
         ensures config { self.new.config ≡ self.old.config }
         ensures store { self.new.store ≡ self.old.store }
         ensures next { IfOk result (λ number.
             (number ≡ self.old.next) × (self.new.next ≡ self.old.next + 1)) }
         // It refuses for a reason.
         ensures full { IsErrOf result ConnectFault.Full
-            → (most_connections ≤ length self.old.connections.items) ⊎ (last_number ≤ self.old.next) }
+            → (most_connections ≤ length self.old.connections.items)
+            ⊎ (last_number ≤ self.old.next) }
         // It takes no connection more than there may be, and a refusal takes no number.
         ensures room { IfOk result (λ _.
-            (length self.old.connections.items < most_connections) × (self.old.next < last_number)) }
+            (length self.old.connections.items < most_connections)
+            × (self.old.next < last_number)) }
         ensures kept { OnErr result (self.new.next ≡ self.old.next) }
         ensures fresh { IfOk result (λ number. intake_of self.old.connections.items number ≡ None) }
-        ensures there { IfOk result (λ number. IsSome (intake_of self.new.connections.items number)) }
+        ensures there { IfOk result
+            (λ number. IsSome (intake_of self.new.connections.items number)) }
+        // What a stop now leaves.
+        ensures rests { (w : World) → StandsAt S.Store self.old w
+            → Leaves (store_of S.Store self.new) (λ found. found ≡ w.state) }
     {
         if self.connections.len() >= MOST_CONNECTIONS || self.next >= LAST_NUMBER {
             return Err(ConnectFault::Full);
@@ -191,6 +199,9 @@ impl<S: Alter> Hub<S> {
         ensures adds { Adds S.Store self.old self.new (Close connection) [] }
         ensures moves { Moves S.Store self.old self.new (Close connection) [] }
         ensures gone { intake_of self.new.connections.items connection ≡ None }
+        // What a stop now leaves.
+        ensures rests { (w : World) → StandsAt S.Store self.old w
+            → Leaves (store_of S.Store self.new) (λ found. found ≡ w.state) }
         ensures config { self.new.config ≡ self.old.config }
         ensures store { self.new.store ≡ self.old.store }
         ensures next { self.new.next ≡ self.old.next }
@@ -203,9 +214,13 @@ impl<S: Alter> Hub<S> {
     /// Hands back the store.
     pub fn into_store(self) -> Store<S>
         ensures same { result ≡ self.store }
-        ensures stands { (w : World) → StandsAt S.Store self w → StandsFor (state S.Store result) w.state }
-        // What a stop now leaves.
-        ensures stop { (first : State) (records : List Record) → StandsAfter S.Store self first records
+        ensures stands { (w : World) → StandsAt S.Store self w
+            → StandsFor (state S.Store result) w.state }
+        // What a stop now leaves is what the machine keeps, and stands for the records with a stop.
+        ensures rests { (w : World) → StandsAt S.Store self w
+            → Leaves (state S.Store result) (λ found. found ≡ w.state) }
+        ensures stop { (first : State) (records : List Record)
+            → StandsAfter S.Store self first records
             → Leaves (state S.Store result)
             (λ found. Run self.config first (records ++ stopped ∷ []) (first_world found)) }
     {

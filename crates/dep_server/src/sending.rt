@@ -30,7 +30,8 @@ const STORE_FAULT: &[u8] =
 /// Sends the fixed reply for want of memory (RFC 9110, section 15.6.4).
 pub(crate) fn send_want_of_memory<O: Outlet>(out: &mut O) -> Answered
     ensures sends { SendsOver (O.taken out.old) (O.taken out.new) want_of_memory result }
-    ensures cause { result ≡ Answered.CutShort → HasRisen (O.failures out.old) (O.failures out.new) }
+    ensures cause { result ≡ Answered.CutShort
+        → HasRisen (O.failures out.old) (O.failures out.new) }
 {
     match out.write(WANT_OF_MEMORY) {
         Ok(()) => Answered::GaveUp,
@@ -41,7 +42,8 @@ pub(crate) fn send_want_of_memory<O: Outlet>(out: &mut O) -> Answered
 // Sends the fixed reply for a fault of the store (RFC 9110, section 15.6.1).
 fn send_store_fault<O: Outlet>(out: &mut O) -> Answered
     ensures sends { SendsOver (O.taken out.old) (O.taken out.new) store_fault result }
-    ensures cause { result ≡ Answered.CutShort → HasRisen (O.failures out.old) (O.failures out.new) }
+    ensures cause { result ≡ Answered.CutShort
+        → HasRisen (O.failures out.old) (O.failures out.new) }
 {
     match out.write(STORE_FAULT) {
         Ok(()) => Answered::GaveUp,
@@ -52,7 +54,8 @@ fn send_store_fault<O: Outlet>(out: &mut O) -> Answered
 /// Sends the fixed reply for a fault.
 pub(crate) fn send_fault<O: Outlet>(fault: StoreFault, out: &mut O) -> Answered
     ensures sends { SendsOver (O.taken out.old) (O.taken out.new) (reply_to fault) result }
-    ensures cause { result ≡ Answered.CutShort → HasRisen (O.failures out.old) (O.failures out.new) }
+    ensures cause { result ≡ Answered.CutShort
+        → HasRisen (O.failures out.old) (O.failures out.new) }
 {
     match fault {
         StoreFault::Store => send_store_fault(out),
@@ -64,7 +67,8 @@ pub(crate) fn send_fault<O: Outlet>(fault: StoreFault, out: &mut O) -> Answered
 pub(crate) fn send<O: Outlet>(out: &mut O, reply: &[u8]) -> Answered
     ensures sends { SendsReply (O.taken out.old) (O.taken out.new) reply.now result }
     ensures kept { result ≡ Answered.Sent → O.failures out.new ≡ O.failures out.old }
-    ensures cause { result ≡ Answered.CutShort → HasRisen (O.failures out.old) (O.failures out.new) }
+    ensures cause { result ≡ Answered.CutShort
+        → HasRisen (O.failures out.old) (O.failures out.new) }
 {
     match out.write(reply) {
         Ok(()) => Answered::Sent,
@@ -72,7 +76,8 @@ pub(crate) fn send<O: Outlet>(out: &mut O, reply: &[u8]) -> Answered
     }
 }
 
-/// Sends what is ready: its front as one write, and the content of a file behind it as the store keeps it.
+/// Sends what is ready: its front as one write, and the content of a file behind it as the store
+/// keeps it.
 pub(crate) fn send_performed<S: Alter, O: Outlet>(
     store: &mut Store<S>,
     performed: &Performed,
@@ -80,7 +85,8 @@ pub(crate) fn send_performed<S: Alter, O: Outlet>(
 ) -> Answered
     ensures { SendsReady
         (outside (O.taken out.old) (O.failures out.old) (state S.Store store.old))
-        (outside (O.taken out.new) (O.failures out.new) (state S.Store store.new)) performed.now result }
+        (outside (O.taken out.new) (O.failures out.new)
+        (state S.Store store.new)) performed.now result }
 {
     match send(out, performed.front.as_slice()) {
         Answered::Sent => match performed.stored {

@@ -31,7 +31,8 @@ pub(crate) fn serve<S: Alter, O: Outlet>(
 ) -> Arrived
     ensures served { ServesOver service.now (arrival_of intake.old piece.now moment)
         (outside (O.taken out.old) (O.failures out.old) (state S.Store store.old))
-        (outside (O.taken out.new) (O.failures out.new) (state S.Store store.new)) intake.new.place result }
+        (outside (O.taken out.new) (O.failures out.new)
+        (state S.Store store.new)) intake.new.place result }
     ensures limit { intake.new.limit ≡ intake.old.limit }
     ensures there { result ≢ Arrived.NoSuch }
 {

@@ -101,16 +101,21 @@ fn perform<S: Alter>(
     message: Message,
     clock: Moment,
 ) -> Result<Performed, StoreFault>
-    ensures ok { HasCleanDisk (state S.Store store.new) → (s : State) → StandsFor (state S.Store store.old) s
+    ensures ok { HasCleanDisk (state S.Store store.new) → (s : State)
+        → StandsFor (state S.Store store.old) s
         → clock ≡ s.clock
         → IfOk result (λ p. Performs
         (routed_step service.now s message (target message.head.method message.head.path))
         (state S.Store store.new) p) }
-    ensures err { IsTrue (state S.Store store.new).is_open → (s : State) → StandsFor (state S.Store store.old) s
+    ensures err { IsTrue (state S.Store store.new).is_open → (s : State)
+        → StandsFor (state S.Store store.old) s
         → OnErr result (StandsFor (state S.Store store.new) s) }
-    ensures honest { HasCleanDisk (state S.Store store.new) → HasCleanDisk (state S.Store store.old) }
-    ensures open { IsTrue (state S.Store store.new).is_open → IsTrue (state S.Store store.old).is_open }
-    ensures stop { HasCleanDisk (state S.Store store.new) → (s : State) → StandsFor (state S.Store store.old) s
+    ensures honest { HasCleanDisk (state S.Store store.new)
+        → HasCleanDisk (state S.Store store.old) }
+    ensures open { IsTrue (state S.Store store.new).is_open
+        → IsTrue (state S.Store store.old).is_open }
+    ensures stop { HasCleanDisk (state S.Store store.new) → (s : State)
+        → StandsFor (state S.Store store.old) s
         → Leaves (state S.Store store.new) (λ found. (found ≡ s) ⊎ (found ≡
         (routed_step service.now s message (target message.head.method message.head.path)).state)) }
 {
@@ -156,14 +161,19 @@ fn operate<S: Alter>(
     message: Message,
     target: Target,
 ) -> Result<Performed, StoreFault>
-    ensures ok { HasCleanDisk (state S.Store store.new) → (s : State) → StandsFor (state S.Store store.old) s
+    ensures ok { HasCleanDisk (state S.Store store.new) → (s : State)
+        → StandsFor (state S.Store store.old) s
         → IfOk result (λ p. Performs
         (operation_step service.now s (operation_of message target)) (state S.Store store.new) p) }
-    ensures err { IsTrue (state S.Store store.new).is_open → (s : State) → StandsFor (state S.Store store.old) s
+    ensures err { IsTrue (state S.Store store.new).is_open → (s : State)
+        → StandsFor (state S.Store store.old) s
         → OnErr result (StandsFor (state S.Store store.new) s) }
-    ensures honest { HasCleanDisk (state S.Store store.new) → HasCleanDisk (state S.Store store.old) }
-    ensures open { IsTrue (state S.Store store.new).is_open → IsTrue (state S.Store store.old).is_open }
-    ensures stop { HasCleanDisk (state S.Store store.new) → (s : State) → StandsFor (state S.Store store.old) s
+    ensures honest { HasCleanDisk (state S.Store store.new)
+        → HasCleanDisk (state S.Store store.old) }
+    ensures open { IsTrue (state S.Store store.new).is_open
+        → IsTrue (state S.Store store.old).is_open }
+    ensures stop { HasCleanDisk (state S.Store store.new) → (s : State)
+        → StandsFor (state S.Store store.old) s
         → Leaves (state S.Store store.new) (λ found. (found ≡ s) ⊎
         (found ≡ (operation_step service.now s (operation_of message target)).state)) }
 {

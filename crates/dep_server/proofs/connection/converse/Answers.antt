@@ -1,22 +1,27 @@
-use Rattle.std.proofs.Common.{refl, ◌∙◌, arith}
-use Rattle.dep_server.proofs.TalkLemmas.{talk_none, talk_more, talk_last, talk_bound}
+use Rattle.std.proofs.Common.{ℕ, Some, None, refl, subst, ◌∙◌, arith}
+use Rattle.std.specs.Prelude.{IsSome}
+use Rattle.dep_server.specs.Standing.{intake_of}
+use Rattle.dep_server.proofs.TalkLemmas.{talk_none, talk_more, talk_last, talk_bound, turn_at}
 use Rattle.dep_server.proofs.connection.converse.Goals as goal
 
 pub loop-count-init : goal.loop-count-init
-loop-count-init g c = record { call = c.requires.call; room = c.requires.room; there = c.requires.there; config = refl; next = refl; talk = talk_none g.S.Store _ _ _ }
+loop-count-init g c = record { call = c.requires.call; room = c.requires.room; same = refl; there = c.requires.there; config = refl; next = refl; talk = talk_none g.S.Store _ _ _ }
 
 pub loop-count-preserved : goal.loop-count-preserved
 loop-count-preserved g c = record {
   call = c.turn.ensures.call;
   room = c.turn.ensures.room;
-  there = c.turn.ensures.there;
+  same = c.turn.ensures.same ∙ c.loop-count.invariant.same;
+  there = subst (λ (n : ℕ). IsSome (intake_of c.turn.new.hub.connections.items n)) c.loop-count.invariant.same c.turn.ensures.there;
   config = c.turn.ensures.config ∙ c.loop-count.invariant.config;
   next = c.turn.ensures.next ∙ c.loop-count.invariant.next;
-  talk = talk_more g.S.Store _ _ _ _ _ _ _ c.loop-count.invariant.config c.loop-count.invariant.talk c.in_default.ensures.turn;
+  talk = talk_more g.S.Store _ _ _ _ _ _ _ c.loop-count.invariant.config c.loop-count.invariant.talk
+      (turn_at g.S.Store _ _ _ _ _ None c.loop-count.invariant.same c.in_default.ensures.turn);
 }
 
 pub returns-in-Some-clause-talks : goal.returns-in-Some-clause-talks
-returns-in-Some-clause-talks g c = talk_last g.S.Store _ _ _ _ _ c.in-Some.end _ c.loop-count-test.true c.loop-count.invariant.config c.loop-count.invariant.talk c.in-Some.ensures.turn
+returns-in-Some-clause-talks g c = talk_last g.S.Store _ _ _ _ _ c.in-Some.end _ c.loop-count-test.true c.loop-count.invariant.config c.loop-count.invariant.talk
+    (turn_at g.S.Store _ _ _ _ _ (Some c.in-Some.end) c.loop-count.invariant.same c.in-Some.ensures.turn)
 
 pub returns-clause-talks : goal.returns-clause-talks
 returns-clause-talks g c = talk_bound g.S.Store _ _ _ _ _ (omega arith) c.loop-count.invariant.talk

@@ -8,11 +8,12 @@ use Rattle.dep_server.proofs.connection.converse.Given as goal
 abbrev pub invariant-loop-count : goal.invariant-loop-count
 invariant-loop-count g l = record {
   call : goal.C-IsAlwaysCallable g l.clock;
-  room : length l.buffer ≡ most_read;
-  there : IsSome (intake_of l.hub.connections.items l.connection);
+  room : length l.incoming.buffer.items ≡ most_read;
+  same : l.incoming.connection ≡ l.fn.incoming.connection;
+  there : IsSome (intake_of l.hub.connections.items l.fn.incoming.connection);
   config : l.hub.config ≡ l.fn.hub.config;
   next : l.hub.next ≡ l.fn.hub.next;
-  talk : Talk g.S.Store (goal.C-step g) l.connection
+  talk : Talk g.S.Store (goal.C-step g) l.fn.incoming.connection
       (session g.S.Store l.fn.hub (wire (g.R.Read.remaining l.fn.reader) (g.W.Outlet.taken l.fn.writer) (g.W.Outlet.failures l.fn.writer)) l.fn.clock)
       (session g.S.Store l.hub (wire (g.R.Read.remaining l.reader) (g.W.Outlet.taken l.writer) (g.W.Outlet.failures l.writer)) l.clock) l.count StaysOpen;
 }

@@ -3,7 +3,9 @@ use Rattle.sqlite.specs.Held.{Held, state}
 use Rattle.sqlite.specs.State.{HasCleanDisk}
 use Rattle.sqlite.proofs.StateLemmas.{clean_if_open}
 use Rattle.dep_server.specs.Conversation.{wire, session}
+use Rattle.dep_server.specs.Standing.{store_of}
 use Rattle.dep_server.proofs.HubLemmas.{same_stands_for}
+use Rattle.dep_server.proofs.Leaving.{stays_as}
 use Rattle.dep_server.proofs.TalkLemmas.{serves_whole, unserved, next_served, later_clean, later_honest}
 use Rattle.dep_server.proofs.connection.serve_connection.Goals as goal
 
@@ -34,12 +36,13 @@ returns-clause-honest g c honest =
 pub returns-in_default-connect-clause-converses : goal.returns-in_default-connect-clause-converses
 returns-in_default-connect-clause-converses g c =
     unserved g.S.Store c.args.hub.now c.connect.new.self (wire (g.R.Read.remaining c.args.reader.now) (g.W.Outlet.taken c.args.writer.now) (g.W.Outlet.failures c.args.writer.now))
-    c.in_default-connect.ensures.same c.connect.ensures.store (same_stands_for g.S.Store c.args.hub.now c.connect.new.self c.connect.ensures.config c.in_default-connect.ensures.same)
+    c.in_default-connect.ensures.same c.connect.ensures.store c.connect.ensures.rests (same_stands_for g.S.Store c.args.hub.now c.connect.new.self c.connect.ensures.config c.in_default-connect.ensures.same)
 
 pub returns-in_default-clause-converses : goal.returns-in_default-clause-converses
 returns-in_default-clause-converses g c =
     unserved g.S.Store c.args.hub.now c.args.hub.now (wire (g.R.Read.remaining c.args.reader.now) (g.W.Outlet.taken c.args.writer.now) (g.W.Outlet.failures c.args.writer.now))
-    (λ w at. at) refl (λ first records h. h)
+    (λ w at. at) refl (λ w at. stays_as (store_of g.S.Store c.args.hub.now) w.state (λ is_open trees h. g.met.S.Store.settled c.args.hub.now.store.store trees is_open h) at.state)
+    (λ first records h. h)
 
 pub returns-clause-next : goal.returns-clause-next
 returns-clause-next g c =

@@ -5,7 +5,7 @@ use Rattle.dep_server.specs.Records.{Close}
 use Rattle.dep_server.specs.Standing.{intake_of}
 use Rattle.dep_server.specs.declared.connections.Connection.{Connection}
 use Rattle.dep_server.proofs.ConnectionLemmas.{index_none, intake_remove, ascends_remove}
-use Rattle.dep_server.proofs.HubLemmas.{closes_moves, moves_adds, absent_already}
+use Rattle.dep_server.proofs.HubLemmas.{closes_moves, moves_adds, absent_already, leaves_as_before}
 use Rattle.dep_server.proofs.hub.Hub.close.Goals as goal
 
 pub returns-in-Some-clause-moves : goal.returns-in-Some-clause-moves
@@ -41,3 +41,11 @@ invariant_of-self g c = record {
   ascends = subst (λ (cs : List Connection). Ascends 0 cs c.args.self.now.next) (sym c.remove.ensures.items)
       (ascends_remove 0 c.args.self.now.next c.in-Some.i c.args.self.now.connections.items (rw c.as_slice.ensures.value at c.in-Some.ensures.within) c.args.self.now.ascends);
 }
+
+pub returns-in-Some-clause-rests : goal.returns-in-Some-clause-rests
+returns-in-Some-clause-rests g c =
+    leaves_as_before g.S.Store c.args.self.now _ refl (λ is_open trees k. g.met.S.Store.settled c.args.self.now.store.store trees is_open k)
+
+pub returns-in_default-clause-rests : goal.returns-in_default-clause-rests
+returns-in_default-clause-rests g c =
+    leaves_as_before g.S.Store c.args.self.now _ refl (λ is_open trees k. g.met.S.Store.settled c.args.self.now.store.store trees is_open k)

@@ -7,7 +7,7 @@ use Rattle.dep_server.specs.Records.{Connect}
 use Rattle.dep_server.specs.Standing.{intake_of}
 use Rattle.dep_server.specs.declared.connections.Connection.{Connection}
 use Rattle.dep_server.proofs.ConnectionLemmas.{absent_above, ascends_push, pushed_there}
-use Rattle.dep_server.proofs.HubLemmas.{connects_moves, moves_adds}
+use Rattle.dep_server.proofs.HubLemmas.{connects_moves, moves_adds, leaves_as_before}
 use Rattle.dep_server.proofs.hub.Hub.connect.Goals as goal
 
 pub returns-clause-moves : goal.returns-clause-moves
@@ -44,3 +44,15 @@ invariant_of-self-2 g c =
     record {
       ascends = subst (λ (cs : List Connection). Ascends 0 cs (d.number + 1)) (sym c.in-Ok.ensures.items) (ascends_push 0 c.args.self.now.connections.items d c.args.self.now.ascends);
     }
+
+pub returns-then-len-ge-MOST_CONNECTIONS-clause-rests : goal.returns-then-len-ge-MOST_CONNECTIONS-clause-rests
+returns-then-len-ge-MOST_CONNECTIONS-clause-rests g c =
+    leaves_as_before g.S.Store c.args.self.now _ refl (λ is_open trees k. g.met.S.Store.settled c.args.self.now.store.store trees is_open k)
+
+pub returns-in_default-clause-rests : goal.returns-in_default-clause-rests
+returns-in_default-clause-rests g c =
+    leaves_as_before g.S.Store c.args.self.now _ refl (λ is_open trees k. g.met.S.Store.settled c.args.self.now.store.store trees is_open k)
+
+pub returns-clause-rests : goal.returns-clause-rests
+returns-clause-rests g c =
+    leaves_as_before g.S.Store c.args.self.now _ refl (λ is_open trees k. g.met.S.Store.settled c.args.self.now.store.store trees is_open k)
