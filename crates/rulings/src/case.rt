@@ -119,6 +119,15 @@ pub fn number(text: &str) -> u64 {
     text.parse::<u64>().unwrap_or(0)
 }
 
+/// The numbers that stand between the first blanks of a text; 0 for each word that is none.
+pub fn numbers_in(text: &str) -> [u64; 5] {
+    let mut numbers = [0; 5];
+    for (place, word) in numbers.iter_mut().zip(text.split(' ')) {
+        *place = number(word);
+    }
+    numbers
+}
+
 // Which key a setting is about.
 fn place_of(setting: &str) -> Option<usize> {
     KEYS.iter().position(|key| is_about(setting, key))

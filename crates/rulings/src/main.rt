@@ -26,10 +26,22 @@ fn main(rt: HostRuntime) -> io::Result<ExitCode> {
         println!(rt; "usage: rulings FILE")?;
         return Ok(ExitCode::FAILURE);
     };
-    let text = fs::read_to_string(&rt, name.as_str())?;
+    play_file(&rt, name.as_str())
+}
+
+fn play_file(rt: &HostRuntime, name: &str) -> io::Result<ExitCode> {
+    let text = fs::read_to_string(rt, name)?;
+    let status = play_text(rt, text.as_str());
+    drop(text);
+    status
+}
+
+fn play_text(rt: &HostRuntime, text: &str) -> io::Result<ExitCode> {
     let mut tally = Tally::new(rt.alloc());
-    play(&rt, rt.alloc(), text.as_str(), &mut tally)?;
+    let played = play(rt, rt.alloc(), text, &mut tally);
     let (rulings, others) = (tally.rulings, tally.others);
+    drop(tally);
+    played?;
     println!(rt; "{rulings} rulings are as they are written, {others} are not")?;
     if others > 0 {
         return Ok(ExitCode::FAILURE);

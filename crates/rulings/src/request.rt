@@ -45,22 +45,31 @@ fn head_text(alloc: Global, case: &Case) -> Result<String, AllocError> {
 fn add_head(text: &mut String, case: &Case) -> Result<(), AllocError> {
     text.push_str(case.get("request").unwrap_or(""))?;
     text.push_str(" HTTP/1.1\r\nHost: a\r\n")?;
-    for name in FIELDS {
+    add_fields(text, case)?;
+    text.push_str("\r\n")
+}
+
+fn add_fields(text: &mut String, case: &Case) -> Result<(), AllocError> {
+    for name in FIELDS.iter() {
         if let Some(values) = case.get(name) {
             add_field(text, name, values)?;
         }
     }
-    text.push_str("\r\n")
+    Ok(())
 }
 
 fn add_field(text: &mut String, name: &str, values: &str) -> Result<(), AllocError> {
     for value in values.split(" | ") {
-        text.push_str(name)?;
-        text.push_str(": ")?;
-        text.push_str(value)?;
-        text.push_str("\r\n")?;
+        add_line(text, name, value)?;
     }
     Ok(())
+}
+
+fn add_line(text: &mut String, name: &str, value: &str) -> Result<(), AllocError> {
+    text.push_str(name)?;
+    text.push_str(": ")?;
+    text.push_str(value)?;
+    text.push_str("\r\n")
 }
 
 /// What the head is about.
@@ -74,20 +83,18 @@ pub fn target_of(alloc: Global, head: &Head) -> Result<Target, Trouble> {
 /// The content: what is set, or the document of the entries.
 pub fn content_of(alloc: Global, case: &Case) -> Result<Octets, AllocError> {
     let mut text = String::new(alloc);
-    add_content(&mut text, case)?;
-    Octets::copied(alloc, text.as_bytes())
+    let content = match add_content(&mut text, case) {
+        Ok(()) => Octets::copied(alloc, text.as_bytes()),
+        Err(error) => Err(error),
+    };
+    drop(text);
+    content
 }
 
 fn add_content(text: &mut String, case: &Case) -> Result<(), AllocError> {
-    for name in ENTRIES {
+    for name in ENTRIES.iter() {
         if let Some(entry) = case.get(name) {
-            let before = if text.is_empty() {
-                "{\"byReferenceFiles\":["
-            } else {
-                ","
-            };
-            text.push_str(before)?;
-            text.push_str(entry)?;
+            add_entry(text, entry)?;
         }
     }
     if text.is_empty() {
@@ -95,4 +102,14 @@ fn add_content(text: &mut String, case: &Case) -> Result<(), AllocError> {
     } else {
         text.push_str("]}")
     }
+}
+
+fn add_entry(text: &mut String, entry: &str) -> Result<(), AllocError> {
+    let before = if text.is_empty() {
+        "{\"byReferenceFiles\":["
+    } else {
+        ","
+    };
+    text.push_str(before)?;
+    text.push_str(entry)
 }

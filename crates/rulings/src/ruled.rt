@@ -9,7 +9,7 @@ use dep_decisions::Operation;
 use dep_fields::{IfMatch, SwordFields};
 use dep_head::Head;
 use dep_rulings::{View, decide, touches};
-use dep_types::{Config, Text};
+use dep_types::{Config, Octets, Target, Text};
 use std::alloc::{AllocError, Global};
 
 /// Whether this is the ruling of the case. The ruling is told too.
@@ -25,7 +25,9 @@ pub fn check(alloc: Global, case: &Case, want: &str, told: &mut String) -> Resul
 
 fn rule(alloc: Global, case: &Case, told: &mut String) -> Result<(), Trouble> {
     let config = config_of(alloc, case)?;
-    rule_under(alloc, case, &config, told)
+    let ruled = rule_under(alloc, case, &config, told);
+    drop(config);
+    ruled
 }
 
 fn rule_under(
@@ -35,7 +37,9 @@ fn rule_under(
     told: &mut String,
 ) -> Result<(), Trouble> {
     let head = head_of(alloc, case)?;
-    rule_by_head(alloc, case, config, &head, told)
+    let ruled = rule_by_head(alloc, case, config, &head, told);
+    drop(head);
+    ruled
 }
 
 fn rule_by_head(
@@ -46,17 +50,42 @@ fn rule_by_head(
     told: &mut String,
 ) -> Result<(), Trouble> {
     let operation = operation_of(alloc, case, head)?;
-    rule_on(alloc, case, config, &operation, told)
+    let ruled = rule_on(alloc, case, config, &operation, told);
+    drop(operation);
+    ruled
 }
 
 fn operation_of<'a>(alloc: Global, case: &Case, head: &'a Head) -> Result<Operation<'a>, Trouble> {
-    Ok(Operation {
-        target: target_of(alloc, head)?,
-        fields: SwordFields::read(alloc, head)?,
-        if_match: IfMatch::read(head),
-        content: content_of(alloc, case)?,
-        closes: false,
-    })
+    let content = content_of(alloc, case)?;
+    match target_of(alloc, head) {
+        Ok(target) => Ok(operation_on(alloc, head, target, content)?),
+        Err(trouble) => {
+            drop(content);
+            Err(trouble)
+        }
+    }
+}
+
+fn operation_on<'a>(
+    alloc: Global,
+    head: &'a Head,
+    target: Target,
+    content: Octets,
+) -> Result<Operation<'a>, AllocError> {
+    match SwordFields::read(alloc, head) {
+        Ok(fields) => Ok(Operation {
+            target,
+            fields,
+            if_match: IfMatch::read(head),
+            content,
+            closes: false,
+        }),
+        Err(error) => {
+            drop(target);
+            drop(content);
+            Err(error)
+        }
+    }
 }
 
 fn rule_on(
@@ -66,9 +95,10 @@ fn rule_on(
     operation: &Operation,
     told: &mut String,
 ) -> Result<(), Trouble> {
-    let touched = touches(alloc, config, operation)?;
-    let view = view_of(alloc, case, touched)?;
-    Ok(rule_by_view(alloc, config, &view, operation, told)?)
+    let view = view_of(alloc, case, touches(alloc, config, operation)?)?;
+    let ruled = rule_by_view(alloc, config, &view, operation, told);
+    drop(view);
+    Ok(ruled?)
 }
 
 fn rule_by_view(
@@ -79,12 +109,15 @@ fn rule_by_view(
     told: &mut String,
 ) -> Result<(), AllocError> {
     let ruling = decide(alloc, config, view, operation)?;
-    tell(told, &ruling)
+    let done = tell(told, &ruling);
+    drop(ruling);
+    done
 }
 
 fn config_of(alloc: Global, case: &Case) -> Result<Config, AllocError> {
+    let base = Text::copied(alloc, case.get("base").unwrap_or(""))?;
     Ok(Config {
-        base: Text::copied(alloc, case.get("base").unwrap_or(""))?,
+        base,
         title: Text::new(String::new(alloc)),
         abstract_text: Text::new(String::new(alloc)),
         depositor: Text::new(String::new(alloc)),

@@ -61,10 +61,15 @@ impl<'a> Section<'a> {
         let mut count = 1u64;
         for line in self.lines.split('\n').take(place) {
             if let Some(earlier) = Row::refused_beside(line, row) {
-                check(alloc, &alone.with(earlier.settings)?, earlier.ruling, told)?;
+                check_pair(alloc, alone, earlier, told)?;
                 count = count.saturating_add(1);
             }
         }
         Ok(count)
     }
+}
+
+fn check_pair(alloc: Global, alone: &Case, earlier: Row, told: &mut String) -> Result<(), Trouble> {
+    let both = alone.with(earlier.settings)?;
+    check(alloc, &both, earlier.ruling, told)
 }

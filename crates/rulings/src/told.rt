@@ -26,7 +26,7 @@ fn tell_decision(text: &mut String, decision: &Decision) -> Result<(), AllocErro
             deposit,
             ingests,
         } => {
-            write!(text, "add to {object}")?;
+            add_number(text, "add to ", *object)?;
             tell_deposit(text, deposit, *ingests)
         }
         Decision::Replace {
@@ -34,7 +34,7 @@ fn tell_decision(text: &mut String, decision: &Decision) -> Result<(), AllocErro
             deposit,
             ingests,
         } => {
-            write!(text, "replace {object}")?;
+            add_number(text, "replace ", *object)?;
             tell_deposit(text, deposit, *ingests)
         }
         _ => tell_part(text, decision),
@@ -44,15 +44,18 @@ fn tell_decision(text: &mut String, decision: &Decision) -> Result<(), AllocErro
 fn tell_part(text: &mut String, decision: &Decision) -> Result<(), AllocError> {
     match decision {
         Decision::SetMetadata { object, metadata } => {
-            write!(text, "metadata of {object}:")?;
+            add_number(text, "metadata of ", *object)?;
+            text.push(':')?;
             tell_metadata(text, metadata)
         }
         Decision::SetFiles { object, files } => {
-            write!(text, "files of {object}:")?;
+            add_number(text, "files of ", *object)?;
+            text.push(':')?;
             tell_files(text, files)
         }
         Decision::SetFile { object, file, new } => {
-            write!(text, "file {file} of {object}:")?;
+            tell_pair(text, "file ", *file, *object)?;
+            text.push(':')?;
             tell_file(text, new)
         }
         Decision::Open(opening) => tell_opening(text, opening),
@@ -62,24 +65,37 @@ fn tell_part(text: &mut String, decision: &Decision) -> Result<(), AllocError> {
 
 fn tell_numbers(text: &mut String, decision: &Decision) -> Result<(), AllocError> {
     match decision {
-        Decision::Complete { object } => write!(text, "complete {object}")?,
-        Decision::DropFile { object, file } => write!(text, "drop file {file} of {object}")?,
-        Decision::DropObject { object } => write!(text, "drop object {object}")?,
-        Decision::Receive { upload, segment } => write!(text, "segment {segment} of {upload}")?,
-        Decision::DropUpload { upload } => write!(text, "drop upload {upload}")?,
-        _ => text.push_str("nothing")?,
+        Decision::Complete { object } => add_number(text, "complete ", *object),
+        Decision::DropFile { object, file } => tell_pair(text, "drop file ", *file, *object),
+        Decision::DropObject { object } => add_number(text, "drop object ", *object),
+        Decision::Receive { upload, segment } => tell_pair(text, "segment ", *segment, *upload),
+        Decision::DropUpload { upload } => add_number(text, "drop upload ", *upload),
+        _ => text.push_str("nothing"),
     }
-    Ok(())
+}
+
+fn add_number(text: &mut String, before: &str, number: u64) -> Result<(), AllocError> {
+    write!(text, "{before}{number}")
+}
+
+// A part, and what it is a part of.
+fn tell_pair(text: &mut String, before: &str, part: u64, whole: u64) -> Result<(), AllocError> {
+    write!(text, "{before}{part} of {whole}")
 }
 
 fn tell_opening(text: &mut String, opening: &Opening) -> Result<(), AllocError> {
     let (size, count, segment_size) = (opening.size, opening.count, opening.segment_size);
     write!(text, "open {size} in {count} of {segment_size}")?;
-    if let Some(digest) = opening.digest.sha256 {
-        text.push_str(" promised SHA-256=")?;
-        for letter in to_hex(&digest) {
-            text.push(char::from(letter))?;
-        }
+    match &opening.digest.sha256 {
+        Some(digest) => tell_promised(text, digest),
+        None => Ok(()),
+    }
+}
+
+fn tell_promised(text: &mut String, digest: &[u8; 32]) -> Result<(), AllocError> {
+    text.push_str(" promised SHA-256=")?;
+    for letter in to_hex(digest).iter() {
+        text.push(char::from(*letter))?;
     }
     Ok(())
 }
@@ -115,7 +131,7 @@ fn tell_file(text: &mut String, file: &NewFile) -> Result<(), AllocError> {
     text.push_str(file.media.as_str())?;
     match file.source {
         Source::Posted(_) => text.push_str(" posted")?,
-        Source::Assembled(upload) => write!(text, " upload {upload}")?,
+        Source::Assembled(upload) => add_number(text, " upload ", upload)?,
     }
     if let Some(behalf) = &file.behalf {
         text.push_str(" for ")?;

@@ -1,6 +1,6 @@
 //! What a view tells of uploads.
 
-use crate::case::{Case, number};
+use crate::case::{Case, number, numbers_in};
 use dep_fixity::{Digests, Hasher, read_digest_field};
 use dep_rulings::{LiveUpload, Numbers, UploadState, UploadView, UploadViews};
 use dep_types::UploadRow;
@@ -60,23 +60,20 @@ fn state_of(
 }
 
 fn row_of(upload: u64, text: &str) -> UploadRow {
-    let mut words = text.split(' ');
-    let size = number(words.next().unwrap_or(""));
-    let count = number(words.next().unwrap_or(""));
-    let segment_size = number(words.next().unwrap_or(""));
-    let _promised = words.next();
+    let [size, count, segment_size, _, _] = numbers_in(text);
     UploadRow {
         upload,
         size,
         count,
         segment_size,
-        sha256: promised_in(words.next()),
+        sha256: promised_in(text.split_once(" promised ")),
         last: 1_000,
     }
 }
 
-fn promised_in(text: Option<&str>) -> Option<[u8; 32]> {
-    match read_digest_field(text?.as_bytes()) {
+fn promised_in(parts: Option<(&str, &str)>) -> Option<[u8; 32]> {
+    let (_, promised) = parts?;
+    match read_digest_field(promised.as_bytes()) {
         Ok(promised) => promised.sha256,
         Err(_) => None,
     }

@@ -1,26 +1,40 @@
 //! What a view tells of the archive of a case.
 
-use crate::case::{Case, number};
+use crate::case::{Case, numbers_in};
 use crate::uploads::uploads_of;
-use dep_rulings::{Touched, View};
-use dep_types::{Counters, FileRow, ObjectRow, Text};
+use dep_rulings::{Touched, UploadViews, View};
+use dep_types::{Counters, FileRow, ObjectRow, Octets, Text};
 use std::alloc::{AllocError, Global};
 
 /// The view of what is touched.
 pub fn view_of(alloc: Global, case: &Case, touched: Touched) -> Result<View, AllocError> {
     let by_reference = touched.references.is_some();
-    Ok(View {
+    match uploads_of(alloc, case, touched.uploads.as_slice(), by_reference) {
+        Ok(uploads) => Ok(view_with(alloc, case, touched, uploads)),
+        Err(error) => {
+            drop(touched);
+            Err(error)
+        }
+    }
+}
+
+fn view_with(alloc: Global, case: &Case, touched: Touched, uploads: UploadViews) -> View {
+    View {
         clock: 1_000,
         next: next_of(case),
         object: object_of(case, touched.object),
         file: file_of(alloc, case, touched.object, touched.file),
-        has_path: match &touched.path {
-            Some(path) => case.get("path").unwrap_or("").as_bytes() == path.as_slice(),
-            None => false,
-        },
-        uploads: uploads_of(alloc, case, touched.uploads.as_slice(), by_reference)?,
+        has_path: has_path(case, &touched.path),
+        uploads,
         references: touched.references,
-    })
+    }
+}
+
+fn has_path(case: &Case, touched: &Option<Octets>) -> bool {
+    match touched {
+        Some(path) => case.get("path").unwrap_or("").as_bytes() == path.as_slice(),
+        None => false,
+    }
 }
 
 fn next_of(case: &Case) -> Counters {
@@ -34,18 +48,16 @@ fn next_of(case: &Case) -> Counters {
 
 // `N tags OBJECT METADATA FILES`
 fn object_of(case: &Case, touched: Option<u64>) -> Option<ObjectRow> {
-    let object = touched?;
-    let mut words = case.get("object")?.split(' ');
-    if number(words.next()?) != object {
+    let [object, _, object_tag, metadata_tag, files_tag] = numbers_in(case.get("object")?);
+    if touched != Some(object) {
         return None;
     }
-    let _tags = words.next();
     Some(ObjectRow {
         object,
         ingested: true,
-        object_tag: number(words.next()?),
-        metadata_tag: number(words.next()?),
-        files_tag: number(words.next()?),
+        object_tag,
+        metadata_tag,
+        files_tag,
         changed: 1_000,
     })
 }
@@ -69,10 +81,10 @@ fn file_of(alloc: Global, case: &Case, object: Option<u64>, file: Option<u64>) -
 }
 
 fn tag_of(case: &Case, object: u64, file: u64) -> Option<u64> {
-    let mut words = case.get("file")?.split(' ');
-    if number(words.next()?) != object || number(words.next()?) != file {
-        return None;
+    let [of_object, of_file, _, tag, _] = numbers_in(case.get("file")?);
+    if of_object == object && of_file == file {
+        Some(tag)
+    } else {
+        None
     }
-    let _tag = words.next();
-    Some(number(words.next()?))
 }
