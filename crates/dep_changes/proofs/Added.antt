@@ -9,7 +9,7 @@ use Rattle.dep_types.specs.State.{State, Object, File, Upload}
 use Rattle.dep_types.specs.Uploads.{assembled}
 use Rattle.dep_tables.specs.Tables.{Tables}
 use Rattle.dep_row_maps.specs.TablesAre.{TablesAre, with_object}
-use Rattle.dep_row_maps.proofs.Lens.{get_left, insert_again}
+use Rattle.dep_row_maps.proofs.Lens.{get_left, insert_again, insert_twice}
 use Rattle.dep_decisions.specs.Rules.{stands_twice}
 use Rattle.dep_decisions.specs.Effects.{added, added_from, bytes_from, file_from, upload_of, uploads_of, without}
 use Rattle.dep_decisions.specs.declared.decision.Source.{Source}
@@ -18,7 +18,6 @@ use Rattle.dep_decisions.specs.declared.decision.NewFile.{NewFile}
 use Rattle.dep_rulings.specs.declared.view.UploadView.{UploadView}
 use Rattle.dep_changes.specs.Told.{IsSource, AreSources}
 use Rattle.dep_changes.specs.Changed.{made_file, with_new_file, with_new_files}
-use Rattle.dep_changes.proofs.Steps.{insert_twice}
 
 -- ---- files
 

@@ -8,6 +8,7 @@ use Rattle.dep_types.specs.Rows.{object_row}
 use Rattle.dep_types.specs.declared.counters.Counters.{Counters}
 use Rattle.dep_types.specs.declared.rows.ObjectRow.{ObjectRow}
 use Rattle.dep_tables.specs.Tables.{Tables}
+use Rattle.dep_row_maps.proofs.Lens.{insert_twice}
 use Rattle.dep_row_maps.specs.TablesAre.{TablesAre, metadata_at, files_at, with_object, with_metadata}
 use Rattle.dep_decisions.specs.Effects.{blank, filled, ingested_by, joined, uploads_in, with_files, with_texts, without}
 use Rattle.dep_decisions.specs.declared.decision.NewFile.{NewFile}
@@ -17,7 +18,6 @@ use Rattle.dep_rulings.specs.declared.view.UploadView.{UploadView}
 use Rattle.dep_changes.specs.Told.{AreSources, HasSources}
 use Rattle.dep_changes.specs.Changed.{with_appended, with_deposit, with_new_files}
 use Rattle.dep_changes.proofs.Added.{added_alike}
-use Rattle.dep_changes.proofs.Steps.{insert_twice}
 
 -- ---- the deposit by its kind
 

@@ -12,15 +12,8 @@ use Rattle.dep_tables.specs.Tables.{Tables}
 use Rattle.dep_objects.specs.Objects.{object_of}
 use Rattle.dep_row_maps.specs.TablesAre.{TablesAre, metadata_at, files_at, with_object, without_object}
 use Rattle.dep_row_maps.proofs.Files.{same_number}
-use Rattle.dep_row_maps.proofs.Lens.{get_here, get_there, get_gone, get_left}
+use Rattle.dep_row_maps.proofs.Lens.{get_here, get_there, get_gone, get_left, insert_twice}
 use Rattle.dep_decisions.specs.Effects.{changed, ingested_by, with_files, with_texts}
-
-pub insert_twice : {X : Type 0} (m : Numbered X) (k : ℕ) (x y : X) → finmap.insert (finmap.insert m k x) k y ≡ finmap.insert m k y
-insert_twice {X} m k x y = finmap.same_map nat_cmp_total finmap.nat_cmp-IsAntisymmetric _ _ (λ q. go q (same_number q k))
-  where
-    go : (q : ℕ) → (q ≡ k) ⊎ (q ≢ k) → finmap.get (finmap.insert (finmap.insert m k x) k y) q ≡ finmap.get (finmap.insert m k y) q
-    go q (inl is) = ap (finmap.get (finmap.insert (finmap.insert m k x) k y)) is ∙ get_here (finmap.insert m k x) k y ∙ sym (get_here m k y) ∙ ap (finmap.get (finmap.insert m k y)) (sym is)
-    go q (inr apart) = get_there (finmap.insert m k x) k y q apart ∙ get_there m k x q apart ∙ sym (get_there m k y q apart)
 
 -- an object is written, and then again
 pub written_again : (t : Tables) (s : State) (n : ℕ) (a b : Object) → TablesAre t (with_object (with_object s n a) n b) → TablesAre t (with_object s n b)

@@ -31,7 +31,7 @@ use std::alloc::Global;
 
 // The numbers of a file and of its object.
 #[derive(Clone, Copy)]
-struct Place {
+struct FileNumbers {
     object: u64,
     file: u64,
 }
@@ -72,13 +72,13 @@ fn is_reference(source: Source) -> bool
 
 fn new_row(
     change: &Change<'_>,
-    place: Place,
+    numbers: FileNumbers,
     new: &NewFile,
     extent: Extent,
 ) -> Result<FileRow, StoreFault>
     ensures { IfOk result (λ row. row ≡ record {
-      file = place.file;
-      object = place.object;
+      file = numbers.file;
+      object = numbers.object;
       name = new.now.name;
       media = new.now.media;
       size = extent.size;
@@ -90,8 +90,8 @@ fn new_row(
     }) }
 {
     Ok(FileRow {
-        file: place.file,
-        object: place.object,
+        file: numbers.file,
+        object: numbers.object,
         name: copied(change.alloc, &new.name)?,
         media: copied(change.alloc, &new.media)?,
         size: extent.size,
@@ -107,15 +107,15 @@ fn new_row(
 fn put_posted<S: Alter>(
     tx: &mut Transaction<'_, S>,
     change: &Change<'_>,
-    place: Place,
+    numbers: FileNumbers,
     new: &NewFile,
     digests: Digests,
 ) -> Result<(), StoreFault>
     ensures map { FromMaps (state S.Store tx.old.conn.now) (state S.Store tx.new.conn.now)
-        (λ s. (o : Object) → TellsNumbers change.now.view.now s → map.get s.objects place.object ≡ Some o
+        (λ s. (o : Object) → TellsNumbers change.now.view.now s → map.get s.objects numbers.object ≡ Some o
         → digests ≡ digests_of change.now.content.now
         → OnOk result (SeesState (state S.Store tx.new.conn.now)
-        (with_file s place.object o place.file (made_file s new.now change.now.content.now)))) }
+        (with_file s numbers.object o numbers.file (made_file s new.now change.now.content.now)))) }
     ensures ours { KeepsOurs (state S.Store tx.old.conn.now) (state S.Store tx.new.conn.now) result }
     ensures inside { GoesOn (state S.Store tx.old.conn.now) (state S.Store tx.new.conn.now) result }
     ensures kept { StaysInside (state S.Store tx.old.conn.now) (state S.Store tx.new.conn.now) }
@@ -126,7 +126,7 @@ fn put_posted<S: Alter>(
         size: change.content.as_slice().len() as u64,
         digests,
     };
-    put_file(tx, &new_row(change, place, new, extent)?, change.content)
+    put_file(tx, &new_row(change, numbers, new, extent)?, change.content)
 }
 
 // An upload that is whole, with the digests of its bytes.
@@ -163,16 +163,16 @@ fn whole_upload(view: &View, index: usize) -> Result<WholeUpload, StoreFault>
 fn put_assembled<S: Alter>(
     tx: &mut Transaction<'_, S>,
     change: &Change<'_>,
-    place: Place,
+    numbers: FileNumbers,
     new: &NewFile,
     index: usize,
 ) -> Result<(), StoreFault>
     ensures map { FromMaps (state S.Store tx.old.conn.now) (state S.Store tx.new.conn.now)
         (λ s. (o : Object) (u : ℕ) (it : Upload) → TellsNumbers change.now.view.now s
-        → map.get s.objects place.object ≡ Some o → map.get s.uploads u ≡ Some it → IsWhole it
+        → map.get s.objects numbers.object ≡ Some o → map.get s.uploads u ≡ Some it → IsWhole it
         → slice_get change.now.view.now.uploads index ≡ Some (whole_view u it)
         → OnOk result (SeesState (state S.Store tx.new.conn.now)
-        (deposited s place.object o place.file (made_file s new.now (assembled it)) u))) }
+        (deposited s numbers.object o numbers.file (made_file s new.now (assembled it)) u))) }
     ensures ours { KeepsOurs (state S.Store tx.old.conn.now) (state S.Store tx.new.conn.now) result }
     ensures inside { GoesOn (state S.Store tx.old.conn.now) (state S.Store tx.new.conn.now) result }
     ensures kept { StaysInside (state S.Store tx.old.conn.now) (state S.Store tx.new.conn.now) }
@@ -184,22 +184,22 @@ fn put_assembled<S: Alter>(
         size: upload.row.size,
         digests: upload.digests,
     };
-    assemble(tx, &upload.row, &new_row(change, place, new, extent)?)
+    assemble(tx, &upload.row, &new_row(change, numbers, new, extent)?)
 }
 
 // One of the new files of an object, in their order.
 fn put_new_file<S: Alter>(
     tx: &mut Transaction<'_, S>,
     change: &Change<'_>,
-    place: Place,
+    numbers: FileNumbers,
     new: &NewFile,
     index: usize,
 ) -> Result<(), StoreFault>
     ensures map { FromMaps (state S.Store tx.old.conn.now) (state S.Store tx.new.conn.now)
-        (λ s. (o : Object) → TellsNumbers change.now.view.now s → map.get s.objects place.object ≡ Some o
+        (λ s. (o : Object) → TellsNumbers change.now.view.now s → map.get s.objects numbers.object ≡ Some o
         → IsSource s change.now.content.now (slice_get change.now.view.now.uploads index) new.now.source
         → OnOk result (SeesState (state S.Store tx.new.conn.now)
-        (with_new_file s place.object o place.file
+        (with_new_file s numbers.object o numbers.file
         (file_from s change.now.content.now new.now) new.now.source))) }
     ensures ours { KeepsOurs (state S.Store tx.old.conn.now) (state S.Store tx.new.conn.now) result }
     ensures inside { GoesOn (state S.Store tx.old.conn.now) (state S.Store tx.new.conn.now) result }
@@ -208,8 +208,8 @@ fn put_new_file<S: Alter>(
     ensures survives { CommitsNothing (state S.Store tx.old.conn.now) (state S.Store tx.new.conn.now) }
 {
     match new.source {
-        Source::Posted(digests) => put_posted(tx, change, place, new, digests),
-        Source::Assembled(_) => put_assembled(tx, change, place, new, index),
+        Source::Posted(digests) => put_posted(tx, change, numbers, new, digests),
+        Source::Assembled(_) => put_assembled(tx, change, numbers, new, index),
     }
 }
 
@@ -233,11 +233,11 @@ pub(crate) fn put_new_files<S: Alter>(
     ensures survives { CommitsNothing (state S.Store tx.old.conn.now) (state S.Store tx.new.conn.now) }
 {
     'files: for (index, new) in files.iter().enumerate() {
-        let place = Place {
+        let numbers = FileNumbers {
             object,
             file: change.view.next.file + index as u64,
         };
-        put_new_file(tx, change, place, new, index)?;
+        put_new_file(tx, change, numbers, new, index)?;
     }
     Ok(())
 }
@@ -291,9 +291,9 @@ pub(crate) fn set_file<S: Alter>(
     let row = touched(change.view)?;
     write_row(tx, &files_changed(change.view, row))?;
     delete_file(tx, file)?;
-    let place = Place {
+    let numbers = FileNumbers {
         object: row.object,
         file,
     };
-    put_posted(tx, change, place, new, digests)
+    put_posted(tx, change, numbers, new, digests)
 }
