@@ -2,3 +2,4 @@ pub mod Transacting
 pub mod Carrying
 pub mod Opened
 pub mod Stepping
+pub mod Audited

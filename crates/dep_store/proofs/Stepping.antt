@@ -35,7 +35,8 @@ use Rattle.dep_row_maps.specs.TablesAre.{TablesAre}
 use Rattle.dep_row_maps.specs.Clauses.{FromMaps, SeesState}
 use Rattle.dep_store.specs.Standing.{StandsFor}
 use Rattle.dep_store.specs.Performing.{Performs}
-use Rattle.dep_store.proofs.Transacting.{Makes}
+use Rattle.dep_store.specs.Transactions.{OverStates}
+use Rattle.dep_store.proofs.Transacting.{IsMade}
 
 -- a step leaves a sound state
 pub step_sound : (config : Config) (s : State) (op : Operation) → AreFit op.fields → IsSound s → IsSound (operation_step config s op).state
@@ -108,15 +109,19 @@ shown_after s op mid new next subject (Ok shown) made of same still told = (
 shown_after s op mid new next subject (Err e) made of same still told = tt
 
 -- a request inside a transaction keeps the state sound
-pub works : {S : Type 0} (g : Ghosts S) (old inside : Held S) (config : Config) (op : Operation) (p : Performed) → AreFit op.fields
+pub works : {S : Type 0} (g : Ghosts S) (old inside : Held S) (config : Config) (op : Operation) (p : Performed)
     → FromMaps (state g (record old { in_transaction = true })) (state g inside)
     (λ s. IsSound s → AreFit op.fields → IsReady (operation_step config s op) p × SeesState (state g inside) (operation_step config s op).state)
     → (HasCleanDisk (state g inside) → IsTrue true → IsOurs (state g (record old { in_transaction = true })) → IsOurs (state g inside))
-    → Makes g old inside inside (λ s. IsReady (operation_step config s op) p) (λ s. (operation_step config s op).state)
-works g old inside config op p fit told ours clean are_ours s sound are =
-    let it = told clean refl are_ours s are sound fit in
-    (it.0, ours clean refl are_ours, record { are = it.1; sound = step_sound config s op fit sound })
+    → IsMade g old inside (λ t p after. AreFit op.fields → OverStates (λ s p. IsReady (operation_step config s op) p) (λ s. (operation_step config s op).state) t p after) p
+works g old inside config op p told ours clean are_ours = (
+  ours clean refl are_ours,
+  λ fit s means.
+      let it = told clean refl are_ours s means.are means.sound fit in
+      (it.0, record { are = it.1; sound = step_sound config s op fit means.sound }),
+)
 
-pub performs : (config : Config) (s : State) (op : Operation) (new : db.State) (p : Performed)
-    → IsReady (operation_step config s op) p × StandsFor new (operation_step config s op).state → Performs (operation_step config s op) new p
-performs config s op new p it = record { state = it.1; ready = it.0 }
+pub performs : {E : Type 0} (config : Config) (s : State) (op : Operation) (new : db.State) (result : Result Performed E)
+    → IfOk result (λ p. IsReady (operation_step config s op) p × StandsFor new (operation_step config s op).state) → IfOk result (Performs (operation_step config s op) new)
+performs config s op new (Ok p) it = record { state = it.1; ready = it.0 }
+performs config s op new (Err e) it = tt

@@ -2,9 +2,11 @@
 //! crash leaves of that.
 #![tactic(auto)]
 
+mod auditing;
 mod opening;
 mod performing;
 mod reading;
+mod source;
 mod store;
 mod ticking;
 

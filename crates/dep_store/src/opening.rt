@@ -4,7 +4,8 @@ ghost use Rattle.std.specs.Prelude.{◌≡◌, IsTrue, IfOk, IfErr, MatchResult,
 ghost use Rattle.sqlite.specs.State.{HasCleanDisk};
 ghost use Rattle.sqlite.specs.Held.{state};
 ghost use Rattle.dep_types.specs.State.{State, empty_state};
-ghost use Rattle.dep_schema.specs.Standing.{HoldsNone, IsOpenable, IsBack};
+ghost use Rattle.dep_tables.specs.Tables.{Tables};
+ghost use Rattle.dep_schema.specs.Standing.{Holds, HoldsNone, IsOpenable, IsBack, Stands};
 ghost use Rattle.dep_store.specs.Standing.{StandsFor, IsLeftAs};
 ghost use Rattle.dep_store.specs.Opening.{OpenLeaves};
 
@@ -20,6 +21,8 @@ pub(crate) fn open_tables<S: Alter>(
         → HoldsNone (state S.Store connection).now.trees → StandsFor (state S.Store opened) empty_state) }
     ensures found { IfOk result (λ opened. HasCleanDisk (state S.Store opened)
         → (s : State) → IsLeftAs (state S.Store connection).now.trees s → StandsFor (state S.Store opened) s) }
+    ensures tables { IfOk result (λ opened. HasCleanDisk (state S.Store opened)
+        → (t : Tables) → Holds (state S.Store connection).now.trees t → Stands (state S.Store opened) t) }
     ensures refused { IfErr result (λ e. HasCleanDisk (state S.Store e.1)
         → e.0 ≡ OpenFault.UnknownVersion → IsOpenable (state S.Store connection) → ⊥) }
     ensures known { IfErr result (λ e. HasCleanDisk (state S.Store e.1) → IsTrue (state S.Store connection).is_open

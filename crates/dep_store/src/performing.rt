@@ -1,7 +1,6 @@
 //! What a request comes to, in a transaction of its own.
 
-ghost use Rattle.std.specs.Prelude.{◌≡◌, ◌⊎◌, false, min, None, IsTrue, IfOk, OnErr};
-ghost use Rattle.sqlite.specs.State.{HasCleanDisk};
+ghost use Rattle.std.specs.Prelude.{◌≡◌, false, min, None, IsTrue, IfOk};
 ghost use Rattle.sqlite.specs.Held.{state};
 ghost use Rattle.dep_types.specs.State.{State};
 ghost use Rattle.dep_types.specs.Sound.{IsSound};
@@ -20,8 +19,8 @@ ghost use Rattle.dep_answers.specs.Performing.{IsReady, IsReply};
 ghost use Rattle.dep_answers.specs.Replies.{answer_to, refused_answer};
 ghost use Rattle.dep_answers.specs.Steps.{operation_step, is_head};
 ghost use Rattle.dep_answers.specs.Subjects.{shown_at, subject_of};
-ghost use Rattle.dep_store.specs.Standing.{StandsFor, Leaves};
-ghost use Rattle.dep_store.specs.Performing.{Performs, Rules};
+ghost use Rattle.dep_store.specs.Transactions.{Transacts, OverStates};
+ghost use Rattle.dep_store.specs.Performing.{Rules};
 
 use dep_answers::{Delivery, Performed, Service, Shown, Subject, accepted, refused};
 use dep_changes::carry_out;
@@ -170,18 +169,10 @@ pub(crate) fn perform_request<S: Alter>(
     operation: &Operation<'_>,
 ) -> Result<Performed, StoreFault>
     requires settled { (state S.Store connection.old).in_transaction ≡ false }
-    ensures ok { HasCleanDisk (state S.Store connection.new) → AreFit operation.now.fields
-        → (s : State) → StandsFor (state S.Store connection.old) s
-        → IfOk result (Performs (operation_step service.now s operation.now) (state S.Store connection.new)) }
-    ensures err { IsTrue (state S.Store connection.new).is_open
-        → (s : State) → StandsFor (state S.Store connection.old) s
-        → OnErr result (StandsFor (state S.Store connection.new) s) }
-    ensures honest { HasCleanDisk (state S.Store connection.new) → HasCleanDisk (state S.Store connection.old) }
-    ensures open { IsTrue (state S.Store connection.new).is_open → IsTrue (state S.Store connection.old).is_open }
-    ensures stop { HasCleanDisk (state S.Store connection.new) → AreFit operation.now.fields
-        → (s : State) → StandsFor (state S.Store connection.old) s
-        → Leaves (state S.Store connection.new)
-        (λ left. (left ≡ s) ⊎ (left ≡ (operation_step service.now s operation.now).state)) }
+    ensures transacts { Transacts (state S.Store connection.old) (state S.Store connection.new) result
+        (λ t p after. AreFit operation.now.fields → OverStates
+        (λ s p. IsReady (operation_step service.now s operation.now) p)
+        (λ s. (operation_step service.now s operation.now).state) t p after) }
 {
     let mut tx = connection.transaction();
     let performed = answer(&mut tx, alloc, service, operation)?;

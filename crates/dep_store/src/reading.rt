@@ -1,16 +1,16 @@
 //! What is read of the archive, in a transaction of its own.
 
-ghost use Rattle.std.specs.Prelude.{◌≡◌, false, IsTrue, IfOk, OnErr, option_map};
+ghost use Rattle.std.specs.Prelude.{◌≡◌, false, option_map};
 ghost use Rattle.std.specs.FinMap as finmap;
-ghost use Rattle.sqlite.specs.State.{HasCleanDisk};
 ghost use Rattle.sqlite.specs.Held.{state};
 ghost use Rattle.dep_types.specs.State.{State};
 ghost use Rattle.dep_types.specs.Rows.{object_view};
-ghost use Rattle.dep_row_maps.specs.Keyed.{next_entry};
-ghost use Rattle.dep_store.specs.Standing.{StandsFor, Leaves};
+ghost use Rattle.dep_tables.specs.Edits.{AreFileRowsOf, IsObjectAfter};
+ghost use Rattle.dep_store.specs.Standing.{TablesStandFor};
+ghost use Rattle.dep_store.specs.Transactions.{Transacts, OnlyTells};
 
-use dep_tables::fault_of;
-use dep_types::{ObjectView, StoreFault};
+use dep_tables::{fault_of, files_of, next_object};
+use dep_types::{FileRow, ObjectView, StoreFault};
 use dep_views::load_object_view;
 use sqlite::{Alter, Connection};
 use std::alloc::Global;
@@ -22,18 +22,9 @@ pub(crate) fn view_object<S: Alter>(
     object: u64,
 ) -> Result<Option<ObjectView>, StoreFault>
     requires settled { (state S.Store connection.old).in_transaction ≡ false }
-    ensures ok { HasCleanDisk (state S.Store connection.new)
-        → (s : State) → StandsFor (state S.Store connection.old) s
-        → IfOk result (λ found. (found ≡ option_map (object_view object) (finmap.get s.objects object))
-        × StandsFor (state S.Store connection.new) s) }
-    ensures err { IsTrue (state S.Store connection.new).is_open
-        → (s : State) → StandsFor (state S.Store connection.old) s
-        → OnErr result (StandsFor (state S.Store connection.new) s) }
-    ensures honest { HasCleanDisk (state S.Store connection.new) → HasCleanDisk (state S.Store connection.old) }
-    ensures open { IsTrue (state S.Store connection.new).is_open → IsTrue (state S.Store connection.old).is_open }
-    ensures stop { HasCleanDisk (state S.Store connection.new)
-        → (s : State) → StandsFor (state S.Store connection.old) s
-        → Leaves (state S.Store connection.new) (λ left. left ≡ s) }
+    ensures transacts { Transacts (state S.Store connection.old) (state S.Store connection.new) result
+        (OnlyTells (λ t found. (s : State) → TablesStandFor t s
+        → found ≡ option_map (object_view object) (finmap.get s.objects object))) }
 {
     let mut tx = connection.transaction();
     let found = load_object_view(&mut tx, alloc, object)?;
@@ -49,21 +40,29 @@ pub(crate) fn find_next<S: Alter>(
     after: u64,
 ) -> Result<Option<u64>, StoreFault>
     requires settled { (state S.Store connection.old).in_transaction ≡ false }
-    ensures ok { HasCleanDisk (state S.Store connection.new)
-        → (s : State) → StandsFor (state S.Store connection.old) s
-        → IfOk result (λ found. (found ≡ option_map (λ e. e.0) (next_entry s.objects after))
-        × StandsFor (state S.Store connection.new) s) }
-    ensures err { IsTrue (state S.Store connection.new).is_open
-        → (s : State) → StandsFor (state S.Store connection.old) s
-        → OnErr result (StandsFor (state S.Store connection.new) s) }
-    ensures honest { HasCleanDisk (state S.Store connection.new) → HasCleanDisk (state S.Store connection.old) }
-    ensures open { IsTrue (state S.Store connection.new).is_open → IsTrue (state S.Store connection.old).is_open }
-    ensures stop { HasCleanDisk (state S.Store connection.new)
-        → (s : State) → StandsFor (state S.Store connection.old) s
-        → Leaves (state S.Store connection.new) (λ left. left ≡ s) }
+    ensures transacts { Transacts (state S.Store connection.old) (state S.Store connection.new) result
+        (OnlyTells (IsObjectAfter after)) }
 {
     let mut tx = connection.transaction();
-    let found = dep_objects::next_object(&mut tx, after)?;
+    let found = next_object(&mut tx, after)?;
+    match tx.commit() {
+        Ok(()) => Ok(found),
+        Err(error) => Err(fault_of(error)),
+    }
+}
+
+/// The rows of an object's files, in the order of their numbers.
+pub(crate) fn list_files<S: Alter>(
+    connection: &mut Connection<S>,
+    alloc: Global,
+    object: u64,
+) -> Result<Vec<FileRow>, StoreFault>
+    requires settled { (state S.Store connection.old).in_transaction ≡ false }
+    ensures transacts { Transacts (state S.Store connection.old) (state S.Store connection.new) result
+        (OnlyTells (λ t found. AreFileRowsOf object t found.items)) }
+{
+    let mut tx = connection.transaction();
+    let found = files_of(&mut tx, alloc, object)?;
     match tx.commit() {
         Ok(()) => Ok(found),
         Err(error) => Err(fault_of(error)),

@@ -12,16 +12,22 @@ ghost use Rattle.dep_fields.specs.Fit.{AreFit};
 ghost use Rattle.dep_answers.specs.Steps.{operation_step};
 ghost use Rattle.dep_row_maps.specs.Keyed.{next_entry};
 ghost use Rattle.dep_types.specs.Streams.{IsStreamed};
-ghost use Rattle.dep_schema.specs.Standing.{HoldsNone, IsOpenable, IsBack};
+ghost use Rattle.sqlite.specs.Tree.{Trees};
+ghost use Rattle.dep_tables.specs.Tables.{Tables};
+ghost use Rattle.dep_tables.specs.Edits.{IsObjectAfter};
+ghost use Rattle.dep_schema.specs.Standing.{Holds, HoldsNone, IsOpenable, IsBack, Stands};
+ghost use Rattle.dep_store.specs.Auditing.{IsObjectAudited};
 ghost use Rattle.dep_store.specs.Standing.{StandsFor, IsLeftAs, Leaves};
 ghost use Rattle.dep_store.specs.Performing.{Performs};
 ghost use Rattle.dep_store.specs.Opening.{OpenLeaves};
 
+use crate::auditing::audit_object;
 use crate::opening::open_tables;
 use crate::performing::perform_request;
 use crate::reading::{find_next, view_object};
 use crate::ticking::move_clock;
 use dep_answers::{Performed, Service};
+use dep_audit::Audit;
 use dep_decisions::Operation;
 use dep_files::stream_content;
 use dep_moment::Moment;
@@ -62,6 +68,9 @@ impl<S: Alter> Store<S> {
             → (s : State) → IsLeftAs (state S.Store connection).now.trees s → StandsFor (state S.Store store) s) }
         ensures refused { IfErr result (λ e. HasCleanDisk (state S.Store e.1)
             → e.0 ≡ OpenFault.UnknownVersion → IsOpenable (state S.Store connection) → ⊥) }
+        // So it is of tables that stand for no state.
+        ensures tables { IfOk result (λ store. HasCleanDisk (state S.Store store)
+            → (t : Tables) → Holds (state S.Store connection).now.trees t → Stands (state S.Store store) t) }
         // What a store left is never of a version that is not known.
         ensures known { IfErr result (λ e. HasCleanDisk (state S.Store e.1) → IsTrue (state S.Store connection).is_open
             → (s : State) → IsLeftAs (state S.Store connection).now.trees s → e.0 ≡ OpenFault.UnknownVersion → ⊥) }
@@ -102,10 +111,7 @@ impl<S: Alter> Store<S> {
         if !self.connection.is_autocommit() {
             return Err(StoreFault::Store);
         }
-        match move_clock(&mut self.connection, config, moment.secs()) {
-            Ok(clock) => Ok(Moment::new(clock)),
-            Err(fault) => Err(fault),
-        }
+        move_clock(&mut self.connection, config, moment.secs())
     }
 
     /// Does what a request asks for, once the clock has gone on, in one transaction. The reply is made
@@ -171,6 +177,9 @@ impl<S: Alter> Store<S> {
         ensures stop { HasCleanDisk (state S.Store self.new)
             → (s : State) → StandsFor (state S.Store self.old) s
             → Leaves (state S.Store self.new) (λ left. left ≡ s) }
+        // Whatever its tables are, they stay.
+        ensures still { IsTrue (state S.Store self.new).is_open
+            → (t : Tables) → Stands (state S.Store self.old) t → Stands (state S.Store self.new) t }
     {
         if !self.connection.is_autocommit() {
             return Err(StoreFault::Store);
@@ -191,11 +200,39 @@ impl<S: Alter> Store<S> {
         ensures stop { HasCleanDisk (state S.Store self.new)
             → (s : State) → StandsFor (state S.Store self.old) s
             → Leaves (state S.Store self.new) (λ left. left ≡ s) }
+        // So it is of tables that stand for no state: the least row above this number is told.
+        ensures rows { HasCleanDisk (state S.Store self.new)
+            → (t : Tables) → Stands (state S.Store self.old) t
+            → IfOk result (λ found. IsObjectAfter after t found × Stands (state S.Store self.new) t) }
+        ensures opened { HasCleanDisk (state S.Store self.new)
+            → OnOk result (IsTrue (state S.Store self.old).is_open) }
+        ensures still { IsTrue (state S.Store self.new).is_open
+            → (t : Tables) → Stands (state S.Store self.old) t → Stands (state S.Store self.new) t }
     {
         if !self.connection.is_autocommit() {
             return Err(StoreFault::Store);
         }
         find_next(&mut self.connection, after)
+    }
+
+    /// Checks the files of this object by the SHA-256 of the bytes that stand in the tables, also where
+    /// the rows stand for no state. Each block is read once, and one is held at a time.
+    pub fn audit(&mut self, object: u64) -> Result<Audit, StoreFault>
+        ensures ok { HasCleanDisk (state S.Store self.new)
+            → (t : Tables) → Stands (state S.Store self.old) t
+            → IfOk result (λ audit. IsObjectAudited t object audit × Stands (state S.Store self.new) t) }
+        ensures still { IsTrue (state S.Store self.new).is_open
+            → (t : Tables) → Stands (state S.Store self.old) t → Stands (state S.Store self.new) t }
+        ensures honest { HasCleanDisk (state S.Store self.new) → HasCleanDisk (state S.Store self.old) }
+        ensures open { IsTrue (state S.Store self.new).is_open → IsTrue (state S.Store self.old).is_open }
+        ensures stop { HasCleanDisk (state S.Store self.new)
+            → (t : Tables) → Stands (state S.Store self.old) t
+            → (trees : Trees) → (state S.Store self.new).may_leave trees → Holds trees t }
+    {
+        if !self.connection.is_autocommit() {
+            return Err(StoreFault::Store);
+        }
+        audit_object(&mut self.connection, self.alloc, object)
     }
 
     /// While the store stands for a state, a crash leaves that state.

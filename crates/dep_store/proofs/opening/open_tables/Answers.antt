@@ -8,6 +8,9 @@ use Rattle.dep_store.proofs.opening.open_tables.Goals as goal
 pub returns-in-Ok-clause-fresh : goal.returns-in-Ok-clause-fresh
 returns-in-Ok-clause-fresh g c clean none = record { tables = first_tables; stands = c.in-Ok.ensures.fresh clean none; means = first_means }
 
+pub returns-in-Ok-clause-tables : goal.returns-in-Ok-clause-tables
+returns-in-Ok-clause-tables g c clean t holds = (c.in-Ok.ensures.found clean t holds).1
+
 pub returns-in-Ok-clause-stop : goal.returns-in-Ok-clause-stop
 returns-in-Ok-clause-stop g c =
     let old = c.args.connection in

@@ -1,116 +1,51 @@
-use Rattle.std.proofs.Common.{rules, ◌≡◌, inl, inr, refl, subst, arith, IsTrue}
+use Rattle.std.proofs.Common.{rules, ◌≡◌, refl}
+use Rattle.sqlite.proofs.StateLemmas.{clean_if_open}
 use Rattle.std.specs.Prelude.{option_map}
 use Rattle.std.specs.FinMap as finmap
-use Rattle.dep_types.specs.Rows.{object_view}
-use Rattle.sqlite.specs.State.{HasCleanDisk}
-use Rattle.sqlite.specs.Held.{state}
-use Rattle.sqlite.proofs.StateLemmas.{clean_if_open}
 use Rattle.dep_types.specs.State.{State}
-use Rattle.dep_store.specs.Standing.{StandsFor, Leaves}
-use Rattle.dep_store.proofs.Transacting.{ended_by_drop, ended_by_commit, was_open, given_back, undone_by_commit, leaves_or, stands_then, leaves_either}
-use Rattle.dep_store.proofs.Carrying.{tells, leaves_one}
+use Rattle.dep_types.specs.Rows.{object_view}
+use Rattle.dep_store.specs.Standing.{TablesStandFor}
+use Rattle.dep_store.proofs.Transacting.{gave_up, committed, uncommitted}
+use Rattle.dep_store.proofs.Carrying.{tells}
 use Rattle.dep_store.proofs.reading.view_object.Goals as goal
 
-pub returns-in_err-found-clause-open : goal.returns-in_err-found-clause-open
-returns-in_err-found-clause-open g c =
-    let old = c.args.connection.now in
-    let inside = c.load_object_view.new.tx.conn.now in
-    let new = c.drop-tx.new.self.0 in
-    let worked = rw c.transaction-tx.ensures.begun at c.in_err-found.ensures in
-    let it = ended_by_drop g.S.Store old inside new worked.survives worked.kept c.drop-tx.ensures.undone c.drop-tx.ensures.survives in
-    let known = was_open g.S.Store old inside new it in
-    let clean = clean_if_open (g.S.Store.view new.store) (g.met.S.Store.shut_if_dirty new.store) in
-    search rules
-
-pub returns-in_err-found-clause-err : goal.returns-in_err-found-clause-err
-returns-in_err-found-clause-err g c =
-    let old = c.args.connection.now in
-    let inside = c.load_object_view.new.tx.conn.now in
-    let new = c.drop-tx.new.self.0 in
-    let worked = rw c.transaction-tx.ensures.begun at c.in_err-found.ensures in
-    let it = ended_by_drop g.S.Store old inside new worked.survives worked.kept c.drop-tx.ensures.undone c.drop-tx.ensures.survives in
-    let clean = clean_if_open (g.S.Store.view new.store) (g.met.S.Store.shut_if_dirty new.store) in
-    let known = λ (is_open : IsTrue (state g.S.Store new).is_open). given_back g.S.Store old inside new it (c.drop-tx.ensures.undone (clean is_open)) (clean is_open) is_open in
-    search rules
-
-pub returns-in_err-found-clause-stop : goal.returns-in_err-found-clause-stop
-returns-in_err-found-clause-stop g c =
+pub returns-in_err-found : goal.returns-in_err-found
+returns-in_err-found g c =
     let old = c.args.connection.now in
     let inside = c.load_object_view.new.tx.conn.now in
     let new = c.drop-tx.new.self.0 in
     let worked = rw c.transaction-tx.ensures.begun at c.in_err-found.ensures in
     let same : new ≡ c.connection-1.given.0 = search rules in
-    subst (λ h. HasCleanDisk (state g.S.Store h) → (s : State) → StandsFor (state g.S.Store old) s
-    → Leaves (state g.S.Store h) (λ left. left ≡ s)) same
-    (λ clean s stands. leaves_one (state g.S.Store new) s (leaves_or g.S.Store old inside new (λ s stands trees h. g.met.S.Store.settled old.store trees stands.stands.is_open h) worked.survives c.drop-tx.ensures.survives clean s s stands))
+    record {
+      transacts = gave_up g.S.Store old inside new _ c.from_residual.result c.from_residual.ensures.0
+          (record { settled = λ is_open trees h. g.met.S.Store.settled old.store trees is_open h; shut = clean_if_open (g.S.Store.view new.store) (g.met.S.Store.shut_if_dirty new.store); kept = worked.kept; survives = worked.survives })
+          c.drop-tx.ensures.undone c.drop-tx.ensures.survives _ same;
+    }
 
-pub returns-in-Ok-clause-ok : goal.returns-in-Ok-clause-ok
-returns-in-Ok-clause-ok g c =
+pub returns-in-Ok : goal.returns-in-Ok
+returns-in-Ok g c =
     let old = c.args.connection.now in
     let inside = c.load_object_view.new.tx.conn.now in
     let new = c.commit.new.self.0 in
     let worked = rw c.transaction-tx.ensures.begun at c.in_ok-found.ensures in
-    let makes = tells g.S.Store old inside (λ s. c.in_ok-found.found ≡ option_map (object_view c.args.object) (finmap.get s.objects c.args.object)) worked.map worked.ours worked.same in
-    let known = λ (clean : HasCleanDisk (state g.S.Store new)).
-    stands_then g.S.Store old inside new (λ s. c.in_ok-found.found ≡ option_map (object_view c.args.object) (finmap.get s.objects c.args.object)) (λ s. s) makes (omega (arith, clean, c.commit.ensures.survives.clean)) (c.in-Ok.ensures.ok clean).1 in
-    search rules
-
-pub returns-in-Ok-clause-open : goal.returns-in-Ok-clause-open
-returns-in-Ok-clause-open g c =
-    let old = c.args.connection.now in
-    let inside = c.load_object_view.new.tx.conn.now in
-    let new = c.commit.new.self.0 in
-    let worked = rw c.transaction-tx.ensures.begun at c.in_ok-found.ensures in
-    let it = ended_by_commit g.S.Store old inside new worked.survives worked.kept (λ clean. let ok = c.in-Ok.ensures.ok clean in inl (ok.1, ok.2, ok.3)) c.commit.ensures.survives in
-    let known = was_open g.S.Store old inside new it in
-    let clean = clean_if_open (g.S.Store.view new.store) (g.met.S.Store.shut_if_dirty new.store) in
-    search rules
-
-pub returns-in-Ok-clause-stop : goal.returns-in-Ok-clause-stop
-returns-in-Ok-clause-stop g c =
-    let old = c.args.connection.now in
-    let inside = c.load_object_view.new.tx.conn.now in
-    let new = c.commit.new.self.0 in
-    let worked = rw c.transaction-tx.ensures.begun at c.in_ok-found.ensures in
-    let makes = tells g.S.Store old inside (λ s. c.in_ok-found.found ≡ option_map (object_view c.args.object) (finmap.get s.objects c.args.object)) worked.map worked.ours worked.same in
-    let it = ended_by_commit g.S.Store old inside new worked.survives worked.kept (λ clean. let ok = c.in-Ok.ensures.ok clean in inl (ok.1, ok.2, ok.3)) c.commit.ensures.survives in
     let same : new ≡ c.connection-2-1.given.0 = search rules in
-    subst (λ h. HasCleanDisk (state g.S.Store h) → (s : State) → StandsFor (state g.S.Store old) s
-    → Leaves (state g.S.Store h) (λ left. left ≡ s)) same
-    (λ clean s stands. leaves_one (state g.S.Store new) s (leaves_either g.S.Store old inside new (λ s. c.in_ok-found.found ≡ option_map (object_view c.args.object) (finmap.get s.objects c.args.object)) (λ s. s) makes it (λ s stands trees h. g.met.S.Store.settled old.store trees stands.stands.is_open h) clean s stands))
+    record {
+      transacts = committed g.S.Store old inside new _ _
+          (record { settled = λ is_open trees h. g.met.S.Store.settled old.store trees is_open h; shut = clean_if_open (g.S.Store.view new.store) (g.met.S.Store.shut_if_dirty new.store); kept = worked.kept; survives = worked.survives })
+          (tells g.S.Store old inside (λ t found. (s : State) → TablesStandFor t s → found ≡ option_map (object_view c.args.object) (finmap.get s.objects c.args.object)) c.in_ok-found.found (λ clean ours s means. worked.map clean refl ours s means.are means.sound) worked.same)
+          (λ clean. let ok = c.in-Ok.ensures.ok clean in (ok.1, ok.2, ok.3)) c.commit.ensures.survives _ same;
+    }
 
-pub returns-in-Err-clause-open : goal.returns-in-Err-clause-open
-returns-in-Err-clause-open g c =
+pub returns-in-Err : goal.returns-in-Err
+returns-in-Err g c =
     let old = c.args.connection.now in
     let inside = c.load_object_view.new.tx.conn.now in
     let new = c.commit.new.self.0 in
     let worked = rw c.transaction-tx.ensures.begun at c.in_ok-found.ensures in
-    let it = ended_by_commit g.S.Store old inside new worked.survives worked.kept (λ clean. inr (inl (c.in-Err.error, c.in-Err.ensures.err clean))) c.commit.ensures.survives in
-    let known = was_open g.S.Store old inside new it in
-    let clean = clean_if_open (g.S.Store.view new.store) (g.met.S.Store.shut_if_dirty new.store) in
-    search rules
-
-pub returns-in-Err-clause-stop : goal.returns-in-Err-clause-stop
-returns-in-Err-clause-stop g c =
-    let old = c.args.connection.now in
-    let inside = c.load_object_view.new.tx.conn.now in
-    let new = c.commit.new.self.0 in
-    let worked = rw c.transaction-tx.ensures.begun at c.in_ok-found.ensures in
-    let makes = tells g.S.Store old inside (λ s. c.in_ok-found.found ≡ option_map (object_view c.args.object) (finmap.get s.objects c.args.object)) worked.map worked.ours worked.same in
-    let it = ended_by_commit g.S.Store old inside new worked.survives worked.kept (λ clean. inr (inl (c.in-Err.error, c.in-Err.ensures.err clean))) c.commit.ensures.survives in
     let same : new ≡ c.connection-2-1.given.0 = search rules in
-    subst (λ h. HasCleanDisk (state g.S.Store h) → (s : State) → StandsFor (state g.S.Store old) s
-    → Leaves (state g.S.Store h) (λ left. left ≡ s)) same
-    (λ clean s stands. leaves_one (state g.S.Store new) s (leaves_either g.S.Store old inside new (λ s. c.in_ok-found.found ≡ option_map (object_view c.args.object) (finmap.get s.objects c.args.object)) (λ s. s) makes it (λ s stands trees h. g.met.S.Store.settled old.store trees stands.stands.is_open h) clean s stands))
-
-pub returns-in-Err-clause-err : goal.returns-in-Err-clause-err
-returns-in-Err-clause-err g c =
-    let old = c.args.connection.now in
-    let inside = c.load_object_view.new.tx.conn.now in
-    let new = c.commit.new.self.0 in
-    let worked = rw c.transaction-tx.ensures.begun at c.in_ok-found.ensures in
-    let it = ended_by_commit g.S.Store old inside new worked.survives worked.kept (λ clean. inr (inl (c.in-Err.error, c.in-Err.ensures.err clean))) c.commit.ensures.survives in
-    let clean = clean_if_open (g.S.Store.view new.store) (g.met.S.Store.shut_if_dirty new.store) in
-    let known = λ (is_open : IsTrue (state g.S.Store new).is_open).
-    given_back g.S.Store old inside new it (undone_by_commit (state g.S.Store inside) (state g.S.Store new) c.in-Err.error (worked.inside (omega (arith, clean is_open, c.commit.ensures.survives.clean)) refl) (c.in-Err.ensures.err (clean is_open))) (clean is_open) is_open in
-    search rules
+    record {
+      transacts = uncommitted g.S.Store old inside new _ c.in_ok-found.found _ c.in-Err.error
+          (record { settled = λ is_open trees h. g.met.S.Store.settled old.store trees is_open h; shut = clean_if_open (g.S.Store.view new.store) (g.met.S.Store.shut_if_dirty new.store); kept = worked.kept; survives = worked.survives })
+          (tells g.S.Store old inside (λ t found. (s : State) → TablesStandFor t s → found ≡ option_map (object_view c.args.object) (finmap.get s.objects c.args.object)) c.in_ok-found.found (λ clean ours s means. worked.map clean refl ours s means.are means.sound) worked.same)
+          (λ clean. worked.inside clean refl) (λ clean. c.in-Err.ensures.err clean) c.commit.ensures.survives _ same;
+    }

@@ -1,113 +1,46 @@
-use Rattle.std.proofs.Common.{rules, ◌≡◌, ◌⊎◌, inl, inr, refl, subst, arith, IsTrue}
-use Rattle.sqlite.specs.State.{HasCleanDisk}
-use Rattle.sqlite.specs.Held.{state}
+use Rattle.std.proofs.Common.{rules, ◌≡◌, refl}
 use Rattle.sqlite.proofs.StateLemmas.{clean_if_open}
-use Rattle.dep_types.specs.State.{State, tick}
-use Rattle.dep_store.specs.Standing.{StandsFor, Leaves}
-use Rattle.dep_store.proofs.Transacting.{ended_by_drop, ended_by_commit, was_open, given_back, undone_by_commit, leaves_or, stands_then, leaves_either}
+use Rattle.dep_store.proofs.Transacting.{gave_up, committed, uncommitted}
 use Rattle.dep_store.proofs.Carrying.{ticks}
 use Rattle.dep_store.proofs.ticking.move_clock.Goals as goal
 
-pub returns-in_err-clock-clause-open : goal.returns-in_err-clock-clause-open
-returns-in_err-clock-clause-open g c =
+pub returns-in_err-moved : goal.returns-in_err-moved
+returns-in_err-moved g c =
     let old = c.args.connection.now in
     let inside = c.tick.new.tx.conn.now in
     let new = c.drop-tx.new.self.0 in
-    let worked = rw c.transaction-tx.ensures.begun at c.in_err-clock.ensures in
-    let it = ended_by_drop g.S.Store old inside new worked.survives worked.kept c.drop-tx.ensures.undone c.drop-tx.ensures.survives in
-    let known = was_open g.S.Store old inside new it in
-    let clean = clean_if_open (g.S.Store.view new.store) (g.met.S.Store.shut_if_dirty new.store) in
-    search rules
-
-pub returns-in_err-clock-clause-err : goal.returns-in_err-clock-clause-err
-returns-in_err-clock-clause-err g c =
-    let old = c.args.connection.now in
-    let inside = c.tick.new.tx.conn.now in
-    let new = c.drop-tx.new.self.0 in
-    let worked = rw c.transaction-tx.ensures.begun at c.in_err-clock.ensures in
-    let it = ended_by_drop g.S.Store old inside new worked.survives worked.kept c.drop-tx.ensures.undone c.drop-tx.ensures.survives in
-    let clean = clean_if_open (g.S.Store.view new.store) (g.met.S.Store.shut_if_dirty new.store) in
-    let known = λ (is_open : IsTrue (state g.S.Store new).is_open). given_back g.S.Store old inside new it (c.drop-tx.ensures.undone (clean is_open)) (clean is_open) is_open in
-    search rules
-
-pub returns-in_err-clock-clause-stop : goal.returns-in_err-clock-clause-stop
-returns-in_err-clock-clause-stop g c =
-    let old = c.args.connection.now in
-    let inside = c.tick.new.tx.conn.now in
-    let new = c.drop-tx.new.self.0 in
-    let worked = rw c.transaction-tx.ensures.begun at c.in_err-clock.ensures in
+    let worked = rw c.transaction-tx.ensures.begun at c.in_err-moved.ensures in
     let same : new ≡ c.connection-1.given.0 = search rules in
-    subst (λ h. HasCleanDisk (state g.S.Store h) → (s : State) → StandsFor (state g.S.Store old) s
-    → Leaves (state g.S.Store h) (λ left. (left ≡ s) ⊎ (left ≡ tick c.args.config.now s c.args.moment))) same
-    (λ clean s. leaves_or g.S.Store old inside new (λ s stands trees h. g.met.S.Store.settled old.store trees stands.stands.is_open h) worked.survives c.drop-tx.ensures.survives clean s (tick c.args.config.now s c.args.moment))
+    record {
+      transacts = gave_up g.S.Store old inside new _ c.from_residual.result c.from_residual.ensures.0
+          (record { settled = λ is_open trees h. g.met.S.Store.settled old.store trees is_open h; shut = clean_if_open (g.S.Store.view new.store) (g.met.S.Store.shut_if_dirty new.store); kept = worked.kept; survives = worked.survives })
+          c.drop-tx.ensures.undone c.drop-tx.ensures.survives _ same;
+    }
 
-pub returns-in-Ok-clause-ok : goal.returns-in-Ok-clause-ok
-returns-in-Ok-clause-ok g c =
+pub returns-in-Ok : goal.returns-in-Ok
+returns-in-Ok g c =
     let old = c.args.connection.now in
     let inside = c.tick.new.tx.conn.now in
     let new = c.commit.new.self.0 in
-    let worked = rw c.transaction-tx.ensures.begun at c.in_ok-clock.ensures in
-    let makes = ticks g.S.Store old inside c.args.config.now c.args.moment c.in_ok-clock.clock worked.map worked.ours in
-    let known = λ (clean : HasCleanDisk (state g.S.Store new)).
-    stands_then g.S.Store old inside new _ (λ s. tick c.args.config.now s c.args.moment) makes (omega (arith, clean, c.commit.ensures.survives.clean)) (c.in-Ok.ensures.ok clean).1 in
-    search rules
-
-pub returns-in-Ok-clause-open : goal.returns-in-Ok-clause-open
-returns-in-Ok-clause-open g c =
-    let old = c.args.connection.now in
-    let inside = c.tick.new.tx.conn.now in
-    let new = c.commit.new.self.0 in
-    let worked = rw c.transaction-tx.ensures.begun at c.in_ok-clock.ensures in
-    let it = ended_by_commit g.S.Store old inside new worked.survives worked.kept (λ clean. let ok = c.in-Ok.ensures.ok clean in inl (ok.1, ok.2, ok.3)) c.commit.ensures.survives in
-    let known = was_open g.S.Store old inside new it in
-    let clean = clean_if_open (g.S.Store.view new.store) (g.met.S.Store.shut_if_dirty new.store) in
-    search rules
-
-pub returns-in-Ok-clause-stop : goal.returns-in-Ok-clause-stop
-returns-in-Ok-clause-stop g c =
-    let old = c.args.connection.now in
-    let inside = c.tick.new.tx.conn.now in
-    let new = c.commit.new.self.0 in
-    let worked = rw c.transaction-tx.ensures.begun at c.in_ok-clock.ensures in
-    let makes = ticks g.S.Store old inside c.args.config.now c.args.moment c.in_ok-clock.clock worked.map worked.ours in
-    let it = ended_by_commit g.S.Store old inside new worked.survives worked.kept (λ clean. let ok = c.in-Ok.ensures.ok clean in inl (ok.1, ok.2, ok.3)) c.commit.ensures.survives in
+    let worked = rw c.transaction-tx.ensures.begun at c.in_ok-moved.ensures in
     let same : new ≡ c.connection-2-1.given.0 = search rules in
-    subst (λ h. HasCleanDisk (state g.S.Store h) → (s : State) → StandsFor (state g.S.Store old) s
-    → Leaves (state g.S.Store h) (λ left. (left ≡ s) ⊎ (left ≡ tick c.args.config.now s c.args.moment))) same
-    (leaves_either g.S.Store old inside new _ (λ s. tick c.args.config.now s c.args.moment) makes it (λ s stands trees h. g.met.S.Store.settled old.store trees stands.stands.is_open h))
+    record {
+      transacts = committed g.S.Store old inside new _ _
+          (record { settled = λ is_open trees h. g.met.S.Store.settled old.store trees is_open h; shut = clean_if_open (g.S.Store.view new.store) (g.met.S.Store.shut_if_dirty new.store); kept = worked.kept; survives = worked.survives })
+          (ticks g.S.Store old inside c.args.config.now c.args.moment c.in_ok-moved.moved c.new-clock.result c.new-clock.ensures worked.map worked.ours)
+          (λ clean. let ok = c.in-Ok.ensures.ok clean in (ok.1, ok.2, ok.3)) c.commit.ensures.survives _ same;
+    }
 
-pub returns-in-Err-clause-open : goal.returns-in-Err-clause-open
-returns-in-Err-clause-open g c =
+pub returns-in-Err : goal.returns-in-Err
+returns-in-Err g c =
     let old = c.args.connection.now in
     let inside = c.tick.new.tx.conn.now in
     let new = c.commit.new.self.0 in
-    let worked = rw c.transaction-tx.ensures.begun at c.in_ok-clock.ensures in
-    let it = ended_by_commit g.S.Store old inside new worked.survives worked.kept (λ clean. inr (inl (c.in-Err.error, c.in-Err.ensures.err clean))) c.commit.ensures.survives in
-    let known = was_open g.S.Store old inside new it in
-    let clean = clean_if_open (g.S.Store.view new.store) (g.met.S.Store.shut_if_dirty new.store) in
-    search rules
-
-pub returns-in-Err-clause-stop : goal.returns-in-Err-clause-stop
-returns-in-Err-clause-stop g c =
-    let old = c.args.connection.now in
-    let inside = c.tick.new.tx.conn.now in
-    let new = c.commit.new.self.0 in
-    let worked = rw c.transaction-tx.ensures.begun at c.in_ok-clock.ensures in
-    let makes = ticks g.S.Store old inside c.args.config.now c.args.moment c.in_ok-clock.clock worked.map worked.ours in
-    let it = ended_by_commit g.S.Store old inside new worked.survives worked.kept (λ clean. inr (inl (c.in-Err.error, c.in-Err.ensures.err clean))) c.commit.ensures.survives in
+    let worked = rw c.transaction-tx.ensures.begun at c.in_ok-moved.ensures in
     let same : new ≡ c.connection-2-1.given.0 = search rules in
-    subst (λ h. HasCleanDisk (state g.S.Store h) → (s : State) → StandsFor (state g.S.Store old) s
-    → Leaves (state g.S.Store h) (λ left. (left ≡ s) ⊎ (left ≡ tick c.args.config.now s c.args.moment))) same
-    (leaves_either g.S.Store old inside new _ (λ s. tick c.args.config.now s c.args.moment) makes it (λ s stands trees h. g.met.S.Store.settled old.store trees stands.stands.is_open h))
-
-pub returns-in-Err-clause-err : goal.returns-in-Err-clause-err
-returns-in-Err-clause-err g c =
-    let old = c.args.connection.now in
-    let inside = c.tick.new.tx.conn.now in
-    let new = c.commit.new.self.0 in
-    let worked = rw c.transaction-tx.ensures.begun at c.in_ok-clock.ensures in
-    let it = ended_by_commit g.S.Store old inside new worked.survives worked.kept (λ clean. inr (inl (c.in-Err.error, c.in-Err.ensures.err clean))) c.commit.ensures.survives in
-    let clean = clean_if_open (g.S.Store.view new.store) (g.met.S.Store.shut_if_dirty new.store) in
-    let known = λ (is_open : IsTrue (state g.S.Store new).is_open).
-    given_back g.S.Store old inside new it (undone_by_commit (state g.S.Store inside) (state g.S.Store new) c.in-Err.error (worked.inside (omega (arith, clean is_open, c.commit.ensures.survives.clean)) refl) (c.in-Err.ensures.err (clean is_open))) (clean is_open) is_open in
-    search rules
+    record {
+      transacts = uncommitted g.S.Store old inside new _ c.new-clock.result _ c.in-Err.error
+          (record { settled = λ is_open trees h. g.met.S.Store.settled old.store trees is_open h; shut = clean_if_open (g.S.Store.view new.store) (g.met.S.Store.shut_if_dirty new.store); kept = worked.kept; survives = worked.survives })
+          (ticks g.S.Store old inside c.args.config.now c.args.moment c.in_ok-moved.moved c.new-clock.result c.new-clock.ensures worked.map worked.ours)
+          (λ clean. worked.inside clean refl) (λ clean. c.in-Err.ensures.err clean) c.commit.ensures.survives _ same;
+    }
