@@ -47,7 +47,7 @@ digest() {
 printf abc >"$folder/a.txt"
 head -c 65537 /dev/urandom >"$folder/large"
 head -c 65536 /dev/urandom >"$folder/segment"
-ask 201 --data-binary "@$folder/a.txt" -H 'Content-Type: text/plain' -H 'On-Behalf-Of: jane' \
+ask 201 --data-binary "@$folder/a.txt" -H 'Content-Type: text/plain' \
     -H 'Content-Disposition: attachment; filename=a.txt' "$base/service"
 ask 204 -X PUT --data-binary '{"dc:title":"Observations"}' -H 'Content-Type: application/json' \
     "$base/objects/1/metadata"
@@ -77,7 +77,7 @@ same 'SELECT id, next_object, next_file, next_upload, next_change FROM state' '1
 same 'SELECT object, ingested, object_tag, metadata_tag, files_tag FROM objects' '1|1|3|2|3'
 same 'SELECT * FROM metadata' '1|dc:title|0|Observations'
 same 'SELECT file, object, name, media, size, tag, behalf, by_reference, hex(sha256) FROM files ORDER BY file' \
-    "1|1|a.txt|text/plain|3|1|jane|0|$(digest "$folder/a.txt")
+    "1|1|a.txt|text/plain|3|1||0|$(digest "$folder/a.txt")
 2|1|large|image/png|65537|3||0|$(digest "$folder/large")"
 same 'SELECT upload, size, count, segment_size, sha256 FROM uploads' '1|100000|2|65536|'
 same 'SELECT * FROM segments' '1|1|65536'
