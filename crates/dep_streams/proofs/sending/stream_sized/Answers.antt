@@ -10,7 +10,7 @@ use Rattle.dep_streams.proofs.sending.stream_sized.Goals as goal
 
 pub returns-in-Err-clause-streams : goal.returns-in-Err-clause-streams
 returns-in-Err-clause-streams g c =
-    let some : 0 < c.args.size = search rules in
+    let some : 0 < c.args.size = c.requires in
     ([], Appends-nil _, λ clean plain. stops_sized _ _ _ _ [] _ c.block_fault_of.ensures some (record { given = []; begins = inl refl; sends = refl }))
 
 pub returns-in-Err-clause-err : goal.returns-in-Err-clause-err
@@ -80,12 +80,12 @@ returns-in-Err-give_sized-clause-streams g c =
     let row = c.in-Some.row.now in
     let first = state g.S.Store c.args.connection.now in
     let low : length c.rows.invariant.4 < c.args.size = omega (arith, c.rows.invariant.0, c.rows.invariant.5) in
-    let gave : GivesRow (g.O.Outlet.taken c.rows.out) (g.O.Outlet.taken c.give_sized.new.out) (blob_of row) (Err c.in-Err-give_sized.fault) = search rules in
+    let gave : GivesRow (g.O.Outlet.taken c.rows.out) (g.O.Outlet.taken c.give_sized.new.out) (blob_of row) (Err c.in-Err-give_sized.fault) = c.in-Err-give_sized.ensures.gives in
     cut_sized _ _ first _ _ _ _ c.rows.invariant.4 row _ _ c.in-Err-give_sized.fault c.rows.invariant.6 gave low (λ clean plain.
     let late : HasCleanDisk (state g.S.Store now) = search rules in
     let was = c.rows.invariant.7 (omega (arith, moved.survives.clean)) plain in
     let on = (rw (c.in-Ok-next.is, c.in-Some.is) at (moved.ok late)) c.args.sql.now (bound c.args.params.now) was.0 was.1 in
-    let same : IsUnchanged (state g.S.Store c.rows.rows.conn.now) (state g.S.Store now) = search rules in
+    let same : IsUnchanged (state g.S.Store c.rows.rows.conn.now) (state g.S.Store now) = rw c.in-Ok-next.is at (moved.same late) in
     let begun = begins_from c.args.sql.now (bound c.args.params.now) first (state g.S.Store c.rows.rows.conn.now) was.0 was.2 (given_begin g.S.Store _ _ c.rows.rows.conn.now was.0 was.1) in
     let more = begins_from c.args.sql.now (bound c.args.params.now) first (state g.S.Store now) (was.0 ++ row ∷ []) (unchanged_then first (state g.S.Store c.rows.rows.conn.now) (state g.S.Store now) was.2 same) (given_begin g.S.Store _ _ now (was.0 ++ row ∷ []) on) in
     (was.0, begun, more, was.3))
@@ -108,9 +108,9 @@ returns-then-left-eq0-clause-streams g c =
     let now = c.next.follows.lender-at-none.conn.now in
     let row = c.in-Some.row.now in
     let first = state g.S.Store c.args.connection.now in
-    let gave : GivesSized (g.O.Outlet.taken c.rows.out) (g.O.Outlet.taken c.give_sized.new.out) (blob_of row) (Ok c.in-Ok-give_sized.n) = search rules in
+    let gave : GivesSized (g.O.Outlet.taken c.rows.out) (g.O.Outlet.taken c.give_sized.new.out) (blob_of row) (Ok c.in-Ok-give_sized.n) = c.in-Ok-give_sized.ensures.gives in
     let none : c.rows.left - c.in-Ok-give_sized.n ≡ 0 = search rules in
-    let fits : c.in-Ok-give_sized.n ≤ c.rows.left = search rules in
+    let fits : c.in-Ok-give_sized.n ≤ c.rows.left = c.in-Ok-give_sized.ensures.fits in
     let whole : length (c.rows.invariant.4 ++ blob_of row) ≡ c.args.size = omega (arith, none, fits, gave.1, c.rows.invariant.5, length-append c.rows.invariant.4 (blob_of row)) in (
       c.rows.invariant.4 ++ blob_of row,
       Appends-trans _ _ _ _ _ c.rows.invariant.6 gave.0,
@@ -118,7 +118,7 @@ returns-then-left-eq0-clause-streams g c =
           let late : HasCleanDisk (state g.S.Store now) = search rules in
           let was = c.rows.invariant.7 (omega (arith, moved.survives.clean)) plain in
           let on = (rw (c.in-Ok-next.is, c.in-Some.is) at (moved.ok late)) c.args.sql.now (bound c.args.params.now) was.0 was.1 in
-          let same : IsUnchanged (state g.S.Store c.rows.rows.conn.now) (state g.S.Store now) = search rules in
+          let same : IsUnchanged (state g.S.Store c.rows.rows.conn.now) (state g.S.Store now) = rw c.in-Ok-next.is at (moved.same late) in
           let more = begins_from c.args.sql.now (bound c.args.params.now) first (state g.S.Store now) (was.0 ++ row ∷ []) (unchanged_then first (state g.S.Store c.rows.rows.conn.now) (state g.S.Store now) was.2 same) (given_begin g.S.Store _ _ now (was.0 ++ row ∷ []) on) in
           (record { given = was.0 ++ row ∷ []; begins = inr more; sends = ap (λ l. l ++ blob_of row) was.3 ∙ sym (joined_push was.0 row) }, whole),
     )
@@ -128,8 +128,8 @@ rows-preserved g c =
     let moved = c.next.follows.holds-at-none in
     let now = c.next.follows.lender-at-none.conn.now in
     let row = c.in-Some.row.now in
-    let gave : GivesSized (g.O.Outlet.taken c.rows.out) (g.O.Outlet.taken c.give_sized.new.out) (blob_of row) (Ok c.in-Ok-give_sized.n) = search rules in
-    let fits : c.in-Ok-give_sized.n ≤ c.rows.left = search rules in (
+    let gave : GivesSized (g.O.Outlet.taken c.rows.out) (g.O.Outlet.taken c.give_sized.new.out) (blob_of row) (Ok c.in-Ok-give_sized.n) = c.in-Ok-give_sized.ensures.gives in
+    let fits : c.in-Ok-give_sized.n ≤ c.rows.left = c.in-Ok-give_sized.ensures.fits in (
       search rules,
       search rules,
       (λ plain. let before = c.rows.invariant.2 plain in search rules),
@@ -140,7 +140,7 @@ rows-preserved g c =
       λ late plain.
           let was = c.rows.invariant.7 (omega (arith, moved.survives.clean)) plain in
           let on = (rw (c.in-Ok-next.is, c.in-Some.is) at (moved.ok late)) c.args.sql.now (bound c.args.params.now) was.0 was.1 in
-          let same : IsUnchanged (state g.S.Store c.rows.rows.conn.now) (state g.S.Store now) = search rules in (
+          let same : IsUnchanged (state g.S.Store c.rows.rows.conn.now) (state g.S.Store now) = rw c.in-Ok-next.is at (moved.same late) in (
             was.0 ++ row ∷ [],
             on,
             unchanged_then (state g.S.Store c.args.connection.now) (state g.S.Store c.rows.rows.conn.now) (state g.S.Store now) was.2 same,
@@ -165,7 +165,7 @@ returns-in_default-clause-err g c clean plain =
     let now = c.next.follows.lender-at-none.conn.now in
     let late : HasCleanDisk (state g.S.Store now) = search rules in
     let was = c.rows.invariant.7 (omega (arith, moved.survives.clean)) plain in
-    let same : IsUnchanged (state g.S.Store c.rows.rows.conn.now) (state g.S.Store now) = search rules in
+    let same : IsUnchanged (state g.S.Store c.rows.rows.conn.now) (state g.S.Store now) = rw c.in-Ok-next.is at (moved.same late) in
     let whole = unchanged_then (state g.S.Store c.args.connection.now) (state g.S.Store c.rows.rows.conn.now) (state g.S.Store now) was.2 same in
     search rules
 
@@ -175,7 +175,7 @@ returns-in-Err-give_sized-clause-err g c clean plain =
     let now = c.next.follows.lender-at-none.conn.now in
     let late : HasCleanDisk (state g.S.Store now) = search rules in
     let was = c.rows.invariant.7 (omega (arith, moved.survives.clean)) plain in
-    let same : IsUnchanged (state g.S.Store c.rows.rows.conn.now) (state g.S.Store now) = search rules in
+    let same : IsUnchanged (state g.S.Store c.rows.rows.conn.now) (state g.S.Store now) = rw c.in-Ok-next.is at (moved.same late) in
     let whole = unchanged_then (state g.S.Store c.args.connection.now) (state g.S.Store c.rows.rows.conn.now) (state g.S.Store now) was.2 same in
     search rules
 
@@ -192,6 +192,6 @@ returns-then-left-eq0-clause-ok g c clean plain =
     let now = c.next.follows.lender-at-none.conn.now in
     let late : HasCleanDisk (state g.S.Store now) = search rules in
     let was = c.rows.invariant.7 (omega (arith, moved.survives.clean)) plain in
-    let same : IsUnchanged (state g.S.Store c.rows.rows.conn.now) (state g.S.Store now) = search rules in
+    let same : IsUnchanged (state g.S.Store c.rows.rows.conn.now) (state g.S.Store now) = rw c.in-Ok-next.is at (moved.same late) in
     let whole = unchanged_then (state g.S.Store c.args.connection.now) (state g.S.Store c.rows.rows.conn.now) (state g.S.Store now) was.2 same in
     search rules
