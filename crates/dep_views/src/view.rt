@@ -6,14 +6,83 @@ ghost use Rattle.dep_types.specs.Sound.{IsSound};
 ghost use Rattle.dep_rulings.specs.Views.{seen_at};
 ghost use Rattle.dep_tables.specs.Clauses.{ReadsOnly, FailsReading, GoesOn, StaysInside, CommitsNothing};
 ghost use Rattle.dep_row_maps.specs.Clauses.{FromMaps, KeepsOurs};
+ghost use Rattle.dep_views.specs.Seen.{object_seen, all_seen};
 
 use crate::touched::{find_touched_file, find_touched_object, find_touched_path};
 use crate::uploads::load_uploads;
 use dep_objects::counters;
-use dep_rulings::{Touched, View};
-use dep_types::StoreFault;
+use dep_rulings::{Touched, UploadViews, View};
+use dep_tables::StateRow;
+use dep_types::{FileRow, ObjectRow, StoreFault};
 use sqlite::{Alter, Transaction};
 use std::alloc::Global;
+
+// The clock and the counters, and what is told of the object.
+#[derive(Clone, Copy)]
+struct ObjectSeen {
+    row: StateRow,
+    object: Option<ObjectRow>,
+    has_path: bool,
+}
+
+fn load_object_seen<S: Alter>(
+    tx: &mut Transaction<'_, S>,
+    alloc: Global,
+    touched: &Touched,
+) -> Result<ObjectSeen, StoreFault>
+    ensures map { FromMaps (state S.Store tx.old.conn.now) (state S.Store tx.new.conn.now)
+        (λ s. IfOk result (λ seen. seen ≡ object_seen s touched.now)) }
+    ensures same { ReadsOnly (state S.Store tx.old.conn.now) (state S.Store tx.new.conn.now) result }
+    ensures ours { KeepsOurs (state S.Store tx.old.conn.now) (state S.Store tx.new.conn.now) result }
+    ensures err { FailsReading (state S.Store tx.old.conn.now) (state S.Store tx.new.conn.now) result }
+    ensures inside { GoesOn (state S.Store tx.old.conn.now) (state S.Store tx.new.conn.now) result }
+    ensures kept { StaysInside (state S.Store tx.old.conn.now) (state S.Store tx.new.conn.now) }
+    ensures same_reference { tx.new.conn.ghost_name ≡ tx.old.conn.ghost_name }
+    ensures survives { CommitsNothing (state S.Store tx.old.conn.now) (state S.Store tx.new.conn.now) }
+{
+    let row = counters(tx)?;
+    let object = find_touched_object(tx, touched)?;
+    let has_path = find_touched_path(tx, alloc, touched, object.as_ref())?;
+    Ok(ObjectSeen {
+        row,
+        object,
+        has_path,
+    })
+}
+
+// What is there at all numbers that are touched.
+#[derive(Drop)]
+struct AllSeen {
+    object: ObjectSeen,
+    file: Option<FileRow>,
+    uploads: UploadViews,
+}
+
+fn load_all_seen<S: Alter>(
+    tx: &mut Transaction<'_, S>,
+    alloc: Global,
+    touched: &Touched,
+) -> Result<AllSeen, StoreFault>
+    ensures map { FromMaps (state S.Store tx.old.conn.now) (state S.Store tx.new.conn.now)
+        (λ s. IsSound s → IfOk result (λ seen. seen ≡ all_seen s touched.now)) }
+    ensures same { ReadsOnly (state S.Store tx.old.conn.now) (state S.Store tx.new.conn.now) result }
+    ensures ours { KeepsOurs (state S.Store tx.old.conn.now) (state S.Store tx.new.conn.now) result }
+    ensures err { FailsReading (state S.Store tx.old.conn.now) (state S.Store tx.new.conn.now) result }
+    ensures inside { GoesOn (state S.Store tx.old.conn.now) (state S.Store tx.new.conn.now) result }
+    ensures kept { StaysInside (state S.Store tx.old.conn.now) (state S.Store tx.new.conn.now) }
+    ensures same_reference { tx.new.conn.ghost_name ≡ tx.old.conn.ghost_name }
+    ensures survives { CommitsNothing (state S.Store tx.old.conn.now) (state S.Store tx.new.conn.now) }
+{
+    let object = load_object_seen(tx, alloc, touched)?;
+    let by_reference = touched.references.is_some();
+    let uploads = load_uploads(tx, alloc, by_reference, touched.uploads.as_slice())?;
+    let file = find_touched_file(tx, touched)?;
+    Ok(AllSeen {
+        object,
+        file,
+        uploads,
+    })
+}
 
 /// What is there at the numbers that a request touches. An upload's bytes are read, one block at a time,
 /// only where references name it and none of its segments is missing, and once however often it is
@@ -33,19 +102,14 @@ pub fn load_view<S: Alter>(
     ensures same_reference { tx.new.conn.ghost_name ≡ tx.old.conn.ghost_name }
     ensures survives { CommitsNothing (state S.Store tx.old.conn.now) (state S.Store tx.new.conn.now) }
 {
-    let row = counters(tx)?;
-    let object = find_touched_object(tx, &touched)?;
-    let file = find_touched_file(tx, &touched)?;
-    let has_path = find_touched_path(tx, alloc, &touched, object.as_ref())?;
-    let by_reference = touched.references.is_some();
-    let uploads = load_uploads(tx, alloc, by_reference, touched.uploads.as_slice())?;
+    let seen = load_all_seen(tx, alloc, &touched)?;
     Ok(View {
-        clock: row.clock,
-        next: row.next,
-        object,
-        file,
-        has_path,
-        uploads,
+        clock: seen.object.row.clock,
+        next: seen.object.row.next,
+        object: seen.object.object,
+        file: seen.file,
+        has_path: seen.object.has_path,
+        uploads: seen.uploads,
         references: touched.references,
     })
 }
