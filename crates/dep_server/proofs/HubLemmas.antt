@@ -25,8 +25,7 @@ use Rattle.dep_server.specs.declared.arrived.Arrived.{Arrived}
 use Rattle.dep_server.specs.declared.arrived.Arrived.TheVariants.{Open as StaysOpen, Closed, Cut, NoSuch}
 use Rattle.dep_server.specs.declared.connections.Connection.{Connection}
 use Rattle.dep_server.specs.declared.hub.Hub.{Hub}
-use Rattle.dep_store.proofs.Transacting.{leaves_wider}
-use Rattle.dep_server.proofs.Leaving.{Settles, stays_as}
+use Rattle.dep_server.proofs.Leaving.{Settles, stays_as, leaves_wider}
 use Rattle.dep_server.proofs.ConnectionLemmas.{index_some, intake_set, intake_push}
 
 kept_if : (limit : ℕ) (b : Bool) (line line' : Line) (o o' : Option Reading) → IsKeptAs limit line o → IsKeptAs limit line' o'

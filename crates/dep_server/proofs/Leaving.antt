@@ -16,3 +16,7 @@ is_open stands = stands.stands.is_open
 -- a store that stands for a state leaves that state
 pub stays_as : (d : db.State) (s : State) → Settles d → StandsFor d s → Leaves d (λ found. found ≡ s)
 stays_as d s settles stands = leaves_as_was d s (settles (is_open stands)) stands
+
+-- what leaves some states leaves more
+pub leaves_wider : (d : db.State) (P Q : State → Type 0) → ((s : State) → P s → Q s) → Leaves d P → Leaves d Q
+leaves_wider d P Q f leaves trees h = let l = leaves trees h in (l.0, l.1, f l.0 l.2)

@@ -4,7 +4,7 @@ use Rattle.sqlite.specs.State as db
 use Rattle.dep_types.specs.State.{State}
 use Rattle.dep_types.specs.declared.config.Config.{Config}
 use Rattle.dep_store.specs.Opening.{OpenLeaves}
-use Rattle.dep_store.proofs.Transacting.{leaves_wider}
+use Rattle.dep_server.proofs.Leaving.{leaves_wider}
 use Rattle.dep_server.specs.Opening.{OpeningLeaves}
 use Rattle.dep_server.specs.Records.{Run, stops, stopped, first_world}
 

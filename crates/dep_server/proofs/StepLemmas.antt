@@ -20,7 +20,7 @@ use Rattle.dep_answers.specs.declared.performed.Performed.{Performed}
 use Rattle.dep_store.specs.Standing.{StandsFor, Leaves}
 use Rattle.dep_store.specs.Performing.{Performs}
 use Rattle.dep_server.specs.Machine.{operation_of, routed_step}
-use Rattle.dep_store.proofs.Transacting.{leaves_wider}
+use Rattle.dep_server.proofs.Leaving.{leaves_wider}
 
 -- a refusal at a clock
 pub refusal_ready : (s : State) (d : Delivery) (p : Performed) (r : Refusal) (allow : Option (List ℕ)) (b c : Bool)

@@ -15,8 +15,7 @@ use Rattle.dep_server.specs.Standing.{StandsAt, StandsAfter, IsClean, IsHonest, 
 use Rattle.dep_server.specs.declared.hub.Hub.{Hub}
 use Rattle.dep_server.specs.declared.arrived.Arrived.{Arrived}
 use Rattle.dep_server.specs.declared.arrived.Arrived.TheVariants.{Open as StaysOpen, Closed as HasClosed, Cut}
-use Rattle.dep_store.proofs.Transacting.{leaves_wider}
-use Rattle.dep_server.proofs.Leaving.{Settles, stays_as}
+use Rattle.dep_server.proofs.Leaving.{Settles, stays_as, leaves_wider}
 use Rattle.dep_server.proofs.SendingLemmas.{appends_none, appends_both}
 use Rattle.dep_server.proofs.HubLemmas.{keeps_same}
 use Rattle.dep_server.specs.Turns.{Turn, pieces_of, replies_of, record_of, records_of, EndsAs, last_answer, IsPiece, ArePieces, most_reads, with_opened, with_closed, Exchanges, none_yet, one_more, LeftByExchanges, IsEndedBy}

@@ -6,8 +6,7 @@ use Rattle.dep_message.specs.Stream.{Fault}
 use Rattle.dep_answers.specs.declared.performed.Delivery.{Delivery}
 use Rattle.dep_server.specs.Machine.{step}
 use Rattle.dep_server.specs.Sending.{outside}
-use Rattle.dep_store.proofs.Transacting.{leaves_wider}
-use Rattle.dep_server.proofs.Leaving.{stays_as}
+use Rattle.dep_server.proofs.Leaving.{stays_as, leaves_wider}
 use Rattle.dep_server.proofs.StepLemmas.{refusal_ready}
 use Rattle.dep_server.proofs.ServingLemmas.{answers_fixed, answers_from, made_from}
 use Rattle.dep_server.proofs.step.answer_fault.Goals as goal

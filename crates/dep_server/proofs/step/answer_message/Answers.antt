@@ -5,7 +5,7 @@ use Rattle.dep_message.specs.Stream.{Request}
 use Rattle.dep_message.specs.declared.message.Message.{Message}
 use Rattle.dep_server.specs.Machine.{step}
 use Rattle.dep_server.specs.Sending.{outside}
-use Rattle.dep_store.proofs.Transacting.{leaves_wider}
+use Rattle.dep_server.proofs.Leaving.{leaves_wider}
 use Rattle.dep_server.proofs.ServingLemmas.{answers_fixed, answers_from, made_from}
 use Rattle.dep_server.proofs.step.answer_message.Goals as goal
 
