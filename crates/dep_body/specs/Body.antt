@@ -90,7 +90,8 @@ pub data IsUnitFault (limit taken : ℕ) (rest : List ℕ) : FrameFault → (hel
   large_chunk : (line : List ℕ) (size : ℕ) → rest ≡ line_text line → IsSizeLine line size
       → limit < taken + size → IsUnitFault limit taken rest TooLarge []
   bad_end : (line bytes two : List ℕ) → rest ≡ line_text line ++ (bytes ++ two)
-      → IsSizeLine line (length bytes) → 0 < length bytes → taken + length bytes ≤ limit → length two ≡ 2 → ¬ (two ≡ crlf)
+      → IsSizeLine line (length bytes) → 0 < length bytes → taken + length bytes ≤ limit
+      → length two ≡ 2 → ¬ (two ≡ crlf)
       → IsUnitFault limit taken rest Bad bytes
   long_trailers : (line section : List ℕ) → rest ≡ line_text line ++ section → IsSizeLine line 0
       → IsBegunSection section → length section ≡ section_limit → IsUnitFault limit taken rest Bad []
@@ -103,7 +104,8 @@ pub data IsUnitFault (limit taken : ℕ) (rest : List ℕ) : FrameFault → (hel
 pub data IsBegunUnit (limit taken : ℕ) (rest : List ℕ) : (held : List ℕ) → Type 0 where
   begun_line : line_end rest ≡ None → length rest < line_limit → IsBegunUnit limit taken rest []
   begun_chunk : (line come : List ℕ) (size : ℕ) → rest ≡ line_text line ++ come
-      → IsSizeLine line size → 0 < size → taken + size ≤ limit → length come < size + 2 → IsBegunUnit limit taken rest (take size come)
+      → IsSizeLine line size → 0 < size → taken + size ≤ limit → length come < size + 2
+      → IsBegunUnit limit taken rest (take size come)
   begun_trailers : (line section : List ℕ) → rest ≡ line_text line ++ section → IsSizeLine line 0
       → IsBegunSection section → length section < section_limit → IsBegunUnit limit taken rest []
 

@@ -30,12 +30,14 @@ octets_of n text = option_or (octets_of_hex n text) (octets_of_base64 n text)
 
 -- what stands before the first `=` of a member, and after it
 abbrev pub name_and_value : List ℕ → Option (List ℕ × List ℕ)
-name_and_value member = option_map (λ i. (take i member, drop (i + 1) member)) (position (λ b. b == 61) member)
+name_and_value member =
+    option_map (λ i. (take i member, drop (i + 1) member)) (position (λ b. b == 61) member)
 
 -- the value of a member with this name, in any letter case
 abbrev pub value_under : List ℕ → List ℕ → Option (List ℕ)
 value_under name member =
-    option_and_then (λ cut. if str_eq_ignore_ascii_case cut.0 name then Some cut.1 else None) (name_and_value member)
+    option_and_then (λ cut. if str_eq_ignore_ascii_case cut.0 name then Some cut.1 else None)
+    (name_and_value member)
 
 -- whether the value spells just this digest
 abbrev pub is_just : List ℕ → Option (List ℕ) → Bool
@@ -56,7 +58,8 @@ spelled_under n name list = map (octets_of n) (filter_map (value_under name) lis
 abbrev pub promise_of : List (List ℕ) → Option DigestList
 promise_of list =
     if list_all (λ member. is_some (name_and_value member)) list
-    then option_map (λ digest. record { sha256 = digest }) (one_digest (spelled_under 32 (codes "SHA-256") list))
+    then option_map (λ digest. record { sha256 = digest })
+    (one_digest (spelled_under 32 (codes "SHA-256") list))
     else None
 
 -- what the value of a Digest field promises, if it can be read

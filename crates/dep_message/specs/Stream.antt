@@ -76,7 +76,8 @@ IsItemText limit continued text Continue = IsContinueText limit continued text
 IsItemText limit continued text (Request m) = IsRequestText limit continued text m
 
 -- the item that stands first, and where the reading stands behind it
-pub record First (limit : ℕ) (continued : Bool) (bytes : List ℕ) (item : Item) (next : Place) : Type 0 where
+pub record First (limit : ℕ) (continued : Bool) (bytes : List ℕ) (item : Item) (next : Place)
+    : Type 0 where
   pub text : List ℕ
   pub behind : List ℕ
   pub whole : bytes ≡ text ++ behind

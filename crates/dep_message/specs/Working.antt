@@ -71,7 +71,10 @@ IsWorking work = IsKnown work.limit work.continued work.buffer work.progress
 -- where the reading stands
 abbrev pub reading_of : (is_shut : Bool) → Work → Reading
 reading_of is_shut work =
-    record { limit = work.limit; place = if is_shut then Shut else Open work.continued (kept_bytes work) }
+    record {
+      limit = work.limit;
+      place = if is_shut then Shut else Open work.continued (kept_bytes work);
+    }
 
 -- just these bytes are kept
 pub record Keeps (limit : ℕ) (continued : Bool) (bytes : List ℕ) (work : Work) : Type 0 where

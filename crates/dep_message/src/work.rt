@@ -102,7 +102,8 @@ impl Work {
     fn begin(&mut self, first: FramedHead) -> Result<Found, AllocError>
         requires fresh { IsFresh self.old }
         requires within { first.length ≤ length self.old.buffer }
-        requires begun { HasBegun self.old (take first.length self.old.buffer) first.head first.framing }
+        requires begun { HasBegun self.old (take first.length self.old.buffer) first.head
+            first.framing }
         ensures { FindsNext self.old self.old.buffer self.new result }
     {
         match first.framing {
@@ -125,7 +126,8 @@ impl Work {
     ) -> Result<Found, AllocError>
         requires fresh { IsFresh self.old }
         requires within { head_length ≤ length self.old.buffer }
-        requires begun { HasBegun self.old (take head_length self.old.buffer) head (Framing.Length size) }
+        requires begun { HasBegun self.old (take head_length self.old.buffer) head
+            (Framing.Length size) }
         ensures { FindsNext self.old self.old.buffer self.new result }
     {
         let behind = &self.buffer.as_slice()[head_length..];
@@ -149,7 +151,8 @@ impl Work {
     // Reads on where the bytes are a head, and those behind it stand apart.
     fn read_sized(&mut self, mut request: SizedRequest) -> Result<Found, AllocError>
         requires fresh { IsFresh self.old }
-        requires begun { HasBegun self.old self.old.buffer request.head (Framing.Length request.length) }
+        requires begun { HasBegun self.old self.old.buffer request.head
+            (Framing.Length request.length) }
         ensures { FindsNext self.old (self.old.buffer ++ request.behind.items) self.new result }
     {
         if request.behind.len() < request.length {
