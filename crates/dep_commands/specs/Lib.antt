@@ -1,0 +1,4 @@
+pub mod Outcomes
+pub mod Exports
+pub mod Audits
+pub mod Telling

@@ -1,0 +1,14 @@
+//! What the commands `export` and `audit` do over a store: the bag of an object is given to a sink, and the files of all
+//! objects are checked. And what a run of the program comes to.
+#![tactic(auto)]
+
+mod audit_fault;
+mod auditing;
+mod exporting;
+mod lines;
+mod outcome;
+mod tally;
+
+pub use auditing::audit_all;
+pub use exporting::export_object;
+pub use outcome::Outcome;
