@@ -1,3 +1,4 @@
+pub mod Outcomes
 pub mod Setup
 pub mod Commands
 pub mod Replays

@@ -2,21 +2,18 @@
 #![tactic(auto)]
 
 mod command;
-mod folder;
 pub mod laws;
-mod progress;
+mod outcome;
 mod replay;
 mod serve;
 mod service;
 mod setup;
-mod store_file;
 
 use crate::command::Command;
+pub use crate::outcome::Outcome;
 pub use crate::replay::replay;
 pub use crate::serve::serve_on;
-use crate::service::Door;
-use crate::store_file::{Job, work_on};
-pub use dep_commands::{Outcome, audit_all, export_object};
+use crate::service::{Door, serve};
 use dep_moment::Moment;
 use dep_types::Through;
 use std::process::ExitCode;
@@ -38,17 +35,9 @@ fn run(rt: &HostRuntime) -> Outcome {
         None => Outcome::Usage,
         Some(Command::Replay { moment, base }) => replay_here(rt, moment, base),
         Some(Command::Serve { port, file, count }) => match u16::try_from(port) {
-            Ok(port) => work_on(rt, file, Job::Serve(Door { port, count })),
+            Ok(port) => serve(rt, Door { port, count }, file),
             Err(_) => Outcome::Usage,
         },
-        Some(
-            Command::Export {
-                file,
-                object,
-                folder,
-            },
-        ) => work_on(rt, file, Job::Export { object, folder }),
-        Some(Command::Audit { file }) => work_on(rt, file, Job::Audit),
     }
 }
 
