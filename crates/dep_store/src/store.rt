@@ -23,10 +23,9 @@ ghost use Rattle.dep_store.specs.Opening.{OpenLeaves};
 
 use crate::auditing::audit_object;
 use crate::opening::open_tables;
+use crate::performing::perform_request;
 use crate::reading::{find_next, view_object};
-use crate::remembering::Remembered;
-use crate::showing::serve;
-use crate::ticking::advance;
+use crate::ticking::move_clock;
 use dep_answers::{Performed, Service};
 use dep_audit::Audit;
 use dep_decisions::Operation;
@@ -43,20 +42,16 @@ use std::marker::Model;
 pub struct Store<S: Alter> {
     alloc: Global,
     connection: Connection<S>,
-    remembered: Option<Remembered>,
 }
 
 impl<S: Alter> Model for Store<S> {
-    ghost use Rattle.sqlite.specs.Held.{Held, held_code, state};
-    ghost use Rattle.dep_store.specs.Remembering.{IsRecalled};
+    ghost use Rattle.sqlite.specs.Held.{Held, held_code};
 
     ghost Value = { Held S };
 
     ghost coded = { held_code S.code };
 
     ghost view = { λ s. s.connection };
-
-    ghost invariant = { λ s. IsRecalled (state S.Store s.connection) s.remembered };
 }
 
 impl<S: Alter> Store<S> {
@@ -93,11 +88,7 @@ impl<S: Alter> Store<S> {
             (λ e. OpenLeaves (state S.Store connection) (state S.Store e.1)) }
     {
         match open_tables(connection) {
-            Ok(connection) => Ok(Store {
-                alloc,
-                connection,
-                remembered: None,
-            }),
+            Ok(connection) => Ok(Store { alloc, connection }),
             Err(refused) => Err(refused),
         }
     }
@@ -120,12 +111,7 @@ impl<S: Alter> Store<S> {
         if !self.connection.is_autocommit() {
             return Err(StoreFault::Store);
         }
-        advance(
-            &mut self.connection,
-            &mut self.remembered,
-            config,
-            moment.secs(),
-        )
+        move_clock(&mut self.connection, config, moment.secs())
     }
 
     /// Does what a request asks for, once the clock has gone on, in one transaction. The reply is made
@@ -151,13 +137,7 @@ impl<S: Alter> Store<S> {
         if !self.connection.is_autocommit() {
             return Err(StoreFault::Store);
         }
-        serve(
-            &mut self.connection,
-            &mut self.remembered,
-            self.alloc,
-            service,
-            operation,
-        )
+        perform_request(&mut self.connection, self.alloc, service, operation)
     }
 
     /// Sends the content of the file of this number, one block at a time.
@@ -181,7 +161,6 @@ impl<S: Alter> Store<S> {
         if !self.connection.is_autocommit() {
             return Err(StreamFault::Store);
         }
-        self.remembered = None;
         stream_content(&mut self.connection, file, out)
     }
 
@@ -205,7 +184,6 @@ impl<S: Alter> Store<S> {
         if !self.connection.is_autocommit() {
             return Err(StoreFault::Store);
         }
-        self.remembered = None;
         view_object(&mut self.connection, self.alloc, object)
     }
 
@@ -234,7 +212,6 @@ impl<S: Alter> Store<S> {
         if !self.connection.is_autocommit() {
             return Err(StoreFault::Store);
         }
-        self.remembered = None;
         find_next(&mut self.connection, after)
     }
 
@@ -255,7 +232,6 @@ impl<S: Alter> Store<S> {
         if !self.connection.is_autocommit() {
             return Err(StoreFault::Store);
         }
-        self.remembered = None;
         audit_object(&mut self.connection, self.alloc, object)
     }
 
