@@ -30,7 +30,7 @@ none_at_0 s sound = either (map.get s.uploads 0) refl
     either (Some u) e = absurd (omega (arith, (sound.uploads 0 u e).number_given.least))
 
 -- a clock of a sound state is shown whole
-shown_whole : (clock told shown : ℕ) → shown ≡ min clock greatest_moment → clock ≡ told → told ≤ greatest_moment → shown ≡ told
+pub shown_whole : (clock told shown : ℕ) → shown ≡ min clock greatest_moment → clock ≡ told → told ≤ greatest_moment → shown ≡ told
 shown_whole clock told shown is same least = omega arith
 
 -- a tick inside a transaction keeps the state sound

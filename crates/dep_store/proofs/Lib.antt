@@ -3,3 +3,4 @@ pub mod Carrying
 pub mod Opened
 pub mod Stepping
 pub mod Audited
+pub mod Remembered

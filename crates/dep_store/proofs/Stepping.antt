@@ -63,32 +63,32 @@ delivered s op clock d sound same at bare closes =
     λ i. record { clock = told i; is_bare = bare i; closes = closes i }
 
 -- a request that is refused leaves the state
-pub refused_then : (config : Config) (s : State) (op : Operation) (now : db.State) (r : Refusal) (d : Delivery) (result : Result Performed StoreFault)
-    → refusal config s op ≡ Some r → d ≡ delivery_for s op → SeesState now s
+pub refused_then : (config : Config) (s : State) (op : Operation) (P : State → Type 0) (r : Refusal) (d : Delivery) (result : Result Performed StoreFault)
+    → refusal config s op ≡ Some r → d ≡ delivery_for s op → P s
     → IfOk result (λ p. (s : State) → IsReply s (refused_answer d.clock r None) d p)
-    → IfOk result (λ p. IsReady (operation_step config s op) p × SeesState now (operation_step config s op).state)
+    → IfOk result (λ p. IsReady (operation_step config s op) p × P (operation_step config s op).state)
 unfolding operation_step
-refused_then config s op now r d (Ok p) refused same sees told =
+refused_then config s op P r d (Ok p) refused same sees told =
     let ready : IsReady (refused_step s r None (is_head op.target.method) op.closes) p =
     subst (λ (way : Delivery). IsReady (answered_step s (refused_answer way.clock r None) way.clock way.is_bare way.closes) p) same (told s) in
-    subst (λ (found : Option Refusal). IsReady (step_by config s op found) p × SeesState now (step_by config s op found).state) (sym refused) (ready, sees)
-refused_then config s op now r d (Err e) refused same sees told = tt
+    subst (λ (found : Option Refusal). IsReady (step_by config s op found) p × P (step_by config s op found).state) (sym refused) (ready, sees)
+refused_then config s op P r d (Err e) refused same sees told = tt
 
 -- one that is accepted is answered at the state that its effect leaves
-pub accepted_then : (config : Config) (s : State) (op : Operation) (now : db.State) (d : Delivery) (shown : Shown) (result : Result Performed StoreFault)
+pub accepted_then : (config : Config) (s : State) (op : Operation) (P : State → Type 0) (d : Delivery) (shown : Shown) (result : Result Performed StoreFault)
     → AreFit op.fields → IsSound s → refusal config s op ≡ None → d ≡ delivery_for s op
-    → SeesState now (effect config s op) × (shown ≡ shown_at (effect config s op) (subject_of (effect config s op).next op.target.resource op.target.method))
+    → P (effect config s op) × (shown ≡ shown_at (effect config s op) (subject_of (effect config s op).next op.target.resource op.target.method))
     → IfOk result (λ p. (s : State) → IsSound s → shown ≡ shown_at s (subject_of s.next op.target.resource op.target.method)
     → IsReply s (answer_to config s op.target.resource op.target.method) d p)
-    → IfOk result (λ p. IsReady (operation_step config s op) p × SeesState now (operation_step config s op).state)
+    → IfOk result (λ p. IsReady (operation_step config s op) p × P (operation_step config s op).state)
 unfolding operation_step accepted_answer
-accepted_then config s op now d shown (Ok p) fit sound accepted same carried told =
+accepted_then config s op P d shown (Ok p) fit sound accepted same carried told =
     let after = effect config s op in
     let ready : IsReady (accepted_step config s op after) p =
     subst (λ (way : Delivery). IsReady (answered_step after (answer_to config after op.target.resource op.target.method) way.clock way.is_bare way.closes) p) same
     (told after (effect_sound config s op fit accepted sound) carried.1) in
-    subst (λ (found : Option Refusal). IsReady (step_by config s op found) p × SeesState now (step_by config s op found).state) (sym accepted) (ready, carried.0)
-accepted_then config s op now d shown (Err e) fit sound accepted same carried told = tt
+    subst (λ (found : Option Refusal). IsReady (step_by config s op found) p × P (step_by config s op found).state) (sym accepted) (ready, carried.0)
+accepted_then config s op P d shown (Err e) fit sound accepted same carried told = tt
 
 -- the counters that an accepted request leaves
 pub next_after : (config : Config) (s : State) (op : Operation) (view : View) (d : Decision) (next : Counters)

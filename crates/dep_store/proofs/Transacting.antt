@@ -1,7 +1,8 @@
 -- One transaction from its beginning to its end, over whatever tables the store has.
-use Rattle.std.proofs.Common.{◌≡◌, ◌⊎◌, inl, inr, true, false, Result, Ok, Err, IfOk, OnOk, OnErr, IsErr, IsTrue, refl, sym, ap, subst, ◌∙◌, arith}
+use Rattle.std.proofs.Common.{◌≡◌, ◌⊎◌, ℕ, List, inl, inr, true, false, Result, Ok, Err, IfOk, OnOk, OnErr, IsErr, IsTrue, refl, sym, ap, subst, ◌∙◌, arith}
 use Rattle.sqlite.specs.Effect.{Database}
-use Rattle.sqlite.specs.State.{HasCleanDisk, IsRolledBack, Commits, Shows, Survives}
+use Rattle.sqlite.specs.Order.{Row}
+use Rattle.sqlite.specs.State.{IsNotRun, IsUnchanged, HasCleanDisk, IsRolledBack, Commits, Shows, Survives}
 use Rattle.sqlite.specs.State as db
 use Rattle.sqlite.specs.Held.{Held, state}
 use Rattle.sqlite.specs.Steps.{FailsToCommit}
@@ -14,7 +15,7 @@ use Rattle.dep_tables.specs.Clauses.{CommitsNothing, StaysInside}
 use Rattle.dep_schema.specs.Standing.{Holds, Stands, EndsTransaction}
 use Rattle.dep_schema.proofs.Transactions.{begins_open, stands_left}
 use Rattle.dep_store.specs.Standing.{TablesStandFor, StandsFor, Leaves}
-use Rattle.dep_store.specs.Transactions.{Transacts, OnlyTells, OverStates}
+use Rattle.dep_store.specs.Transactions.{Transacts, OnlyTells, OverStates, IsBackAt}
 
 -- what a crash leaves while nothing is left to be settled
 abbrev pub IsSettled : db.State → Type 0
@@ -101,6 +102,24 @@ module _ {S : Type 0} (g : Ghosts S) (old inside new : Held S) where
     crash = λ clean trees h. elim (survives.crash clean trees h) [ inl earlier ↦ inl earlier | inr none ↦ absurd none ];
   }
 
+  -- it is as it was, where it was given back
+  pub back_by_rollback : Works → (HasCleanDisk (state g new) → IsRolledBack (state g inside) (state g new)) → Survives (state g inside) (state g new) (λ _. ⊥)
+      → (IsTrue (state g old).is_open → (state g old).now ≡ (state g old).committed) → (last : Held S) → new ≡ last → IsBackAt (state g old) (state g last)
+  back_by_rollback it undone survives between last same = subst (λ (h : Held S). IsBackAt (state g old) (state g h)) same (λ is_open.
+      let clean = it.shut is_open in
+      let ended = undone clean in
+      let back = ended.undone is_open in
+      let kept = it.kept (clean_inside (λ _. ⊥) survives clean) refl in
+      let was = kept.was_open (ended.was_open is_open) in
+      let committed = kept.committed (ended.was_open is_open) in
+      (was, back.0 ∙ committed ∙ sym (between was), back.1 ∙ committed, ended.autocommit))
+
+  -- so it began over an open store
+  pub began_open : Works → (HasCleanDisk (state g new) → Commits (state g inside) (state g new)) → Survives (state g inside) (state g new) (λ trees. trees ≡ (state g inside).now.trees)
+      → (last : Held S) → new ≡ last → HasCleanDisk (state g last) → IsTrue (state g old).is_open
+  began_open it commits survives last same = subst (λ (h : Held S). HasCleanDisk (state g h) → IsTrue (state g old).is_open) same
+      (λ clean. was_open it survives (λ clean. inl (commits clean)) (commits clean).0.is_open)
+
   module _ {A : Type 0} (Makes : Tables → A → Tables → Type 0) where
     -- the work failed, and the transaction was dropped
     pub gave_up : {E : Type 0} (result : Result A E) → IsErr result → Works → (HasCleanDisk (state g new) → IsRolledBack (state g inside) (state g new)) → Survives (state g inside) (state g new) (λ _. ⊥)
@@ -109,7 +128,6 @@ module _ {S : Type 0} (g : Ghosts S) (old inside new : Held S) where
     gave_up (Err fault) failed it undone survives last same = subst (λ (h : Held S). Transacts (state g old) (state g h) (Err fault) Makes) same (record {
       ok = λ clean t stands. tt;
       err = back_at (λ _. ⊥) it survives undone;
-      opened = λ clean. tt;
       honest = was_honest (λ _. ⊥) it survives;
       was_open = was_open it (wider (λ trees. trees ≡ (state g inside).now.trees) survives) (λ clean. inr (inr (undone clean)));
       stop = λ clean t stands trees h. elim (survives.crash clean trees h) [
@@ -147,7 +165,6 @@ module _ {S : Type 0} (g : Ghosts S) (old inside new : Held S) where
               now.1,
             );
         err = λ is_open t stands. tt;
-        opened = λ clean. was_open it survives (λ clean. inl (commits clean)) (commits clean).0.is_open;
         honest = was_honest (λ trees. trees ≡ (state g inside).now.trees) it survives;
         was_open = was_open it survives (λ clean. inl (commits clean));
         stop = left_after it made survives;
@@ -169,7 +186,6 @@ module _ {S : Type 0} (g : Ghosts S) (old inside new : Held S) where
       uncommitted fault error it made goes_on fails survives last same = subst (λ (h : Held S). Transacts (state g old) (state g h) (Err fault) Makes) same (record {
         ok = λ clean t stands. tt;
         err = back_at (λ trees. trees ≡ (state g inside).now.trees) it survives undone;
-        opened = λ clean. tt;
         honest = was_honest (λ trees. trees ≡ (state g inside).now.trees) it survives;
         was_open = was_open it survives (λ clean. inr (inl (error, fails clean)));
         stop = left_after it made survives;
@@ -177,6 +193,10 @@ module _ {S : Type 0} (g : Ghosts S) (old inside new : Held S) where
         where
           undone : HasCleanDisk (state g new) → IsRolledBack (state g inside) (state g new)
           undone clean = undone_by_commit (state g inside) (state g new) error (goes_on (clean_inside (λ trees. trees ≡ (state g inside).now.trees) survives clean)) (fails clean)
+
+pub nothing_told : {A E : Type 0} (result : Result A E) (P : Type 0) → IsErr result → OnOk result P
+nothing_told (Ok answer) P failed = cc failed
+nothing_told (Err e) P failed = tt
 
 -- ---- what it says of states
 
@@ -215,6 +235,81 @@ module _ {A E : Type 0} (old new : db.State) (result : Result A E) (Makes : Tabl
       inr refl,
     )
   ]
+
+-- ---- where nothing was done
+
+-- the connection is as it was
+pub unmoved : {A E : Type 0} (d : db.State) (result : Result A E) (Makes : Tables → A → Tables → Type 0) → (IsTrue d.is_open → IsSettled d)
+    → ((t : Tables) → Stands d t → IfOk result (λ answer. Makes t answer t)) → Transacts d d result Makes
+unmoved {A} {E} d result Makes settled made = record {
+  ok = λ clean t stands. each result t stands (made t stands);
+  err = λ is_open t stands. kept result t stands;
+  honest = λ clean. clean;
+  was_open = λ is_open. is_open;
+  stop = λ clean t stands trees h. inl (left_as_was d t (settled stands.is_open) stands trees h);
+}
+  where
+    each : (r : Result A E) (t : Tables) → Stands d t → IfOk r (λ answer. Makes t answer t) → IfOk r (λ answer. (after : Tables) × Stands d after × Makes t answer after)
+    each (Ok answer) t stands it = (t, stands, it)
+    each (Err e) t stands it = tt
+
+    kept : (r : Result A E) (t : Tables) → Stands d t → OnErr r (Stands d t)
+    kept (Ok answer) t stands = tt
+    kept (Err e) t stands = stands
+
+-- all was given back before it
+pub after_back : {A E : Type 0} (old mid new : db.State) (result : Result A E) (Makes : Tables → A → Tables → Type 0) → (IsTrue old.is_open → IsSettled old)
+    → (IsTrue mid.is_open → HasCleanDisk mid) → IsBackAt old mid → Survives old mid (λ _. ⊥) → (HasCleanDisk mid → IsTrue mid.is_open)
+    → Transacts mid new result Makes → Transacts old new result Makes
+after_back old mid new result Makes settled shut back survives opened it = record {
+  ok = λ clean t stands. it.ok clean t (stands_mid (opened (it.honest clean)) t stands);
+  err = λ is_open t stands. it.err is_open t (stands_mid (it.was_open is_open) t stands);
+  honest = λ clean. let before = it.honest clean in omega (arith, before, survives.clean);
+  was_open = λ is_open. (back (it.was_open is_open)).0;
+  stop = λ clean t stands trees h. it.stop clean t (stands_mid (opened (it.honest clean)) t stands) trees h;
+}
+  where
+    stands_mid : IsTrue mid.is_open → (t : Tables) → Stands old t → Stands mid t
+    stands_mid is_open t stands =
+        let it = back is_open in
+        stands_left old mid t stands is_open it.3 (it.1 ∙ stands.committed) it.2
+
+-- what it stands for now, it stood for then
+pub stood_before : (old new : db.State) → IsBackAt old new → old.in_transaction ≡ false → (s : State) → StandsFor new s → StandsFor old s
+stood_before old new back settled s stands =
+    let it = back stands.stands.is_open in
+    record {
+      tables = stands.tables;
+      stands = record {
+        is_open = it.0;
+        settled = settled;
+        committed = sym it.1 ∙ stands.stands.committed ∙ it.2;
+        ours = subst HasOurTables it.1 stands.stands.ours;
+        rows = ap (λ (d : Database). tables_in d.trees) (sym it.1) ∙ stands.stands.rows;
+      };
+      means = stands.means;
+    }
+
+pub back_then : (old mid new : db.State) → IsBackAt old mid → IsBackAt mid new → IsBackAt old new
+back_then old mid new one two is_open =
+    let later = two is_open in
+    let first = one later.0 in
+    (first.0, later.1 ∙ first.1, later.2 ∙ first.2, later.3)
+
+-- nothing was done, or it was given back
+pub back_by_statement : (old new : db.State) → (IsTrue old.is_open → old.now ≡ old.committed) → old.in_transaction ≡ false
+    → IsUnchanged old new ⊎ IsRolledBack old new → IsBackAt old new
+back_by_statement old new between settled (inl still) is_open =
+    (still.0.was_open, still.0.now_is, still.0.committed_is, still.0.mode ∙ settled)
+back_by_statement old new between settled (inr undone) is_open =
+    let was = undone.was_open is_open in
+    let back = undone.undone is_open in
+    (was, back.0 ∙ sym (between was), back.1, undone.autocommit)
+
+pub not_run : (old new : db.State) (sql : List ℕ) (params : Row) (e : Error) → IsNotRun old new sql params e → IsUnchanged old new ⊎ IsRolledBack old new
+unfolding IsNotRun
+not_run old new sql params e (inl none) = inl none.1
+not_run old new sql params e (inr fails) = inr fails.3
 
 -- ---- what it says where it only tells
 

@@ -1,5 +1,5 @@
 -- What a call that is one transaction makes of whatever tables the store has.
-use Rattle.std.specs.Prelude.{◌≡◌, ◌⊎◌, IsTrue, Result, IfOk, OnOk, OnErr}
+use Rattle.std.specs.Prelude.{◌≡◌, ◌⊎◌, false, IsTrue, Result, IfOk, OnErr}
 use Rattle.sqlite.specs.State as db
 use Rattle.sqlite.specs.State.{HasCleanDisk}
 use Rattle.sqlite.specs.Tree.{Trees}
@@ -24,9 +24,13 @@ pub record Transacts {A E : Type 0} (old new : db.State) (result : Result A E)
   pub ok : HasCleanDisk new → (t : Tables) → Stands old t
       → IfOk result (λ answer. (after : Tables) × Stands new after × Makes t answer after)
   pub err : IsTrue new.is_open → (t : Tables) → Stands old t → OnErr result (Stands new t)
-  pub opened : HasCleanDisk new → OnOk result (IsTrue old.is_open)
   pub honest : HasCleanDisk new → HasCleanDisk old
   pub was_open : IsTrue new.is_open → IsTrue old.is_open
   pub stop : HasCleanDisk new → (t : Tables) → Stands old t → (trees : Trees) → new.may_leave trees
       → Holds trees t
       ⊎ ((answer : A) × (after : Tables) × Holds trees after × Makes t answer after)
+
+-- while it is open, all is as it was, between transactions
+abbrev pub IsBackAt : (old new : db.State) → Type 0
+IsBackAt old new = IsTrue new.is_open
+    → IsTrue old.is_open × (new.now ≡ old.now) × (new.committed ≡ old.committed) × (new.in_transaction ≡ false)

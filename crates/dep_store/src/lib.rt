@@ -6,6 +6,8 @@ mod auditing;
 mod opening;
 mod performing;
 mod reading;
+mod remembering;
+mod showing;
 mod source;
 mod store;
 mod ticking;

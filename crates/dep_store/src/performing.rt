@@ -67,7 +67,7 @@ fn rule<S: Alter>(
     }
 }
 
-fn delivery_at(clock: u64, operation: &Operation<'_>) -> Delivery
+pub(crate) fn delivery_at(clock: u64, operation: &Operation<'_>) -> Delivery
     ensures clock { result.clock ≡ min clock greatest_moment }
     ensures bare { result.is_bare ≡ is_head operation.now.target.method }
     ensures closes { result.closes ≡ operation.now.closes }
@@ -79,7 +79,11 @@ fn delivery_at(clock: u64, operation: &Operation<'_>) -> Delivery
     }
 }
 
-fn refuse(alloc: Global, refusal: Refusal, delivery: Delivery) -> Result<Performed, StoreFault>
+pub(crate) fn refuse(
+    alloc: Global,
+    refusal: Refusal,
+    delivery: Delivery,
+) -> Result<Performed, StoreFault>
     ensures { IfOk result (λ p. (s : State) →
         IsReply s (refused_answer delivery.clock refusal None) delivery p) }
 {
@@ -89,7 +93,7 @@ fn refuse(alloc: Global, refusal: Refusal, delivery: Delivery) -> Result<Perform
     }
 }
 
-fn accept(
+pub(crate) fn accept(
     alloc: Global,
     service: &Service,
     operation: &Operation<'_>,

@@ -1,6 +1,7 @@
 //! What is read of the archive, in a transaction of its own.
 
-ghost use Rattle.std.specs.Prelude.{◌≡◌, false, option_map};
+ghost use Rattle.std.specs.Prelude.{◌≡◌, false, IsTrue, OnOk, option_map};
+ghost use Rattle.sqlite.specs.State.{HasCleanDisk};
 ghost use Rattle.std.specs.FinMap as finmap;
 ghost use Rattle.sqlite.specs.Held.{state};
 ghost use Rattle.dep_types.specs.State.{State};
@@ -42,6 +43,8 @@ pub(crate) fn find_next<S: Alter>(
     requires settled { (state S.Store connection.old).in_transaction ≡ false }
     ensures transacts { Transacts (state S.Store connection.old) (state S.Store connection.new) result
         (OnlyTells (IsObjectAfter after)) }
+    ensures opened { HasCleanDisk (state S.Store connection.new)
+        → OnOk result (IsTrue (state S.Store connection.old).is_open) }
 {
     let mut tx = connection.transaction();
     let found = next_object(&mut tx, after)?;
@@ -60,6 +63,8 @@ pub(crate) fn list_files<S: Alter>(
     requires settled { (state S.Store connection.old).in_transaction ≡ false }
     ensures transacts { Transacts (state S.Store connection.old) (state S.Store connection.new) result
         (OnlyTells (λ t found. AreFileRowsOf object t found.items)) }
+    ensures opened { HasCleanDisk (state S.Store connection.new)
+        → OnOk result (IsTrue (state S.Store connection.old).is_open) }
 {
     let mut tx = connection.transaction();
     let found = files_of(&mut tx, alloc, object)?;

@@ -23,9 +23,10 @@ ghost use Rattle.dep_store.specs.Opening.{OpenLeaves};
 
 use crate::auditing::audit_object;
 use crate::opening::open_tables;
-use crate::performing::perform_request;
 use crate::reading::{find_next, view_object};
-use crate::ticking::move_clock;
+use crate::remembering::Remembered;
+use crate::showing::serve;
+use crate::ticking::advance;
 use dep_answers::{Performed, Service};
 use dep_audit::Audit;
 use dep_decisions::Operation;
@@ -42,16 +43,20 @@ use std::marker::Model;
 pub struct Store<S: Alter> {
     alloc: Global,
     connection: Connection<S>,
+    remembered: Option<Remembered>,
 }
 
 impl<S: Alter> Model for Store<S> {
-    ghost use Rattle.sqlite.specs.Held.{Held, held_code};
+    ghost use Rattle.sqlite.specs.Held.{Held, held_code, state};
+    ghost use Rattle.dep_store.specs.Remembering.{IsRecalled};
 
     ghost Value = { Held S };
 
     ghost coded = { held_code S.code };
 
     ghost view = { λ s. s.connection };
+
+    ghost invariant = { λ s. IsRecalled (state S.Store s.connection) s.remembered };
 }
 
 impl<S: Alter> Store<S> {
@@ -88,7 +93,11 @@ impl<S: Alter> Store<S> {
             (λ e. OpenLeaves (state S.Store connection) (state S.Store e.1)) }
     {
         match open_tables(connection) {
-            Ok(connection) => Ok(Store { alloc, connection }),
+            Ok(connection) => Ok(Store {
+                alloc,
+                connection,
+                remembered: None,
+            }),
             Err(refused) => Err(refused),
         }
     }
@@ -111,7 +120,12 @@ impl<S: Alter> Store<S> {
         if !self.connection.is_autocommit() {
             return Err(StoreFault::Store);
         }
-        move_clock(&mut self.connection, config, moment.secs())
+        advance(
+            &mut self.connection,
+            &mut self.remembered,
+            config,
+            moment.secs(),
+        )
     }
 
     /// Does what a request asks for, once the clock has gone on, in one transaction. The reply is made
@@ -137,7 +151,13 @@ impl<S: Alter> Store<S> {
         if !self.connection.is_autocommit() {
             return Err(StoreFault::Store);
         }
-        perform_request(&mut self.connection, self.alloc, service, operation)
+        serve(
+            &mut self.connection,
+            &mut self.remembered,
+            self.alloc,
+            service,
+            operation,
+        )
     }
 
     /// Sends the content of the file of this number, one block at a time.
@@ -161,6 +181,7 @@ impl<S: Alter> Store<S> {
         if !self.connection.is_autocommit() {
             return Err(StreamFault::Store);
         }
+        self.remembered = None;
         stream_content(&mut self.connection, file, out)
     }
 
@@ -184,6 +205,7 @@ impl<S: Alter> Store<S> {
         if !self.connection.is_autocommit() {
             return Err(StoreFault::Store);
         }
+        self.remembered = None;
         view_object(&mut self.connection, self.alloc, object)
     }
 
@@ -212,6 +234,7 @@ impl<S: Alter> Store<S> {
         if !self.connection.is_autocommit() {
             return Err(StoreFault::Store);
         }
+        self.remembered = None;
         find_next(&mut self.connection, after)
     }
 
@@ -232,6 +255,7 @@ impl<S: Alter> Store<S> {
         if !self.connection.is_autocommit() {
             return Err(StoreFault::Store);
         }
+        self.remembered = None;
         audit_object(&mut self.connection, self.alloc, object)
     }
 

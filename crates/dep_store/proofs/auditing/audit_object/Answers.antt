@@ -36,7 +36,7 @@ pub returns-clause-open : goal.returns-clause-open
 returns-clause-open g c is_open =
     let store = c.audit_files.new.connection.store in
     let clean = clean_if_open (g.S.Store.view store) (g.met.S.Store.shut_if_dirty store) is_open in
-    c.in_ok-files.ensures.transacts.opened (c.audit_files.ensures.clean clean)
+    c.in_ok-files.ensures.opened (c.audit_files.ensures.clean clean)
 
 pub returns-clause-stop : goal.returns-clause-stop
 returns-clause-stop g c clean t stands =

@@ -5,6 +5,7 @@ use Rattle.sqlite.proofs.StateLemmas.{survives_then}
 use Rattle.dep_rulings.specs.Rulings.{IsRuling}
 use Rattle.dep_rulings.specs.declared.ruling.Ruling.{Ruling}
 use Rattle.dep_rulings.specs.declared.view.View.{View}
+use Rattle.dep_row_maps.specs.Clauses.{SeesState}
 use Rattle.dep_store.proofs.Stepping.{sees_still, delivered, refused_then, accepted_then}
 use Rattle.dep_store.proofs.performing.answer.Goals as goal
 
@@ -17,7 +18,7 @@ returns-in-Refuse-clause-map g c clean within ours s are sound fit =
     let rules = rw c.config.ensures at (c.in_ok-ruled.ensures.map clean within ours s are sound) in
     let way = delivered s op c.in_ok-ruled.ruled.view.clock c.delivery_at-delivery.result sound (ap (λ (v : View). v.clock) rules.view)
     c.delivery_at-delivery.ensures.clock c.delivery_at-delivery.ensures.bare c.delivery_at-delivery.ensures.closes in
-    refused_then config s op mid _ c.delivery_at-delivery.result c.refuse.result (subst (λ (r : Ruling). IsRuling config s op r) c.in-Refuse.is rules.ruling) way
+    refused_then config s op (SeesState mid) _ c.delivery_at-delivery.result c.refuse.result (subst (λ (r : Ruling). IsRuling config s op r) c.in-Refuse.is rules.ruling) way
     (sees_still old mid s (c.in_ok-ruled.ensures.same clean ours).0.now_is are) c.refuse.ensures
 
 pub returns-clause-map : goal.returns-clause-map
@@ -34,7 +35,7 @@ returns-clause-map g c clean within ours s are sound fit =
     let ruling = subst (λ (r : Ruling). IsRuling config s op r) c.in-Do.is rules.ruling in
     let carried = c.in_ok-shown-in-Do.ensures.map clean (c.in_ok-ruled.ensures.inside before within) (c.in_ok-ruled.ensures.ours before within ours) s
     (sees_still old mid s (c.in_ok-ruled.ensures.same before ours).0.now_is are) config sound fit rules.view ruling in
-    accepted_then config s op new c.delivery_at-delivery.result _ c.accept.result fit sound ruling.0 way carried c.accept.ensures
+    accepted_then config s op (SeesState new) c.delivery_at-delivery.result _ c.accept.result fit sound ruling.0 way carried c.accept.ensures
 
 pub returns-clause-survives : goal.returns-clause-survives
 returns-clause-survives g c =

@@ -1,7 +1,7 @@
 use Rattle.std.proofs.Common.{rules, ◌≡◌, refl}
 use Rattle.sqlite.proofs.StateLemmas.{clean_if_open}
 use Rattle.dep_tables.specs.Edits.{IsObjectAfter}
-use Rattle.dep_store.proofs.Transacting.{gave_up, committed, uncommitted}
+use Rattle.dep_store.proofs.Transacting.{gave_up, committed, uncommitted, began_open, nothing_told}
 use Rattle.dep_store.proofs.Carrying.{tells}
 use Rattle.dep_store.proofs.reading.find_next.Goals as goal
 
@@ -16,6 +16,7 @@ returns-in_err-found g c =
       transacts = gave_up g.S.Store old inside new _ c.from_residual.result c.from_residual.ensures.0
           (record { settled = λ is_open trees h. g.met.S.Store.settled old.store trees is_open h; shut = clean_if_open (g.S.Store.view new.store) (g.met.S.Store.shut_if_dirty new.store); kept = worked.kept; survives = worked.survives })
           c.drop-tx.ensures.undone c.drop-tx.ensures.survives _ same;
+      opened = λ clean. nothing_told c.from_residual.result _ c.from_residual.ensures.0;
     }
 
 pub returns-in-Ok : goal.returns-in-Ok
@@ -29,6 +30,9 @@ returns-in-Ok g c =
       transacts = committed g.S.Store old inside new _ _
           (record { settled = λ is_open trees h. g.met.S.Store.settled old.store trees is_open h; shut = clean_if_open (g.S.Store.view new.store) (g.met.S.Store.shut_if_dirty new.store); kept = worked.kept; survives = worked.survives })
           (tells g.S.Store old inside (IsObjectAfter c.args.after) c.in_ok-found.found worked.ok worked.same)
+          (λ clean. let ok = c.in-Ok.ensures.ok clean in (ok.1, ok.2, ok.3)) c.commit.ensures.survives _ same;
+      opened = began_open g.S.Store old inside new
+          (record { settled = λ is_open trees h. g.met.S.Store.settled old.store trees is_open h; shut = clean_if_open (g.S.Store.view new.store) (g.met.S.Store.shut_if_dirty new.store); kept = worked.kept; survives = worked.survives })
           (λ clean. let ok = c.in-Ok.ensures.ok clean in (ok.1, ok.2, ok.3)) c.commit.ensures.survives _ same;
     }
 
@@ -44,4 +48,5 @@ returns-in-Err g c =
           (record { settled = λ is_open trees h. g.met.S.Store.settled old.store trees is_open h; shut = clean_if_open (g.S.Store.view new.store) (g.met.S.Store.shut_if_dirty new.store); kept = worked.kept; survives = worked.survives })
           (tells g.S.Store old inside (IsObjectAfter c.args.after) c.in_ok-found.found worked.ok worked.same)
           (λ clean. worked.inside clean refl) (λ clean. c.in-Err.ensures.err clean) c.commit.ensures.survives _ same;
+      opened = λ clean. tt;
     }

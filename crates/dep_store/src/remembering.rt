@@ -1,0 +1,181 @@
+//! What a store remembers of the archive, so that a request for the service document asks no tables.
+
+ghost use Rattle.std.specs.Prelude.{◌≡◌, ◌-◌, ◌≤◌, ℕ, nat_lt, None, Some, false, IsTrue, IfOk, OnOk, ◌↔◌};
+ghost use Rattle.std.specs.Option.{option_map_or};
+ghost use Rattle.std.specs.FinMap as finmap;
+ghost use Rattle.sqlite.specs.State.{HasCleanDisk, Survives};
+ghost use Rattle.sqlite.specs.Held.{state};
+ghost use Rattle.dep_types.specs.State.{State};
+ghost use Rattle.dep_types.specs.Sound.{IsSound};
+ghost use Rattle.dep_tables.specs.Clauses.{ReadsOnly, GoesOn, StaysInside, CommitsNothing};
+ghost use Rattle.dep_row_maps.specs.Clauses.{FromMaps};
+ghost use Rattle.dep_store.specs.Remembering.{Recalls, IsRecalled, is_left};
+ghost use Rattle.dep_store.specs.Transactions.{IsBackAt};
+
+use dep_objects::counters;
+use dep_tables::{fault_of, find_upload, next_upload};
+use dep_types::{Config, Counters, StoreFault, UploadRow};
+use sqlite::{Alter, Connection, Transaction};
+
+/// The clock and the counters, at which no upload is idle.
+#[derive(Clone, Copy)]
+pub(crate) struct Remembered {
+    pub(crate) clock: u64,
+    pub(crate) next: Counters,
+    /// The greatest idle time that was looked at.
+    pub(crate) max_idle: u64,
+}
+
+impl Remembered {
+    /// Whether a tick at this moment changes nothing.
+    pub(crate) fn covers(&self, config: &Config, moment: u64) -> bool
+        ensures { IsTrue result
+            ↔ ((moment ≤ self.now.clock) × (config.now.staging_max_idle ≡ self.now.max_idle)) }
+    {
+        moment <= self.clock && config.staging_max_idle == self.max_idle
+    }
+}
+
+fn was_left(max_idle: u64, clock: u64, found: &Option<UploadRow>) -> bool
+    ensures { result
+        ≡ option_map_or (λ row. nat_lt max_idle (clock - row.last)) found.now false }
+{
+    match found {
+        Some(row) => max_idle < clock.saturating_sub(row.last),
+        None => false,
+    }
+}
+
+/// Whether the upload is there and was left alone for longer than this.
+fn is_idle<S: Alter>(
+    tx: &mut Transaction<'_, S>,
+    max_idle: u64,
+    clock: u64,
+    upload: u64,
+) -> Result<bool, StoreFault>
+    ensures map { FromMaps (state S.Store tx.old.conn.now) (state S.Store tx.new.conn.now)
+        (λ s. IfOk result (λ idle. idle ≡ is_left max_idle clock s.uploads upload)) }
+    ensures same { ReadsOnly (state S.Store tx.old.conn.now) (state S.Store tx.new.conn.now) result }
+    ensures inside { GoesOn (state S.Store tx.old.conn.now) (state S.Store tx.new.conn.now) result }
+    ensures kept { StaysInside (state S.Store tx.old.conn.now) (state S.Store tx.new.conn.now) }
+    ensures same_reference { tx.new.conn.ghost_name ≡ tx.old.conn.ghost_name }
+    ensures survives { CommitsNothing (state S.Store tx.old.conn.now) (state S.Store tx.new.conn.now) }
+{
+    let found = find_upload(tx, upload)?;
+    Ok(was_left(max_idle, clock, &found))
+}
+
+/// Whether some upload was left alone for longer than this.
+fn has_idle<S: Alter>(
+    tx: &mut Transaction<'_, S>,
+    max_idle: u64,
+    clock: u64,
+) -> Result<bool, StoreFault>
+    ensures map { FromMaps (state S.Store tx.old.conn.now) (state S.Store tx.new.conn.now)
+        (λ s. finmap.get s.uploads 0 ≡ None
+        → IfOk result (λ idle. idle ≡ false
+        → (u : ℕ) → is_left max_idle clock s.uploads u ≡ false)) }
+    ensures inside { GoesOn (state S.Store tx.old.conn.now) (state S.Store tx.new.conn.now) result }
+    ensures kept { StaysInside (state S.Store tx.old.conn.now) (state S.Store tx.new.conn.now) }
+    ensures same_reference { tx.new.conn.ghost_name ≡ tx.old.conn.ghost_name }
+    ensures survives { CommitsNothing (state S.Store tx.old.conn.now) (state S.Store tx.new.conn.now) }
+{
+    let mut last = 0;
+    'uploads: for _ in 0..u64::MAX {
+        let Some(upload) = next_upload(tx, last)? else {
+            return Ok(false);
+        };
+        if is_idle(tx, max_idle, clock, upload)? {
+            return Ok(true);
+        }
+        last = upload;
+    }
+    Err(StoreFault::Store)
+}
+
+/// What may be remembered, where a tick at this moment changes nothing.
+fn read_still<S: Alter>(
+    tx: &mut Transaction<'_, S>,
+    config: &Config,
+    moment: u64,
+) -> Result<Option<Remembered>, StoreFault>
+    ensures map { FromMaps (state S.Store tx.old.conn.now) (state S.Store tx.new.conn.now)
+        (λ s. IsSound s → IfOk result (λ found. (m : Remembered) → found ≡ Some m → Recalls m s)) }
+    ensures covers { IfOk result (λ found. (m : Remembered) → found ≡ Some m
+        → (moment ≤ m.clock) × (m.max_idle ≡ config.now.staging_max_idle)) }
+    ensures kept { StaysInside (state S.Store tx.old.conn.now) (state S.Store tx.new.conn.now) }
+    ensures same_reference { tx.new.conn.ghost_name ≡ tx.old.conn.ghost_name }
+    ensures survives { CommitsNothing (state S.Store tx.old.conn.now) (state S.Store tx.new.conn.now) }
+{
+    let row = counters(tx)?;
+    if row.clock < moment {
+        return Ok(None);
+    }
+    let idle = has_idle(tx, config.staging_max_idle, row.clock)?;
+    if idle {
+        return Ok(None);
+    }
+    Ok(Some(Remembered {
+        clock: row.clock,
+        next: row.next,
+        max_idle: config.staging_max_idle,
+    }))
+}
+
+/// Reads what may be remembered, in a transaction that is given back.
+fn look_back<S: Alter>(
+    connection: &mut Connection<S>,
+    config: &Config,
+    moment: u64,
+) -> Result<Option<Remembered>, StoreFault>
+    requires settled { (state S.Store connection.old).in_transaction ≡ false }
+    ensures recalls { IfOk result (IsRecalled (state S.Store connection.new)) }
+    ensures covers { IfOk result (λ found. (m : Remembered) → found ≡ Some m
+        → (moment ≤ m.clock) × (m.max_idle ≡ config.now.staging_max_idle)) }
+    ensures back { IsBackAt (state S.Store connection.old) (state S.Store connection.new) }
+    ensures mode { (state S.Store connection.new).in_transaction ≡ false }
+    ensures survives { Survives (state S.Store connection.old) (state S.Store connection.new) (λ _. ⊥) }
+{
+    let _between = connection.is_autocommit();
+    let mut tx = connection.transaction();
+    let found = read_still(&mut tx, config, moment)?;
+    tx.rollback();
+    Ok(found)
+}
+
+/// Prepares a statement, which fails where the store was shut.
+fn check_open<S: Alter>(connection: &mut Connection<S>) -> Result<(), StoreFault>
+    requires settled { (state S.Store connection.old).in_transaction ≡ false }
+    ensures opened { HasCleanDisk (state S.Store connection.new)
+        → OnOk result (IsTrue (state S.Store connection.new).is_open) }
+    ensures back { IsBackAt (state S.Store connection.old) (state S.Store connection.new) }
+    ensures mode { (state S.Store connection.new).in_transaction ≡ false }
+    ensures survives { Survives (state S.Store connection.old) (state S.Store connection.new) (λ _. ⊥) }
+{
+    let _between = connection.is_autocommit();
+    match connection.prepare("SELECT 1") {
+        Ok(_) => Ok(()),
+        Err(error) => Err(fault_of(error)),
+    }
+}
+
+/// Reads what may be remembered, where a tick at this moment changes nothing.
+pub(crate) fn look<S: Alter>(
+    connection: &mut Connection<S>,
+    config: &Config,
+    moment: u64,
+) -> Result<Option<Remembered>, StoreFault>
+    requires settled { (state S.Store connection.old).in_transaction ≡ false }
+    ensures recalls { IfOk result (IsRecalled (state S.Store connection.new)) }
+    ensures covers { IfOk result (λ found. (m : Remembered) → found ≡ Some m
+        → (moment ≤ m.clock) × (m.max_idle ≡ config.now.staging_max_idle)) }
+    ensures opened { HasCleanDisk (state S.Store connection.new)
+        → OnOk result (IsTrue (state S.Store connection.new).is_open) }
+    ensures back { IsBackAt (state S.Store connection.old) (state S.Store connection.new) }
+    ensures mode { (state S.Store connection.new).in_transaction ≡ false }
+    ensures survives { Survives (state S.Store connection.old) (state S.Store connection.new) (λ _. ⊥) }
+{
+    let found = look_back(connection, config, moment)?;
+    check_open(connection)?;
+    Ok(found)
+}

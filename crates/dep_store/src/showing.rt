@@ -1,0 +1,108 @@
+//! Requests, answered by what is remembered where they read the service document.
+
+ghost use Rattle.std.specs.Prelude.{◌≡◌, false, Some, IsTrue, IfOk};
+ghost use Rattle.sqlite.specs.Held.{state};
+ghost use Rattle.dep_types.specs.State.{State};
+ghost use Rattle.dep_types.specs.Sound.{IsSound};
+ghost use Rattle.dep_fields.specs.Fit.{AreFit};
+ghost use Rattle.dep_answers.specs.Performing.{IsReady};
+ghost use Rattle.dep_answers.specs.Steps.{operation_step};
+ghost use Rattle.dep_store.specs.Remembering.{IsRecalled, Recalls, ReadsService, service_view};
+ghost use Rattle.dep_store.specs.Transactions.{Transacts, OverStates};
+
+use crate::performing::{accept, delivery_at, perform_request, refuse};
+use crate::remembering::Remembered;
+use dep_answers::{Performed, Service, Shown};
+use dep_decisions::Operation;
+use dep_rulings::{Ruling, UploadViews, View, decide};
+use dep_types::{Method, Resource, StoreFault};
+use sqlite::{Alter, Connection};
+use std::alloc::{AllocError, Global};
+
+/// Whether the request reads the service document.
+pub(crate) fn reads_service(operation: &Operation<'_>) -> bool
+    ensures { IsTrue result → ReadsService operation.now }
+{
+    matches!(operation.target.resource, Resource::Service)
+        && matches!(operation.target.method, Method::Get | Method::Head)
+}
+
+/// What such a request touches of the archive: the clock and the counters.
+fn view_service(alloc: Global, remembered: &Remembered) -> View
+    ensures { result ≡ service_view remembered.now.clock remembered.now.next }
+{
+    View {
+        clock: remembered.clock,
+        next: remembered.next,
+        object: None,
+        file: None,
+        has_path: false,
+        uploads: UploadViews::from_vec(Vec::new(alloc)),
+        references: None,
+    }
+}
+
+/// Answers a request that reads the service document.
+pub(crate) fn show_service(
+    alloc: Global,
+    service: &Service,
+    operation: &Operation<'_>,
+    remembered: &Remembered,
+) -> Result<Performed, StoreFault>
+    requires { ReadsService operation.now }
+    ensures { AreFit operation.now.fields → (s : State) → IsSound s → Recalls remembered.now s
+        → IfOk result (λ p. IsReady (operation_step service.now s operation.now) p
+        × ((operation_step service.now s operation.now).state ≡ s)) }
+{
+    let view = view_service(alloc, remembered);
+    let ruling = match decide(alloc, service.config(), &view, operation) {
+        Ok(ruling) => ruling,
+        Err(AllocError) => return Err(StoreFault::Memory),
+    };
+    let delivery = delivery_at(view.clock, operation);
+    match &ruling {
+        Ruling::Refuse(refusal) => refuse(alloc, *refusal, delivery),
+        Ruling::Do(_) => accept(alloc, service, operation, &Shown::Nothing, delivery),
+    }
+}
+
+/// What is remembered, where the request reads the service document.
+fn recalled(remembered: &Option<Remembered>, operation: &Operation<'_>) -> Option<Remembered>
+    ensures { (m : Remembered) → result ≡ Some m
+        → (remembered.now ≡ Some m) × ReadsService operation.now }
+{
+    match remembered {
+        Some(it) => {
+            if reads_service(operation) {
+                Some(*it)
+            } else {
+                None
+            }
+        }
+        None => None,
+    }
+}
+
+/// Does what a request asks for: by what is remembered, or in a transaction, whose work is not
+/// remembered.
+pub(crate) fn serve<S: Alter>(
+    connection: &mut Connection<S>,
+    remembered: &mut Option<Remembered>,
+    alloc: Global,
+    service: &Service,
+    operation: &Operation<'_>,
+) -> Result<Performed, StoreFault>
+    requires settled { (state S.Store connection.old).in_transaction ≡ false }
+    requires recalls { IsRecalled (state S.Store connection.old) remembered.old }
+    ensures recalls { IsRecalled (state S.Store connection.new) remembered.new }
+    ensures transacts { Transacts (state S.Store connection.old) (state S.Store connection.new) result
+        (λ t p after. AreFit operation.now.fields → OverStates
+        (λ s p. IsReady (operation_step service.now s operation.now) p)
+        (λ s. (operation_step service.now s operation.now).state) t p after) }
+{
+    if let Some(it) = recalled(remembered, operation) {
+        return show_service(alloc, service, operation, &it);
+    }
+    *remembered = None;
+    perform_request(connection, alloc, service, operation)
+}
