@@ -137,6 +137,37 @@ fn carry<S: Alter>(
     load_shown(tx, alloc, &subject)
 }
 
+/// Does what was ruled, and spells the reply.
+fn follow<S: Alter>(
+    tx: &mut Transaction<'_, S>,
+    alloc: Global,
+    service: &Service,
+    operation: &Operation<'_>,
+    ruled: &Ruled,
+) -> Result<Performed, StoreFault>
+    requires { HasRoomFor ruled.now.view.next ruled.now.ruling }
+    ensures map { FromMaps (state S.Store tx.old.conn.now) (state S.Store tx.new.conn.now)
+        (λ s. IsSound s → AreFit operation.now.fields → Rules service.now s operation.now ruled.now
+        → IfOk result (λ p. IsReady (operation_step service.now s operation.now) p
+        × SeesState (state S.Store tx.new.conn.now) (operation_step service.now s operation.now).state)) }
+    ensures ours { KeepsOurs (state S.Store tx.old.conn.now) (state S.Store tx.new.conn.now) result }
+    ensures inside { GoesOn (state S.Store tx.old.conn.now) (state S.Store tx.new.conn.now) result }
+    ensures kept { StaysInside (state S.Store tx.old.conn.now) (state S.Store tx.new.conn.now) }
+    ensures same_reference { tx.new.conn.ghost_name ≡ tx.old.conn.ghost_name }
+    ensures survives { CommitsNothing (state S.Store tx.old.conn.now) (state S.Store tx.new.conn.now) }
+{
+    let delivery = delivery_at(ruled.view.clock, operation);
+    match &ruled.ruling {
+        Ruling::Refuse(refusal) => refuse(alloc, *refusal, delivery),
+        Ruling::Do(decision) => {
+            let shown = carry(tx, alloc, operation, &ruled.view, decision)?;
+            let performed = accept(alloc, service, operation, &shown, delivery);
+            drop(shown);
+            performed
+        }
+    }
+}
+
 /// Does what a request asks for, and spells the reply.
 fn answer<S: Alter>(
     tx: &mut Transaction<'_, S>,
@@ -155,14 +186,9 @@ fn answer<S: Alter>(
     ensures survives { CommitsNothing (state S.Store tx.old.conn.now) (state S.Store tx.new.conn.now) }
 {
     let ruled = rule(tx, alloc, service.config(), operation)?;
-    let delivery = delivery_at(ruled.view.clock, operation);
-    match &ruled.ruling {
-        Ruling::Refuse(refusal) => refuse(alloc, *refusal, delivery),
-        Ruling::Do(decision) => {
-            let shown = carry(tx, alloc, operation, &ruled.view, decision)?;
-            accept(alloc, service, operation, &shown, delivery)
-        }
-    }
+    let performed = follow(tx, alloc, service, operation, &ruled);
+    drop(ruled);
+    performed
 }
 
 /// Does what a request asks for. The reply is made before the commit.

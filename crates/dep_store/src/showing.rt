@@ -5,6 +5,7 @@ ghost use Rattle.sqlite.specs.Held.{state};
 ghost use Rattle.dep_types.specs.State.{State};
 ghost use Rattle.dep_types.specs.Sound.{IsSound};
 ghost use Rattle.dep_fields.specs.Fit.{AreFit};
+ghost use Rattle.dep_rulings.specs.Rulings.{IsRuling};
 ghost use Rattle.dep_answers.specs.Performing.{IsReady};
 ghost use Rattle.dep_answers.specs.Steps.{operation_step};
 ghost use Rattle.dep_store.specs.Remembering.{IsRecalled, Recalls, ReadsService, service_view};
@@ -15,7 +16,7 @@ use crate::remembering::Remembered;
 use dep_answers::{Performed, Service, Shown};
 use dep_decisions::Operation;
 use dep_rulings::{Ruling, UploadViews, View, decide};
-use dep_types::{Method, Resource, StoreFault};
+use dep_types::{Config, Method, Resource, StoreFault};
 use sqlite::{Alter, Connection};
 use std::alloc::{AllocError, Global};
 
@@ -42,6 +43,47 @@ fn view_service(alloc: Global, remembered: &Remembered) -> View
     }
 }
 
+/// What is ruled on a request that reads the service document.
+fn rule_service(
+    alloc: Global,
+    config: &Config,
+    operation: &Operation<'_>,
+    remembered: &Remembered,
+) -> Result<Ruling, StoreFault>
+    requires { ReadsService operation.now }
+    ensures { (s : State) → Recalls remembered.now s
+        → IfOk result (IsRuling config.now s operation.now) }
+{
+    let view = view_service(alloc, remembered);
+    let decided = decide(alloc, config, &view, operation);
+    drop(view);
+    match decided {
+        Ok(ruling) => Ok(ruling),
+        Err(AllocError) => Err(StoreFault::Memory),
+    }
+}
+
+/// Spells the reply to such a request.
+fn reply_service(
+    alloc: Global,
+    service: &Service,
+    operation: &Operation<'_>,
+    remembered: &Remembered,
+    ruling: &Ruling,
+) -> Result<Performed, StoreFault>
+    requires { ReadsService operation.now }
+    ensures { AreFit operation.now.fields → (s : State) → IsSound s → Recalls remembered.now s
+        → IsRuling service.now s operation.now ruling.now
+        → IfOk result (λ p. IsReady (operation_step service.now s operation.now) p
+        × ((operation_step service.now s operation.now).state ≡ s)) }
+{
+    let delivery = delivery_at(remembered.clock, operation);
+    match ruling {
+        Ruling::Refuse(refusal) => refuse(alloc, *refusal, delivery),
+        Ruling::Do(_) => accept(alloc, service, operation, &Shown::Nothing, delivery),
+    }
+}
+
 /// Answers a request that reads the service document.
 pub(crate) fn show_service(
     alloc: Global,
@@ -54,16 +96,10 @@ pub(crate) fn show_service(
         → IfOk result (λ p. IsReady (operation_step service.now s operation.now) p
         × ((operation_step service.now s operation.now).state ≡ s)) }
 {
-    let view = view_service(alloc, remembered);
-    let ruling = match decide(alloc, service.config(), &view, operation) {
-        Ok(ruling) => ruling,
-        Err(AllocError) => return Err(StoreFault::Memory),
-    };
-    let delivery = delivery_at(view.clock, operation);
-    match &ruling {
-        Ruling::Refuse(refusal) => refuse(alloc, *refusal, delivery),
-        Ruling::Do(_) => accept(alloc, service, operation, &Shown::Nothing, delivery),
-    }
+    let ruling = rule_service(alloc, service.config(), operation, remembered)?;
+    let performed = reply_service(alloc, service, operation, remembered, &ruling);
+    drop(ruling);
+    performed
 }
 
 /// What is remembered, where the request reads the service document.

@@ -1,0 +1,28 @@
+use Rattle.std.proofs.Common.{ap, subst, arith}
+use Rattle.sqlite.specs.State.{HasCleanDisk}
+use Rattle.sqlite.specs.Held.{state}
+use Rattle.dep_rulings.specs.Rulings.{IsRuling}
+use Rattle.dep_rulings.specs.declared.ruling.Ruling.{Ruling}
+use Rattle.dep_rulings.specs.declared.view.View.{View}
+use Rattle.dep_row_maps.specs.Clauses.{SeesState}
+use Rattle.dep_store.proofs.Stepping.{delivered, refused_then, accepted_then}
+use Rattle.dep_store.proofs.performing.follow.Goals as goal
+
+pub returns-in-Refuse-clause-map : goal.returns-in-Refuse-clause-map
+returns-in-Refuse-clause-map g c clean within ours s are sound fit rules =
+    let op = c.args.operation.now in
+    let config = c.args.service.now in
+    let way = delivered s op c.args.ruled.now.view.clock c.delivery_at-delivery.result sound (ap (λ (v : View). v.clock) rules.view)
+    c.delivery_at-delivery.ensures.clock c.delivery_at-delivery.ensures.bare c.delivery_at-delivery.ensures.closes in
+    refused_then config s op (SeesState (state g.S.Store c.args.tx.now.conn.now)) _ c.delivery_at-delivery.result c.refuse.result
+    (subst (λ (r : Ruling). IsRuling config s op r) c.in-Refuse.is rules.ruling) way are c.refuse.ensures
+
+pub returns-in_ok-shown-in-Do-clause-map : goal.returns-in_ok-shown-in-Do-clause-map
+returns-in_ok-shown-in-Do-clause-map g c clean within ours s are sound fit rules =
+    let op = c.args.operation.now in
+    let config = c.args.service.now in
+    let way = delivered s op c.args.ruled.now.view.clock c.delivery_at-delivery.result sound (ap (λ (v : View). v.clock) rules.view)
+    c.delivery_at-delivery.ensures.clock c.delivery_at-delivery.ensures.bare c.delivery_at-delivery.ensures.closes in
+    let ruling = subst (λ (r : Ruling). IsRuling config s op r) c.in-Do.is rules.ruling in
+    let carried = c.in_ok-shown-in-Do.ensures.map clean within ours s are config sound fit rules.view ruling in
+    accepted_then config s op (SeesState (state g.S.Store c.carry.new.tx.conn.now)) c.delivery_at-delivery.result _ c.accept-performed.result fit sound ruling.0 way carried c.accept-performed.ensures
