@@ -81,7 +81,9 @@ impl<S: Alter> Store<S> {
             → (s : State) → IsLeftAs (state S.Store connection).now.trees s → e.0 ≡ OpenFault.UnknownVersion → ⊥) }
         ensures left { IfErr result (λ e. IsTrue (state S.Store e.1).is_open
             → IsBack (state S.Store connection) (state S.Store e.1)) }
-        ensures mode { IfErr result (λ e. (state S.Store e.1).in_transaction ≡ false) }
+        ensures mode { MatchResult result
+            (λ store. (state S.Store store).in_transaction ≡ false)
+            (λ e. (state S.Store e.1).in_transaction ≡ false) }
         ensures honest { MatchResult result
             (λ store. HasCleanDisk (state S.Store store) → HasCleanDisk (state S.Store connection))
             (λ e. HasCleanDisk (state S.Store e.1) → HasCleanDisk (state S.Store connection)) }
