@@ -207,7 +207,7 @@ impl<S: Alter> Hub<S> {
         ensures next { self.new.next ≡ self.old.next }
     {
         if let Some(i) = index_among(self.connections.as_slice(), connection.number()) {
-            let _ = self.connections.remove(i);
+            drop(self.connections.remove(i));
         }
     }
 

@@ -126,14 +126,19 @@ fn perform<S: Alter>(
     };
     match Routes::new(alloc).route(message.head.method(), message.head.path()) {
         Ok(Routed::To(target)) => operate(alloc, service, store, message, target),
-        Ok(Routed::NotFound) => refuse(alloc, Refusal::NotFound, None, delivery),
-        Ok(Routed::NotAllowed(methods)) => refuse(
-            alloc,
-            Refusal::MethodNotAllowed,
-            Some(methods.as_str()),
-            delivery,
-        ),
-        Err(AllocError) => Err(StoreFault::Memory),
+        Ok(Routed::NotFound) => {
+            drop(message);
+            refuse(alloc, Refusal::NotFound, None, delivery)
+        }
+        Ok(Routed::NotAllowed(methods)) => {
+            drop(message);
+            let allow = Some(methods.as_str());
+            refuse(alloc, Refusal::MethodNotAllowed, allow, delivery)
+        }
+        Err(AllocError) => {
+            drop(message);
+            Err(StoreFault::Memory)
+        }
     }
 }
 
@@ -179,8 +184,16 @@ fn operate<S: Alter>(
 {
     let Message { head, content } = message;
     match operation_of(alloc, &head, content, target) {
-        Ok(operation) => store.perform(service, &operation),
-        Err(AllocError) => Err(StoreFault::Memory),
+        Ok(operation) => {
+            let performed = store.perform(service, &operation);
+            drop(operation);
+            drop(head);
+            performed
+        }
+        Err(AllocError) => {
+            drop(head);
+            Err(StoreFault::Memory)
+        }
     }
 }
 

@@ -9,8 +9,8 @@ use Rattle.dep_server.proofs.Leaving.{stays_as}
 use Rattle.dep_server.proofs.StepLemmas.{performs_same, leaves_same, leaves_it}
 use Rattle.dep_server.proofs.step.operate.Goals as goal
 
-pub returns-clause-stop : goal.returns-clause-stop
-returns-clause-stop g c disk s stands =
+pub returns-in-Err-clause-stop : goal.returns-in-Err-clause-stop
+returns-in-Err-clause-stop g c disk s stands =
     leaves_it (state g.S.Store c.args.store.now) s _
     (stays_as (state g.S.Store c.args.store.now) s (λ is_open trees h. g.met.S.Store.settled c.args.store.now.store trees is_open h) stands)
 
@@ -18,10 +18,10 @@ pub returns-in-Ok-clause-ok : goal.returns-in-Ok-clause-ok
 returns-in-Ok-clause-ok g c disk s stands =
     let e = c.in-Ok.ensures in
     let fit : AreFit c.in-Ok.operation.fields = subst (λ (f : SwordFields). AreFit f) (ap (λ (o : Operation). o.fields) (sym e)) (fields_are_fit c.args.message.head.fields) in
-    IfOk-weaker c.perform.result _ _ (λ p h. performs_same c.args.service.now s _ _ (state g.S.Store c.perform.new.self) p e h) (c.perform.ensures.ok disk fit s stands)
+    IfOk-weaker c.perform-performed.result _ _ (λ p h. performs_same c.args.service.now s _ _ (state g.S.Store c.perform-performed.new.self) p e h) (c.perform-performed.ensures.ok disk fit s stands)
 
 pub returns-in-Ok-clause-stop : goal.returns-in-Ok-clause-stop
 returns-in-Ok-clause-stop g c disk s stands =
     let e = c.in-Ok.ensures in
     let fit : AreFit c.in-Ok.operation.fields = subst (λ (f : SwordFields). AreFit f) (ap (λ (o : Operation). o.fields) (sym e)) (fields_are_fit c.args.message.head.fields) in
-    leaves_same c.args.service.now s _ _ (state g.S.Store c.perform.new.self) e (c.perform.ensures.stop disk fit s stands)
+    leaves_same c.args.service.now s _ _ (state g.S.Store c.perform-performed.new.self) e (c.perform-performed.ensures.stop disk fit s stands)
