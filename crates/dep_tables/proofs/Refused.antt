@@ -1,5 +1,5 @@
 -- Why a value was not read.
-use Rattle.std.proofs.Common.{◌≡◌, ◌≢◌, ◌<◌, ℕ, List, Option, None, Some, IfSome, IsUtf8, length, inl, inr, refl, sym, ap, subst, ◌∙◌, arith}
+use Rattle.std.proofs.Common.{◌≡◌, ◌≢◌, ◌<◌, ℕ, List, ◌∷◌, Result, Ok, Err, IfErr, IsErrAnd, Option, None, Some, IfSome, IsUtf8, length, inl, inr, refl, sym, ap, subst, ◌∙◌, arith}
 use Rattle.sqlite.specs.Order.{Row}
 use Rattle.sqlite.specs.declared.types.Value.{Value}
 use Rattle.sqlite.specs.declared.types.Value.TheVariants.{Text, Blob}
@@ -9,7 +9,7 @@ use Rattle.sqlite.specs.declared.error.Error.TheVariants.{SqliteFailure}
 use Rattle.sqlite.specs.declared.error.ErrorCode.TheVariants.{OutOfMemory}
 use Rattle.dep_types.specs.declared.store_fault.StoreFault.{StoreFault}
 use Rattle.dep_types.specs.declared.store_fault.StoreFault.TheVariants.{Store, Memory}
-use Rattle.dep_tables.specs.Faults.{fault_for}
+use Rattle.dep_tables.specs.Faults.{fault_for, IsMemoryWhere}
 use Rattle.sqlite.specs.State.{State}
 use Rattle.dep_tables.specs.Clauses.{FailsToRead, AtMostOne, JustOne}
 use Rattle.dep_tables.specs.Rows.{HasAt, IsNumberValue, IsFlagValue, IsTextValue, IsDigestValue, IsNullOr, IsStateRow, state_values, IsObjectRow, object_values, IsMetadataRow, metadata_values, IsFileRow, file_values, IsUploadRow, upload_values, IsSegmentRow, segment_values, IsPlaceRow, place_values}
@@ -26,6 +26,15 @@ only_memory e other = go (fault_for e) refl
 pub refused_one : (is_ours : Row → Type 0) (sql : List ℕ) (params : Row) (old new : State) (fault : StoreFault) → FailsToRead (AtMostOne is_ours) sql params old new fault → FailsToRead (JustOne is_ours) sql params old new fault
 refused_one is_ours sql params old new fault (inl asked) = inl asked
 refused_one is_ours sql params old new fault (inr read) = inr (read.0, read.1, λ ours. read.2 (ours.0, omega (arith, ours.1)))
+
+-- an error that is passed on: with a row of ours the column is of its type, so it is want of memory
+pub passed_on : {A Ours Has : Type 0} (r : Result A Error) (e : Error) → IsErrAnd r (λ x. x ≡ e) → IsMemoryWhere Has e → (Ours → Has) → IfErr r (IsMemoryWhere Ours)
+passed_on (Ok x) e is refused has = tt
+passed_on (Err x) e is refused has = λ ours. ap fault_for is ∙ refused (has ours)
+
+-- what is told of a row, column by column
+pub next_column : {v w : Value} {vs ws : Row} → w ≡ v → vs ≡ ws → v ∷ vs ≡ w ∷ ws
+next_column {v} {w} {vs} {ws} head tail = ap (λ x. x ∷ vs) (sym head) ∙ ap (λ xs. w ∷ xs) tail
 
 -- a row that is equal to a good one has its columns
 pub has_at : (is_ours : Value → Type 0) (row good : Row) (at : ℕ) → row ≡ good → HasAt is_ours good at → HasAt is_ours row at

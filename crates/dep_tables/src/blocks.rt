@@ -134,7 +134,6 @@ impl FromRow for BlockPlace {
 
     ghost is_ours = { IsPlaceRow };
 
-    #[tactic(auto, using(crate::proofs::Refused::place_row))]
     fn from_row(row: &Row) -> Result<BlockPlace, Error> {
         Ok(BlockPlace {
             part: number_at(row, 0)?,

@@ -125,7 +125,6 @@ impl FromRow for FileRow {
 
     ghost is_ours = { IsFileRow };
 
-    #[tactic(auto, using(crate::proofs::Refused::file_row))]
     fn from_row(row: &Row) -> Result<FileRow, Error> {
         Ok(FileRow {
             file: number_at(row, 0)?,

@@ -108,7 +108,6 @@ impl FromRow for MetadataRow {
 
     ghost is_ours = { IsMetadataRow };
 
-    #[tactic(auto, using(crate::proofs::Refused::metadata_row))]
     fn from_row(row: &Row) -> Result<MetadataRow, Error> {
         Ok(MetadataRow {
             object: number_at(row, 0)?,

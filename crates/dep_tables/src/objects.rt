@@ -129,7 +129,6 @@ impl FromRow for ObjectRow {
 
     ghost is_ours = { IsObjectRow };
 
-    #[tactic(auto, using(crate::proofs::Refused::object_row))]
     fn from_row(row: &Row) -> Result<ObjectRow, Error> {
         Ok(ObjectRow {
             object: number_at(row, 0)?,

@@ -106,7 +106,6 @@ impl FromRow for SegmentRow {
 
     ghost is_ours = { IsSegmentRow };
 
-    #[tactic(auto, using(crate::proofs::Refused::segment_row))]
     fn from_row(row: &Row) -> Result<SegmentRow, Error> {
         Ok(SegmentRow {
             upload: number_at(row, 0)?,

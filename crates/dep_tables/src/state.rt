@@ -80,7 +80,6 @@ impl FromRow for StateRow {
 
     ghost is_ours = { IsStateRow };
 
-    #[tactic(auto, using(crate::proofs::Refused::state_row))]
     fn from_row(row: &Row) -> Result<StateRow, Error> {
         Ok(StateRow {
             clock: number_at(row, 0)?,

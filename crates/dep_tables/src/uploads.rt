@@ -130,7 +130,6 @@ impl FromRow for UploadRow {
 
     ghost is_ours = { IsUploadRow };
 
-    #[tactic(auto, using(crate::proofs::Refused::upload_row))]
     fn from_row(row: &Row) -> Result<UploadRow, Error> {
         Ok(UploadRow {
             upload: number_at(row, 0)?,
