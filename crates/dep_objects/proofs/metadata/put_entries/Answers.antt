@@ -1,4 +1,5 @@
 use Rattle.std.proofs.Common.{◌<◌, length, ◌∙◌, arith}
+use Rattle.std.proofs.lemmas.List.{take_all}
 use Rattle.sqlite.specs.State.{HasCleanDisk}
 use Rattle.sqlite.specs.Held.{state}
 use Rattle.sqlite.proofs.StateLemmas.{survives_then}
@@ -28,3 +29,12 @@ entries-preserved g c =
                 was.rows sees.rows;
           },
     )
+
+pub returns-in_err-put_texts-clause-kept : goal.returns-in_err-put_texts-clause-kept
+returns-in_err-put_texts-clause-kept g c clean inside =
+    let mid = state g.S.Store c.entries.tx.conn.now in
+    let before : HasCleanDisk mid = omega (arith, clean, c.put_texts.ensures.survives.clean) in
+    keeps_then (state g.S.Store c.args.tx.now.conn.now) mid (state g.S.Store c.put_texts.new.tx.conn.now) (c.entries.invariant.3 before inside) (c.put_texts.ensures.kept clean (c.entries.invariant.2 before inside))
+
+pub returns-clause-ok : goal.returns-clause-ok
+returns-clause-ok g c = rw (take_all c.entries.entry-index c.args.entries.now c.entries-test.false) at c.entries.invariant.4

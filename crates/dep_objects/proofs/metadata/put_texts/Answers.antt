@@ -1,4 +1,5 @@
-use Rattle.std.proofs.Common.{◌<◌, ◌≡◌, ◌+◌, length, get_or, ap, ◌∙◌, arith}
+use Rattle.std.proofs.Common.{◌<◌, ◌≡◌, ◌+◌, length, take, get_or, ap, ◌∙◌, arith}
+use Rattle.std.proofs.lemmas.List.{take_all}
 use Rattle.sqlite.specs.State.{HasCleanDisk}
 use Rattle.sqlite.specs.Held.{state}
 use Rattle.sqlite.proofs.StateLemmas.{survives_then}
@@ -34,3 +35,15 @@ texts-preserved g c =
       next_place,
       inv.6,
     )
+
+pub returns-in_err-insert_metadata-clause-kept : goal.returns-in_err-insert_metadata-clause-kept
+returns-in_err-insert_metadata-clause-kept g c clean inside =
+    let mid = state g.S.Store c.texts.tx.conn.now in
+    let before : HasCleanDisk mid = omega (arith, clean, c.insert_metadata.ensures.survives.clean) in
+    keeps_then (state g.S.Store c.args.tx.now.conn.now) mid (state g.S.Store c.insert_metadata.new.tx.conn.now) (c.texts.invariant.3 before inside) (c.insert_metadata.ensures.kept clean (c.texts.invariant.2 before inside))
+
+pub returns-clause-ok : goal.returns-clause-ok
+returns-clause-ok g c =
+    let texts = c.args.entry.now.texts in
+    let whole : take c.texts.text-index texts ≡ texts = take_all c.texts.text-index texts (omega (arith, ap length c.texts.invariant.6, c.texts-test.false)) in
+    rw whole at c.texts.invariant.4
