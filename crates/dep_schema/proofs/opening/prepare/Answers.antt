@@ -1,6 +1,7 @@
-use Rattle.std.proofs.Common.{◌≡◌, subst, rules, inl, inr, IsTrue, refl, arith}
+use Rattle.std.proofs.Common.{◌≡◌, sym, subst, rules, inl, inr, IsTrue, refl, arith}
 use Rattle.sqlite.specs.Held.{state}
-use Rattle.sqlite.specs.State.{Survives}
+use Rattle.std.proofs.lemmas.Result.{IfOk-from_err}
+use Rattle.sqlite.specs.State.{HasCleanDisk, Survives}
 use Rattle.sqlite.proofs.Callers.{survives_begin}
 use Rattle.sqlite.proofs.StateLemmas.{clean_if_open}
 use Rattle.dep_schema.specs.Standing.{CommitsBySchema, WholeTransaction}
@@ -50,3 +51,28 @@ returns-in-Err-clause-refused g c =
     let whole : WholeTransaction g.S.Store old inside new = record { kept = worked.kept; survives = c.commit.ensures.survives; ends = λ h. inr (inl (c.in-Err.error, c.in-Err.ensures.err h)) } in
     begins_open g.S.Store old inside new whole clean is_open in
     search rules
+
+-- where the tables were not found, nothing is said of an Ok
+pub returns-in_err-find_or_make-clause-fresh : goal.returns-in_err-find_or_make-clause-fresh
+returns-in_err-find_or_make-clause-fresh g c clean empty = IfOk-from_err c.from_residual.result _ c.from_residual.ensures.0
+
+pub returns-in_err-find_or_make-clause-found : goal.returns-in_err-find_or_make-clause-found
+returns-in_err-find_or_make-clause-found g c clean ours = IfOk-from_err c.from_residual.result _ c.from_residual.ensures.0
+
+pub returns-in_err-find_or_make-clause-free : goal.returns-in_err-find_or_make-clause-free
+returns-in_err-find_or_make-clause-free g c clean lacks = IfOk-from_err c.from_residual.result _ c.from_residual.ensures.0
+
+pub returns-in_err-find_or_make-clause-beside : goal.returns-in_err-find_or_make-clause-beside
+returns-in_err-find_or_make-clause-beside g c clean lacks has = IfOk-from_err c.from_residual.result _ c.from_residual.ensures.0
+
+pub returns-in_err-find_or_make-clause-opened : goal.returns-in_err-find_or_make-clause-opened
+returns-in_err-find_or_make-clause-opened g c clean = IfOk-from_err c.from_residual.result _ c.from_residual.ensures.0
+
+pub returns-in-Ok-clause-free : goal.returns-in-Ok-clause-free
+returns-in-Ok-clause-free g c clean lacks =
+    let last = c.find_or_make.new.tx.conn.now in
+    let same : c.commit.new.self.0 ≡ c.connection-2-1.given.0 = search rules in
+    let there : HasCleanDisk (state g.S.Store c.commit.new.self.0) = subst (λ h. HasCleanDisk (state g.S.Store h)) (sym same) clean in
+    let sure : HasCleanDisk (state g.S.Store last) = omega (arith, there, c.commit.ensures.survives.clean) in
+    let worked = rw c.transaction-tx.ensures.begun at c.in_ok-find_or_make.ensures in
+    (worked.gains sure refl lacks).free
