@@ -1,3 +1,5 @@
+use Rattle.dep_staging.proofs.Chains.{survived, was_clean}
+use Rattle.sqlite.proofs.InsideLemmas.{keeps_then}
 use Rattle.std.proofs.Common.{◌≡◌, ◌∙◌, refl, sym, ap, arith}
 use Rattle.sqlite.specs.State.{HasCleanDisk}
 use Rattle.sqlite.specs.Held.{state}
@@ -36,3 +38,39 @@ returns-clause-map g c clean inside ours s are config op sound seen ruling same 
     ok_then c.set_counters.result
     (c.set_counters.ensures.map clean (c.in_ok-change_maps.ensures.inside before inside) (c.in_ok-change_maps.ensures.ours before inside ours) (with_maps s content d) made)
     (λ wrote. carried config s op view content d seen ruling.1 same (tables_of new) view.clock next numbers.0 after wrote)
+
+pub returns-clause-kept : goal.returns-clause-kept
+returns-clause-kept g c clean inside =
+    let old = state g.S.Store c.args.tx.now.conn.now in
+    let at_1 = state g.S.Store c.change_maps.new.tx.conn.now in
+    let at_2 = state g.S.Store c.set_counters.new.tx.conn.now in
+    let clean_1 = was_clean at_1 at_2 c.set_counters.ensures.survives clean in
+    let inside_1 = c.in_ok-change_maps.ensures.inside clean_1 inside in
+    let kept_1 = c.change_maps.ensures.kept clean_1 inside in
+    keeps_then old at_1 at_2 kept_1 (c.set_counters.ensures.kept clean inside_1)
+
+pub returns-clause-survives : goal.returns-clause-survives
+returns-clause-survives g c =
+    let old = state g.S.Store c.args.tx.now.conn.now in
+    let at_1 = state g.S.Store c.change_maps.new.tx.conn.now in
+    let at_2 = state g.S.Store c.set_counters.new.tx.conn.now in
+    survived old at_1 at_2 c.change_maps.ensures.survives c.set_counters.ensures.survives
+
+pub returns-clause-inside : goal.returns-clause-inside
+returns-clause-inside g c clean inside =
+    let old = state g.S.Store c.args.tx.now.conn.now in
+    let at_1 = state g.S.Store c.change_maps.new.tx.conn.now in
+    let at_2 = state g.S.Store c.set_counters.new.tx.conn.now in
+    let clean_1 = was_clean at_1 at_2 c.set_counters.ensures.survives clean in
+    let inside_1 = c.in_ok-change_maps.ensures.inside clean_1 inside in
+    c.set_counters.ensures.inside clean inside_1
+
+pub returns-clause-ours : goal.returns-clause-ours
+returns-clause-ours g c clean inside ours =
+    let old = state g.S.Store c.args.tx.now.conn.now in
+    let at_1 = state g.S.Store c.change_maps.new.tx.conn.now in
+    let at_2 = state g.S.Store c.set_counters.new.tx.conn.now in
+    let clean_1 = was_clean at_1 at_2 c.set_counters.ensures.survives clean in
+    let inside_1 = c.in_ok-change_maps.ensures.inside clean_1 inside in
+    let ours_1 = c.in_ok-change_maps.ensures.ours clean_1 inside ours in
+    c.set_counters.ensures.ours clean inside_1 ours_1

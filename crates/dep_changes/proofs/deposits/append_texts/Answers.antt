@@ -1,3 +1,5 @@
+use Rattle.dep_staging.proofs.Chains.{survived, was_clean}
+use Rattle.sqlite.proofs.InsideLemmas.{keeps_then}
 use Rattle.std.proofs.Common.{arith}
 use Rattle.std.specs.FinMap as finmap
 use Rattle.sqlite.specs.State.{HasCleanDisk}
@@ -29,3 +31,39 @@ returns-clause-map g c clean inside ours s are o it numbers there its texts file
     ok_then c.append_metadata.result
     (c.append_metadata.ensures.map clean (c.in_ok-write_row.ensures.inside before inside) (c.in_ok-write_row.ensures.ours before inside ours) one put mark (get_here s.objects n mark))
     (λ added. written_again (tables_of new) s n mark after added)
+
+pub returns-clause-kept : goal.returns-clause-kept
+returns-clause-kept g c clean inside =
+    let old = state g.S.Store c.args.tx.now.conn.now in
+    let at_1 = state g.S.Store c.write_row.new.tx.conn.now in
+    let at_2 = state g.S.Store c.append_metadata.new.tx.conn.now in
+    let clean_1 = was_clean at_1 at_2 c.append_metadata.ensures.survives clean in
+    let inside_1 = c.in_ok-write_row.ensures.inside clean_1 inside in
+    let kept_1 = c.write_row.ensures.kept clean_1 inside in
+    keeps_then old at_1 at_2 kept_1 (c.append_metadata.ensures.kept clean inside_1)
+
+pub returns-clause-survives : goal.returns-clause-survives
+returns-clause-survives g c =
+    let old = state g.S.Store c.args.tx.now.conn.now in
+    let at_1 = state g.S.Store c.write_row.new.tx.conn.now in
+    let at_2 = state g.S.Store c.append_metadata.new.tx.conn.now in
+    survived old at_1 at_2 c.write_row.ensures.survives c.append_metadata.ensures.survives
+
+pub returns-clause-inside : goal.returns-clause-inside
+returns-clause-inside g c clean inside =
+    let old = state g.S.Store c.args.tx.now.conn.now in
+    let at_1 = state g.S.Store c.write_row.new.tx.conn.now in
+    let at_2 = state g.S.Store c.append_metadata.new.tx.conn.now in
+    let clean_1 = was_clean at_1 at_2 c.append_metadata.ensures.survives clean in
+    let inside_1 = c.in_ok-write_row.ensures.inside clean_1 inside in
+    c.append_metadata.ensures.inside clean inside_1
+
+pub returns-clause-ours : goal.returns-clause-ours
+returns-clause-ours g c clean inside ours =
+    let old = state g.S.Store c.args.tx.now.conn.now in
+    let at_1 = state g.S.Store c.write_row.new.tx.conn.now in
+    let at_2 = state g.S.Store c.append_metadata.new.tx.conn.now in
+    let clean_1 = was_clean at_1 at_2 c.append_metadata.ensures.survives clean in
+    let inside_1 = c.in_ok-write_row.ensures.inside clean_1 inside in
+    let ours_1 = c.in_ok-write_row.ensures.ours clean_1 inside ours in
+    c.append_metadata.ensures.ours clean inside_1 ours_1

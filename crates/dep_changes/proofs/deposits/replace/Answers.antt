@@ -1,3 +1,5 @@
+use Rattle.dep_staging.proofs.Chains.{survived, was_clean}
+use Rattle.sqlite.proofs.InsideLemmas.{keeps_then}
 use Rattle.std.proofs.Common.{◌||◌, refl, subst, arith}
 use Rattle.std.specs.FinMap as finmap
 use Rattle.sqlite.specs.State.{HasCleanDisk}
@@ -52,3 +54,102 @@ returns-clause-map g c clean inside ours s are n o numbers told sources =
     (c.fill.ensures.map clean (c.in_ok-set_metadata.ensures.inside clean_three inside_two) (c.in_ok-set_metadata.ensures.ours clean_three inside_two ours_two) third cleared ingested numbers
     (there_at third.objects row.object n clear number (get_here s.objects n clear)) (still_have third.objects s content view.uploads c.args.deposit.now sources))
     (λ done. deposit_again (tables_of new) s content row.object n clear c.args.deposit.now ingested number done)
+
+pub returns-in_err-delete_files-clause-kept : goal.returns-in_err-delete_files-clause-kept
+returns-in_err-delete_files-clause-kept g c clean inside =
+    let old = state g.S.Store c.args.tx.now.conn.now in
+    let at_1 = state g.S.Store c.write_row.new.tx.conn.now in
+    let at_2 = state g.S.Store c.delete_files.new.tx.conn.now in
+    let clean_1 = was_clean at_1 at_2 c.delete_files.ensures.survives clean in
+    let inside_1 = c.in_ok-write_row.ensures.inside clean_1 inside in
+    let kept_1 = c.write_row.ensures.kept clean_1 inside in
+    keeps_then old at_1 at_2 kept_1 (c.delete_files.ensures.kept clean inside_1)
+
+pub returns-in_err-delete_files-clause-survives : goal.returns-in_err-delete_files-clause-survives
+returns-in_err-delete_files-clause-survives g c =
+    let old = state g.S.Store c.args.tx.now.conn.now in
+    let at_1 = state g.S.Store c.write_row.new.tx.conn.now in
+    let at_2 = state g.S.Store c.delete_files.new.tx.conn.now in
+    survived old at_1 at_2 c.write_row.ensures.survives c.delete_files.ensures.survives
+
+pub returns-in_err-set_metadata-clause-kept : goal.returns-in_err-set_metadata-clause-kept
+returns-in_err-set_metadata-clause-kept g c clean inside =
+    let old = state g.S.Store c.args.tx.now.conn.now in
+    let at_1 = state g.S.Store c.write_row.new.tx.conn.now in
+    let at_2 = state g.S.Store c.delete_files.new.tx.conn.now in
+    let at_3 = state g.S.Store c.set_metadata-2.new.tx.conn.now in
+    let clean_2 = was_clean at_2 at_3 c.set_metadata-2.ensures.survives clean in
+    let clean_1 = was_clean at_1 at_2 c.delete_files.ensures.survives clean_2 in
+    let inside_1 = c.in_ok-write_row.ensures.inside clean_1 inside in
+    let inside_2 = c.in_ok-delete_files.ensures.inside clean_2 inside_1 in
+    let kept_1 = c.write_row.ensures.kept clean_1 inside in
+    let kept_2 = keeps_then old at_1 at_2 kept_1 (c.delete_files.ensures.kept clean_2 inside_1) in
+    keeps_then old at_2 at_3 kept_2 (c.set_metadata-2.ensures.kept clean inside_2)
+
+pub returns-in_err-set_metadata-clause-survives : goal.returns-in_err-set_metadata-clause-survives
+returns-in_err-set_metadata-clause-survives g c =
+    let old = state g.S.Store c.args.tx.now.conn.now in
+    let at_1 = state g.S.Store c.write_row.new.tx.conn.now in
+    let at_2 = state g.S.Store c.delete_files.new.tx.conn.now in
+    let at_3 = state g.S.Store c.set_metadata-2.new.tx.conn.now in
+    survived old at_2 at_3 (survived old at_1 at_2 c.write_row.ensures.survives c.delete_files.ensures.survives) c.set_metadata-2.ensures.survives
+
+pub returns-clause-kept : goal.returns-clause-kept
+returns-clause-kept g c clean inside =
+    let old = state g.S.Store c.args.tx.now.conn.now in
+    let at_1 = state g.S.Store c.write_row.new.tx.conn.now in
+    let at_2 = state g.S.Store c.delete_files.new.tx.conn.now in
+    let at_3 = state g.S.Store c.set_metadata-2.new.tx.conn.now in
+    let at_4 = state g.S.Store c.fill.new.tx.conn.now in
+    let clean_3 = was_clean at_3 at_4 c.fill.ensures.survives clean in
+    let clean_2 = was_clean at_2 at_3 c.set_metadata-2.ensures.survives clean_3 in
+    let clean_1 = was_clean at_1 at_2 c.delete_files.ensures.survives clean_2 in
+    let inside_1 = c.in_ok-write_row.ensures.inside clean_1 inside in
+    let inside_2 = c.in_ok-delete_files.ensures.inside clean_2 inside_1 in
+    let inside_3 = c.in_ok-set_metadata.ensures.inside clean_3 inside_2 in
+    let kept_1 = c.write_row.ensures.kept clean_1 inside in
+    let kept_2 = keeps_then old at_1 at_2 kept_1 (c.delete_files.ensures.kept clean_2 inside_1) in
+    let kept_3 = keeps_then old at_2 at_3 kept_2 (c.set_metadata-2.ensures.kept clean_3 inside_2) in
+    keeps_then old at_3 at_4 kept_3 (c.fill.ensures.kept clean inside_3)
+
+pub returns-clause-survives : goal.returns-clause-survives
+returns-clause-survives g c =
+    let old = state g.S.Store c.args.tx.now.conn.now in
+    let at_1 = state g.S.Store c.write_row.new.tx.conn.now in
+    let at_2 = state g.S.Store c.delete_files.new.tx.conn.now in
+    let at_3 = state g.S.Store c.set_metadata-2.new.tx.conn.now in
+    let at_4 = state g.S.Store c.fill.new.tx.conn.now in
+    survived old at_3 at_4 (survived old at_2 at_3 (survived old at_1 at_2 c.write_row.ensures.survives c.delete_files.ensures.survives) c.set_metadata-2.ensures.survives) c.fill.ensures.survives
+
+pub returns-clause-inside : goal.returns-clause-inside
+returns-clause-inside g c clean inside =
+    let old = state g.S.Store c.args.tx.now.conn.now in
+    let at_1 = state g.S.Store c.write_row.new.tx.conn.now in
+    let at_2 = state g.S.Store c.delete_files.new.tx.conn.now in
+    let at_3 = state g.S.Store c.set_metadata-2.new.tx.conn.now in
+    let at_4 = state g.S.Store c.fill.new.tx.conn.now in
+    let clean_3 = was_clean at_3 at_4 c.fill.ensures.survives clean in
+    let clean_2 = was_clean at_2 at_3 c.set_metadata-2.ensures.survives clean_3 in
+    let clean_1 = was_clean at_1 at_2 c.delete_files.ensures.survives clean_2 in
+    let inside_1 = c.in_ok-write_row.ensures.inside clean_1 inside in
+    let inside_2 = c.in_ok-delete_files.ensures.inside clean_2 inside_1 in
+    let inside_3 = c.in_ok-set_metadata.ensures.inside clean_3 inside_2 in
+    c.fill.ensures.inside clean inside_3
+
+pub returns-clause-ours : goal.returns-clause-ours
+returns-clause-ours g c clean inside ours =
+    let old = state g.S.Store c.args.tx.now.conn.now in
+    let at_1 = state g.S.Store c.write_row.new.tx.conn.now in
+    let at_2 = state g.S.Store c.delete_files.new.tx.conn.now in
+    let at_3 = state g.S.Store c.set_metadata-2.new.tx.conn.now in
+    let at_4 = state g.S.Store c.fill.new.tx.conn.now in
+    let clean_3 = was_clean at_3 at_4 c.fill.ensures.survives clean in
+    let clean_2 = was_clean at_2 at_3 c.set_metadata-2.ensures.survives clean_3 in
+    let clean_1 = was_clean at_1 at_2 c.delete_files.ensures.survives clean_2 in
+    let inside_1 = c.in_ok-write_row.ensures.inside clean_1 inside in
+    let inside_2 = c.in_ok-delete_files.ensures.inside clean_2 inside_1 in
+    let inside_3 = c.in_ok-set_metadata.ensures.inside clean_3 inside_2 in
+    let ours_1 = c.in_ok-write_row.ensures.ours clean_1 inside ours in
+    let ours_2 = c.in_ok-delete_files.ensures.ours clean_2 inside_1 ours_1 in
+    let ours_3 = c.in_ok-set_metadata.ensures.ours clean_3 inside_2 ours_2 in
+    c.fill.ensures.ours clean inside_3 ours_3

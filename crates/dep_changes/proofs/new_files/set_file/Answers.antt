@@ -1,3 +1,5 @@
+use Rattle.dep_staging.proofs.Chains.{survived, was_clean}
+use Rattle.sqlite.proofs.InsideLemmas.{keeps_then}
 use Rattle.std.proofs.Common.{◌≡◌, refl, arith}
 use Rattle.std.specs.FinMap as finmap
 use Rattle.sqlite.specs.State.{HasCleanDisk}
@@ -45,3 +47,68 @@ returns-clause-map g c clean inside ours s are n o file numbers told source =
     (c.put_posted.ensures.map clean (c.in_ok-delete_file.ensures.inside clean_two inside_one) (c.in_ok-delete_file.ensures.ours clean_two inside_one ours_one) second gone left numbers
     (there_at second.objects row.object n left number (get_here s.objects n left)) digests)
     (λ there. file_replaced (tables_of new) s n o f made (written_again (tables_of new) s n left it (at_number (tables_of new) second row.object n it number there)))
+
+pub returns-in_err-delete_file-clause-kept : goal.returns-in_err-delete_file-clause-kept
+returns-in_err-delete_file-clause-kept g c clean inside =
+    let old = state g.S.Store c.args.tx.now.conn.now in
+    let at_1 = state g.S.Store c.write_row.new.tx.conn.now in
+    let at_2 = state g.S.Store c.delete_file.new.tx.conn.now in
+    let clean_1 = was_clean at_1 at_2 c.delete_file.ensures.survives clean in
+    let inside_1 = c.in_ok-write_row.ensures.inside clean_1 inside in
+    let kept_1 = c.write_row.ensures.kept clean_1 inside in
+    keeps_then old at_1 at_2 kept_1 (c.delete_file.ensures.kept clean inside_1)
+
+pub returns-in_err-delete_file-clause-survives : goal.returns-in_err-delete_file-clause-survives
+returns-in_err-delete_file-clause-survives g c =
+    let old = state g.S.Store c.args.tx.now.conn.now in
+    let at_1 = state g.S.Store c.write_row.new.tx.conn.now in
+    let at_2 = state g.S.Store c.delete_file.new.tx.conn.now in
+    survived old at_1 at_2 c.write_row.ensures.survives c.delete_file.ensures.survives
+
+pub returns-clause-kept : goal.returns-clause-kept
+returns-clause-kept g c clean inside =
+    let old = state g.S.Store c.args.tx.now.conn.now in
+    let at_1 = state g.S.Store c.write_row.new.tx.conn.now in
+    let at_2 = state g.S.Store c.delete_file.new.tx.conn.now in
+    let at_3 = state g.S.Store c.put_posted.new.tx.conn.now in
+    let clean_2 = was_clean at_2 at_3 c.put_posted.ensures.survives clean in
+    let clean_1 = was_clean at_1 at_2 c.delete_file.ensures.survives clean_2 in
+    let inside_1 = c.in_ok-write_row.ensures.inside clean_1 inside in
+    let inside_2 = c.in_ok-delete_file.ensures.inside clean_2 inside_1 in
+    let kept_1 = c.write_row.ensures.kept clean_1 inside in
+    let kept_2 = keeps_then old at_1 at_2 kept_1 (c.delete_file.ensures.kept clean_2 inside_1) in
+    keeps_then old at_2 at_3 kept_2 (c.put_posted.ensures.kept clean inside_2)
+
+pub returns-clause-survives : goal.returns-clause-survives
+returns-clause-survives g c =
+    let old = state g.S.Store c.args.tx.now.conn.now in
+    let at_1 = state g.S.Store c.write_row.new.tx.conn.now in
+    let at_2 = state g.S.Store c.delete_file.new.tx.conn.now in
+    let at_3 = state g.S.Store c.put_posted.new.tx.conn.now in
+    survived old at_2 at_3 (survived old at_1 at_2 c.write_row.ensures.survives c.delete_file.ensures.survives) c.put_posted.ensures.survives
+
+pub returns-clause-inside : goal.returns-clause-inside
+returns-clause-inside g c clean inside =
+    let old = state g.S.Store c.args.tx.now.conn.now in
+    let at_1 = state g.S.Store c.write_row.new.tx.conn.now in
+    let at_2 = state g.S.Store c.delete_file.new.tx.conn.now in
+    let at_3 = state g.S.Store c.put_posted.new.tx.conn.now in
+    let clean_2 = was_clean at_2 at_3 c.put_posted.ensures.survives clean in
+    let clean_1 = was_clean at_1 at_2 c.delete_file.ensures.survives clean_2 in
+    let inside_1 = c.in_ok-write_row.ensures.inside clean_1 inside in
+    let inside_2 = c.in_ok-delete_file.ensures.inside clean_2 inside_1 in
+    c.put_posted.ensures.inside clean inside_2
+
+pub returns-clause-ours : goal.returns-clause-ours
+returns-clause-ours g c clean inside ours =
+    let old = state g.S.Store c.args.tx.now.conn.now in
+    let at_1 = state g.S.Store c.write_row.new.tx.conn.now in
+    let at_2 = state g.S.Store c.delete_file.new.tx.conn.now in
+    let at_3 = state g.S.Store c.put_posted.new.tx.conn.now in
+    let clean_2 = was_clean at_2 at_3 c.put_posted.ensures.survives clean in
+    let clean_1 = was_clean at_1 at_2 c.delete_file.ensures.survives clean_2 in
+    let inside_1 = c.in_ok-write_row.ensures.inside clean_1 inside in
+    let inside_2 = c.in_ok-delete_file.ensures.inside clean_2 inside_1 in
+    let ours_1 = c.in_ok-write_row.ensures.ours clean_1 inside ours in
+    let ours_2 = c.in_ok-delete_file.ensures.ours clean_2 inside_1 ours_1 in
+    c.put_posted.ensures.ours clean inside_2 ours_2

@@ -1,3 +1,5 @@
+use Rattle.dep_staging.proofs.Chains.{survived, was_clean}
+use Rattle.sqlite.proofs.InsideLemmas.{keeps_then}
 use Rattle.std.proofs.Common.{refl, arith}
 use Rattle.std.specs.FinMap as finmap
 use Rattle.sqlite.specs.State.{HasCleanDisk}
@@ -40,3 +42,68 @@ returns-clause-map g c clean inside ours s are n o numbers told sources =
     (c.put_new_files.ensures.map clean (c.in_ok-delete_files.ensures.inside clean_two inside_one) (c.in_ok-delete_files.ensures.ours clean_two inside_one ours_one) second gone bare numbers
     (there_at second.objects row.object n bare number (get_here s.objects n bare)) sources)
     (λ added. new_files_again (tables_of new) s content row.object n bare bare c.args.files.now number added)
+
+pub returns-in_err-delete_files-clause-kept : goal.returns-in_err-delete_files-clause-kept
+returns-in_err-delete_files-clause-kept g c clean inside =
+    let old = state g.S.Store c.args.tx.now.conn.now in
+    let at_1 = state g.S.Store c.write_row.new.tx.conn.now in
+    let at_2 = state g.S.Store c.delete_files.new.tx.conn.now in
+    let clean_1 = was_clean at_1 at_2 c.delete_files.ensures.survives clean in
+    let inside_1 = c.in_ok-write_row.ensures.inside clean_1 inside in
+    let kept_1 = c.write_row.ensures.kept clean_1 inside in
+    keeps_then old at_1 at_2 kept_1 (c.delete_files.ensures.kept clean inside_1)
+
+pub returns-in_err-delete_files-clause-survives : goal.returns-in_err-delete_files-clause-survives
+returns-in_err-delete_files-clause-survives g c =
+    let old = state g.S.Store c.args.tx.now.conn.now in
+    let at_1 = state g.S.Store c.write_row.new.tx.conn.now in
+    let at_2 = state g.S.Store c.delete_files.new.tx.conn.now in
+    survived old at_1 at_2 c.write_row.ensures.survives c.delete_files.ensures.survives
+
+pub returns-clause-kept : goal.returns-clause-kept
+returns-clause-kept g c clean inside =
+    let old = state g.S.Store c.args.tx.now.conn.now in
+    let at_1 = state g.S.Store c.write_row.new.tx.conn.now in
+    let at_2 = state g.S.Store c.delete_files.new.tx.conn.now in
+    let at_3 = state g.S.Store c.put_new_files.new.tx.conn.now in
+    let clean_2 = was_clean at_2 at_3 c.put_new_files.ensures.survives clean in
+    let clean_1 = was_clean at_1 at_2 c.delete_files.ensures.survives clean_2 in
+    let inside_1 = c.in_ok-write_row.ensures.inside clean_1 inside in
+    let inside_2 = c.in_ok-delete_files.ensures.inside clean_2 inside_1 in
+    let kept_1 = c.write_row.ensures.kept clean_1 inside in
+    let kept_2 = keeps_then old at_1 at_2 kept_1 (c.delete_files.ensures.kept clean_2 inside_1) in
+    keeps_then old at_2 at_3 kept_2 (c.put_new_files.ensures.kept clean inside_2)
+
+pub returns-clause-survives : goal.returns-clause-survives
+returns-clause-survives g c =
+    let old = state g.S.Store c.args.tx.now.conn.now in
+    let at_1 = state g.S.Store c.write_row.new.tx.conn.now in
+    let at_2 = state g.S.Store c.delete_files.new.tx.conn.now in
+    let at_3 = state g.S.Store c.put_new_files.new.tx.conn.now in
+    survived old at_2 at_3 (survived old at_1 at_2 c.write_row.ensures.survives c.delete_files.ensures.survives) c.put_new_files.ensures.survives
+
+pub returns-clause-inside : goal.returns-clause-inside
+returns-clause-inside g c clean inside =
+    let old = state g.S.Store c.args.tx.now.conn.now in
+    let at_1 = state g.S.Store c.write_row.new.tx.conn.now in
+    let at_2 = state g.S.Store c.delete_files.new.tx.conn.now in
+    let at_3 = state g.S.Store c.put_new_files.new.tx.conn.now in
+    let clean_2 = was_clean at_2 at_3 c.put_new_files.ensures.survives clean in
+    let clean_1 = was_clean at_1 at_2 c.delete_files.ensures.survives clean_2 in
+    let inside_1 = c.in_ok-write_row.ensures.inside clean_1 inside in
+    let inside_2 = c.in_ok-delete_files.ensures.inside clean_2 inside_1 in
+    c.put_new_files.ensures.inside clean inside_2
+
+pub returns-clause-ours : goal.returns-clause-ours
+returns-clause-ours g c clean inside ours =
+    let old = state g.S.Store c.args.tx.now.conn.now in
+    let at_1 = state g.S.Store c.write_row.new.tx.conn.now in
+    let at_2 = state g.S.Store c.delete_files.new.tx.conn.now in
+    let at_3 = state g.S.Store c.put_new_files.new.tx.conn.now in
+    let clean_2 = was_clean at_2 at_3 c.put_new_files.ensures.survives clean in
+    let clean_1 = was_clean at_1 at_2 c.delete_files.ensures.survives clean_2 in
+    let inside_1 = c.in_ok-write_row.ensures.inside clean_1 inside in
+    let inside_2 = c.in_ok-delete_files.ensures.inside clean_2 inside_1 in
+    let ours_1 = c.in_ok-write_row.ensures.ours clean_1 inside ours in
+    let ours_2 = c.in_ok-delete_files.ensures.ours clean_2 inside_1 ours_1 in
+    c.put_new_files.ensures.ours clean inside_2 ours_2

@@ -1,3 +1,5 @@
+use Rattle.dep_staging.proofs.Chains.{survived, was_clean}
+use Rattle.sqlite.proofs.InsideLemmas.{keeps_then}
 use Rattle.std.proofs.Common.{refl, arith}
 use Rattle.sqlite.specs.State.{HasCleanDisk}
 use Rattle.sqlite.specs.Held.{state}
@@ -29,3 +31,39 @@ returns-clause-map g c clean inside ours s are n o numbers told =
     ok_then c.set_metadata.result
     (c.set_metadata.ensures.map clean (c.in_ok-write_row.ensures.inside before inside) (c.in_ok-write_row.ensures.ours before inside ours) one put mark (there_at one.objects row.object n mark number (get_here s.objects n mark)))
     (λ set. written_again (tables_of new) s n mark it (at_number (tables_of new) one row.object n it number set))
+
+pub returns-clause-kept : goal.returns-clause-kept
+returns-clause-kept g c clean inside =
+    let old = state g.S.Store c.args.tx.now.conn.now in
+    let at_1 = state g.S.Store c.write_row.new.tx.conn.now in
+    let at_2 = state g.S.Store c.set_metadata.new.tx.conn.now in
+    let clean_1 = was_clean at_1 at_2 c.set_metadata.ensures.survives clean in
+    let inside_1 = c.in_ok-write_row.ensures.inside clean_1 inside in
+    let kept_1 = c.write_row.ensures.kept clean_1 inside in
+    keeps_then old at_1 at_2 kept_1 (c.set_metadata.ensures.kept clean inside_1)
+
+pub returns-clause-survives : goal.returns-clause-survives
+returns-clause-survives g c =
+    let old = state g.S.Store c.args.tx.now.conn.now in
+    let at_1 = state g.S.Store c.write_row.new.tx.conn.now in
+    let at_2 = state g.S.Store c.set_metadata.new.tx.conn.now in
+    survived old at_1 at_2 c.write_row.ensures.survives c.set_metadata.ensures.survives
+
+pub returns-clause-inside : goal.returns-clause-inside
+returns-clause-inside g c clean inside =
+    let old = state g.S.Store c.args.tx.now.conn.now in
+    let at_1 = state g.S.Store c.write_row.new.tx.conn.now in
+    let at_2 = state g.S.Store c.set_metadata.new.tx.conn.now in
+    let clean_1 = was_clean at_1 at_2 c.set_metadata.ensures.survives clean in
+    let inside_1 = c.in_ok-write_row.ensures.inside clean_1 inside in
+    c.set_metadata.ensures.inside clean inside_1
+
+pub returns-clause-ours : goal.returns-clause-ours
+returns-clause-ours g c clean inside ours =
+    let old = state g.S.Store c.args.tx.now.conn.now in
+    let at_1 = state g.S.Store c.write_row.new.tx.conn.now in
+    let at_2 = state g.S.Store c.set_metadata.new.tx.conn.now in
+    let clean_1 = was_clean at_1 at_2 c.set_metadata.ensures.survives clean in
+    let inside_1 = c.in_ok-write_row.ensures.inside clean_1 inside in
+    let ours_1 = c.in_ok-write_row.ensures.ours clean_1 inside ours in
+    c.set_metadata.ensures.ours clean inside_1 ours_1
