@@ -66,3 +66,21 @@ returns-then-is_err-clause-err g c clean inside ours is_open =
     let opened = (inv.3 before inside).was_open ((c.load_state.ensures.kept clean (inv.2 before inside)).was_open is_open) in
     let same = inv.4 opened before ours in
     inl (unchanged_then old mid new same (c.in_ok-state.ensures.same same.0.is_open clean (still_ours old mid same ours)))
+
+pub returns-in_err-state-clause-kept : goal.returns-in_err-state-clause-kept
+returns-in_err-state-clause-kept g c clean inside =
+    let old = state g.S.Store c.args.tx.now.conn.now in
+    let mid = state g.S.Store c.uploads.tx.conn.now in
+    let new = state g.S.Store c.load_state.new.tx.conn.now in
+    let inv = c.uploads.invariant in
+    let before = was_clean mid new c.load_state.ensures.survives clean in
+    keeps_then old mid new (inv.3 before inside) (c.load_state.ensures.kept clean (inv.2 before inside))
+
+pub returns-then-is_err-clause-kept : goal.returns-then-is_err-clause-kept
+returns-then-is_err-clause-kept g c clean inside =
+    let old = state g.S.Store c.args.tx.now.conn.now in
+    let mid = state g.S.Store c.uploads.tx.conn.now in
+    let new = state g.S.Store c.load_state.new.tx.conn.now in
+    let inv = c.uploads.invariant in
+    let before = was_clean mid new c.load_state.ensures.survives clean in
+    keeps_then old mid new (inv.3 before inside) (c.load_state.ensures.kept clean (inv.2 before inside))
