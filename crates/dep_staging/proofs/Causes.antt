@@ -1,5 +1,5 @@
 -- A failure after calls that committed nothing.
-use Rattle.std.proofs.Common.{Result, Ok, Err, IfErr, inl, refl, arith}
+use Rattle.std.proofs.Common.{◌≡◌, Result, Ok, Err, IfErr, IsErrAnd, subst, sym, inl, refl, arith}
 use Rattle.sqlite.specs.State as db
 use Rattle.sqlite.specs.State.{Survives}
 use Rattle.sqlite.specs.Held.{Held, state}
@@ -21,6 +21,11 @@ survives_itself s = record {
 pub if_err_then : {A : Type 0} {P Q : StoreFault → Type 0} (r : Result A StoreFault) → IfErr r P → ((fault : StoreFault) → P fault → Q fault) → IfErr r Q
 if_err_then (Ok x) p f = tt
 if_err_then (Err e) p f = f e p
+
+-- a fault that is passed on
+pub if_err_is : {A : Type 0} (P : StoreFault → Type 0) (r : Result A StoreFault) (fault : StoreFault) → IsErrAnd r (λ e. e ≡ fault) → P fault → IfErr r P
+if_err_is P (Ok x) fault is p = tt
+if_err_is P (Err e) fault is p = subst P (sym is) p
 
 module _ {S : Type 0} (g : Ghosts S) (old mid new : Held S) (since : Survives (state g old) (state g mid) (λ _. ⊥)) where
   -- a statement fails at once

@@ -1,4 +1,4 @@
-use Rattle.std.proofs.Common.{arith, sym, subst, rules}
+use Rattle.std.proofs.Common.{arith, sym, subst}
 use Rattle.std.specs.FinMap as finmap
 use Rattle.sqlite.specs.State.{HasCleanDisk}
 use Rattle.sqlite.specs.Held.{state}
@@ -10,7 +10,7 @@ use Rattle.dep_row_maps.proofs.Whole.{timed_out_put}
 use Rattle.dep_staging.specs.Expiring.{timed_out}
 use Rattle.dep_staging.specs.Causes.{FailsToDrop, FailsToExpire}
 use Rattle.dep_staging.specs.Causes.FailsToExpire.{drop, number}
-use Rattle.dep_staging.proofs.Causes.{fails_then, fails_later, if_err_then, survives_itself}
+use Rattle.dep_staging.proofs.Causes.{fails_then, fails_later, if_err_then, survives_itself, if_err_is}
 use Rattle.dep_staging.proofs.Chains.{was_clean}
 use Rattle.dep_staging.proofs.ticking.expire.Goals as goal
 
@@ -32,9 +32,8 @@ pub returns-in_err-drop_upload-clause-cause : goal.returns-in_err-drop_upload-cl
 returns-in_err-drop_upload-clause-cause g c storable clean inside =
     let old = c.args.tx.now.conn.now in
     let u = c.args.upload in
-    let known = fails_later g.S.Store old old c.drop_upload.new.tx.conn.now (survives_itself (state g.S.Store old)) (FailsToDrop u) (FailsToExpire u)
-    (λ at now fault failed. drop failed) _ (c.in_err-drop_upload.ensures.cause storable clean inside) in
-    search rules
+    if_err_is _ c.from_residual.result c.in_err-drop_upload.field-0.0 c.from_residual.ensures.1 (fails_later g.S.Store old old c.drop_upload.new.tx.conn.now (survives_itself (state g.S.Store old)) (FailsToDrop u) (FailsToExpire u)
+    (λ at now fault failed. drop failed) _ (c.in_err-drop_upload.ensures.cause storable clean inside))
 
 pub returns-clause-cause : goal.returns-clause-cause
 returns-clause-cause g c storable clean inside =

@@ -11,7 +11,7 @@ use Rattle.dep_staging.specs.Expiring.{expired_all}
 use Rattle.dep_staging.proofs.Next.{next_of, none_after}
 use Rattle.dep_staging.specs.Causes.{FailsToExpireAll}
 use Rattle.dep_staging.specs.Causes.FailsToExpireAll.{next}
-use Rattle.dep_staging.proofs.Causes.{fails_then, fails_later}
+use Rattle.dep_staging.proofs.Causes.{fails_then, fails_later, if_err_is}
 use Rattle.dep_staging.proofs.Expired.{none_expired, one_more, all_expired, next_there, expire_fails}
 use Rattle.dep_staging.proofs.Chains.{was_clean}
 use Rattle.dep_staging.proofs.ticking.expire_idle.Goals as goal
@@ -91,8 +91,7 @@ returns-in_err-upload-clause-cause g c clean inside ours s are zero_free storabl
     let inv = c.uploads.invariant in
     let before = was_clean (state g.S.Store mid) (state g.S.Store new) c.next_upload.ensures.survives clean in
     let last = inv.6 before inside ours s are zero_free storable in
-    let known = fails_then g.S.Store old mid new inv.1 (FailsToExpireAll c.args.config.now c.args.clock s.uploads) _ (next c.uploads.last (c.in_err-upload.ensures.cause last.0 clean)) in
-    search rules
+    if_err_is _ c.from_residual.result c.in_err-upload.field-0.0 c.from_residual.ensures.1 (fails_then g.S.Store old mid new inv.1 (FailsToExpireAll c.args.config.now c.args.clock s.uploads) _ (next c.uploads.last (c.in_err-upload.ensures.cause last.0 clean)))
 
 pub returns-in_err-expire_if_idle-clause-cause : goal.returns-in_err-expire_if_idle-clause-cause
 returns-in_err-expire_if_idle-clause-cause g c clean inside ours s are zero_free storable =
@@ -113,13 +112,43 @@ returns-in_err-expire_if_idle-clause-cause g c clean inside ours s are zero_free
     let after = next_of z.uploads c.uploads.last c.in-Some.upload (sym c.in-Some.is ∙ next_upload_read (tables_of (state g.S.Store mid)) was z.are c.uploads.last c.in_ok-upload.field-0 (c.in_ok-upload.ensures.ok clean_seen ours_mid)) in
     let it = next_there config clock c.uploads.last c.in-Some.upload s (tables_of (state g.S.Store mid)) z after in
     let since = survives_then (state g.S.Store old) (state g.S.Store mid) (state g.S.Store seen) _ _ (λ _. ⊥) (λ _ db none. none) (λ _ db none. none) inv.1 c.next_upload.ensures.survives in
-    let known = fails_later g.S.Store old seen new since (FailsToExpireAll config clock z.uploads) (FailsToExpireAll config clock s.uploads)
+    if_err_is _ c.from_residual-in_err-expire_if_idle.result c.in_err-expire_if_idle.field-0.0 c.from_residual-in_err-expire_if_idle.ensures.1 (fails_later g.S.Store old seen new since (FailsToExpireAll config clock z.uploads) (FailsToExpireAll config clock s.uploads)
     (λ at now fault failed. expire_fails config clock c.uploads.last s (tables_of (state g.S.Store mid)) z at now fault failed) _
     (c.in_err-expire_if_idle.ensures.cause clean (c.in_ok-upload.ensures.inside clean_seen within) (still_ours (state g.S.Store mid) (state g.S.Store seen) same ours_mid) was
-    (subst (λ (t : Tables). TablesAre t was) (sym (same_tables (state g.S.Store mid) (state g.S.Store seen) same)) z.are) (storable c.in-Some.upload it.0 it.1)) in
-    search rules
+    (subst (λ (t : Tables). TablesAre t was) (sym (same_tables (state g.S.Store mid) (state g.S.Store seen) same)) z.are) (storable c.in-Some.upload it.0 it.1)))
 
 pub returns-clause-cause : goal.returns-clause-cause
 returns-clause-cause g c clean inside ours s are zero_free storable =
     let last = c.uploads.invariant.6 clean inside ours s are zero_free storable in
     absurd (omega (arith, last.0, last.1, c.uploads-test.false))
+
+pub returns-in_err-upload-clause-kept : goal.returns-in_err-upload-clause-kept
+returns-in_err-upload-clause-kept g c clean inside =
+    let old = state g.S.Store c.args.tx.now.conn.now in
+    let mid = state g.S.Store c.uploads.tx.conn.now in
+    let seen = state g.S.Store c.next_upload.new.tx.conn.now in
+    let inv = c.uploads.invariant in
+    let before = was_clean mid seen c.next_upload.ensures.survives clean in
+    keeps_then old mid seen (inv.3 before inside) (c.next_upload.ensures.kept clean (inv.2 before inside))
+
+pub returns-in_default-clause-kept : goal.returns-in_default-clause-kept
+returns-in_default-clause-kept g c clean inside =
+    let old = state g.S.Store c.args.tx.now.conn.now in
+    let mid = state g.S.Store c.uploads.tx.conn.now in
+    let seen = state g.S.Store c.next_upload.new.tx.conn.now in
+    let inv = c.uploads.invariant in
+    let before = was_clean mid seen c.next_upload.ensures.survives clean in
+    keeps_then old mid seen (inv.3 before inside) (c.next_upload.ensures.kept clean (inv.2 before inside))
+
+pub returns-in_err-expire_if_idle-clause-kept : goal.returns-in_err-expire_if_idle-clause-kept
+returns-in_err-expire_if_idle-clause-kept g c clean inside =
+    let old = state g.S.Store c.args.tx.now.conn.now in
+    let mid = state g.S.Store c.uploads.tx.conn.now in
+    let seen = state g.S.Store c.next_upload.new.tx.conn.now in
+    let new = state g.S.Store c.expire_if_idle.new.tx.conn.now in
+    let inv = c.uploads.invariant in
+    let clean_seen = was_clean seen new c.expire_if_idle.ensures.survives clean in
+    let clean_mid = was_clean mid seen c.next_upload.ensures.survives clean_seen in
+    let within = inv.2 clean_mid inside in
+    keeps_then old seen new (keeps_then old mid seen (inv.3 clean_mid inside) (c.next_upload.ensures.kept clean_seen within))
+    (c.expire_if_idle.ensures.kept clean (c.in_ok-upload.ensures.inside clean_seen within))

@@ -1,4 +1,6 @@
-use Rattle.std.proofs.Common.{◌≡◌, ◌∙◌, true, false, arith, sym, subst, rules}
+use Rattle.dep_staging.proofs.Chains.{survived, was_clean}
+use Rattle.sqlite.proofs.InsideLemmas.{keeps_then}
+use Rattle.std.proofs.Common.{◌≡◌, ◌∙◌, true, false, arith, sym, subst}
 use Rattle.std.specs.Prelude.{if◌then◌else◌}
 use Rattle.sqlite.specs.State.{HasCleanDisk}
 use Rattle.sqlite.specs.Held.{state}
@@ -11,7 +13,7 @@ use Rattle.dep_staging.specs.Expiring.{timed_out}
 use Rattle.dep_staging.proofs.Loaded.{idle_is}
 use Rattle.dep_staging.specs.Causes.{FailsToExpire, FailsToExpireAll}
 use Rattle.dep_staging.specs.Causes.FailsToExpireAll.{found, ended}
-use Rattle.dep_staging.proofs.Causes.{fails_then, fails_later, if_err_then, survives_itself}
+use Rattle.dep_staging.proofs.Causes.{fails_then, fails_later, if_err_then, survives_itself, if_err_is}
 use Rattle.dep_staging.proofs.ticking.expire_if_idle.Goals as goal
 
 pub returns-then-is_idle-clause-map : goal.returns-then-is_idle-clause-map
@@ -38,9 +40,8 @@ returns-else-is_idle-clause-map g c clean inside ours s are =
 pub returns-in_err-found-clause-cause : goal.returns-in_err-found-clause-cause
 returns-in_err-found-clause-cause g c clean inside ours s are storable =
     let old = c.args.tx.now.conn.now in
-    let known = fails_then g.S.Store old old c.find_upload.new.tx.conn.now (survives_itself (state g.S.Store old)) (FailsToExpireAll c.args.config.now c.args.clock s.uploads) _
-    (found c.args.upload (c.in_err-found.ensures.cause storable clean)) in
-    search rules
+    if_err_is _ c.from_residual.result c.in_err-found.field-0.0 c.from_residual.ensures.1 (fails_then g.S.Store old old c.find_upload.new.tx.conn.now (survives_itself (state g.S.Store old)) (FailsToExpireAll c.args.config.now c.args.clock s.uploads) _
+    (found c.args.upload (c.in_err-found.ensures.cause storable clean)))
 
 pub returns-then-is_idle-clause-cause : goal.returns-then-is_idle-clause-cause
 returns-then-is_idle-clause-cause g c clean inside ours s are storable =
@@ -57,3 +58,29 @@ returns-then-is_idle-clause-cause g c clean inside ours s are storable =
 pub returns-in_err-found-clause-err : goal.returns-in_err-found-clause-err
 returns-in_err-found-clause-err g c ours clean inside is_open =
     if_failed _ (left_whole (state g.S.Store c.args.tx.now.conn.now) (state g.S.Store c.find_upload.new.tx.conn.now) inside is_open (c.in_err-found.ensures.err clean inside ours is_open))
+
+pub returns-then-is_idle-clause-kept : goal.returns-then-is_idle-clause-kept
+returns-then-is_idle-clause-kept g c clean inside =
+    let old = state g.S.Store c.args.tx.now.conn.now in
+    let at_1 = state g.S.Store c.find_upload.new.tx.conn.now in
+    let at_2 = state g.S.Store c.expire.new.tx.conn.now in
+    let clean_1 = was_clean at_1 at_2 c.expire.ensures.survives clean in
+    let inside_1 = c.in_ok-found.ensures.inside clean_1 inside in
+    let kept_1 = c.find_upload.ensures.kept clean_1 inside in
+    keeps_then old at_1 at_2 kept_1 (c.expire.ensures.kept clean inside_1)
+
+pub returns-then-is_idle-clause-survives : goal.returns-then-is_idle-clause-survives
+returns-then-is_idle-clause-survives g c =
+    let old = state g.S.Store c.args.tx.now.conn.now in
+    let at_1 = state g.S.Store c.find_upload.new.tx.conn.now in
+    let at_2 = state g.S.Store c.expire.new.tx.conn.now in
+    survived old at_1 at_2 c.find_upload.ensures.survives c.expire.ensures.survives
+
+pub returns-then-is_idle-clause-inside : goal.returns-then-is_idle-clause-inside
+returns-then-is_idle-clause-inside g c clean inside =
+    let old = state g.S.Store c.args.tx.now.conn.now in
+    let at_1 = state g.S.Store c.find_upload.new.tx.conn.now in
+    let at_2 = state g.S.Store c.expire.new.tx.conn.now in
+    let clean_1 = was_clean at_1 at_2 c.expire.ensures.survives clean in
+    let inside_1 = c.in_ok-found.ensures.inside clean_1 inside in
+    c.expire.ensures.inside clean inside_1
