@@ -5,8 +5,9 @@ with the same durability (write-ahead log, synchronous=FULL) on the same disk, i
     checks/speed.py [--segmented MIB]
 
 It prints deposits of 1 KiB and of 16 MiB, reads of both, a file of 512 MiB in segments and its deposit by reference, and
-the greatest memory that the server had: after the deposits and reads, after as many again, and at the end. Outside the
-gate; it builds the program first. Numbers of one run on a busy machine say little: run it on one that does nothing else.
+the greatest memory that the server had: after the deposits and reads, after as many again, and at the end. Then it
+exports the bag of that file beside `cp` and `sync`, and audits the store beside `sha256sum` of as many bytes, each less
+what an open of the store takes by itself. Outside the gate; it builds the program first. Numbers of one run on a busy machine say little: run it on one that does nothing else.
 """
 
 import hashlib
@@ -15,11 +16,12 @@ import json
 import os
 import pathlib
 import sqlite3
+import subprocess
 import sys
 import tempfile
 import time
 
-from served import Server, build
+from served import PROGRAM, Server, build
 
 MIB = 1024 * 1024
 SMALL, LARGE = 1024, 16 * MIB
@@ -133,6 +135,37 @@ def segmented(client, mebibytes):
     for what, took in (("sent in segments", sent - began), ("deposited by reference", deposited - sent),
                        ("read", read - deposited)):
         print(f"{f'{mebibytes} MiB {what}':<44} {took:10.2f} s       {mebibytes / took:10.1f} MiB/s", flush=True)
+    return path.split("/")[2]
+
+
+def ran(*words):
+    """Runs a program: its status, the seconds that it took, and the greatest memory that it had, in MiB."""
+    began = time.perf_counter()
+    with subprocess.Popen(words, stdout=subprocess.DEVNULL, stderr=subprocess.DEVNULL) as process:
+        _, status, usage = os.wait4(process.pid, 0)
+        process.returncode = os.waitstatus_to_exitcode(status)
+    return process.returncode, time.perf_counter() - began, usage.ru_maxrss / 1024
+
+
+def exported_and_audited(folder, store, item, mebibytes):
+    """The commands, beside those of the system over the same bytes."""
+    bag = f"{folder}/bag"
+    status, opened, room = ran(PROGRAM, "export", store, "4000000000000000000", f"{folder}/none")
+    assert status == 1, status
+    print(f"{'open of the store alone':<44} {opened:10.2f} s       {room:10.0f} MiB of memory", flush=True)
+    size = store.stat().st_size / MIB
+    for what, words, wanted, octets in (
+            (f"export of {mebibytes} MiB", (PROGRAM, "export", store, item, bag), 0, mebibytes),
+            (f"cp and sync of {mebibytes} MiB", ("sh", "-c", f"cp -r {bag} {bag}-2 && sync {bag}-2/data/*/*"), 0, mebibytes),
+            (f"audit of a store of {size:.0f} MiB", (PROGRAM, "audit", store), 0, size),
+            (f"sha256sum of {mebibytes} MiB", ("sh", "-c", f"sha256sum {bag}/data/*/*"), 0, mebibytes)):
+        status, took, peak = ran(*words)
+        assert status == wanted, (what, status)
+        if words[0] == PROGRAM:
+            took, told = took - opened, f", {peak - room:.0f} MiB of memory above the open's"
+        else:
+            told = ""
+        print(f"{what:<44} {took:10.2f} s       {octets / took:10.1f} MiB/s{told}", flush=True)
 
 
 def plain(folder):
@@ -155,7 +188,7 @@ def main(arguments):
             first = server.peak()
             small_and_large(client)
             second = server.peak()
-            segmented(client, mebibytes)
+            item = segmented(client, mebibytes)
             print(f"peak memory: {first:.0f} MiB after the deposits and reads, {second:.0f} MiB after as many again, "
                   f"{server.peak():.0f} MiB at the end")
             client.connection.close()
@@ -165,6 +198,7 @@ def main(arguments):
         with Server(1, folder) as server:
             size = server.store.stat().st_size / MIB
             print(f"open of a store of {size:.0f} MiB: {time.perf_counter() - began:.2f} s, {server.peak():.0f} MiB")
+        exported_and_audited(folder, server.store, item, mebibytes)
         plain(folder)
     return 0
 

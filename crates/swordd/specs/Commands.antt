@@ -1,13 +1,17 @@
 -- What the words of the command line ask for.
 use Rattle.std.specs.Prelude.{ℕ, zero, suc, ◌-◌, ◌^◌, List, [], ◌∷◌, Option, Some, None, option_map, codes, bytes_eq, if◌then◌else◌}
 use Rattle.dep_octets.specs.Octets.{decimal_number, value_of}
+use Rattle.dep_types.specs.Numbers.{number_in}
 use Rattle.swordd.specs.declared.command.Command.{Command}
 use Rattle.swordd.specs.declared.command.Command.TheVariants as command
 
--- a moment and a base to replay at; a port, a file, and a count of connections to serve
+-- a moment and a base to replay at; a port, a file, and a count of connections to serve; a file, an object and a
+-- folder to export it into; a file to audit
 pub data Asked : Type 0 where
   replay : (moment : ℕ) → (base : List ℕ) → Asked
   serve : (port : ℕ) → (file : List ℕ) → (count : ℕ) → Asked
+  export : (file : List ℕ) → (object : ℕ) → (folder : List ℕ) → Asked
+  audit : (file : List ℕ) → Asked
 
 -- the moment of a word, in whole seconds since 1970
 abbrev pub moment_of : List ℕ → Option ℕ
@@ -25,19 +29,43 @@ port_of word = from_one (value_of (decimal_number word 65535))
 abbrev pub count_of : List ℕ → Option ℕ
 count_of word = from_one (value_of (decimal_number word 1000000))
 
-abbrev pub serve_of : Option ℕ → List ℕ → Option ℕ → Option Asked
-serve_of None file count = None
-serve_of (Some port) file count = option_map (λ c. serve port file c) count
+-- what the words after each name ask for, if they do
+abbrev pub replay_of : List (List ℕ) → Option Asked
+replay_of (moment ∷ base ∷ []) = option_map (λ m. replay m base) (moment_of moment)
+replay_of _ = None
+
+abbrev pub serve_at : Option ℕ → List ℕ → Option ℕ → Option Asked
+serve_at None file count = None
+serve_at (Some port) file count = option_map (λ c. serve port file c) count
+
+abbrev pub serve_of : List (List ℕ) → Option Asked
+serve_of (port ∷ file ∷ count ∷ []) = serve_at (port_of port) file (count_of count)
+serve_of _ = None
+
+abbrev pub export_of : List (List ℕ) → Option Asked
+export_of (file ∷ object ∷ folder ∷ []) = option_map (λ n. export file n folder) (number_in object)
+export_of _ = None
+
+abbrev pub audit_of : List (List ℕ) → Option Asked
+audit_of (file ∷ []) = Some (audit file)
+audit_of _ = None
+
+abbrev pub named : (name : List ℕ) → List (List ℕ) → Option Asked
+named name words =
+    if bytes_eq name (codes "replay") then replay_of words
+    else if bytes_eq name (codes "serve") then serve_of words
+    else if bytes_eq name (codes "export") then export_of words
+    else if bytes_eq name (codes "audit") then audit_of words
+    else None
 
 -- what the words ask for, if they do
 abbrev pub asked_of : List (List ℕ) → Option Asked
-asked_of (name ∷ moment ∷ base ∷ []) =
-    if bytes_eq name (codes "replay") then option_map (λ m. replay m base) (moment_of moment) else None
-asked_of (name ∷ port ∷ file ∷ count ∷ []) =
-    if bytes_eq name (codes "serve") then serve_of (port_of port) file (count_of count) else None
-asked_of _ = None
+asked_of [] = None
+asked_of (name ∷ words) = named name words
 
 -- what a command is
 abbrev pub asked_in : Command → Asked
 asked_in (command.Replay moment base) = replay moment base.now
 asked_in (command.Serve port file count) = serve port file.now count
+asked_in (command.Export file object folder) = export file.now object folder.now
+asked_in (command.Audit file) = audit file.now

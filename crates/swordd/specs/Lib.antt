@@ -1,4 +1,3 @@
-pub mod Outcomes
 pub mod Setup
 pub mod Commands
 pub mod Replays

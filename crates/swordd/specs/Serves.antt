@@ -7,8 +7,8 @@ use Rattle.dep_server.specs.Conversation.{Wire, session, AddsAll, Clocks, Conver
 use Rattle.sqlite_trees.specs.declared.store.Store.{Ghosts}
 use Rattle.dep_server.specs.declared.hub.Hub.{Hub}
 use Rattle.dep_server.specs.declared.connection.Served.{Served}
-use Rattle.swordd.specs.declared.outcome.Outcome.{Outcome}
-use Rattle.swordd.specs.declared.outcome.Outcome.TheVariants.{Done, TransferFault}
+use Rattle.dep_commands.specs.declared.outcome.Outcome.{Outcome}
+use Rattle.dep_commands.specs.declared.outcome.Outcome.TheVariants.{Done, TransferFault}
 
 -- a connection that was opened: its number, and its turns
 pub record Conversation : Type 0 where

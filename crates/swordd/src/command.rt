@@ -1,9 +1,10 @@
 //! The words of the command line.
-ghost use Rattle.std.specs.Prelude.{◌≡◌, [], ◌∷◌, map, string_bytes, option_map};
+ghost use Rattle.std.specs.Prelude.{◌≡◌, map, string_bytes, option_map};
 ghost use Rattle.dep_octets.specs.Octets.{decimal_number, value_of};
-ghost use Rattle.swordd.specs.Commands.{asked_in, asked_of, moment_of, from_one};
+ghost use Rattle.swordd.specs.Commands.{asked_in, asked_of, replay_of, serve_of, export_of, audit_of, moment_of, from_one};
 
-use dep_octets::{Number, decimal};
+use dep_octets::{Number, decimal, positive_decimal};
+use dep_types::GREATEST_NUMBER;
 
 /// What the words ask for.
 #[derive(Drop)]
@@ -19,6 +20,16 @@ pub enum Command<'a> {
         file: &'a str,
         count: u64,
     },
+    /// The bag of an object of the store in the file, into a new folder.
+    Export {
+        file: &'a str,
+        object: u64,
+        folder: &'a str,
+    },
+    /// All files of the store in the file.
+    Audit {
+        file: &'a str,
+    },
 }
 
 const GREATEST_PORT: u64 = 65_535;
@@ -31,38 +42,63 @@ impl<'a> Command<'a> {
     pub fn read(words: &'a [String]) -> Option<Command<'a>>
         ensures { option_map asked_in result ≡ asked_of (map string_bytes words.now) }
     {
-        match words {
-            [name, moment, base] => read_replay(name.as_str(), moment.as_str(), base.as_str()),
-            [name, port, file, count] => {
-                read_serve(name.as_str(), port.as_str(), file.as_str(), count.as_str())
-            }
+        let (name, words) = words.split_first()?;
+        match name.as_str() {
+            "replay" => read_replay(words),
+            "serve" => read_serve(words),
+            "export" => read_export(words),
+            "audit" => read_audit(words),
             _ => None,
         }
     }
 }
 
-fn read_replay<'a>(name: &str, moment: &str, base: &'a str) -> Option<Command<'a>>
-    ensures { option_map asked_in result ≡ asked_of (name.now ∷ moment.now ∷ base.now ∷ []) }
+fn read_replay<'a>(words: &'a [String]) -> Option<Command<'a>>
+    ensures { option_map asked_in result ≡ replay_of (map string_bytes words.now) }
 {
-    if name != "replay" {
+    let [moment, base] = words else {
         return None;
-    }
+    };
     Some(Command::Replay {
-        moment: moment_in(moment)?,
-        base,
+        moment: moment_in(moment.as_str())?,
+        base: base.as_str(),
     })
 }
 
-fn read_serve<'a>(name: &str, port: &str, file: &'a str, count: &str) -> Option<Command<'a>>
-    ensures { option_map asked_in result ≡ asked_of (name.now ∷ port.now ∷ file.now ∷ count.now ∷ []) }
+fn read_serve<'a>(words: &'a [String]) -> Option<Command<'a>>
+    ensures { option_map asked_in result ≡ serve_of (map string_bytes words.now) }
 {
-    if name != "serve" {
+    let [port, file, count] = words else {
         return None;
-    }
+    };
     Some(Command::Serve {
-        port: number_in(port, GREATEST_PORT)?,
-        file,
-        count: number_in(count, MOST_SERVED)?,
+        port: number_in(port.as_str(), GREATEST_PORT)?,
+        file: file.as_str(),
+        count: number_in(count.as_str(), MOST_SERVED)?,
+    })
+}
+
+fn read_export<'a>(words: &'a [String]) -> Option<Command<'a>>
+    ensures { option_map asked_in result ≡ export_of (map string_bytes words.now) }
+{
+    let [file, object, folder] = words else {
+        return None;
+    };
+    Some(Command::Export {
+        file: file.as_str(),
+        object: positive_decimal(object.as_bytes(), GREATEST_NUMBER)?,
+        folder: folder.as_str(),
+    })
+}
+
+fn read_audit<'a>(words: &'a [String]) -> Option<Command<'a>>
+    ensures { option_map asked_in result ≡ audit_of (map string_bytes words.now) }
+{
+    let [file] = words else {
+        return None;
+    };
+    Some(Command::Audit {
+        file: file.as_str(),
     })
 }
 

@@ -1,6 +1,6 @@
 //! Words of the command line, as the definitions read them.
 ghost use Rattle.std.specs.Prelude.{◌≡◌, ◌-◌, ◌^◌, [], ◌∷◌, Some, None, codes};
-ghost use Rattle.swordd.specs.Commands.{asked_of, replay, serve};
+ghost use Rattle.swordd.specs.Commands.{asked_of, replay, serve, export, audit};
 
 /// A moment has up to 64 bits, also with zeros before it.
 pub fn words_of_a_replay()
@@ -20,6 +20,25 @@ pub fn words_of_a_service()
     ensures no_port { asked_of (codes "serve" ∷ codes "0" ∷ codes "f" ∷ codes "1" ∷ []) ≡ None }
     ensures count { asked_of (codes "serve" ∷ codes "80" ∷ codes "f" ∷ codes "1000001" ∷ []) ≡ None }
     ensures no_count { asked_of (codes "serve" ∷ codes "80" ∷ codes "f" ∷ codes "0" ∷ []) ≡ None }
+{}
+
+/// The number of an object is written as in the path of a URL; files and folders are taken as they stand.
+pub fn words_of_an_export()
+    ensures greatest { asked_of (codes "export" ∷ codes "f" ∷ codes "4000000000000000000" ∷ codes "d" ∷ [])
+        ≡ Some (export (codes "f") 4000000000000000000 (codes "d")) }
+    ensures least { asked_of (codes "export" ∷ codes "" ∷ codes "1" ∷ codes "" ∷ [])
+        ≡ Some (export [] 1 []) }
+    ensures above { asked_of (codes "export" ∷ codes "f" ∷ codes "4000000000000000001" ∷ codes "d" ∷ []) ≡ None }
+    ensures none { asked_of (codes "export" ∷ codes "f" ∷ codes "0" ∷ codes "d" ∷ []) ≡ None }
+    ensures zero { asked_of (codes "export" ∷ codes "f" ∷ codes "01" ∷ codes "d" ∷ []) ≡ None }
+    ensures few { asked_of (codes "export" ∷ codes "f" ∷ codes "1" ∷ []) ≡ None }
+{}
+
+/// An audit takes a file alone.
+pub fn words_of_an_audit()
+    ensures file { asked_of (codes "audit" ∷ codes "f" ∷ []) ≡ Some (audit (codes "f")) }
+    ensures few { asked_of (codes "audit" ∷ []) ≡ None }
+    ensures many { asked_of (codes "audit" ∷ codes "f" ∷ codes "1" ∷ []) ≡ None }
 {}
 
 /// Other words ask for nothing.

@@ -3,17 +3,18 @@
 
 mod command;
 pub mod laws;
-mod outcome;
 mod replay;
 mod serve;
 mod service;
 mod setup;
+mod store_file;
 
 use crate::command::Command;
-pub use crate::outcome::Outcome;
 pub use crate::replay::replay;
 pub use crate::serve::serve_on;
-use crate::service::{Door, serve};
+use crate::service::Door;
+use crate::store_file::{Job, work_on};
+pub use dep_commands::{Outcome, audit_all, export_object};
 use dep_moment::Moment;
 use dep_types::Through;
 use std::process::ExitCode;
@@ -35,9 +36,17 @@ fn run(rt: &HostRuntime) -> Outcome {
         None => Outcome::Usage,
         Some(Command::Replay { moment, base }) => replay_here(rt, moment, base),
         Some(Command::Serve { port, file, count }) => match u16::try_from(port) {
-            Ok(port) => serve(rt, Door { port, count }, file),
+            Ok(port) => work_on(rt, file, Job::Serve(Door { port, count })),
             Err(_) => Outcome::Usage,
         },
+        Some(
+            Command::Export {
+                file,
+                object,
+                folder,
+            },
+        ) => work_on(rt, file, Job::Export { object, folder }),
+        Some(Command::Audit { file }) => work_on(rt, file, Job::Audit),
     }
 }
 

@@ -7,8 +7,8 @@ ghost use Rattle.dep_store.specs.Standing.{StandsFor};
 ghost use Rattle.dep_server.specs.Conversation.{wire};
 ghost use Rattle.swordd.specs.Replays.{Replays, outcome_of};
 
-use crate::outcome::Outcome;
 use crate::setup::configuration;
+use dep_commands::Outcome;
 use dep_moment::Moment;
 use dep_schema::OpenFault;
 use dep_server::{Hub, HubFault, Served, serve_connection};

@@ -3,7 +3,7 @@ ghost use Rattle.std.specs.Prelude.{◌≡◌, IfOk, IfErr};
 ghost use Rattle.dep_server.specs.Standing.{IsClean, IsHonest};
 ghost use Rattle.swordd.specs.Serves.{Serves, ServesOne};
 
-use crate::outcome::Outcome;
+use dep_commands::Outcome;
 use dep_moment::Moment;
 use dep_server::{Hub, Served, serve_connection};
 use dep_types::Through;
