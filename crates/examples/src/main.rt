@@ -3,7 +3,6 @@
 #![tactic(auto)]
 
 mod archive;
-mod archive_calls;
 mod cut;
 mod documents;
 mod escapes;
@@ -16,7 +15,6 @@ mod page;
 mod play;
 mod server;
 mod settings;
-mod shelf;
 mod side;
 mod source;
 mod trouble;
