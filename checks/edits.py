@@ -38,6 +38,8 @@ def edited_texts(edit, crate):
             texts[path], old = texts[path].replace(old, text), None
         elif line.strip():
             raise Failure("NOT APPLIED", f"no line of an edit: {line}")
+    if not texts:
+        raise Failure("NOT APPLIED", "it has no line 'file:'")
     if all(text == (crate / it).read_text(encoding="utf-8") for it, text in texts.items()):
         raise Failure("NOT APPLIED", "it changes nothing")
     return texts
