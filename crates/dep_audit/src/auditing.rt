@@ -73,7 +73,8 @@ pub fn audit_files<S: Alter>(
         → IsKept (state S.Store connection.old) (state S.Store connection.new) }
     ensures clean { HasCleanDisk (state S.Store connection.new)
         → HasCleanDisk (state S.Store connection.old) }
-    ensures survives { HasCleanDisk (state S.Store connection.new) → IsOurs (state S.Store connection.old)
+    ensures survives { HasCleanDisk (state S.Store connection.new)
+        → IsOurs (state S.Store connection.old)
         → Survives (state S.Store connection.old) (state S.Store connection.new) (λ _. ⊥) }
 {
     let mut damaged = Vec::new(alloc);

@@ -114,7 +114,8 @@ pub(crate) fn replace<S: Alter>(
 ) -> Result<(), StoreFault>
     requires { IsTrue (has_room change.now.view.now.next.file (count_of deposit.now)) }
     ensures map { FromMaps (state S.Store tx.old.conn.now) (state S.Store tx.new.conn.now)
-        (λ s. (n : ℕ) (o : Object) → TellsNumbers change.now.view.now s → TellsObject change.now.view.now s n o
+        (λ s. (n : ℕ) (o : Object) → TellsNumbers change.now.view.now s
+        → TellsObject change.now.view.now s n o
         → HasSources s change.now.content.now change.now.view.now.uploads deposit.now
         → OnOk result (SeesState (state S.Store tx.new.conn.now)
         (with_deposit s change.now.content.now n deposit.now (o.ingested || ingests)))) }
@@ -188,7 +189,8 @@ pub(crate) fn append<S: Alter>(
 ) -> Result<(), StoreFault>
     requires { IsTrue (has_room change.now.view.now.next.file (count_of deposit.now)) }
     ensures map { FromMaps (state S.Store tx.old.conn.now) (state S.Store tx.new.conn.now)
-        (λ s. (n : ℕ) (o : Object) → TellsNumbers change.now.view.now s → TellsObject change.now.view.now s n o
+        (λ s. (n : ℕ) (o : Object) → TellsNumbers change.now.view.now s
+        → TellsObject change.now.view.now s n o
         → HasSources s change.now.content.now change.now.view.now.uploads deposit.now
         → OnOk result (SeesState (state S.Store tx.new.conn.now)
         (with_appended s change.now.content.now n o deposit.now ingests))) }

@@ -112,7 +112,8 @@ fn put_posted<S: Alter>(
     digests: Digests,
 ) -> Result<(), StoreFault>
     ensures map { FromMaps (state S.Store tx.old.conn.now) (state S.Store tx.new.conn.now)
-        (λ s. (o : Object) → TellsNumbers change.now.view.now s → map.get s.objects numbers.object ≡ Some o
+        (λ s. (o : Object) → TellsNumbers change.now.view.now s
+        → map.get s.objects numbers.object ≡ Some o
         → digests ≡ digests_of change.now.content.now
         → OnOk result (SeesState (state S.Store tx.new.conn.now)
         (with_file s numbers.object o numbers.file (made_file s new.now change.now.content.now)))) }
@@ -196,7 +197,8 @@ fn put_new_file<S: Alter>(
     index: usize,
 ) -> Result<(), StoreFault>
     ensures map { FromMaps (state S.Store tx.old.conn.now) (state S.Store tx.new.conn.now)
-        (λ s. (o : Object) → TellsNumbers change.now.view.now s → map.get s.objects numbers.object ≡ Some o
+        (λ s. (o : Object) → TellsNumbers change.now.view.now s
+        → map.get s.objects numbers.object ≡ Some o
         → IsSource s change.now.content.now (slice_get change.now.view.now.uploads index) new.now.source
         → OnOk result (SeesState (state S.Store tx.new.conn.now)
         (with_new_file s numbers.object o numbers.file
@@ -250,7 +252,8 @@ pub(crate) fn set_files<S: Alter>(
 ) -> Result<(), StoreFault>
     requires { IsTrue (has_room change.now.view.now.next.file (length files.now)) }
     ensures map { FromMaps (state S.Store tx.old.conn.now) (state S.Store tx.new.conn.now)
-        (λ s. (n : ℕ) (o : Object) → TellsNumbers change.now.view.now s → TellsObject change.now.view.now s n o
+        (λ s. (n : ℕ) (o : Object) → TellsNumbers change.now.view.now s
+        → TellsObject change.now.view.now s n o
         → AreSources s change.now.content.now change.now.view.now.uploads files.now
         → OnOk result (SeesState (state S.Store tx.new.conn.now)
         (with_new_files s change.now.content.now n (with_files s map.empty o) files.now))) }
@@ -278,7 +281,8 @@ pub(crate) fn set_file<S: Alter>(
         → TellsFile change.now.view.now s n o file it
         → new.now.source ≡ Posted (digests_of change.now.content.now)
         → OnOk result (SeesState (state S.Store tx.new.conn.now)
-        (with_object s n (with_files s (map.insert o.files file (made_file s new.now change.now.content.now)) o)))) }
+        (with_object s n
+        (with_files s (map.insert o.files file (made_file s new.now change.now.content.now)) o)))) }
     ensures ours { KeepsOurs (state S.Store tx.old.conn.now) (state S.Store tx.new.conn.now) result }
     ensures inside { GoesOn (state S.Store tx.old.conn.now) (state S.Store tx.new.conn.now) result }
     ensures kept { StaysInside (state S.Store tx.old.conn.now) (state S.Store tx.new.conn.now) }

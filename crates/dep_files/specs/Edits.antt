@@ -10,7 +10,8 @@ use Rattle.dep_tables.specs.declared.owner.BlockOwner.TheVariants as owner
 -- the contents of these files are deleted, one after another
 abbrev pub without_contents : List ℕ → List Row → List Row
 without_contents [] rows = rows
-without_contents (f ∷ files) rows = without_contents files (filter (λ r. not (is_block_of (owner.File f) r)) rows)
+without_contents (f ∷ files) rows =
+    without_contents files (filter (λ r. not (is_block_of (owner.File f) r)) rows)
 
 -- the object with a file, without one, and without any
 abbrev pub with_file : State → (n : ℕ) → Object → (f : ℕ) → File → State

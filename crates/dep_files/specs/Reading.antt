@@ -7,7 +7,8 @@ use Rattle.dep_tables.specs.Tables.{tables_of, IsOurs}
 use Rattle.dep_row_maps.specs.TablesAre.{TablesAre}
 
 -- an Ok tells this of the state
-abbrev pub Tells : {A E : Type 0} (old new : db.State) (result : Result A E) → (State → A → Type 0) → Type 0
+abbrev pub Tells : {A E : Type 0} (old new : db.State) (result : Result A E) → (State → A → Type 0)
+    → Type 0
 Tells old new result told =
     HasCleanDisk new → IsOurs old → (s : State) → TablesAre (tables_of old) s → IfOk result (told s)
 

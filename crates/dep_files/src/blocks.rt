@@ -20,8 +20,11 @@ pub fn put_blocks<S: Alter, C: Content>(
     content: &C,
 ) -> Result<(), StoreFault>
     ensures ok { Becomes (state S.Store tx.old.conn.now) (state S.Store tx.new.conn.now) result
-        (λ t. record t { blocks = put_blocks owner part 0 (blocks_of (C.bytes content.now)) t.blocks }) }
-    ensures err { FailsUncommitted (state S.Store tx.old.conn.now) (state S.Store tx.new.conn.now) result }
+        (λ t. record t {
+          blocks = put_blocks owner part 0 (blocks_of (C.bytes content.now)) t.blocks;
+        }) }
+    ensures err { FailsUncommitted
+        (state S.Store tx.old.conn.now) (state S.Store tx.new.conn.now) result }
     ensures inside { GoesOn (state S.Store tx.old.conn.now) (state S.Store tx.new.conn.now) result }
     ensures kept { StaysInside (state S.Store tx.old.conn.now) (state S.Store tx.new.conn.now) }
     ensures same_reference { tx.new.conn.ghost_name ≡ tx.old.conn.ghost_name }

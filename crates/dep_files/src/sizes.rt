@@ -41,7 +41,8 @@ fn size_in(row: &Row) -> Result<FileSize, Error>
 }
 
 fn only(rows: &[Row]) -> Result<Option<FileSize>, StoreFault>
-    ensures { IfOk result (λ found. map size_values (option_to_list found) ≡ map (columns_from 0 2) rows.now) }
+    ensures { IfOk result
+        (λ found. map size_values (option_to_list found) ≡ map (columns_from 0 2) rows.now) }
 {
     match rows {
         [] => Ok(None),
@@ -71,8 +72,10 @@ pub(crate) fn find_size<S: Alter>(
     ensures found { HasCleanDisk (state S.Store connection.new)
         → OnOk result (IsTrue (state S.Store connection.old).is_open) }
     ensures open { HasCleanDisk (state S.Store connection.new)
-        → IsTrue (state S.Store connection.new).is_open → IsTrue (state S.Store connection.old).is_open }
-    ensures clean { HasCleanDisk (state S.Store connection.new) → HasCleanDisk (state S.Store connection.old) }
+        → IsTrue (state S.Store connection.new).is_open
+        → IsTrue (state S.Store connection.old).is_open }
+    ensures clean { HasCleanDisk (state S.Store connection.new)
+        → HasCleanDisk (state S.Store connection.old) }
     ensures survives { IsOurs (state S.Store connection.old)
         → Survives (state S.Store connection.old) (state S.Store connection.new) (λ _. ⊥) }
 {

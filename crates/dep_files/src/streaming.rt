@@ -56,13 +56,16 @@ pub fn stream_content<S: Alter, O: Outlet>(
         → IsKept (state S.Store connection.old) (state S.Store connection.new) }
     // It opens no store that was shut.
     ensures open { HasCleanDisk (state S.Store connection.new)
-        → IsTrue (state S.Store connection.new).is_open → IsTrue (state S.Store connection.old).is_open }
+        → IsTrue (state S.Store connection.new).is_open
+        → IsTrue (state S.Store connection.old).is_open }
     ensures clean { HasCleanDisk (state S.Store connection.new)
         → HasCleanDisk (state S.Store connection.old) }
-    ensures survives { HasCleanDisk (state S.Store connection.new) → IsOurs (state S.Store connection.old)
+    ensures survives { HasCleanDisk (state S.Store connection.new)
+        → IsOurs (state S.Store connection.old)
         → Survives (state S.Store connection.old) (state S.Store connection.new) (λ _. ⊥) }
     ensures kept { OnOk result (O.failures out.new ≡ O.failures out.old) }
-    ensures cause { result ≡ Err StreamFault.Writer → HasRisen (O.failures out.old) (O.failures out.new) }
+    ensures cause { result ≡ Err StreamFault.Writer
+        → HasRisen (O.failures out.old) (O.failures out.new) }
 {
     let found = match find_size(connection, file) {
         Ok(found) => found,
@@ -99,7 +102,8 @@ pub fn load_content<S: Alter>(
         → IsKept (state S.Store connection.old) (state S.Store connection.new) }
     ensures clean { HasCleanDisk (state S.Store connection.new)
         → HasCleanDisk (state S.Store connection.old) }
-    ensures survives { HasCleanDisk (state S.Store connection.new) → IsOurs (state S.Store connection.old)
+    ensures survives { HasCleanDisk (state S.Store connection.new)
+        → IsOurs (state S.Store connection.old)
         → Survives (state S.Store connection.old) (state S.Store connection.new) (λ _. ⊥) }
 {
     let mut out = Through::new(Vec::new(alloc));

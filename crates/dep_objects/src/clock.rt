@@ -38,9 +38,11 @@ pub fn set_counters<S: Alter>(tx: &mut Transaction<'_, S>, row: &StateRow) -> Re
         (λ s. OnOk result
         (SeesState (state S.Store tx.new.conn.now) (with_counters s row.now.clock row.now.next))) }
     ensures ours { KeepsOurs (state S.Store tx.old.conn.now) (state S.Store tx.new.conn.now) result }
-    ensures numbers { RefusesNumbers (state S.Store tx.old.conn.now) (state S.Store tx.new.conn.now) result
+    ensures numbers { RefusesNumbers
+        (state S.Store tx.old.conn.now) (state S.Store tx.new.conn.now) result
         (IsStorableState row.now) }
-    ensures cause { FailsByRunning (state S.Store tx.old.conn.now) (state S.Store tx.new.conn.now) result
+    ensures cause { FailsByRunning
+        (state S.Store tx.old.conn.now) (state S.Store tx.new.conn.now) result
         (IsStorableState row.now) write_state_text (state_values row.now) }
     ensures err { FailsWhole (state S.Store tx.old.conn.now) (state S.Store tx.new.conn.now) result }
     ensures inside { GoesOn (state S.Store tx.old.conn.now) (state S.Store tx.new.conn.now) result }

@@ -28,7 +28,8 @@ at_entry rule rest (AnUpload u) [] = rest []
 at_entry rule rest (AnUpload u) (v ∷ views) = first_of (rule v.state ∷ rest views ∷ [])
 
 -- the first entry that a rule refuses; there is a view for each that points at an upload, in their order
-unfoldable pub walk : (Reference → UploadState → Option Refusal) → List Reference → List UploadView → Option Refusal
+unfoldable pub walk : (Reference → UploadState → Option Refusal) → List Reference → List UploadView
+    → Option Refusal
 walk rule [] views = None
 walk rule (r ∷ refs) views = at_entry (rule r) (walk rule refs) r.target views
 

@@ -140,7 +140,8 @@ fn metadata_of(
     operation: &Operation<'_>,
     purpose: Option<Purpose>,
 ) -> Result<Option<Metadata>, AllocError>
-    ensures { IfOk result (λ metadata. purpose ≡ Some of.Metadata → metadata ≡ metadata_read operation.now.content) }
+    ensures { IfOk result (λ metadata. purpose ≡ Some of.Metadata
+        → metadata ≡ metadata_read operation.now.content) }
 {
     match purpose {
         Some(Purpose::Metadata) => read(alloc, operation.content.as_slice()),
@@ -167,7 +168,8 @@ fn document_row(
     purpose: Option<Purpose>,
     is_readable: bool,
 ) -> Result<Option<Refusal>, AllocError>
-    requires { purpose ≡ Some of.Metadata → is_readable ≡ is_some (metadata_read _operation.now.content) }
+    requires { purpose ≡ Some of.Metadata
+        → is_readable ≡ is_some (metadata_read _operation.now.content) }
     ensures { IfOk result (λ refusal. refusal ≡ document_by view.now _operation.now purpose) }
 {
     match purpose {

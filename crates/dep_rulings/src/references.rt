@@ -34,7 +34,8 @@ pub(crate) fn references_row(
     views: &[UploadView],
     references: Option<&References>,
 ) -> Result<Option<Refusal>, AllocError>
-    ensures { IfOk result (λ refusal. refusal ≡ references_seen views.now (option_copied references.entry)) }
+    ensures { IfOk result
+        (λ refusal. refusal ≡ references_seen views.now (option_copied references.entry)) }
 {
     match references {
         Some(references) => entries_row(alloc, views, references.as_slice()),

@@ -107,7 +107,8 @@ fn uploads_in(
     resource: &Resource,
     references: Option<&References>,
 ) -> Result<Numbers, AllocError>
-    ensures { IfOk result (λ uploads. uploads ≡ uploads_in resource.now (option_copied references.entry)) }
+    ensures { IfOk result
+        (λ uploads. uploads ≡ uploads_in resource.now (option_copied references.entry)) }
 {
     match (resource, references) {
         (Resource::Upload(upload), _) => one(alloc, *upload),

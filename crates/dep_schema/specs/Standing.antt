@@ -107,15 +107,18 @@ IsBack old new = (new.now ≡ old.committed) × (new.committed ≡ old.committed
 
 -- there is some table, and where the tables are ours they don't have our version
 abbrev pub HasOtherVersion : State → Type 0
-HasOtherVersion s = (s.now.schema ≡ no_schema → ⊥) × (IsOurs s → HasVersion our_version (tables_of s) → ⊥)
+HasOtherVersion s = (s.now.schema ≡ no_schema → ⊥)
+    × (IsOurs s → HasVersion our_version (tables_of s) → ⊥)
 
 -- inside a transaction, an Ok does this to the database that the connection sees
 abbrev pub Turns : {A E : Type 0} → State → State → Result A E → (Database → Database → Type 0) → Type 0
-Turns old new result does = HasCleanDisk new → IsTrue old.in_transaction → OnOk result (does old.now new.now)
+Turns old new result does = HasCleanDisk new → IsTrue old.in_transaction
+    → OnOk result (does old.now new.now)
 
 -- how a transaction ends: committed, by a commit that failed, or given up
 abbrev pub EndsTransaction : State → State → Type 0
-EndsTransaction inside new = Commits inside new ⊎ (((e : Error) × FailsToCommit inside new e) ⊎ IsRolledBack inside new)
+EndsTransaction inside new = Commits inside new
+    ⊎ (((e : Error) × FailsToCommit inside new e) ⊎ IsRolledBack inside new)
 
 -- a transaction from its beginning to its end, as the clauses of the statements and of its end tell it
 pub record WholeTransaction {S : Type 0} (g : Ghosts S) (old inside new : Held S) : Type 0 where

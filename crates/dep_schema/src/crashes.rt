@@ -13,7 +13,8 @@ use sqlite::{Alter, Connection};
 pub fn settled<S: Alter>(connection: &Connection<S>)
     ensures left { (tables : Tables) → Stands (state S.Store connection.now) tables
         → (trees : Trees) → (state S.Store connection.now).may_leave trees → Holds trees tables }
-    ensures clean { IsTrue (state S.Store connection.now).is_open → HasCleanDisk (state S.Store connection.now) }
+    ensures clean { IsTrue (state S.Store connection.now).is_open
+        → HasCleanDisk (state S.Store connection.now) }
 {}
 
 /// A whole transaction that ends with the store open began with it open, whether or not it was committed.

@@ -166,7 +166,8 @@ fn create_blocks<S: Alter>(tx: &mut Transaction<'_, S>) -> Result<(), StoreFault
 fn add_format<S: Alter>(tx: &mut Transaction<'_, S>) -> Result<(), StoreFault>
     ensures beside { HasCleanDisk (state S.Store tx.new.conn.now)
         → IsTrue (state S.Store tx.old.conn.now).in_transaction
-        → (others : Schema) → AreFree others → (state S.Store tx.old.conn.now).now.schema ≡ with_ours others
+        → (others : Schema) → AreFree others
+        → (state S.Store tx.old.conn.now).now.schema ≡ with_ours others
         → OnOk result (Puts (next_tree others) (stored_format our_version)
         (state S.Store tx.old.conn.now).now (state S.Store tx.new.conn.now).now) }
     ensures inside { GoesOn (state S.Store tx.old.conn.now) (state S.Store tx.new.conn.now) result }
@@ -181,7 +182,8 @@ fn add_format<S: Alter>(tx: &mut Transaction<'_, S>) -> Result<(), StoreFault>
 fn add_state<S: Alter>(tx: &mut Transaction<'_, S>) -> Result<(), StoreFault>
     ensures beside { HasCleanDisk (state S.Store tx.new.conn.now)
         → IsTrue (state S.Store tx.old.conn.now).in_transaction
-        → (others : Schema) → AreFree others → (state S.Store tx.old.conn.now).now.schema ≡ with_ours others
+        → (others : Schema) → AreFree others
+        → (state S.Store tx.old.conn.now).now.schema ≡ with_ours others
         → OnOk result (Puts (next_tree (created others format_table)) (stored_state first_state)
         (state S.Store tx.old.conn.now).now (state S.Store tx.new.conn.now).now) }
     ensures inside { GoesOn (state S.Store tx.old.conn.now) (state S.Store tx.new.conn.now) result }
@@ -242,7 +244,8 @@ fn create_last<S: Alter>(tx: &mut Transaction<'_, S>) -> Result<(), StoreFault>
 fn add_rows<S: Alter>(tx: &mut Transaction<'_, S>) -> Result<(), StoreFault>
     ensures beside { HasCleanDisk (state S.Store tx.new.conn.now)
         → IsTrue (state S.Store tx.old.conn.now).in_transaction
-        → (others : Schema) → AreFree others → (state S.Store tx.old.conn.now).now.schema ≡ with_ours others
+        → (others : Schema) → AreFree others
+        → (state S.Store tx.old.conn.now).now.schema ≡ with_ours others
         → OnOk result ((next : Database)
         × Puts (next_tree others) (stored_format our_version) (state S.Store tx.old.conn.now).now next
         × Puts (next_tree (created others format_table)) (stored_state first_state) next
@@ -258,7 +261,8 @@ fn add_rows<S: Alter>(tx: &mut Transaction<'_, S>) -> Result<(), StoreFault>
 
 /// The tables of a new store, where their names are free.
 pub(crate) fn make_tables<S: Alter>(tx: &mut Transaction<'_, S>) -> Result<(), StoreFault>
-    ensures ok { HasCleanDisk (state S.Store tx.new.conn.now) → IsTrue (state S.Store tx.old.conn.now).in_transaction
+    ensures ok { HasCleanDisk (state S.Store tx.new.conn.now)
+        → IsTrue (state S.Store tx.old.conn.now).in_transaction
         → (state S.Store tx.old.conn.now).now.schema ≡ no_schema
         → OnOk result (Sees (state S.Store tx.new.conn.now) first_tables) }
     ensures gains { Turns (state S.Store tx.old.conn.now) (state S.Store tx.new.conn.now) result

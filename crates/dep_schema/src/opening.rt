@@ -73,7 +73,8 @@ fn is_known(row: &Row) -> bool
 /// Whether it is the one row of id 1 and version 1.
 fn are_known(rows: &[Row]) -> bool
     ensures { IsTrue result
-        ↔ ((found : _) × (rows.now ≡ found ∷ []) × (column found 0 ≡ Int (pos 1)) × (column found 1 ≡ Int (pos 1))) }
+        ↔ ((found : _) × (rows.now ≡ found ∷ []) × (column found 0 ≡ Int (pos 1))
+        × (column found 1 ≡ Int (pos 1))) }
 {
     match rows {
         [row] => is_known(row),
@@ -102,9 +103,11 @@ fn find_format<S: Alter>(tx: &mut Transaction<'_, S>) -> Result<bool, OpenFault>
         → LacksFormat (state S.Store tx.old.conn.now).now.schema
         → MatchResult result (λ found. found ≡ false) (λ fault. fault ≢ OpenFault.UnknownVersion) }
     ensures same { HasCleanDisk (state S.Store tx.new.conn.now)
-        → IsOurs (state S.Store tx.old.conn.now) ⊎ ((state S.Store tx.old.conn.now).now.schema ≡ no_schema)
+        → IsOurs (state S.Store tx.old.conn.now)
+        ⊎ ((state S.Store tx.old.conn.now).now.schema ≡ no_schema)
         → OnOk result (IsUnchanged (state S.Store tx.old.conn.now) (state S.Store tx.new.conn.now)) }
-    ensures left { HasCleanDisk (state S.Store tx.new.conn.now) → LacksFormat (state S.Store tx.old.conn.now).now.schema
+    ensures left { HasCleanDisk (state S.Store tx.new.conn.now)
+        → LacksFormat (state S.Store tx.old.conn.now).now.schema
         → OnOk result (IsUnchanged (state S.Store tx.old.conn.now) (state S.Store tx.new.conn.now)) }
     ensures inside { GoesOn (state S.Store tx.old.conn.now) (state S.Store tx.new.conn.now) result }
     ensures kept { StaysInside (state S.Store tx.old.conn.now) (state S.Store tx.new.conn.now) }
@@ -132,18 +135,23 @@ fn find_format<S: Alter>(tx: &mut Transaction<'_, S>) -> Result<bool, OpenFault>
 
 /// Makes the tables where there are none.
 fn find_or_make<S: Alter>(tx: &mut Transaction<'_, S>) -> Result<(), OpenFault>
-    ensures empty { HasCleanDisk (state S.Store tx.new.conn.now) → IsTrue (state S.Store tx.old.conn.now).in_transaction
+    ensures empty { HasCleanDisk (state S.Store tx.new.conn.now)
+        → IsTrue (state S.Store tx.old.conn.now).in_transaction
         → (state S.Store tx.old.conn.now).now.schema ≡ no_schema
         → OnOk result (Sees (state S.Store tx.new.conn.now) first_tables) }
     ensures ours { HasCleanDisk (state S.Store tx.new.conn.now) → IsOurs (state S.Store tx.old.conn.now)
         → OnOk result (HasVersion our_version (tables_of (state S.Store tx.old.conn.now))
         × ((state S.Store tx.new.conn.now).now ≡ (state S.Store tx.old.conn.now).now)) }
-    ensures version { HasCleanDisk (state S.Store tx.new.conn.now) → result ≡ Err OpenFault.UnknownVersion
+    ensures version { HasCleanDisk (state S.Store tx.new.conn.now)
+        → result ≡ Err OpenFault.UnknownVersion
         → HasOtherVersion (state S.Store tx.old.conn.now) }
-    ensures gains { HasCleanDisk (state S.Store tx.new.conn.now) → IsTrue (state S.Store tx.old.conn.now).in_transaction
+    ensures gains { HasCleanDisk (state S.Store tx.new.conn.now)
+        → IsTrue (state S.Store tx.old.conn.now).in_transaction
         → LacksFormat (state S.Store tx.old.conn.now).now.schema
-        → OnOk result (GainsOurs (state S.Store tx.old.conn.now).now (state S.Store tx.new.conn.now).now) }
-    ensures lacking { HasCleanDisk (state S.Store tx.new.conn.now) → result ≡ Err OpenFault.UnknownVersion
+        → OnOk result
+        (GainsOurs (state S.Store tx.old.conn.now).now (state S.Store tx.new.conn.now).now) }
+    ensures lacking { HasCleanDisk (state S.Store tx.new.conn.now)
+        → result ≡ Err OpenFault.UnknownVersion
         → LacksFormat (state S.Store tx.old.conn.now).now.schema → ⊥ }
     ensures inside { GoesOn (state S.Store tx.old.conn.now) (state S.Store tx.new.conn.now) result }
     ensures kept { StaysInside (state S.Store tx.old.conn.now) (state S.Store tx.new.conn.now) }
@@ -161,21 +169,27 @@ fn find_or_make<S: Alter>(tx: &mut Transaction<'_, S>) -> Result<(), OpenFault>
 
 fn prepare<S: Alter>(connection: &mut Connection<S>) -> Result<(), OpenFault>
     requires settled { (state S.Store connection.old).in_transaction ≡ false }
-    ensures fresh { HasCleanDisk (state S.Store connection.new) → (state S.Store connection.old).now.schema ≡ no_schema
+    ensures fresh { HasCleanDisk (state S.Store connection.new)
+        → (state S.Store connection.old).now.schema ≡ no_schema
         → OnOk result (Stands (state S.Store connection.new) first_tables) }
     ensures found { HasCleanDisk (state S.Store connection.new) → IsOurs (state S.Store connection.old)
         → OnOk result (HasVersion our_version (tables_of (state S.Store connection.old))
         × Stands (state S.Store connection.new) (tables_of (state S.Store connection.old))) }
-    ensures version { HasCleanDisk (state S.Store connection.new) → result ≡ Err OpenFault.UnknownVersion
+    ensures version { HasCleanDisk (state S.Store connection.new)
+        → result ≡ Err OpenFault.UnknownVersion
         → HasOtherVersion (state S.Store connection.old) }
-    ensures lacking { HasCleanDisk (state S.Store connection.new) → result ≡ Err OpenFault.UnknownVersion
+    ensures lacking { HasCleanDisk (state S.Store connection.new)
+        → result ≡ Err OpenFault.UnknownVersion
         → LacksFormat (state S.Store connection.old).now.schema → ⊥ }
-    ensures free { HasCleanDisk (state S.Store connection.new) → LacksFormat (state S.Store connection.old).now.schema
+    ensures free { HasCleanDisk (state S.Store connection.new)
+        → LacksFormat (state S.Store connection.old).now.schema
         → OnOk result (AreFree (state S.Store connection.old).now.schema) }
-    ensures beside { HasCleanDisk (state S.Store connection.new) → LacksFormat (state S.Store connection.old).now.schema
+    ensures beside { HasCleanDisk (state S.Store connection.new)
+        → LacksFormat (state S.Store connection.old).now.schema
         → HasCounters (state S.Store connection.old).now.schema
         → OnOk result (StandsBeside (state S.Store connection.old) (state S.Store connection.new)) }
-    ensures left { HasCleanDisk (state S.Store connection.new) → IsTrue (state S.Store connection.new).is_open
+    ensures left { HasCleanDisk (state S.Store connection.new)
+        → IsTrue (state S.Store connection.new).is_open
         → OnErr result (IsBack (state S.Store connection.old) (state S.Store connection.new)) }
     ensures opened { HasCleanDisk (state S.Store connection.new)
         → OnOk result (IsTrue (state S.Store connection.old).is_open) }
@@ -201,14 +215,17 @@ pub fn open<S: Alter>(
 ) -> Result<Schema<S>, (OpenFault, Connection<S>)>
     requires settled { (state S.Store connection).in_transaction ≡ false }
     ensures fresh { IfOk result (λ schema. HasCleanDisk (state S.Store schema.connection)
-        → HoldsNone (state S.Store connection).now.trees → Stands (state S.Store schema.connection) first_tables) }
+        → HoldsNone (state S.Store connection).now.trees
+        → Stands (state S.Store schema.connection) first_tables) }
     ensures found { IfOk result (λ schema. HasCleanDisk (state S.Store schema.connection)
         → (tables : Tables) → Holds (state S.Store connection).now.trees tables
         → HasVersion our_version tables × Stands (state S.Store schema.connection) tables) }
     ensures free { IfOk result (λ schema. HasCleanDisk (state S.Store schema.connection)
-        → LacksFormat (state S.Store connection).now.schema → AreFree (state S.Store connection).now.schema) }
+        → LacksFormat (state S.Store connection).now.schema
+        → AreFree (state S.Store connection).now.schema) }
     ensures beside { IfOk result (λ schema. HasCleanDisk (state S.Store schema.connection)
-        → LacksFormat (state S.Store connection).now.schema → HasCounters (state S.Store connection).now.schema
+        → LacksFormat (state S.Store connection).now.schema
+        → HasCounters (state S.Store connection).now.schema
         → StandsBeside (state S.Store connection) (state S.Store schema.connection)) }
     ensures version { IfErr result (λ e. HasCleanDisk (state S.Store e.1)
         → e.0 ≡ OpenFault.UnknownVersion → IsOpenable (state S.Store connection) → ⊥) }
@@ -216,7 +233,8 @@ pub fn open<S: Alter>(
         → IsTrue (state S.Store e.1).is_open → IsBack (state S.Store connection) (state S.Store e.1)) }
     // No open opens a store that was shut.
     ensures opened { MatchResult result
-        (λ schema. IsTrue (state S.Store schema.connection).is_open → IsTrue (state S.Store connection).is_open)
+        (λ schema. IsTrue (state S.Store schema.connection).is_open
+        → IsTrue (state S.Store connection).is_open)
         (λ e. IsTrue (state S.Store e.1).is_open → IsTrue (state S.Store connection).is_open) }
     ensures mode { MatchResult result
         (λ schema. (state S.Store schema.connection).in_transaction ≡ false)
@@ -224,7 +242,8 @@ pub fn open<S: Alter>(
     ensures crash { MatchResult result
         (λ schema. Survives (state S.Store connection) (state S.Store schema.connection)
         (CommitsOpen (state S.Store connection)))
-        (λ e. Survives (state S.Store connection) (state S.Store e.1) (CommitsOpen (state S.Store connection))) }
+        (λ e. Survives (state S.Store connection) (state S.Store e.1)
+        (CommitsOpen (state S.Store connection))) }
 {
     let _schema = connection.schema();
     match prepare(&mut connection) {

@@ -35,11 +35,13 @@ fn segment_block<S: Alter>(
         (λ s found. (bytes : List ℕ) → IsSegmentOf s segment.now bytes
         → found.items ≡ slice_index_or (blocks_of bytes) place []) }
     ensures same { ReadsOnly (state S.Store tx.old.conn.now) (state S.Store tx.new.conn.now) result }
-    ensures cause { HasCleanDisk (state S.Store tx.new.conn.now) → IsOurs (state S.Store tx.old.conn.now)
+    ensures cause { HasCleanDisk (state S.Store tx.new.conn.now)
+        → IsOurs (state S.Store tx.old.conn.now)
         → (s : State) → TablesAre (tables_of (state S.Store tx.old.conn.now)) s
         → (bytes : List ℕ) → IsSegmentOf s segment.now bytes → place < length (blocks_of bytes)
         → IsStorableKey (block_key (owner.Upload segment.now.upload) segment.now.number place)
-        → IfErr result (FailsSince S.Store (FailsToHash segment.now.upload) tx.old.conn.now tx.new.conn.now) }
+        → IfErr result
+        (FailsSince S.Store (FailsToHash segment.now.upload) tx.old.conn.now tx.new.conn.now) }
     ensures err { FailsReading (state S.Store tx.old.conn.now) (state S.Store tx.new.conn.now) result }
     ensures inside { GoesOn (state S.Store tx.old.conn.now) (state S.Store tx.new.conn.now) result }
     ensures kept { StaysInside (state S.Store tx.old.conn.now) (state S.Store tx.new.conn.now) }
@@ -71,11 +73,13 @@ fn hash_segment<S: Alter>(
         → OnOk result (Holds256 hasher.new (message ++ bytes)) }
     ensures same { IsTrue (state S.Store tx.old.conn.now).is_open
         → ReadsOnly (state S.Store tx.old.conn.now) (state S.Store tx.new.conn.now) result }
-    ensures cause { HasCleanDisk (state S.Store tx.new.conn.now) → IsOurs (state S.Store tx.old.conn.now)
+    ensures cause { HasCleanDisk (state S.Store tx.new.conn.now)
+        → IsOurs (state S.Store tx.old.conn.now)
         → IsTrue (state S.Store tx.old.conn.now).is_open
         → (s : State) → TablesAre (tables_of (state S.Store tx.old.conn.now)) s
         → (bytes : List ℕ) → IsSegmentOf s segment.now bytes → IsStorableSegment segment.now
-        → IfErr result (FailsSince S.Store (FailsToHash segment.now.upload) tx.old.conn.now tx.new.conn.now) }
+        → IfErr result
+        (FailsSince S.Store (FailsToHash segment.now.upload) tx.old.conn.now tx.new.conn.now) }
     ensures err { FailsReading (state S.Store tx.old.conn.now) (state S.Store tx.new.conn.now) result }
     ensures inside { GoesOn (state S.Store tx.old.conn.now) (state S.Store tx.new.conn.now) result }
     ensures kept { StaysInside (state S.Store tx.old.conn.now) (state S.Store tx.new.conn.now) }
@@ -104,7 +108,8 @@ pub fn hash_upload<S: Alter>(
         (λ s digest. (it : Upload) → finmap.get s.uploads upload ≡ Some it → HasSegmentsWithin it
         → digest ≡ sha256 (assembled it)) }
     ensures same { ReadsOnly (state S.Store tx.old.conn.now) (state S.Store tx.new.conn.now) result }
-    ensures cause { HasCleanDisk (state S.Store tx.new.conn.now) → IsOurs (state S.Store tx.old.conn.now)
+    ensures cause { HasCleanDisk (state S.Store tx.new.conn.now)
+        → IsOurs (state S.Store tx.old.conn.now)
         → (s : State) → TablesAre (tables_of (state S.Store tx.old.conn.now)) s
         → HasStorableSegments s upload
         → IfErr result (FailsSince S.Store (FailsToHash upload) tx.old.conn.now tx.new.conn.now) }

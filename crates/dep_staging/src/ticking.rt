@@ -39,7 +39,8 @@ fn expire<S: Alter>(tx: &mut Transaction<'_, S>, upload: u64) -> Result<(), Stor
     ensures ours { KeepsOurs (state S.Store tx.old.conn.now) (state S.Store tx.new.conn.now) result }
     ensures cause { FailsByOne S.Store tx.old.conn.now tx.new.conn.now result
         (upload < 2 ^ 63) (FailsToExpire upload) }
-    ensures err { FailsUncommitted (state S.Store tx.old.conn.now) (state S.Store tx.new.conn.now) result }
+    ensures err { FailsUncommitted
+        (state S.Store tx.old.conn.now) (state S.Store tx.new.conn.now) result }
     ensures inside { GoesOn (state S.Store tx.old.conn.now) (state S.Store tx.new.conn.now) result }
     ensures kept { StaysInside (state S.Store tx.old.conn.now) (state S.Store tx.new.conn.now) }
     ensures same_reference { tx.new.conn.ghost_name ≡ tx.old.conn.ghost_name }
@@ -63,7 +64,8 @@ fn expire_if_idle<S: Alter>(
         (λ s. upload < 2 ^ 63
         → IfErr result (FailsSince S.Store (FailsToExpireAll config.now clock s.uploads)
         tx.old.conn.now tx.new.conn.now)) }
-    ensures err { FailsReadingUncommitted (state S.Store tx.old.conn.now) (state S.Store tx.new.conn.now) result }
+    ensures err { FailsReadingUncommitted
+        (state S.Store tx.old.conn.now) (state S.Store tx.new.conn.now) result }
     ensures inside { GoesOn (state S.Store tx.old.conn.now) (state S.Store tx.new.conn.now) result }
     ensures kept { StaysInside (state S.Store tx.old.conn.now) (state S.Store tx.new.conn.now) }
     ensures same_reference { tx.new.conn.ghost_name ≡ tx.old.conn.ghost_name }
@@ -91,7 +93,8 @@ fn expire_idle<S: Alter>(
         (λ s. finmap.get s.uploads 0 ≡ None → HasStorableNumbers s.uploads
         → IfErr result (FailsSince S.Store (FailsToExpireAll config.now clock s.uploads)
         tx.old.conn.now tx.new.conn.now)) }
-    ensures err { FailsReadingUncommitted (state S.Store tx.old.conn.now) (state S.Store tx.new.conn.now) result }
+    ensures err { FailsReadingUncommitted
+        (state S.Store tx.old.conn.now) (state S.Store tx.new.conn.now) result }
     ensures inside { GoesOn (state S.Store tx.old.conn.now) (state S.Store tx.new.conn.now) result }
     ensures kept { StaysInside (state S.Store tx.old.conn.now) (state S.Store tx.new.conn.now) }
     ensures same_reference { tx.new.conn.ghost_name ≡ tx.old.conn.ghost_name }
@@ -119,7 +122,8 @@ fn set_clock<S: Alter>(
         → OnOk result (TablesAre (tables_of (state S.Store tx.new.conn.now))
         (with_counters s clock s.next))) }
     ensures ours { KeepsOurs (state S.Store tx.old.conn.now) (state S.Store tx.new.conn.now) result }
-    ensures cause { FailsByRunning (state S.Store tx.old.conn.now) (state S.Store tx.new.conn.now) result
+    ensures cause { FailsByRunning
+        (state S.Store tx.old.conn.now) (state S.Store tx.new.conn.now) result
         (IsStorableState (record row.now { clock = clock }))
         write_state_text (state_values (record row.now { clock = clock })) }
     ensures err { FailsWhole (state S.Store tx.old.conn.now) (state S.Store tx.new.conn.now) result }
@@ -158,7 +162,8 @@ pub fn tick<S: Alter>(
         (λ s. IsSound s
         → IfErr result (FailsSince S.Store (FailsToTick config.now s moment)
         tx.old.conn.now tx.new.conn.now)) }
-    ensures err { FailsReadingUncommitted (state S.Store tx.old.conn.now) (state S.Store tx.new.conn.now) result }
+    ensures err { FailsReadingUncommitted
+        (state S.Store tx.old.conn.now) (state S.Store tx.new.conn.now) result }
     ensures inside { GoesOn (state S.Store tx.old.conn.now) (state S.Store tx.new.conn.now) result }
     ensures kept { StaysInside (state S.Store tx.old.conn.now) (state S.Store tx.new.conn.now) }
     ensures same_reference { tx.new.conn.ghost_name ≡ tx.old.conn.ghost_name }

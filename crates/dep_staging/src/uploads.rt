@@ -26,9 +26,11 @@ pub fn open_upload<S: Alter>(tx: &mut Transaction<'_, S>, row: &UploadRow) -> Re
         × TablesAre (tables_of (state S.Store tx.new.conn.now))
         (with_upload s row.now.upload it))) }
     ensures ours { KeepsOurs (state S.Store tx.old.conn.now) (state S.Store tx.new.conn.now) result }
-    ensures numbers { RefusesNumbers (state S.Store tx.old.conn.now) (state S.Store tx.new.conn.now) result
+    ensures numbers { RefusesNumbers
+        (state S.Store tx.old.conn.now) (state S.Store tx.new.conn.now) result
         (IsStorableUpload row.now) }
-    ensures cause { FailsByRunning (state S.Store tx.old.conn.now) (state S.Store tx.new.conn.now) result
+    ensures cause { FailsByRunning
+        (state S.Store tx.old.conn.now) (state S.Store tx.new.conn.now) result
         (IsStorableUpload row.now) insert_upload_text (upload_values row.now) }
     ensures err { FailsWhole (state S.Store tx.old.conn.now) (state S.Store tx.new.conn.now) result }
     ensures inside { GoesOn (state S.Store tx.old.conn.now) (state S.Store tx.new.conn.now) result }
@@ -46,11 +48,13 @@ pub fn drop_upload<S: Alter>(tx: &mut Transaction<'_, S>, upload: u64) -> Result
         (λ s. OnOk result (TablesAre (tables_of (state S.Store tx.new.conn.now))
         (record s { uploads = finmap.remove s.uploads upload }))) }
     ensures ours { KeepsOurs (state S.Store tx.old.conn.now) (state S.Store tx.new.conn.now) result }
-    ensures numbers { RefusesNumbers (state S.Store tx.old.conn.now) (state S.Store tx.new.conn.now) result
+    ensures numbers { RefusesNumbers
+        (state S.Store tx.old.conn.now) (state S.Store tx.new.conn.now) result
         (upload < 2 ^ 63) }
     ensures cause { FailsByOne S.Store tx.old.conn.now tx.new.conn.now result
         (upload < 2 ^ 63) (FailsToDrop upload) }
-    ensures err { FailsUncommitted (state S.Store tx.old.conn.now) (state S.Store tx.new.conn.now) result }
+    ensures err { FailsUncommitted
+        (state S.Store tx.old.conn.now) (state S.Store tx.new.conn.now) result }
     ensures inside { GoesOn (state S.Store tx.old.conn.now) (state S.Store tx.new.conn.now) result }
     ensures kept { StaysInside (state S.Store tx.old.conn.now) (state S.Store tx.new.conn.now) }
     ensures same_reference { tx.new.conn.ghost_name ≡ tx.old.conn.ghost_name }

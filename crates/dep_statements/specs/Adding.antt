@@ -43,5 +43,6 @@ AddsAll (t ∷ tables) old new = (next : Database) × Adds t old next × AddsAll
 pub record Puts (tree : ℕ) (row : Row) (old new : Database) : Type 0 where
   pub schema : new.schema ≡ old.schema
   pub rows : new.trees tree ≡ put_row row (old.trees tree)
-  pub others : AllByRecursion (λ t. t.tree ≢ tree → new.trees t.tree ≡ old.trees t.tree) old.schema.tables
+  pub others : AllByRecursion (λ t. t.tree ≢ tree
+      → new.trees t.tree ≡ old.trees t.tree) old.schema.tables
   pub sound : IsDatabase new

@@ -19,4 +19,5 @@ module _ {S A E : Type 0} (g : Ghosts S) (old new : Held S) (result : Result A E
   -- over our tables a failure has changed nothing, or has ended a transaction as it began
   abbrev pub FailsOverOurs : Type 0
   FailsOverOurs = HasCleanDisk (state g new) → IsOurs (state g old) → IsTrue (state g new).is_open
-      → OnErr result (IsUnchanged (state g old) (state g new) ⊎ IsRolledBack (state g old) (state g new))
+      → OnErr result (IsUnchanged (state g old) (state g new)
+      ⊎ IsRolledBack (state g old) (state g new))

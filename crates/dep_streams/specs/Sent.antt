@@ -55,10 +55,13 @@ GivesSized old new bytes (Err fault) = GivesRow old new bytes (Err fault)
 
 -- the first rows of an answer, up to so many bytes
 abbrev pub SendsSized : List ℕ → Row → State → ℕ → List ℕ → Result (Unit {0}) BlockFault → Type 0
-SendsSized sql params old size sent (Ok done) = StopsBetween sql params old sent × (length sent ≡ size)
+SendsSized sql params old size sent (Ok done) = StopsBetween sql params old sent
+    × (length sent ≡ size)
 SendsSized sql params old size sent (Err Writer) = StopsWithin sql params old sent
-SendsSized sql params old size sent (Err Store) = StopsBetween sql params old sent × (length sent < size)
-SendsSized sql params old size sent (Err Memory) = StopsBetween sql params old sent × (length sent < size)
+SendsSized sql params old size sent (Err Store) = StopsBetween sql params old sent
+    × (length sent < size)
+SendsSized sql params old size sent (Err Memory) = StopsBetween sql params old sent
+    × (length sent < size)
 
 -- the bytes begin those of these stored blocks, by part and place
 pub record BeginsBlocks (stored : List Row) (sent : List ℕ) : Type 0 where
@@ -70,7 +73,10 @@ pub record BeginsBlocks (stored : List Row) (sent : List ℕ) : Type 0 where
 -- So many bytes of the blocks, by part and place; fewer where the store failed, and where the outlet failed
 -- the first bytes and not all.
 abbrev pub SendsBlocks : List Row → ℕ → List ℕ → Result (Unit {0}) BlockFault → Type 0
-SendsBlocks stored size sent (Ok done) = ((sent ≡ []) ⊎ BeginsBlocks stored sent) × (length sent ≡ size)
+SendsBlocks stored size sent (Ok done) = ((sent ≡ []) ⊎ BeginsBlocks stored sent)
+    × (length sent ≡ size)
 SendsBlocks stored size sent (Err Writer) = (h : BeginsBlocks stored sent) × (h.rest ≢ [])
-SendsBlocks stored size sent (Err Store) = ((sent ≡ []) ⊎ BeginsBlocks stored sent) × (length sent < size)
-SendsBlocks stored size sent (Err Memory) = ((sent ≡ []) ⊎ BeginsBlocks stored sent) × (length sent < size)
+SendsBlocks stored size sent (Err Store) = ((sent ≡ []) ⊎ BeginsBlocks stored sent)
+    × (length sent < size)
+SendsBlocks stored size sent (Err Memory) = ((sent ≡ []) ⊎ BeginsBlocks stored sent)
+    × (length sent < size)

@@ -29,11 +29,13 @@ pub fn stream_blocks<S: Alter, O: Outlet>(
         size sent result) }
     ensures ok { LeavesOurs S.Store connection.old connection.new result }
     ensures err { FailsOverOurs S.Store connection.old connection.new result }
-    ensures clean { HasCleanDisk (state S.Store connection.new) → HasCleanDisk (state S.Store connection.old) }
+    ensures clean { HasCleanDisk (state S.Store connection.new)
+        → HasCleanDisk (state S.Store connection.old) }
     ensures survives { IsOurs (state S.Store connection.old)
         → CommitsNothing (state S.Store connection.old) (state S.Store connection.new) }
     ensures kept { OnOk result (O.failures out.new ≡ O.failures out.old) }
-    ensures cause { result ≡ Err BlockFault.Writer → HasRisen (O.failures out.old) (O.failures out.new) }
+    ensures cause { result ≡ Err BlockFault.Writer
+        → HasRisen (O.failures out.old) (O.failures out.new) }
 {
     if size == 0 {
         return Ok(());
@@ -64,11 +66,13 @@ pub fn stream_part<S: Alter, O: Outlet>(
         size sent result) }
     ensures ok { LeavesOurs S.Store connection.old connection.new result }
     ensures err { FailsOverOurs S.Store connection.old connection.new result }
-    ensures clean { HasCleanDisk (state S.Store connection.new) → HasCleanDisk (state S.Store connection.old) }
+    ensures clean { HasCleanDisk (state S.Store connection.new)
+        → HasCleanDisk (state S.Store connection.old) }
     ensures survives { IsOurs (state S.Store connection.old)
         → CommitsNothing (state S.Store connection.old) (state S.Store connection.new) }
     ensures kept { OnOk result (O.failures out.new ≡ O.failures out.old) }
-    ensures cause { result ≡ Err BlockFault.Writer → HasRisen (O.failures out.old) (O.failures out.new) }
+    ensures cause { result ≡ Err BlockFault.Writer
+        → HasRisen (O.failures out.old) (O.failures out.new) }
 {
     if size == 0 {
         return Ok(());

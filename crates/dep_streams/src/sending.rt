@@ -21,7 +21,8 @@ fn give_sized<O: Outlet>(row: &Row, most: u64, out: &mut O) -> Result<u64, Block
     ensures gives { GivesSized (O.taken out.old) (O.taken out.new) (blob_of row.now) result }
     ensures fits { IfOk result (λ n. n ≤ most) }
     ensures kept { OnOk result (O.failures out.new ≡ O.failures out.old) }
-    ensures cause { result ≡ Err BlockFault.Writer → HasRisen (O.failures out.old) (O.failures out.new) }
+    ensures cause { result ≡ Err BlockFault.Writer
+        → HasRisen (O.failures out.old) (O.failures out.new) }
 {
     match row.get_ref(2) {
         Ok(ValueRef::Blob(bytes)) => {
@@ -50,16 +51,20 @@ pub(crate) fn stream_sized<S: Alter, O: Outlet>(
     ensures streams { GivesBytes (O.taken out.old) (O.taken out.new) (λ sent.
         HasCleanDisk (state S.Store connection.new) → IsPlain (understood connection.old.schema sql.now)
         → SendsSized sql.now (bound params.now) (state S.Store connection.old) size sent result) }
-    ensures ok { HasCleanDisk (state S.Store connection.new) → IsPlain (understood connection.old.schema sql.now)
+    ensures ok { HasCleanDisk (state S.Store connection.new)
+        → IsPlain (understood connection.old.schema sql.now)
         → OnOk result (IsUnchanged (state S.Store connection.old) (state S.Store connection.new)) }
-    ensures err { HasCleanDisk (state S.Store connection.new) → IsPlain (understood connection.old.schema sql.now)
+    ensures err { HasCleanDisk (state S.Store connection.new)
+        → IsPlain (understood connection.old.schema sql.now)
         → OnErr result (IsUnchanged (state S.Store connection.old) (state S.Store connection.new)
         ⊎ IsRolledBack (state S.Store connection.old) (state S.Store connection.new)) }
-    ensures clean { HasCleanDisk (state S.Store connection.new) → HasCleanDisk (state S.Store connection.old) }
+    ensures clean { HasCleanDisk (state S.Store connection.new)
+        → HasCleanDisk (state S.Store connection.old) }
     ensures survives { IsPlain (understood connection.old.schema sql.now)
         → CommitsNothing (state S.Store connection.old) (state S.Store connection.new) }
     ensures kept { OnOk result (O.failures out.new ≡ O.failures out.old) }
-    ensures cause { result ≡ Err BlockFault.Writer → HasRisen (O.failures out.old) (O.failures out.new) }
+    ensures cause { result ≡ Err BlockFault.Writer
+        → HasRisen (O.failures out.old) (O.failures out.new) }
 {
     let mut left = size;
     let mut rows = match connection.query(sql, params) {

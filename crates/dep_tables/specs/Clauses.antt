@@ -89,7 +89,8 @@ IsPlainIn s sql = IsPlain (understood s.now.schema sql)
 module _ {A : Type 0} (old new : State) (result : Result A StoreFault) where
   -- Where a number is none of SQL's, that is a fault of the store, and nothing is done.
   abbrev pub RefusesNumbers : Type 0 → Type 0
-  RefusesNumbers storable = (storable → ⊥) → (result ≡ Err Store) × (IsTrue old.is_open → IsUnchanged old new)
+  RefusesNumbers storable = (storable → ⊥)
+      → (result ≡ Err Store) × (IsTrue old.is_open → IsUnchanged old new)
 
   -- Where all are, only the statement fails.
   abbrev pub FailsByRunning : Type 0 → List ℕ → Row → Type 0

@@ -42,10 +42,12 @@ abbrev pub LacksObjectRow : ℕ → Tables → Type 0
 LacksObjectRow object t = row_at t.objects object ≡ None
 
 abbrev pub IsObjectRowAt : ℕ → Tables → Option ObjectRow → Type 0
-IsObjectRowAt object t found = option_map object_values found ≡ option_map shown_object (row_at t.objects object)
+IsObjectRowAt object t found =
+    option_map object_values found ≡ option_map shown_object (row_at t.objects object)
 
 abbrev pub IsObjectAfter : ℕ → Tables → Option ℕ → Type 0
-IsObjectAfter after t found = option_map (λ n. Int (pos n)) found ≡ option_map rowid (find (is_after after) t.objects)
+IsObjectAfter after t found =
+    option_map (λ n. Int (pos n)) found ≡ option_map rowid (find (is_after after) t.objects)
 
 -- ---- metadata
 
@@ -53,7 +55,8 @@ abbrev pub with_new_metadata_row : MetadataRow → Tables → Tables
 with_new_metadata_row row t = record t { metadata = put_next (metadata_values row) t.metadata }
 
 abbrev pub without_metadata_rows : ℕ → Tables → Tables
-without_metadata_rows object t = record t { metadata = filter (λ r. not (has_number 1 object r)) t.metadata }
+without_metadata_rows object t =
+    record t { metadata = filter (λ r. not (has_number 1 object r)) t.metadata }
 
 abbrev pub LacksMetadataRow : MetadataRow → Tables → Type 0
 LacksMetadataRow row t = list_any (has_metadata_key row) t.metadata ≡ false
@@ -81,7 +84,8 @@ abbrev pub IsFileRowAt : ℕ → Tables → Option FileRow → Type 0
 IsFileRowAt file t found = option_map file_values found ≡ option_map shown_file (row_at t.files file)
 
 abbrev pub AreFileRowsOf : ℕ → Tables → List FileRow → Type 0
-AreFileRowsOf object t found = map file_values found ≡ map shown_file (filter (has_number 2 object) t.files)
+AreFileRowsOf object t found =
+    map file_values found ≡ map shown_file (filter (has_number 2 object) t.files)
 
 -- ---- uploads
 
@@ -98,10 +102,12 @@ abbrev pub LacksUploadRow : ℕ → Tables → Type 0
 LacksUploadRow upload t = row_at t.uploads upload ≡ None
 
 abbrev pub IsUploadRowAt : ℕ → Tables → Option UploadRow → Type 0
-IsUploadRowAt upload t found = option_map upload_values found ≡ option_map shown_upload (row_at t.uploads upload)
+IsUploadRowAt upload t found =
+    option_map upload_values found ≡ option_map shown_upload (row_at t.uploads upload)
 
 abbrev pub IsUploadAfter : ℕ → Tables → Option ℕ → Type 0
-IsUploadAfter after t found = option_map (λ n. Int (pos n)) found ≡ option_map rowid (find (is_after after) t.uploads)
+IsUploadAfter after t found =
+    option_map (λ n. Int (pos n)) found ≡ option_map rowid (find (is_after after) t.uploads)
 
 -- ---- segments
 
@@ -109,7 +115,8 @@ abbrev pub with_new_segment_row : SegmentRow → Tables → Tables
 with_new_segment_row row t = record t { segments = put_next (segment_values row) t.segments }
 
 abbrev pub without_segment_rows : ℕ → Tables → Tables
-without_segment_rows upload t = record t { segments = filter (λ r. not (has_number 1 upload r)) t.segments }
+without_segment_rows upload t =
+    record t { segments = filter (λ r. not (has_number 1 upload r)) t.segments }
 
 abbrev pub LacksSegmentRow : SegmentRow → Tables → Type 0
 LacksSegmentRow row t = list_any (has_segment_key row) t.segments ≡ false

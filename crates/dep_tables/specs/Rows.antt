@@ -112,7 +112,8 @@ shown_metadata = columns_from 1 4
 
 -- by name and place, of rows as they are shown
 abbrev pub by_name_and_place : Row → Row → Ordering
-by_name_and_place a b = ordering_then (value_cmp (column a 1) (column b 1)) (value_cmp (column a 2) (column b 2))
+by_name_and_place a b =
+    ordering_then (value_cmp (column a 1) (column b 1)) (value_cmp (column a 2) (column b 2))
 
 -- the stored row has this one's object, name and place
 abbrev pub has_metadata_key : MetadataRow → Row → Bool
@@ -281,7 +282,8 @@ pub record IsBytesRow (row : Row) : Type 0 where
 
 -- by part and place, of rows as they are shown
 abbrev pub by_part_and_place : Row → Row → Ordering
-by_part_and_place a b = ordering_then (value_cmp (column a 0) (column b 0)) (value_cmp (column a 1) (column b 1))
+by_part_and_place a b =
+    ordering_then (value_cmp (column a 0) (column b 0)) (value_cmp (column a 1) (column b 1))
 
 -- a block of this owner; of this part of it; this block
 abbrev pub is_block_of : BlockOwner → Row → Bool
@@ -302,7 +304,8 @@ is_later_block k stored =
 
 -- the block with another owner
 abbrev pub moved_to : BlockOwner → Row → Row
-moved_to o stored = column stored 0 ∷ Int (pos (kind_of o)) ∷ Int (pos (number_of o)) ∷ columns_from 3 3 stored
+moved_to o stored =
+    column stored 0 ∷ Int (pos (kind_of o)) ∷ Int (pos (number_of o)) ∷ columns_from 3 3 stored
 
 abbrev pub IsStorableOwner : BlockOwner → Type 0
 IsStorableOwner o = number_of o < 2 ^ 63

@@ -6,38 +6,64 @@ use Rattle.sqlite.specs.Kind.TheVariants.{Integer, Text, Blob}
 use Rattle.dep_statements.specs.Tables.{column_of, keyed_table, indexed_table, index_of}
 
 abbrev pub format_table : Table
-format_table = keyed_table (codes "format") 0 (column_of (codes "id") Integer false ∷ column_of (codes "version") Integer true ∷ [])
+format_table = keyed_table (codes "format") 0
+    (column_of (codes "id") Integer false
+    ∷ column_of (codes "version") Integer true ∷ [])
 
 abbrev pub state_table : Table
 state_table = keyed_table (codes "state") 1
-    (column_of (codes "id") Integer false ∷ column_of (codes "clock") Integer true ∷ column_of (codes "next_object") Integer true
-    ∷ column_of (codes "next_file") Integer true ∷ column_of (codes "next_upload") Integer true ∷ column_of (codes "next_change") Integer true ∷ [])
+    (column_of (codes "id") Integer false
+    ∷ column_of (codes "clock") Integer true
+    ∷ column_of (codes "next_object") Integer true
+    ∷ column_of (codes "next_file") Integer true
+    ∷ column_of (codes "next_upload") Integer true
+    ∷ column_of (codes "next_change") Integer true ∷ [])
 
 abbrev pub objects_table : Table
 objects_table = keyed_table (codes "objects") 2
-    (column_of (codes "object") Integer false ∷ column_of (codes "ingested") Integer true ∷ column_of (codes "object_tag") Integer true
-    ∷ column_of (codes "metadata_tag") Integer true ∷ column_of (codes "files_tag") Integer true ∷ column_of (codes "changed") Integer true ∷ [])
+    (column_of (codes "object") Integer false
+    ∷ column_of (codes "ingested") Integer true
+    ∷ column_of (codes "object_tag") Integer true
+    ∷ column_of (codes "metadata_tag") Integer true
+    ∷ column_of (codes "files_tag") Integer true
+    ∷ column_of (codes "changed") Integer true ∷ [])
 
 -- its key is the object, the name and the place, in an index of its own, which has the next tree
 abbrev pub metadata_table : Table
 metadata_table = indexed_table (codes "metadata") 3 (1 ∷ 2 ∷ 3 ∷ [])
-    (column_of (codes "object") Integer true ∷ column_of (codes "name") Text true ∷ column_of (codes "place") Integer true ∷ column_of (codes "value") Text true ∷ [])
+    (column_of (codes "object") Integer true
+    ∷ column_of (codes "name") Text true
+    ∷ column_of (codes "place") Integer true
+    ∷ column_of (codes "value") Text true ∷ [])
 
 abbrev pub files_table : Table
 files_table = keyed_table (codes "files") 5
-    (column_of (codes "file") Integer false ∷ column_of (codes "object") Integer true ∷ column_of (codes "name") Text true ∷ column_of (codes "media") Text true
-    ∷ column_of (codes "size") Integer true ∷ column_of (codes "tag") Integer true ∷ column_of (codes "deposited") Integer true ∷ column_of (codes "behalf") Text false
-    ∷ column_of (codes "by_reference") Integer true ∷ column_of (codes "sha256") Blob true ∷ [])
+    (column_of (codes "file") Integer false
+    ∷ column_of (codes "object") Integer true
+    ∷ column_of (codes "name") Text true
+    ∷ column_of (codes "media") Text true
+    ∷ column_of (codes "size") Integer true
+    ∷ column_of (codes "tag") Integer true
+    ∷ column_of (codes "deposited") Integer true
+    ∷ column_of (codes "behalf") Text false
+    ∷ column_of (codes "by_reference") Integer true
+    ∷ column_of (codes "sha256") Blob true ∷ [])
 
 abbrev pub uploads_table : Table
 uploads_table = keyed_table (codes "uploads") 6
-    (column_of (codes "upload") Integer false ∷ column_of (codes "size") Integer true ∷ column_of (codes "count") Integer true
-    ∷ column_of (codes "segment_size") Integer true ∷ column_of (codes "sha256") Blob false ∷ column_of (codes "last") Integer true ∷ [])
+    (column_of (codes "upload") Integer false
+    ∷ column_of (codes "size") Integer true
+    ∷ column_of (codes "count") Integer true
+    ∷ column_of (codes "segment_size") Integer true
+    ∷ column_of (codes "sha256") Blob false
+    ∷ column_of (codes "last") Integer true ∷ [])
 
 -- its key is the upload and the number
 abbrev pub segments_table : Table
 segments_table = indexed_table (codes "segments") 7 (1 ∷ 2 ∷ [])
-    (column_of (codes "upload") Integer true ∷ column_of (codes "number") Integer true ∷ column_of (codes "size") Integer true ∷ [])
+    (column_of (codes "upload") Integer true
+    ∷ column_of (codes "number") Integer true
+    ∷ column_of (codes "size") Integer true ∷ [])
 
 abbrev pub timed_out_table : Table
 timed_out_table = keyed_table (codes "timed_out") 9 (column_of (codes "upload") Integer false ∷ [])
@@ -45,12 +71,17 @@ timed_out_table = keyed_table (codes "timed_out") 9 (column_of (codes "upload") 
 -- its key is the kind of the owner, the owner, the part and the place
 abbrev pub blocks_table : Table
 blocks_table = indexed_table (codes "blocks") 10 (1 ∷ 2 ∷ 3 ∷ 4 ∷ [])
-    (column_of (codes "kind") Integer true ∷ column_of (codes "owner") Integer true ∷ column_of (codes "part") Integer true ∷ column_of (codes "place") Integer true ∷ column_of (codes "bytes") Blob true ∷ [])
+    (column_of (codes "kind") Integer true
+    ∷ column_of (codes "owner") Integer true
+    ∷ column_of (codes "part") Integer true
+    ∷ column_of (codes "place") Integer true
+    ∷ column_of (codes "bytes") Blob true ∷ [])
 
 -- The numbers of the trees follow the order of creation, so a table of a later version comes last.
 abbrev pub our_tables : List Table
 our_tables =
-    format_table ∷ state_table ∷ objects_table ∷ metadata_table ∷ files_table ∷ uploads_table ∷ segments_table ∷ timed_out_table ∷ blocks_table ∷ []
+    format_table ∷ state_table ∷ objects_table ∷ metadata_table ∷ files_table ∷ uploads_table
+    ∷ segments_table ∷ timed_out_table ∷ blocks_table ∷ []
 
 abbrev pub our_schema : Schema
 our_schema = record {

@@ -37,10 +37,13 @@ pub fn insert_block<S: Alter>(
 ) -> Result<(), StoreFault>
     ensures ok { Changes (state S.Store tx.old.conn.now) (state S.Store tx.new.conn.now) result
         (with_new_block key.now bytes.now) }
-    ensures free { Shows (state S.Store tx.old.conn.now) (state S.Store tx.new.conn.now) result (LacksBlock key.now) }
-    ensures numbers { RefusesNumbers (state S.Store tx.old.conn.now) (state S.Store tx.new.conn.now) result
+    ensures free { Shows (state S.Store tx.old.conn.now) (state S.Store tx.new.conn.now) result
+        (LacksBlock key.now) }
+    ensures numbers { RefusesNumbers
+        (state S.Store tx.old.conn.now) (state S.Store tx.new.conn.now) result
         (IsStorableKey key.now) }
-    ensures cause { FailsByRunning (state S.Store tx.old.conn.now) (state S.Store tx.new.conn.now) result
+    ensures cause { FailsByRunning
+        (state S.Store tx.old.conn.now) (state S.Store tx.new.conn.now) result
         (IsStorableKey key.now) insert_block_text (block_values key.now bytes.now) }
     ensures err { FailsWhole (state S.Store tx.old.conn.now) (state S.Store tx.new.conn.now) result }
     ensures inside { GoesOn (state S.Store tx.old.conn.now) (state S.Store tx.new.conn.now) result }
@@ -65,9 +68,11 @@ pub fn delete_blocks<S: Alter>(
 ) -> Result<(), StoreFault>
     ensures ok { Changes (state S.Store tx.old.conn.now) (state S.Store tx.new.conn.now) result
         (without_blocks_of owner) }
-    ensures numbers { RefusesNumbers (state S.Store tx.old.conn.now) (state S.Store tx.new.conn.now) result
+    ensures numbers { RefusesNumbers
+        (state S.Store tx.old.conn.now) (state S.Store tx.new.conn.now) result
         (IsStorableOwner owner) }
-    ensures cause { FailsByRunning (state S.Store tx.old.conn.now) (state S.Store tx.new.conn.now) result
+    ensures cause { FailsByRunning
+        (state S.Store tx.old.conn.now) (state S.Store tx.new.conn.now) result
         (IsStorableOwner owner) delete_blocks_text (owner_values owner) }
     ensures err { FailsWhole (state S.Store tx.old.conn.now) (state S.Store tx.new.conn.now) result }
     ensures inside { GoesOn (state S.Store tx.old.conn.now) (state S.Store tx.new.conn.now) result }
@@ -105,10 +110,13 @@ pub fn move_part<S: Alter>(
 ) -> Result<(), StoreFault>
     ensures ok { Changes (state S.Store tx.old.conn.now) (state S.Store tx.new.conn.now) result
         (with_part_moved upload part file) }
-    ensures numbers { RefusesNumbers (state S.Store tx.old.conn.now) (state S.Store tx.new.conn.now) result
+    ensures numbers { RefusesNumbers
+        (state S.Store tx.old.conn.now) (state S.Store tx.new.conn.now) result
         ((upload < 2 ^ 63) × (part < 2 ^ 63) × (file < 2 ^ 63)) }
-    ensures cause { FailsByRunning (state S.Store tx.old.conn.now) (state S.Store tx.new.conn.now) result
-        ((upload < 2 ^ 63) × (part < 2 ^ 63) × (file < 2 ^ 63)) move_part_text (move_values upload part file) }
+    ensures cause { FailsByRunning
+        (state S.Store tx.old.conn.now) (state S.Store tx.new.conn.now) result
+        ((upload < 2 ^ 63) × (part < 2 ^ 63)
+        × (file < 2 ^ 63)) move_part_text (move_values upload part file) }
     ensures err { FailsWhole (state S.Store tx.old.conn.now) (state S.Store tx.new.conn.now) result }
     ensures inside { GoesOn (state S.Store tx.old.conn.now) (state S.Store tx.new.conn.now) result }
     ensures kept { StaysInside (state S.Store tx.old.conn.now) (state S.Store tx.new.conn.now) }
@@ -164,11 +172,14 @@ pub fn read_block<S: Alter>(
     key: &BlockKey,
 ) -> Result<Option<Vec<u8>>, StoreFault>
     ensures ok { Reads (state S.Store tx.old.conn.now) (state S.Store tx.new.conn.now) result
-        (λ t found. AreBytesAt key.now t (option_to_list (option_map (λ bytes. Blob bytes.items) found))) }
+        (λ t found. AreBytesAt key.now t
+        (option_to_list (option_map (λ bytes. Blob bytes.items) found))) }
     ensures same { ReadsOnly (state S.Store tx.old.conn.now) (state S.Store tx.new.conn.now) result }
-    ensures numbers { RefusesNumbers (state S.Store tx.old.conn.now) (state S.Store tx.new.conn.now) result
+    ensures numbers { RefusesNumbers
+        (state S.Store tx.old.conn.now) (state S.Store tx.new.conn.now) result
         (IsStorableKey key.now) }
-    ensures cause { FailsByReading (state S.Store tx.old.conn.now) (state S.Store tx.new.conn.now) result
+    ensures cause { FailsByReading
+        (state S.Store tx.old.conn.now) (state S.Store tx.new.conn.now) result
         (IsStorableKey key.now) read_block_text (key_values key.now) (AtMostOne IsBytesRow) }
     ensures err { FailsReading (state S.Store tx.old.conn.now) (state S.Store tx.new.conn.now) result }
     ensures inside { GoesOn (state S.Store tx.old.conn.now) (state S.Store tx.new.conn.now) result }
@@ -191,11 +202,14 @@ pub fn next_block<S: Alter>(
     tx: &mut Transaction<'_, S>,
     after: &BlockKey,
 ) -> Result<Option<BlockPlace>, StoreFault>
-    ensures ok { Reads (state S.Store tx.old.conn.now) (state S.Store tx.new.conn.now) result (IsBlockAfter after.now) }
+    ensures ok { Reads (state S.Store tx.old.conn.now) (state S.Store tx.new.conn.now) result
+        (IsBlockAfter after.now) }
     ensures same { ReadsOnly (state S.Store tx.old.conn.now) (state S.Store tx.new.conn.now) result }
-    ensures numbers { RefusesNumbers (state S.Store tx.old.conn.now) (state S.Store tx.new.conn.now) result
+    ensures numbers { RefusesNumbers
+        (state S.Store tx.old.conn.now) (state S.Store tx.new.conn.now) result
         (IsStorableKey after.now) }
-    ensures cause { FailsByReading (state S.Store tx.old.conn.now) (state S.Store tx.new.conn.now) result
+    ensures cause { FailsByReading
+        (state S.Store tx.old.conn.now) (state S.Store tx.new.conn.now) result
         (IsStorableKey after.now) next_block_text (key_values after.now) (AtMostOne IsPlaceRow) }
     ensures err { FailsReading (state S.Store tx.old.conn.now) (state S.Store tx.new.conn.now) result }
     ensures inside { GoesOn (state S.Store tx.old.conn.now) (state S.Store tx.new.conn.now) result }

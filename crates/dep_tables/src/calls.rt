@@ -17,10 +17,12 @@ pub fn run<S: Alter>(
     sql: &str,
     params: &[ValueRef<'_>],
 ) -> Result<(), StoreFault>
-    ensures runs { HasCleanDisk (state S.Store tx.new.conn.now) → IsTrue (state S.Store tx.old.conn.now).in_transaction
+    ensures runs { HasCleanDisk (state S.Store tx.new.conn.now)
+        → IsTrue (state S.Store tx.old.conn.now).in_transaction
         → OnOk result ((count : ℕ) × ExecutesInside 0 sql.now (bound params.now)
         (state S.Store tx.old.conn.now) (state S.Store tx.new.conn.now) (Ok count)) }
-    ensures cause { HasCleanDisk (state S.Store tx.new.conn.now) → IsTrue (state S.Store tx.old.conn.now).in_transaction
+    ensures cause { HasCleanDisk (state S.Store tx.new.conn.now)
+        → IsTrue (state S.Store tx.old.conn.now).in_transaction
         → IfErr result (FailsToRun sql.now (bound params.now)
         (state S.Store tx.old.conn.now) (state S.Store tx.new.conn.now)) }
     ensures err { FailsWhole (state S.Store tx.old.conn.now) (state S.Store tx.new.conn.now) result }

@@ -52,7 +52,8 @@ impl FromRow for u64 {
 
 /// What at most one row stands for. It is a fault of the store where there are more.
 fn at_most_one<R: FromRow>(rows: &[Row]) -> Result<Option<R>, StoreFault>
-    ensures told { IfOk result (λ found. map R.values (option_to_list found) ≡ map (columns_from 0 R.width) rows.now) }
+    ensures told { IfOk result
+        (λ found. map R.values (option_to_list found) ≡ map (columns_from 0 R.width) rows.now) }
     ensures refused { IfErr result (λ fault. AtMostOne R.is_ours rows.now → fault ≡ Memory) }
 {
     match rows {
@@ -67,7 +68,8 @@ fn at_most_one<R: FromRow>(rows: &[Row]) -> Result<Option<R>, StoreFault>
 
 /// What each row stands for.
 fn all<R: FromRow + Drop>(alloc: Global, rows: &[Row]) -> Result<Vec<R>, StoreFault>
-    ensures told { IfOk result (λ found. map R.values found.items ≡ map (columns_from 0 R.width) rows.now) }
+    ensures told { IfOk result
+        (λ found. map R.values found.items ≡ map (columns_from 0 R.width) rows.now) }
     ensures refused { IfErr result (λ fault. All R.is_ours rows.now → fault ≡ Memory) }
 {
     let mut found = Vec::new(alloc);
@@ -91,11 +93,13 @@ pub(crate) fn ask_one<S: Alter, R: FromRow>(
 ) -> Result<Option<R>, StoreFault>
     ensures shown { HasCleanDisk (state S.Store tx.new.conn.now)
         → IfOk result (λ found. ShowsColumns sql.now (bound params.now)
-        (state S.Store tx.old.conn.now) (state S.Store tx.new.conn.now) R.width (map R.values (option_to_list found))) }
+        (state S.Store tx.old.conn.now) (state S.Store tx.new.conn.now) R.width
+        (map R.values (option_to_list found))) }
     ensures cause { HasCleanDisk (state S.Store tx.new.conn.now)
         → IfErr result (FailsToRead (AtMostOne R.is_ours) sql.now (bound params.now)
         (state S.Store tx.old.conn.now) (state S.Store tx.new.conn.now)) }
-    ensures same { HasCleanDisk (state S.Store tx.new.conn.now) → IsPlainIn (state S.Store tx.old.conn.now) sql.now
+    ensures same { HasCleanDisk (state S.Store tx.new.conn.now)
+        → IsPlainIn (state S.Store tx.old.conn.now) sql.now
         → OnOk result (IsUnchanged (state S.Store tx.old.conn.now) (state S.Store tx.new.conn.now)) }
     ensures err { IsPlainIn (state S.Store tx.old.conn.now) sql.now
         → FailsWhole (state S.Store tx.old.conn.now) (state S.Store tx.new.conn.now) result }
@@ -117,11 +121,13 @@ pub(crate) fn ask_all<S: Alter, R: FromRow + Drop>(
 ) -> Result<Vec<R>, StoreFault>
     ensures shown { HasCleanDisk (state S.Store tx.new.conn.now)
         → IfOk result (λ found. ShowsColumns sql.now (bound params.now)
-        (state S.Store tx.old.conn.now) (state S.Store tx.new.conn.now) R.width (map R.values found.items)) }
+        (state S.Store tx.old.conn.now) (state S.Store tx.new.conn.now) R.width
+        (map R.values found.items)) }
     ensures cause { HasCleanDisk (state S.Store tx.new.conn.now)
         → IfErr result (FailsToRead (All R.is_ours) sql.now (bound params.now)
         (state S.Store tx.old.conn.now) (state S.Store tx.new.conn.now)) }
-    ensures same { HasCleanDisk (state S.Store tx.new.conn.now) → IsPlainIn (state S.Store tx.old.conn.now) sql.now
+    ensures same { HasCleanDisk (state S.Store tx.new.conn.now)
+        → IsPlainIn (state S.Store tx.old.conn.now) sql.now
         → OnOk result (IsUnchanged (state S.Store tx.old.conn.now) (state S.Store tx.new.conn.now)) }
     ensures err { IsPlainIn (state S.Store tx.old.conn.now) sql.now
         → FailsWhole (state S.Store tx.old.conn.now) (state S.Store tx.new.conn.now) result }

@@ -53,9 +53,11 @@ pub fn insert_segment<S: Alter>(
         (with_new_segment_row row.now) }
     ensures free { Shows (state S.Store tx.old.conn.now) (state S.Store tx.new.conn.now) result
         (LacksSegmentRow row.now) }
-    ensures numbers { RefusesNumbers (state S.Store tx.old.conn.now) (state S.Store tx.new.conn.now) result
+    ensures numbers { RefusesNumbers
+        (state S.Store tx.old.conn.now) (state S.Store tx.new.conn.now) result
         (IsStorableSegment row.now) }
-    ensures cause { FailsByRunning (state S.Store tx.old.conn.now) (state S.Store tx.new.conn.now) result
+    ensures cause { FailsByRunning
+        (state S.Store tx.old.conn.now) (state S.Store tx.new.conn.now) result
         (IsStorableSegment row.now) insert_segment_text (segment_values row.now) }
     ensures err { FailsWhole (state S.Store tx.old.conn.now) (state S.Store tx.new.conn.now) result }
     ensures inside { GoesOn (state S.Store tx.old.conn.now) (state S.Store tx.new.conn.now) result }
@@ -77,9 +79,11 @@ pub fn insert_segment<S: Alter>(
 pub fn delete_segments<S: Alter>(tx: &mut Transaction<'_, S>, upload: u64) -> Result<(), StoreFault>
     ensures ok { Changes (state S.Store tx.old.conn.now) (state S.Store tx.new.conn.now) result
         (without_segment_rows upload) }
-    ensures numbers { RefusesNumbers (state S.Store tx.old.conn.now) (state S.Store tx.new.conn.now) result
+    ensures numbers { RefusesNumbers
+        (state S.Store tx.old.conn.now) (state S.Store tx.new.conn.now) result
         (upload < 2 ^ 63) }
-    ensures cause { FailsByRunning (state S.Store tx.old.conn.now) (state S.Store tx.new.conn.now) result
+    ensures cause { FailsByRunning
+        (state S.Store tx.old.conn.now) (state S.Store tx.new.conn.now) result
         (upload < 2 ^ 63) delete_segments_text (Int (pos upload) ∷ []) }
     ensures err { FailsWhole (state S.Store tx.old.conn.now) (state S.Store tx.new.conn.now) result }
     ensures inside { GoesOn (state S.Store tx.old.conn.now) (state S.Store tx.new.conn.now) result }
@@ -124,9 +128,11 @@ pub fn segments_of<S: Alter>(
     ensures ok { Reads (state S.Store tx.old.conn.now) (state S.Store tx.new.conn.now) result
         (λ t found. AreSegmentRowsOf upload t found.items) }
     ensures same { ReadsOnly (state S.Store tx.old.conn.now) (state S.Store tx.new.conn.now) result }
-    ensures numbers { RefusesNumbers (state S.Store tx.old.conn.now) (state S.Store tx.new.conn.now) result
+    ensures numbers { RefusesNumbers
+        (state S.Store tx.old.conn.now) (state S.Store tx.new.conn.now) result
         (upload < 2 ^ 63) }
-    ensures cause { FailsByReading (state S.Store tx.old.conn.now) (state S.Store tx.new.conn.now) result
+    ensures cause { FailsByReading
+        (state S.Store tx.old.conn.now) (state S.Store tx.new.conn.now) result
         (upload < 2 ^ 63) segments_of_text (Int (pos upload) ∷ []) (All IsSegmentRow) }
     ensures err { FailsReading (state S.Store tx.old.conn.now) (state S.Store tx.new.conn.now) result }
     ensures inside { GoesOn (state S.Store tx.old.conn.now) (state S.Store tx.new.conn.now) result }

@@ -51,9 +51,11 @@ fn state_params(row: &StateRow) -> [ValueRef<'static>; 5]
 pub fn write_state<S: Alter>(tx: &mut Transaction<'_, S>, row: &StateRow) -> Result<(), StoreFault>
     ensures ok { Changes (state S.Store tx.old.conn.now) (state S.Store tx.new.conn.now) result
         (with_state_row row.now) }
-    ensures numbers { RefusesNumbers (state S.Store tx.old.conn.now) (state S.Store tx.new.conn.now) result
+    ensures numbers { RefusesNumbers
+        (state S.Store tx.old.conn.now) (state S.Store tx.new.conn.now) result
         (IsStorableState row.now) }
-    ensures cause { FailsByRunning (state S.Store tx.old.conn.now) (state S.Store tx.new.conn.now) result
+    ensures cause { FailsByRunning
+        (state S.Store tx.old.conn.now) (state S.Store tx.new.conn.now) result
         (IsStorableState row.now) write_state_text (state_values row.now) }
     ensures err { FailsWhole (state S.Store tx.old.conn.now) (state S.Store tx.new.conn.now) result }
     ensures inside { GoesOn (state S.Store tx.old.conn.now) (state S.Store tx.new.conn.now) result }
@@ -95,7 +97,8 @@ impl FromRow for StateRow {
 
 /// Reads the row. It is a fault of the store where there is none, or where it is not one that `write_state` writes.
 pub fn read_state<S: Alter>(tx: &mut Transaction<'_, S>) -> Result<StateRow, StoreFault>
-    ensures ok { Reads (state S.Store tx.old.conn.now) (state S.Store tx.new.conn.now) result HasStateRow }
+    ensures ok { Reads
+        (state S.Store tx.old.conn.now) (state S.Store tx.new.conn.now) result HasStateRow }
     ensures same { ReadsOnly (state S.Store tx.old.conn.now) (state S.Store tx.new.conn.now) result }
     ensures cause { HasCleanDisk (state S.Store tx.new.conn.now)
         → IfErr result (FailsToRead (JustOne IsStateRow) read_state_text []

@@ -30,4 +30,5 @@ AreKnown s known = (u : ℕ) (found : Referred) → get nat_cmp known u ≡ Some
 abbrev pub state_referred : Referred → UploadState
 state_referred Unknown = seen.Unknown
 state_referred TimedOut = seen.TimedOut
-state_referred (Live live) = seen.Live (record { row = live.row; received = []; digests = live.digests })
+state_referred (Live live) =
+    seen.Live (record { row = live.row; received = []; digests = live.digests })

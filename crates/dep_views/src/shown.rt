@@ -130,7 +130,8 @@ pub fn load_shown<S: Alter>(
         (λ s. IsSound s → IfOk result (λ shown. shown ≡ shown_at s subject.now)) }
     ensures same { IsTrue (state S.Store tx.old.conn.now).is_open
         → ReadsOnly (state S.Store tx.old.conn.now) (state S.Store tx.new.conn.now) result }
-    ensures still { HasCleanDisk (state S.Store tx.new.conn.now) → IsOurs (state S.Store tx.old.conn.now)
+    ensures still { HasCleanDisk (state S.Store tx.new.conn.now)
+        → IsOurs (state S.Store tx.old.conn.now)
         → OnOk result ((state S.Store tx.new.conn.now).now ≡ (state S.Store tx.old.conn.now).now) }
     ensures ours { KeepsOurs (state S.Store tx.old.conn.now) (state S.Store tx.new.conn.now) result }
     ensures err { FailsReading (state S.Store tx.old.conn.now) (state S.Store tx.new.conn.now) result }
