@@ -15,10 +15,12 @@ import model
 
 MOMENT = 1_523_836_800
 WORDS = ("open", "closed", "cut", "gone", "ended", "served")
+CALLED = ("done", "damaged", "no-such-object", "transfer-fault")
+BLOCK = 65_536
 LEFT_OUT = {"intake", "fields", "if-match", "disposition", "digest", "hash", "route", "metadata", "references",
             "metadata-prefixes", "reference-prefixes", "metadata-document", "bag-metadata-document",
             "status-document", "upload-document", "reader-fails", "reads", "writer-takes", "writer-fails-after",
-            "unserved", "bound", "read-fault", "write-fault", "crowd", "full", "refused", "sql", "shut", "cut"}
+            "unserved", "bound", "read-fault", "write-fault", "crowd", "full", "refused", "sql", "shut", "cut", "store-fault"}
 NAMES = {"base": "base", "title": "title", "abstract": "abstract", "depositor": "depositor",
          "on-behalf-of": "on_behalf_of", "require-if-match": "require_if_match", "max-upload": "max_upload",
          "max-assembled": "max_assembled", "max-segments": "max_segments", "staging-max-idle": "staging_max_idle"}
@@ -36,9 +38,11 @@ def fill(words, text):
     """The text with the named texts filled in, up to six deep."""
     def named(match):
         inside = match.group(1)
-        count, blank, name = inside.partition(" ")
-        if blank and count.isdigit() and name in words:
-            return words[name] * int(count)
+        counted = re.fullmatch(r"(\d+) (?:to (\d+) )?(.*)", inside)
+        if counted and counted.group(3) in words:
+            first, last, text = counted.group(1), counted.group(2), words[counted.group(3)]
+            numbers = range(int(first), int(last) + 1) if last else range(int(first))
+            return "".join(text.replace("\\{#}", str(number)) for number in numbers)
         return words.get(inside, match.group(0))
     for _ in range(6):
         text = re.sub(r"\\\{([^}]*)\}", named, text)
@@ -54,7 +58,7 @@ def expand(words, text):
             count, _, letters = sign[2:-1].partition(" ")
             if not count.isdigit():
                 raise Wrong(f"no text has the name {sign[2:-1]}")
-            return int(count) * letters.encode().decode("latin-1")
+            return int(count) * letters
         return {"r": "\r", "n": "\n", "t": "\t"}[sign[1]]
     text = fill(words, text).encode().decode("latin-1")
     return re.sub(r"\\(?:[rnt]|x[0-9A-Fa-f]{2}|\{[^}]*\})", escape, text).encode("latin-1")
@@ -69,6 +73,19 @@ def pieces(way, stream):
     return [stream[at:at + size] for at in range(0, max(len(stream), 1), size)]
 
 
+def given(bag, failing):
+    """What an export gives a sink, of which a call may fail, and what it comes to."""
+    calls = [("folder", b"folder data\r\n")]
+    for path, _, content in bag:
+        calls.append(("begin", b"file %s\r\n" % path.encode()))
+        calls += [("write", content[at:at + BLOCK]) for at in range(0, len(content), BLOCK)]
+        calls.append(("finish", b"\r\n"))
+    failing, _, count = failing.partition(" fails ")
+    places = [place for place, (call, _) in enumerate(calls) if call == failing]
+    end = places[int(count) - 1] if failing else len(calls)
+    return b"".join(part for _, part in calls[:end]), "transfer-fault" if failing else "done"
+
+
 class Play:
     """An example that is played, its bytes cut in one way."""
 
@@ -76,7 +93,7 @@ class Play:
         self.words, self.way, self.lengths = dict(words), way, lengths
         self.config, self.archive, self.server = model.Config(), model.Archive(), None
         self.moment, self.stream, self.want, self.name = MOMENT, b"", b"", None
-        self.current, self.longest = 1, 0
+        self.current, self.longest, self.call = 1, 0, None
 
     def line(self, line):
         word, _, rest = line.partition(" ")
@@ -97,6 +114,9 @@ class Play:
             self.words[self.name] += rest[:-1] if rest.endswith("\\") else rest + "\\r\\n"
         elif word in WORDS:
             self.ends(word)
+        elif word in CALLED:
+            self.compare(*self.call, word)
+            self.want = b""
         else:
             self.sets(word, fill(self.words, rest))
 
@@ -118,6 +138,16 @@ class Play:
             self.archive.next[kind] = int(value)
         elif word in ("restart", "reopen"):
             self.server = None
+        elif word == "audit":
+            self.server = None
+            counts = {str(key): len(item.files) for key, item in self.archive.objects.items()}
+            line = b"files %d damaged 0\n" % sum(counts.values()) if rest == "all" \
+                else b"checked %d\r\n" % counts.get(rest, 0)
+            self.call = line, "done"
+        elif word == "export":
+            self.server, (number, _, failing) = None, rest.partition(" ")
+            item = self.archive.objects.get(int(number))
+            self.call = given(model.bag_of(item), failing) if item else (b"", "no-such-object")
         elif word == "connection":
             self.open()
             if int(rest) == len(self.server.connections) + 1:
@@ -139,6 +169,10 @@ class Play:
         for piece in pieces(self.way, self.stream):
             part, came = self.server.arrive(current, piece, self.moment)
             sent += part
+        self.compare(sent, came, word)
+        self.stream, self.want = b"", b""
+
+    def compare(self, sent, came, word):
         want = self.measured(self.want)
         if want != sent:
             place = next((i for i, (a, b) in enumerate(zip(want, sent)) if a != b), min(len(want), len(sent)))
@@ -146,7 +180,6 @@ class Play:
             raise Wrong(f"they part\n  written: {want[place:place + 300]}\n  sent:    {sent[place:place + 300]}")
         if came != word:
             raise Wrong(f"written to end as {word}, and came to {came}")
-        self.stream, self.want = b"", b""
 
     def measured(self, want):
         """The replies with their lengths filled in."""

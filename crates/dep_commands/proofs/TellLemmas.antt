@@ -12,7 +12,10 @@ use Rattle.dep_statements.specs.Rows.{is_after, IsOrdered}
 use Rattle.dep_tables.specs.Tables.{Tables}
 use Rattle.dep_tables.specs.Edits.{IsObjectAfter}
 use Rattle.sqlite.specs.State.{State}
-use Rattle.dep_schema.specs.Standing.{Stands}
+use Rattle.sqlite.specs.Tree.{Trees}
+use Rattle.dep_types.specs.State as archive
+use Rattle.dep_schema.specs.Standing.{Holds, Stands}
+use Rattle.dep_store.specs.Standing.{TablesStandFor, StandsFor, Leaves}
 use Rattle.dep_types.specs.Sinks.{IsFront}
 use Rattle.dep_store.specs.Auditing.{IsObjectAudited}
 use Rattle.dep_commands.specs.Audits.{Audited, AreAudits, object_rows, damaged_line, damaged_lines, lines_of, count_line, audit_text, outcome_of_audit, IsWhole, IsBegun, Audits}
@@ -210,3 +213,12 @@ pub begun_fails : (t : Tables) (written : List ℕ) → IsBegun t written → (f
     → TellsObjects t written result
 begun_fails t written begun fault (Ok x) err = absurd err
 begun_fails t written begun fault (Err e) err = begun
+
+-- what a stop leaves of a state whose tables stay
+pub leaves_held : {d : State} {tables : Tables} (s : archive.State) → TablesStandFor tables s
+    → ((trees : Trees) → d.may_leave trees → Holds trees tables) → Leaves d (λ left. left ≡ s)
+leaves_held {tables = tables} s means holds trees may = (s, record { tables = tables; holds = holds trees may; means = means }, refl)
+
+-- tables that stay stand for the state still
+pub stands_still : {old new : State} (s : archive.State) (h : StandsFor old s) → Stands new h.tables → StandsFor new s
+stands_still s h stands = record { tables = h.tables; stands = stands; means = h.means }

@@ -27,6 +27,10 @@ outcome_of_fault Writer = TransferFault
 abbrev pub HasCause : {X : Type 0} → Result X AuditFault → (failures failures_after : ℕ) → Type 0
 HasCause result failures failures_after = result ≡ Err Writer → HasRisen failures failures_after
 
+-- a fault of the store leaves the writer's count of failures
+abbrev pub IsQuiet : {X : Type 0} → Result X AuditFault → (failures failures_after : ℕ) → Type 0
+IsQuiet result failures failures_after = result ≡ Err Store → failures_after ≡ failures
+
 -- how many files an audit checked, and how many are damaged
 pub record IsTallyOf (a : Audited) (tally : Tally) : Type 0 where
   pub checked : tally.checked ≡ a.audit.checked

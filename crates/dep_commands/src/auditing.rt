@@ -1,13 +1,15 @@
 //! The audit of all files of a store.
-ghost use Rattle.std.specs.Prelude.{◌≡◌, ℕ, List, IsTrue, OnOk};
+ghost use Rattle.std.specs.Prelude.{◌≡◌, ◌≢◌, ℕ, List, IsTrue, OnOk};
 ghost use Rattle.std.specs.Io.KnownBytes.{Appends};
 ghost use Rattle.sqlite.specs.State.{HasCleanDisk};
 ghost use Rattle.sqlite.specs.Held.{state};
 ghost use Rattle.dep_types.specs.Writing.{HasRisen};
 ghost use Rattle.dep_tables.specs.Tables.{Tables};
 ghost use Rattle.dep_schema.specs.Standing.{Stands};
+ghost use Rattle.dep_types.specs.State.{State};
+ghost use Rattle.dep_store.specs.Standing.{StandsFor, Leaves};
 ghost use Rattle.dep_commands.specs.Audits.{Audits};
-ghost use Rattle.dep_commands.specs.Telling.{TellsObject, TellsObjects, HasCause, outcome_of_fault};
+ghost use Rattle.dep_commands.specs.Telling.{TellsObject, TellsObjects, IsQuiet, HasCause, outcome_of_fault};
 
 use crate::audit_fault::AuditFault;
 use crate::lines::{tell_count, tell_damaged};
@@ -28,6 +30,11 @@ pub fn audit_all<S: Alter, W: Outlet>(alloc: Global, store: &mut Store<S>, out: 
     ensures still { IsTrue (state S.Store store.new).is_open → (t : Tables)
         → Stands (state S.Store store.old) t → Stands (state S.Store store.new) t }
     ensures honest { HasCleanDisk (state S.Store store.new) → HasCleanDisk (state S.Store store.old) }
+    ensures stop { HasCleanDisk (state S.Store store.new)
+        → (s : State) → StandsFor (state S.Store store.old) s
+        → Leaves (state S.Store store.new) (λ left. left ≡ s) }
+    ensures count { result ≢ Outcome.TransferFault →
+        W.failures out.new ≡ W.failures out.old }
     ensures cause { result ≡ Outcome.TransferFault →
         HasRisen (W.failures out.old) (W.failures out.new) }
 {
@@ -64,7 +71,11 @@ fn tell_objects<S: Alter, W: Outlet>(
         → Stands (state S.Store store.old) t → Stands (state S.Store store.new) t }
     ensures open { IsTrue (state S.Store store.new).is_open → IsTrue (state S.Store store.old).is_open }
     ensures honest { HasCleanDisk (state S.Store store.new) → HasCleanDisk (state S.Store store.old) }
+    ensures stop { HasCleanDisk (state S.Store store.new)
+        → (s : State) → StandsFor (state S.Store store.old) s
+        → Leaves (state S.Store store.new) (λ left. left ≡ s) }
     ensures count { OnOk result (W.failures out.new ≡ W.failures out.old) }
+    ensures quiet { IsQuiet result (W.failures out.old) (W.failures out.new) }
     ensures cause { HasCause result (W.failures out.old) (W.failures out.new) }
 {
     let mut tally = Tally {
@@ -99,7 +110,11 @@ fn tell_object<S: Alter, W: Outlet>(
         → Stands (state S.Store store.old) t → Stands (state S.Store store.new) t }
     ensures open { IsTrue (state S.Store store.new).is_open → IsTrue (state S.Store store.old).is_open }
     ensures honest { HasCleanDisk (state S.Store store.new) → HasCleanDisk (state S.Store store.old) }
+    ensures stop { HasCleanDisk (state S.Store store.new)
+        → (s : State) → StandsFor (state S.Store store.old) s
+        → Leaves (state S.Store store.new) (λ left. left ≡ s) }
     ensures count { OnOk result (W.failures out.new ≡ W.failures out.old) }
+    ensures quiet { IsQuiet result (W.failures out.old) (W.failures out.new) }
     ensures cause { HasCause result (W.failures out.old) (W.failures out.new) }
 {
     let audit = store.audit(object)?;

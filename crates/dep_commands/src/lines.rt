@@ -2,7 +2,7 @@
 ghost use Rattle.std.specs.Prelude.{◌≡◌, ℕ, List, OnOk, IfOk, flat_map, string_bytes};
 ghost use Rattle.std.specs.Io.KnownBytes.{Appends};
 ghost use Rattle.dep_commands.specs.Audits.{damaged_line, count_line};
-ghost use Rattle.dep_commands.specs.Telling.{IsWritten, HasCause};
+ghost use Rattle.dep_commands.specs.Telling.{IsWritten, IsQuiet, HasCause};
 
 use crate::audit_fault::AuditFault;
 use crate::tally::Tally;
@@ -20,6 +20,7 @@ pub(crate) fn tell_damaged<W: Outlet>(
     ensures writes { (written : List ℕ) × Appends (W.taken out.old) (W.taken out.new) written
         × IsWritten (flat_map (damaged_line object) files.now) written result }
     ensures count { OnOk result (W.failures out.new ≡ W.failures out.old) }
+    ensures quiet { IsQuiet result (W.failures out.old) (W.failures out.new) }
     ensures cause { HasCause result (W.failures out.old) (W.failures out.new) }
 {
     'files: for file in files {
@@ -37,6 +38,7 @@ fn tell_file<W: Outlet>(
     ensures writes { (written : List ℕ) × Appends (W.taken out.old) (W.taken out.new) written
         × IsWritten (damaged_line object file) written result }
     ensures count { OnOk result (W.failures out.new ≡ W.failures out.old) }
+    ensures quiet { IsQuiet result (W.failures out.old) (W.failures out.new) }
     ensures cause { HasCause result (W.failures out.old) (W.failures out.new) }
 {
     let line = file_line(alloc, object, file)?;
@@ -64,6 +66,7 @@ pub(crate) fn tell_count<W: Outlet>(
     ensures writes { (written : List ℕ) × Appends (W.taken out.old) (W.taken out.new) written
         × IsWritten (count_line tally.checked tally.damaged) written result }
     ensures count { OnOk result (W.failures out.new ≡ W.failures out.old) }
+    ensures quiet { IsQuiet result (W.failures out.old) (W.failures out.new) }
     ensures cause { HasCause result (W.failures out.old) (W.failures out.new) }
 {
     let line = last_line(alloc, tally)?;
@@ -86,6 +89,7 @@ fn tell<W: Outlet>(line: &str, out: &mut W) -> Result<(), AuditFault>
     ensures writes { (written : List ℕ) × Appends (W.taken out.old) (W.taken out.new) written
         × IsWritten line.now written result }
     ensures count { OnOk result (W.failures out.new ≡ W.failures out.old) }
+    ensures quiet { IsQuiet result (W.failures out.old) (W.failures out.new) }
     ensures cause { HasCause result (W.failures out.old) (W.failures out.new) }
 {
     out.write(line.as_bytes())?;

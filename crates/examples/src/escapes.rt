@@ -2,6 +2,7 @@
 
 use crate::trouble::Trouble;
 use crate::words::Words;
+use itoa::Buffer;
 use std::alloc::{AllocError, Global};
 
 /// So deep may named texts stand in one another.
@@ -43,21 +44,43 @@ fn fill_once(alloc: Global, words: &Words, text: &str) -> Result<String, AllocEr
 }
 
 fn fill_part(words: &Words, part: &str, filled: &mut String) -> Result<(), AllocError> {
-    let Some((count, text, rest)) = named(words, part) else {
+    let Some((numbers, text, rest)) = named(words, part) else {
         filled.push_str("\\")?;
         return filled.push_str(part);
     };
-    for _ in 0..count {
-        filled.push_str(text)?;
+    for number in numbers.0..numbers.1 {
+        push_numbered(text, number, filled)?;
     }
     filled.push_str(rest)
 }
 
-// The named text that a part begins with, how often it is to stand there, and what follows it.
-fn named<'a>(words: &'a Words, part: &'a str) -> Option<(usize, &'a str, &'a str)> {
+// The text, in which `#` in braces stands for the number.
+fn push_numbered(text: &str, number: usize, filled: &mut String) -> Result<(), AllocError> {
+    let mut digits = Buffer::new();
+    for (i, part) in text.split("\\{#}").enumerate() {
+        if i > 0 {
+            filled.push_str(digits.format(number))?;
+        }
+        filled.push_str(part)?;
+    }
+    Ok(())
+}
+
+// The named text that a part begins with, for which numbers it is to stand there, and what follows it.
+fn named<'a>(words: &'a Words, part: &'a str) -> Option<((usize, usize), &'a str, &'a str)> {
     let (inside, rest) = part.strip_prefix('{')?.split_once('}')?;
-    let (count, name) = counted(inside).unwrap_or((1, inside));
-    Some((count, words.find(name)?, rest))
+    let (numbers, name) = numbered(inside).unwrap_or(((0, 1), inside));
+    Some((numbers, words.find(name)?, rest))
+}
+
+// `9 name` and `2 to 10 name` are the numbers from which on and up to which.
+fn numbered(inside: &str) -> Option<((usize, usize), &str)> {
+    let (first, what) = counted(inside)?;
+    let Some(more) = what.strip_prefix("to ") else {
+        return Some(((0, first), what));
+    };
+    let (last, what) = counted(more)?;
+    Some(((first, last.saturating_add(1)), what))
 }
 
 // A number, a blank, and what is to stand there so often.

@@ -1,5 +1,6 @@
 //! One exchange: what comes and when, what has to be sent for it, and how the reader and the writer behave.
 
+use crate::archive_calls::ArchiveCall;
 use crate::cut::Cut;
 use crate::page::Page;
 use crate::settings::number;
@@ -21,6 +22,8 @@ pub struct Exchange {
     pub cut: Cut,
     pub moment: u64,
     pub reader_fails: bool,
+    /// What is called of the archive itself, in place of a hub.
+    pub call: Option<ArchiveCall>,
     reads: Option<u64>,
     at_once: usize,
     most: usize,
@@ -35,6 +38,7 @@ impl Exchange {
             cut,
             moment: MOMENT,
             reader_fails: false,
+            call: None,
             reads: None,
             at_once: usize::MAX,
             most: usize::MAX,
@@ -47,6 +51,7 @@ impl Exchange {
         self.stream.clear();
         self.want.clear();
         self.reader_fails = false;
+        self.call = None;
         self.reads = None;
         self.at_once = usize::MAX;
         self.most = usize::MAX;
@@ -126,6 +131,7 @@ impl Exchange {
                 Some(front) => self.want.as_slice().starts_with(front),
                 None => false,
             },
+            "store-fault" => self.want.as_slice().starts_with(sent),
             "cut" | "write-fault" => self.cut_front().starts_with(sent),
             _ => false,
         }

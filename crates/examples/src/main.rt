@@ -3,6 +3,7 @@
 #![tactic(auto)]
 
 mod archive;
+mod archive_calls;
 mod cut;
 mod documents;
 mod escapes;
@@ -15,6 +16,7 @@ mod page;
 mod play;
 mod server;
 mod settings;
+mod shelf;
 mod side;
 mod source;
 mod trouble;

@@ -38,10 +38,16 @@ impl Page {
 
     /// Adds a line of these parts.
     pub fn tell(&mut self, parts: &[&[u8]]) -> Result<(), AllocError> {
+        self.put(parts)?;
+        self.bytes.extend_from_slice(b"\r\n")
+    }
+
+    /// Adds these parts.
+    pub fn put(&mut self, parts: &[&[u8]]) -> Result<(), AllocError> {
         for part in parts {
             self.bytes.extend_from_slice(part)?;
         }
-        self.bytes.extend_from_slice(b"\r\n")
+        Ok(())
     }
 }
 

@@ -1,5 +1,6 @@
 //! An example is played line by line.
 
+use crate::archive_calls::ArchiveCall;
 use crate::cut::Cut;
 use crate::documents::{Call, Documents};
 use crate::escapes::{expand, fill};
@@ -57,6 +58,11 @@ impl Play {
             | "bound"
             | "read-fault"
             | "write-fault"
+            | "done"
+            | "damaged"
+            | "no-such-object"
+            | "transfer-fault"
+            | "store-fault"
             | "told" => {
                 blank(rest)?;
                 self.ends(word)
@@ -76,7 +82,9 @@ impl Play {
 
     // An exchange ends.
     fn ends(&mut self, answer: &str) -> Result<(), Trouble> {
-        self.side.open(self.alloc, &self.settings)?;
+        if self.exchange.call.is_none() {
+            self.side.open(self.alloc, &self.settings)?;
+        }
         self.is_as_written(answer)?;
         self.longest = self.longest.max(self.exchange.stream.len());
         self.exchange.clear();
@@ -110,6 +118,11 @@ impl Play {
             "next" => self.number_next(rest)?,
             "sql" => self.side.change(self.alloc, rest)?,
             "connection" | "close" | "crowd" => self.commands(word, rest)?,
+            "export" | "audit" => {
+                self.side.leave(self.alloc)?;
+                self.exchange.call = Some(ArchiveCall::named(word, rest)?);
+                self.exchange.begin();
+            }
             _ => self.turns(word, rest)?,
         }
         Ok(())

@@ -38,7 +38,11 @@ impl Side {
         page: &mut Page,
     ) -> Result<&'static str, Trouble> {
         match self {
-            Side::New | Side::Archive(_) => Err(Trouble::Line("no hub is there")),
+            Side::New => Err(Trouble::Line("no hub is there")),
+            Side::Archive(store) => match exchange.call {
+                Some(call) => call.plays(alloc, store, page),
+                None => Err(Trouble::Line("no hub is there")),
+            },
             Side::Intake(intake) => takes(intake, exchange, page),
             Side::Leaf(leaf) => {
                 leaf.reads(alloc, exchange, page)?;

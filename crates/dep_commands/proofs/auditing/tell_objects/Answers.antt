@@ -1,7 +1,9 @@
 use Rattle.std.proofs.Common.{◌++◌, [], refl, subst, ◌∙◌}
 use Rattle.std.proofs.KnownBytes.{Appends-nil, Appends-trans}
 use Rattle.dep_tables.specs.Edits.{IsObjectAfter}
-use Rattle.dep_commands.proofs.TellLemmas.{objects_rise, told_none, told_so_far, told_more, told_all, objects_fail, sum_fails, begun_fails}
+use Rattle.sqlite.specs.Held.{state}
+use Rattle.dep_store.proofs.Transacting.{leaves_as_was}
+use Rattle.dep_commands.proofs.TellLemmas.{objects_rise, told_none, told_so_far, told_more, told_all, objects_fail, sum_fails, begun_fails, stands_still}
 use Rattle.dep_commands.proofs.auditing.tell_objects.Goals as goal
 
 pub returns-in_default-clause-writes : goal.returns-in_default-clause-writes
@@ -66,6 +68,9 @@ objects-preserved g c =
             (subst (IsObjectAfter c.objects.after t) c.in-Some.is after.0) more.0 c.in_ok-more.more c.in_ok-tally.tally (more.2 clean t after.1)
             c.in_ok-tally.ensures.checked c.in_ok-tally.ensures.damaged,
       );
+      stop = λ clean s h. let mid = c.in_ok-more.ensures.honest clean in
+          let stood = inv.kept (c.in_ok-object.ensures.honest mid) h.tables h.stands in
+          c.in_ok-more.ensures.stop clean s (stands_still s h (c.in_ok-object.ensures.rows mid h.tables stood).1);
       count = c.in_ok-more.ensures.count ∙ inv.count;
     }
 
@@ -76,6 +81,7 @@ objects-init g c = record {
   still = λ is_open t at. at;
   kept = λ clean t at. at;
   writes = ([], Appends-nil (g.W.Outlet.taken c.args.out.now), λ clean t at. told_none t _ refl refl);
+  stop = λ clean s h. leaves_as_was (state g.S.Store c.args.store.now) s (λ trees may. g.met.S.Store.settled c.args.store.now.store trees h.stands.is_open may) h;
   count = refl;
 }
 
@@ -113,3 +119,25 @@ returns-clause-writes g c =
       before.1,
       λ clean t at. told_so_far t c.objects.after before.0 c.objects.tally (before.2 clean t at),
     )
+
+pub returns-in_err-object-clause-stop : goal.returns-in_err-object-clause-stop
+returns-in_err-object-clause-stop g c clean s h =
+    let stood = c.objects.invariant.kept (c.in_err-object.ensures.honest clean) h.tables h.stands in
+    c.in_err-object.ensures.stop clean s (stands_still s h stood)
+
+pub returns-in_default-clause-stop : goal.returns-in_default-clause-stop
+returns-in_default-clause-stop g c clean s h =
+    let stood = c.objects.invariant.kept (c.in_ok-object.ensures.honest clean) h.tables h.stands in
+    c.in_ok-object.ensures.stop clean s (stands_still s h stood)
+
+pub returns-in_err-more-clause-stop : goal.returns-in_err-more-clause-stop
+returns-in_err-more-clause-stop g c clean s h =
+    let mid = c.in_err-more.ensures.honest clean in
+    let stood = c.objects.invariant.kept (c.in_ok-object.ensures.honest mid) h.tables h.stands in
+    c.in_err-more.ensures.stop clean s (stands_still s h (c.in_ok-object.ensures.rows mid h.tables stood).1)
+
+pub returns-in_err-tally-clause-stop : goal.returns-in_err-tally-clause-stop
+returns-in_err-tally-clause-stop g c clean s h =
+    let mid = c.in_ok-more.ensures.honest clean in
+    let stood = c.objects.invariant.kept (c.in_ok-object.ensures.honest mid) h.tables h.stands in
+    c.in_ok-more.ensures.stop clean s (stands_still s h (c.in_ok-object.ensures.rows mid h.tables stood).1)

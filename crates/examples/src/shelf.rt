@@ -1,0 +1,98 @@
+//! A sink of a bag in memory.
+ghost use Rattle.std.specs.Prelude.{◌≡◌};
+
+use crate::page::Page;
+use dep_types::{BagSink, Outlet, SinkFailed, WriteFailed};
+use std::alloc::AllocError;
+
+/// A call of a sink.
+#[derive(Clone, Copy, PartialEq, Eq)]
+pub enum Call {
+    Folder,
+    Begin,
+    Write,
+    Finish,
+}
+
+/// Writes the folders and files that it is given to a page. One of its calls may be told to fail.
+#[derive(Drop)]
+pub struct Shelf<'a> {
+    page: &'a mut Page,
+    /// The call that fails, and how many of them come before.
+    failing: Option<(Call, u64)>,
+    failures: u64,
+    has_memory: bool,
+}
+
+impl<'a> Shelf<'a> {
+    pub fn new(page: &'a mut Page, failing: Option<(Call, u64)>) -> Shelf<'a> {
+        Shelf {
+            page,
+            failing,
+            failures: 0,
+            has_memory: true,
+        }
+    }
+
+    /// No growth of the page was refused.
+    pub fn has_memory(&self) -> bool {
+        self.has_memory
+    }
+
+    fn put(&mut self, call: Call, parts: &[&[u8]]) -> Result<(), SinkFailed> {
+        if self.fails(call) {
+            return Err(self.failed());
+        }
+        match self.page.put(parts) {
+            Ok(()) => Ok(()),
+            Err(AllocError) => {
+                self.has_memory = false;
+                Err(self.failed())
+            }
+        }
+    }
+
+    fn fails(&mut self, call: Call) -> bool {
+        let Some((failing, before)) = self.failing else {
+            return false;
+        };
+        if failing != call {
+            return false;
+        }
+        self.failing = Some((failing, before.saturating_sub(1)));
+        before == 0
+    }
+
+    fn failed(&mut self) -> SinkFailed {
+        self.failures = self.failures.saturating_add(1);
+        SinkFailed
+    }
+}
+
+impl Outlet for Shelf<'_> {
+    ghost failures = { λ s. s.failures };
+
+    fn write(&mut self, bytes: &[u8]) -> Result<(), WriteFailed> {
+        if bytes.is_empty() {
+            return Ok(());
+        }
+        match self.put(Call::Write, &[bytes]) {
+            Ok(()) => Ok(()),
+            Err(SinkFailed) => Err(WriteFailed),
+        }
+    }
+}
+
+impl BagSink for Shelf<'_> {
+    fn folder(&mut self, path: &str) -> Result<(), SinkFailed> {
+        self.put(Call::Folder, &[b"folder ", path.as_bytes(), b"\r\n"])
+    }
+
+    fn begin(&mut self, path: &str) -> Result<(), SinkFailed> {
+        self.put(Call::Begin, &[b"file ", path.as_bytes(), b"\r\n"])
+    }
+
+    fn finish(&mut self) -> Result<(), SinkFailed> {
+        self.put(Call::Finish, &[b"\r\n"])
+    }
+}
