@@ -1,4 +1,5 @@
 pub mod Results
+pub mod Chains
 pub mod Leading
 pub mod Answered
 pub mod StateTable

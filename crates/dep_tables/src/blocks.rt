@@ -7,7 +7,7 @@ ghost use Rattle.sqlite.specs.Held.{state};
 ghost use Rattle.sqlite.specs.Values.{bound};
 ghost use Rattle.dep_tables.specs.Rows.{IsStorableOwner, owner_values, IsStorableKey, key_values, block_values, move_values, place_values, IsBytesRow, IsPlaceRow};
 ghost use Rattle.dep_tables.specs.Edits.{with_new_block, without_blocks_of, with_part_moved, LacksBlock, AreBytesAt, IsBlockAfter};
-ghost use Rattle.dep_tables.specs.Clauses.{AtMostOne, Changes, Shows, Reads, ReadsOnly, FailsWhole, FailsReading, GoesOn, StaysInside, CommitsNothing, RefusesNumbers, FailsByRunning, FailsByReading};
+ghost use Rattle.dep_tables.specs.Clauses.{AtMostOne, Changes, Shows, Reads, ReadsOnly, FailsWhole, FailsReading, RefusesNumbers, FailsByRunning, FailsByReading, StaysWithin};
 ghost use Rattle.dep_tables.specs.Texts.{insert_block_text, delete_blocks_text, move_part_text, read_block_text, next_block_text};
 
 use crate::calls::run;
@@ -46,10 +46,7 @@ pub fn insert_block<S: Alter>(
         (state S.Store tx.old.conn.now) (state S.Store tx.new.conn.now) result
         (IsStorableKey key.now) insert_block_text (block_values key.now bytes.now) }
     ensures err { FailsWhole (state S.Store tx.old.conn.now) (state S.Store tx.new.conn.now) result }
-    ensures inside { GoesOn (state S.Store tx.old.conn.now) (state S.Store tx.new.conn.now) result }
-    ensures kept { StaysInside (state S.Store tx.old.conn.now) (state S.Store tx.new.conn.now) }
-    ensures same_reference { tx.new.conn.ghost_name ≡ tx.old.conn.ghost_name }
-    ensures survives { CommitsNothing (state S.Store tx.old.conn.now) (state S.Store tx.new.conn.now) }
+    ensures stays { StaysWithin S.Store tx.old.conn tx.new.conn result }
 {
     if !is_storable_key(key) {
         return Err(StoreFault::Store);
@@ -75,10 +72,7 @@ pub fn delete_blocks<S: Alter>(
         (state S.Store tx.old.conn.now) (state S.Store tx.new.conn.now) result
         (IsStorableOwner owner) delete_blocks_text (owner_values owner) }
     ensures err { FailsWhole (state S.Store tx.old.conn.now) (state S.Store tx.new.conn.now) result }
-    ensures inside { GoesOn (state S.Store tx.old.conn.now) (state S.Store tx.new.conn.now) result }
-    ensures kept { StaysInside (state S.Store tx.old.conn.now) (state S.Store tx.new.conn.now) }
-    ensures same_reference { tx.new.conn.ghost_name ≡ tx.old.conn.ghost_name }
-    ensures survives { CommitsNothing (state S.Store tx.old.conn.now) (state S.Store tx.new.conn.now) }
+    ensures stays { StaysWithin S.Store tx.old.conn tx.new.conn result }
 {
     if !is_storable_owner(owner) {
         return Err(StoreFault::Store);
@@ -118,10 +112,7 @@ pub fn move_part<S: Alter>(
         ((upload < 2 ^ 63) × (part < 2 ^ 63)
         × (file < 2 ^ 63)) move_part_text (move_values upload part file) }
     ensures err { FailsWhole (state S.Store tx.old.conn.now) (state S.Store tx.new.conn.now) result }
-    ensures inside { GoesOn (state S.Store tx.old.conn.now) (state S.Store tx.new.conn.now) result }
-    ensures kept { StaysInside (state S.Store tx.old.conn.now) (state S.Store tx.new.conn.now) }
-    ensures same_reference { tx.new.conn.ghost_name ≡ tx.old.conn.ghost_name }
-    ensures survives { CommitsNothing (state S.Store tx.old.conn.now) (state S.Store tx.new.conn.now) }
+    ensures stays { StaysWithin S.Store tx.old.conn tx.new.conn result }
 {
     if upload >= LIMIT || part >= LIMIT || file >= LIMIT {
         return Err(StoreFault::Store);
@@ -182,10 +173,7 @@ pub fn read_block<S: Alter>(
         (state S.Store tx.old.conn.now) (state S.Store tx.new.conn.now) result
         (IsStorableKey key.now) read_block_text (key_values key.now) (AtMostOne IsBytesRow) }
     ensures err { FailsReading (state S.Store tx.old.conn.now) (state S.Store tx.new.conn.now) result }
-    ensures inside { GoesOn (state S.Store tx.old.conn.now) (state S.Store tx.new.conn.now) result }
-    ensures kept { StaysInside (state S.Store tx.old.conn.now) (state S.Store tx.new.conn.now) }
-    ensures same_reference { tx.new.conn.ghost_name ≡ tx.old.conn.ghost_name }
-    ensures survives { CommitsNothing (state S.Store tx.old.conn.now) (state S.Store tx.new.conn.now) }
+    ensures stays { StaysWithin S.Store tx.old.conn tx.new.conn result }
 {
     if !is_storable_key(key) {
         return Err(StoreFault::Store);
@@ -212,10 +200,7 @@ pub fn next_block<S: Alter>(
         (state S.Store tx.old.conn.now) (state S.Store tx.new.conn.now) result
         (IsStorableKey after.now) next_block_text (key_values after.now) (AtMostOne IsPlaceRow) }
     ensures err { FailsReading (state S.Store tx.old.conn.now) (state S.Store tx.new.conn.now) result }
-    ensures inside { GoesOn (state S.Store tx.old.conn.now) (state S.Store tx.new.conn.now) result }
-    ensures kept { StaysInside (state S.Store tx.old.conn.now) (state S.Store tx.new.conn.now) }
-    ensures same_reference { tx.new.conn.ghost_name ≡ tx.old.conn.ghost_name }
-    ensures survives { CommitsNothing (state S.Store tx.old.conn.now) (state S.Store tx.new.conn.now) }
+    ensures stays { StaysWithin S.Store tx.old.conn tx.new.conn result }
 {
     if !is_storable_key(after) {
         return Err(StoreFault::Store);

@@ -1,10 +1,10 @@
 //! The two ways in which a statement runs inside a transaction.
 
-ghost use Rattle.std.specs.Prelude.{◌≡◌, ℕ, IsTrue, IfOk, IfErr, OnOk, Ok};
+ghost use Rattle.std.specs.Prelude.{ℕ, IsTrue, IfOk, IfErr, OnOk, Ok};
 ghost use Rattle.sqlite.specs.State.{HasCleanDisk, ExecutesInside, Shown};
 ghost use Rattle.sqlite.specs.Held.{state};
 ghost use Rattle.sqlite.specs.Values.{bound};
-ghost use Rattle.dep_tables.specs.Clauses.{FailsToRun, FailsToAsk, FailsWhole, GoesOn, StaysInside, CommitsNothing};
+ghost use Rattle.dep_tables.specs.Clauses.{FailsToRun, FailsToAsk, FailsWhole, StaysWithin};
 
 use crate::fault::fault_of;
 use dep_types::StoreFault;
@@ -26,10 +26,7 @@ pub fn run<S: Alter>(
         → IfErr result (FailsToRun sql.now (bound params.now)
         (state S.Store tx.old.conn.now) (state S.Store tx.new.conn.now)) }
     ensures err { FailsWhole (state S.Store tx.old.conn.now) (state S.Store tx.new.conn.now) result }
-    ensures inside { GoesOn (state S.Store tx.old.conn.now) (state S.Store tx.new.conn.now) result }
-    ensures kept { StaysInside (state S.Store tx.old.conn.now) (state S.Store tx.new.conn.now) }
-    ensures same_reference { tx.new.conn.ghost_name ≡ tx.old.conn.ghost_name }
-    ensures survives { CommitsNothing (state S.Store tx.old.conn.now) (state S.Store tx.new.conn.now) }
+    ensures stays { StaysWithin S.Store tx.old.conn tx.new.conn result }
 {
     match tx.execute(sql, params) {
         Ok(_) => Ok(()),
@@ -50,10 +47,7 @@ pub(crate) fn ask<S: Alter>(
         → IfErr result (FailsToAsk sql.now (bound params.now)
         (state S.Store tx.old.conn.now) (state S.Store tx.new.conn.now)) }
     ensures err { FailsWhole (state S.Store tx.old.conn.now) (state S.Store tx.new.conn.now) result }
-    ensures inside { GoesOn (state S.Store tx.old.conn.now) (state S.Store tx.new.conn.now) result }
-    ensures kept { StaysInside (state S.Store tx.old.conn.now) (state S.Store tx.new.conn.now) }
-    ensures same_reference { tx.new.conn.ghost_name ≡ tx.old.conn.ghost_name }
-    ensures survives { CommitsNothing (state S.Store tx.old.conn.now) (state S.Store tx.new.conn.now) }
+    ensures stays { StaysWithin S.Store tx.old.conn tx.new.conn result }
 {
     match tx.query_all(sql, params) {
         Ok(rows) => Ok(rows),

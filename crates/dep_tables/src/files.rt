@@ -6,7 +6,7 @@ ghost use Rattle.sqlite.specs.Held.{state};
 ghost use Rattle.sqlite.specs.Values.{bound};
 ghost use Rattle.dep_tables.specs.Rows.{IsStorableFile, file_values, IsFileRow};
 ghost use Rattle.dep_tables.specs.Edits.{with_new_file_row, without_file_row, without_file_rows, LacksFileRow, IsFileRowAt, AreFileRowsOf};
-ghost use Rattle.dep_tables.specs.Clauses.{AtMostOne, Changes, Shows, Reads, ReadsOnly, FailsWhole, FailsReading, GoesOn, StaysInside, CommitsNothing, RefusesNumbers, FailsByRunning, FailsByReading};
+ghost use Rattle.dep_tables.specs.Clauses.{AtMostOne, Changes, Shows, Reads, ReadsOnly, FailsWhole, FailsReading, RefusesNumbers, FailsByRunning, FailsByReading, StaysWithin};
 ghost use Rattle.dep_tables.specs.Texts.{insert_file_text, delete_file_text, delete_files_text, find_file_text, files_of_text};
 
 use crate::calls::run;
@@ -59,10 +59,7 @@ pub fn insert_file<S: Alter>(tx: &mut Transaction<'_, S>, row: &FileRow) -> Resu
         (state S.Store tx.old.conn.now) (state S.Store tx.new.conn.now) result
         (IsStorableFile row.now) insert_file_text (file_values row.now) }
     ensures err { FailsWhole (state S.Store tx.old.conn.now) (state S.Store tx.new.conn.now) result }
-    ensures inside { GoesOn (state S.Store tx.old.conn.now) (state S.Store tx.new.conn.now) result }
-    ensures kept { StaysInside (state S.Store tx.old.conn.now) (state S.Store tx.new.conn.now) }
-    ensures same_reference { tx.new.conn.ghost_name ≡ tx.old.conn.ghost_name }
-    ensures survives { CommitsNothing (state S.Store tx.old.conn.now) (state S.Store tx.new.conn.now) }
+    ensures stays { StaysWithin S.Store tx.old.conn tx.new.conn result }
 {
     if !is_storable_file(row) {
         return Err(StoreFault::Store);
@@ -85,10 +82,7 @@ pub fn delete_file<S: Alter>(tx: &mut Transaction<'_, S>, file: u64) -> Result<(
         (state S.Store tx.old.conn.now) (state S.Store tx.new.conn.now) result
         (file < 2 ^ 63) delete_file_text (Int (pos file) ∷ []) }
     ensures err { FailsWhole (state S.Store tx.old.conn.now) (state S.Store tx.new.conn.now) result }
-    ensures inside { GoesOn (state S.Store tx.old.conn.now) (state S.Store tx.new.conn.now) result }
-    ensures kept { StaysInside (state S.Store tx.old.conn.now) (state S.Store tx.new.conn.now) }
-    ensures same_reference { tx.new.conn.ghost_name ≡ tx.old.conn.ghost_name }
-    ensures survives { CommitsNothing (state S.Store tx.old.conn.now) (state S.Store tx.new.conn.now) }
+    ensures stays { StaysWithin S.Store tx.old.conn tx.new.conn result }
 {
     if file >= LIMIT {
         return Err(StoreFault::Store);
@@ -107,10 +101,7 @@ pub fn delete_files<S: Alter>(tx: &mut Transaction<'_, S>, object: u64) -> Resul
         (state S.Store tx.old.conn.now) (state S.Store tx.new.conn.now) result
         (object < 2 ^ 63) delete_files_text (Int (pos object) ∷ []) }
     ensures err { FailsWhole (state S.Store tx.old.conn.now) (state S.Store tx.new.conn.now) result }
-    ensures inside { GoesOn (state S.Store tx.old.conn.now) (state S.Store tx.new.conn.now) result }
-    ensures kept { StaysInside (state S.Store tx.old.conn.now) (state S.Store tx.new.conn.now) }
-    ensures same_reference { tx.new.conn.ghost_name ≡ tx.old.conn.ghost_name }
-    ensures survives { CommitsNothing (state S.Store tx.old.conn.now) (state S.Store tx.new.conn.now) }
+    ensures stays { StaysWithin S.Store tx.old.conn tx.new.conn result }
 {
     if object >= LIMIT {
         return Err(StoreFault::Store);
@@ -162,10 +153,7 @@ pub fn find_file<S: Alter>(
         (state S.Store tx.old.conn.now) (state S.Store tx.new.conn.now) result
         (file < 2 ^ 63) find_file_text (Int (pos file) ∷ []) (AtMostOne IsFileRow) }
     ensures err { FailsReading (state S.Store tx.old.conn.now) (state S.Store tx.new.conn.now) result }
-    ensures inside { GoesOn (state S.Store tx.old.conn.now) (state S.Store tx.new.conn.now) result }
-    ensures kept { StaysInside (state S.Store tx.old.conn.now) (state S.Store tx.new.conn.now) }
-    ensures same_reference { tx.new.conn.ghost_name ≡ tx.old.conn.ghost_name }
-    ensures survives { CommitsNothing (state S.Store tx.old.conn.now) (state S.Store tx.new.conn.now) }
+    ensures stays { StaysWithin S.Store tx.old.conn tx.new.conn result }
 {
     if file >= LIMIT {
         return Err(StoreFault::Store);
@@ -193,10 +181,7 @@ pub fn files_of<S: Alter>(
         (state S.Store tx.old.conn.now) (state S.Store tx.new.conn.now) result
         (object < 2 ^ 63) files_of_text (Int (pos object) ∷ []) (All IsFileRow) }
     ensures err { FailsReading (state S.Store tx.old.conn.now) (state S.Store tx.new.conn.now) result }
-    ensures inside { GoesOn (state S.Store tx.old.conn.now) (state S.Store tx.new.conn.now) result }
-    ensures kept { StaysInside (state S.Store tx.old.conn.now) (state S.Store tx.new.conn.now) }
-    ensures same_reference { tx.new.conn.ghost_name ≡ tx.old.conn.ghost_name }
-    ensures survives { CommitsNothing (state S.Store tx.old.conn.now) (state S.Store tx.new.conn.now) }
+    ensures stays { StaysWithin S.Store tx.old.conn tx.new.conn result }
 {
     if object >= LIMIT {
         return Err(StoreFault::Store);

@@ -6,7 +6,7 @@ ghost use Rattle.sqlite.specs.Held.{state};
 ghost use Rattle.sqlite.specs.Values.{bound};
 ghost use Rattle.dep_tables.specs.Rows.{IsStorableMetadata, metadata_values, IsMetadataRow};
 ghost use Rattle.dep_tables.specs.Edits.{with_new_metadata_row, without_metadata_rows, LacksMetadataRow, AreMetadataRowsOf};
-ghost use Rattle.dep_tables.specs.Clauses.{Changes, Shows, Reads, ReadsOnly, FailsWhole, FailsReading, GoesOn, StaysInside, CommitsNothing, RefusesNumbers, FailsByRunning, FailsByReading};
+ghost use Rattle.dep_tables.specs.Clauses.{Changes, Shows, Reads, ReadsOnly, FailsWhole, FailsReading, RefusesNumbers, FailsByRunning, FailsByReading, StaysWithin};
 ghost use Rattle.dep_tables.specs.Texts.{insert_metadata_text, delete_metadata_text, metadata_of_text};
 
 use crate::calls::run;
@@ -62,10 +62,7 @@ pub fn insert_metadata<S: Alter>(
         (state S.Store tx.old.conn.now) (state S.Store tx.new.conn.now) result
         (IsStorableMetadata row.now) insert_metadata_text (metadata_values row.now) }
     ensures err { FailsWhole (state S.Store tx.old.conn.now) (state S.Store tx.new.conn.now) result }
-    ensures inside { GoesOn (state S.Store tx.old.conn.now) (state S.Store tx.new.conn.now) result }
-    ensures kept { StaysInside (state S.Store tx.old.conn.now) (state S.Store tx.new.conn.now) }
-    ensures same_reference { tx.new.conn.ghost_name ≡ tx.old.conn.ghost_name }
-    ensures survives { CommitsNothing (state S.Store tx.old.conn.now) (state S.Store tx.new.conn.now) }
+    ensures stays { StaysWithin S.Store tx.old.conn tx.new.conn result }
 {
     if !is_storable_metadata(row) {
         return Err(StoreFault::Store);
@@ -88,10 +85,7 @@ pub fn delete_metadata<S: Alter>(tx: &mut Transaction<'_, S>, object: u64) -> Re
         (state S.Store tx.old.conn.now) (state S.Store tx.new.conn.now) result
         (object < 2 ^ 63) delete_metadata_text (Int (pos object) ∷ []) }
     ensures err { FailsWhole (state S.Store tx.old.conn.now) (state S.Store tx.new.conn.now) result }
-    ensures inside { GoesOn (state S.Store tx.old.conn.now) (state S.Store tx.new.conn.now) result }
-    ensures kept { StaysInside (state S.Store tx.old.conn.now) (state S.Store tx.new.conn.now) }
-    ensures same_reference { tx.new.conn.ghost_name ≡ tx.old.conn.ghost_name }
-    ensures survives { CommitsNothing (state S.Store tx.old.conn.now) (state S.Store tx.new.conn.now) }
+    ensures stays { StaysWithin S.Store tx.old.conn tx.new.conn result }
 {
     if object >= LIMIT {
         return Err(StoreFault::Store);
@@ -138,10 +132,7 @@ pub fn metadata_of<S: Alter>(
         (state S.Store tx.old.conn.now) (state S.Store tx.new.conn.now) result
         (object < 2 ^ 63) metadata_of_text (Int (pos object) ∷ []) (All IsMetadataRow) }
     ensures err { FailsReading (state S.Store tx.old.conn.now) (state S.Store tx.new.conn.now) result }
-    ensures inside { GoesOn (state S.Store tx.old.conn.now) (state S.Store tx.new.conn.now) result }
-    ensures kept { StaysInside (state S.Store tx.old.conn.now) (state S.Store tx.new.conn.now) }
-    ensures same_reference { tx.new.conn.ghost_name ≡ tx.old.conn.ghost_name }
-    ensures survives { CommitsNothing (state S.Store tx.old.conn.now) (state S.Store tx.new.conn.now) }
+    ensures stays { StaysWithin S.Store tx.old.conn tx.new.conn result }
 {
     if object >= LIMIT {
         return Err(StoreFault::Store);

@@ -11,7 +11,7 @@ ghost use Rattle.dep_statements.specs.Rows.{columns_from};
 ghost use Rattle.dep_types.specs.declared.store_fault.StoreFault.TheVariants.{Memory};
 ghost use Rattle.dep_tables.specs.Faults.{IsMemoryWhere};
 ghost use Rattle.dep_tables.specs.Rows.{IsNumberRow};
-ghost use Rattle.dep_tables.specs.Clauses.{AtMostOne, FailsToRead, FailsWhole, ShowsColumns, IsPlainIn, GoesOn, StaysInside, CommitsNothing};
+ghost use Rattle.dep_tables.specs.Clauses.{AtMostOne, FailsToRead, FailsWhole, ShowsColumns, IsPlainIn, StaysWithin};
 
 use crate::calls::ask;
 use crate::fault::fault_of;
@@ -103,10 +103,7 @@ pub(crate) fn ask_one<S: Alter, R: FromRow>(
         → OnOk result (IsUnchanged (state S.Store tx.old.conn.now) (state S.Store tx.new.conn.now)) }
     ensures err { IsPlainIn (state S.Store tx.old.conn.now) sql.now
         → FailsWhole (state S.Store tx.old.conn.now) (state S.Store tx.new.conn.now) result }
-    ensures inside { GoesOn (state S.Store tx.old.conn.now) (state S.Store tx.new.conn.now) result }
-    ensures kept { StaysInside (state S.Store tx.old.conn.now) (state S.Store tx.new.conn.now) }
-    ensures same_reference { tx.new.conn.ghost_name ≡ tx.old.conn.ghost_name }
-    ensures survives { CommitsNothing (state S.Store tx.old.conn.now) (state S.Store tx.new.conn.now) }
+    ensures stays { StaysWithin S.Store tx.old.conn tx.new.conn result }
 {
     let rows = ask(tx, sql, params)?;
     at_most_one(rows.as_slice())
@@ -131,10 +128,7 @@ pub(crate) fn ask_all<S: Alter, R: FromRow + Drop>(
         → OnOk result (IsUnchanged (state S.Store tx.old.conn.now) (state S.Store tx.new.conn.now)) }
     ensures err { IsPlainIn (state S.Store tx.old.conn.now) sql.now
         → FailsWhole (state S.Store tx.old.conn.now) (state S.Store tx.new.conn.now) result }
-    ensures inside { GoesOn (state S.Store tx.old.conn.now) (state S.Store tx.new.conn.now) result }
-    ensures kept { StaysInside (state S.Store tx.old.conn.now) (state S.Store tx.new.conn.now) }
-    ensures same_reference { tx.new.conn.ghost_name ≡ tx.old.conn.ghost_name }
-    ensures survives { CommitsNothing (state S.Store tx.old.conn.now) (state S.Store tx.new.conn.now) }
+    ensures stays { StaysWithin S.Store tx.old.conn tx.new.conn result }
 {
     let rows = ask(tx, sql, params)?;
     all(alloc, rows.as_slice())

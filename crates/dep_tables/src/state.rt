@@ -7,7 +7,7 @@ ghost use Rattle.sqlite.specs.Held.{state};
 ghost use Rattle.sqlite.specs.Values.{bound};
 ghost use Rattle.dep_tables.specs.Rows.{IsStorableState, IsStateRow, state_values};
 ghost use Rattle.dep_tables.specs.Edits.{with_state_row, HasStateRow};
-ghost use Rattle.dep_tables.specs.Clauses.{Changes, Reads, ReadsOnly, FailsWhole, FailsReading, GoesOn, StaysInside, CommitsNothing, RefusesNumbers, FailsByRunning, FailsToRead, JustOne};
+ghost use Rattle.dep_tables.specs.Clauses.{Changes, Reads, ReadsOnly, FailsWhole, FailsReading, RefusesNumbers, FailsByRunning, FailsToRead, JustOne, StaysWithin};
 ghost use Rattle.dep_tables.specs.Texts.{write_state_text, read_state_text};
 
 use crate::calls::run;
@@ -58,10 +58,7 @@ pub fn write_state<S: Alter>(tx: &mut Transaction<'_, S>, row: &StateRow) -> Res
         (state S.Store tx.old.conn.now) (state S.Store tx.new.conn.now) result
         (IsStorableState row.now) write_state_text (state_values row.now) }
     ensures err { FailsWhole (state S.Store tx.old.conn.now) (state S.Store tx.new.conn.now) result }
-    ensures inside { GoesOn (state S.Store tx.old.conn.now) (state S.Store tx.new.conn.now) result }
-    ensures kept { StaysInside (state S.Store tx.old.conn.now) (state S.Store tx.new.conn.now) }
-    ensures same_reference { tx.new.conn.ghost_name ≡ tx.old.conn.ghost_name }
-    ensures survives { CommitsNothing (state S.Store tx.old.conn.now) (state S.Store tx.new.conn.now) }
+    ensures stays { StaysWithin S.Store tx.old.conn tx.new.conn result }
 {
     if !is_storable_state(row) {
         return Err(StoreFault::Store);
@@ -104,10 +101,7 @@ pub fn read_state<S: Alter>(tx: &mut Transaction<'_, S>) -> Result<StateRow, Sto
         → IfErr result (FailsToRead (JustOne IsStateRow) read_state_text []
         (state S.Store tx.old.conn.now) (state S.Store tx.new.conn.now)) }
     ensures err { FailsReading (state S.Store tx.old.conn.now) (state S.Store tx.new.conn.now) result }
-    ensures inside { GoesOn (state S.Store tx.old.conn.now) (state S.Store tx.new.conn.now) result }
-    ensures kept { StaysInside (state S.Store tx.old.conn.now) (state S.Store tx.new.conn.now) }
-    ensures same_reference { tx.new.conn.ghost_name ≡ tx.old.conn.ghost_name }
-    ensures survives { CommitsNothing (state S.Store tx.old.conn.now) (state S.Store tx.new.conn.now) }
+    ensures stays { StaysWithin S.Store tx.old.conn tx.new.conn result }
 {
     let found = ask_one(
         tx,
