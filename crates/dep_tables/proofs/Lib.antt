@@ -1,5 +1,6 @@
 pub mod Results
 pub mod Chains
+pub mod Asking
 pub mod Leading
 pub mod Answered
 pub mod StateTable

@@ -1,5 +1,5 @@
 -- Why a value was not read.
-use Rattle.std.proofs.Common.{◌≡◌, ◌≢◌, ◌<◌, ℕ, List, ◌∷◌, Result, Ok, Err, IfErr, IsErrAnd, Option, None, Some, IfSome, IsUtf8, length, inl, inr, refl, sym, ap, subst, ◌∙◌, arith}
+use Rattle.std.proofs.Common.{◌≡◌, ◌≢◌, ℕ, List, ◌∷◌, Result, Ok, Err, IfErr, IsErrAnd, Option, None, Some, IfSome, IsUtf8, length, inl, inr, refl, sym, ap, subst, ◌∙◌, arith}
 use Rattle.sqlite.specs.Order.{Row}
 use Rattle.sqlite.specs.declared.types.Value.{Value}
 use Rattle.sqlite.specs.declared.types.Value.TheVariants.{Text, Blob}
