@@ -1,9 +1,15 @@
 -- Facts on a result that is passed on, and on a transaction that goes on unchanged.
-use Rattle.std.proofs.Common.{◌≡◌, ◌⊎◌, inl, inr, IsTrue, Result, Ok, Err, OnOk, ap, sym, subst, ◌∙◌, arith}
-use Rattle.sqlite.specs.State.{State, HasCleanDisk, Survives, KeepsCommit, IsUnchanged, IsRolledBack}
+use Rattle.std.proofs.Common.{◌≡◌, ◌⊎◌, inl, inr, IsTrue, Result, Ok, Err, OnOk, ap, sym, subst, ◌∙◌}
+use Rattle.std.proofs.lemmas.Result.{on_err_weaker}
+use Rattle.std.specs.Borrow.{MutBor}
+use Rattle.sqlite_trees.specs.declared.store.Store.{Ghosts}
+use Rattle.sqlite.specs.State.{State, KeepsCommit, IsUnchanged, IsRolledBack}
 use Rattle.sqlite.specs.Effect.{Database}
-use Rattle.sqlite.proofs.StateLemmas.{survives_then}
+use Rattle.sqlite.specs.Held.{Held, state}
 use Rattle.dep_tables.specs.Tables.{IsOurs, HasOurTables, tables_of, tables_in}
+use Rattle.dep_tables.specs.Clauses.{FailsWhole, StaysWithin}
+use Rattle.dep_tables.proofs.Chains.{clean_before}
+use Rattle.dep_row_maps.specs.Clauses.{FailsUncommitted}
 
 pub ok_both : {A E P Q R : Type 0} (r : Result A E) → OnOk r P → OnOk r Q → (P → Q → R) → OnOk r R
 ok_both (Ok x) p q f = f p q
@@ -22,13 +28,6 @@ left_whole old new inside is_open (inr back) = ((back.undone is_open).1, inr (ba
 
 -- ---- one call after another
 
-pub was_clean : (old new : State) → Survives old new (λ _. ⊥) → HasCleanDisk new → HasCleanDisk old
-was_clean old new survived clean = omega (arith, clean, survived.clean)
-
--- nothing was committed by two calls
-pub survived : (old mid new : State) → Survives old mid (λ _. ⊥) → Survives mid new (λ _. ⊥) → Survives old new (λ _. ⊥)
-survived old mid new first second = survives_then old mid new _ _ (λ _. ⊥) (λ _ db none. none) (λ _ db none. none) first second
-
 -- a call that may have written before it failed, after one that committed nothing
 pub uncommitted_more : (old mid new : State) → KeepsCommit old mid → IsTrue mid.is_open → (new.committed ≡ mid.committed) × (IsTrue new.in_transaction ⊎ (new.now ≡ mid.committed)) → (new.committed ≡ old.committed) × (IsTrue new.in_transaction ⊎ (new.now ≡ old.committed))
 uncommitted_more old mid new kept was_open left =
@@ -39,3 +38,18 @@ uncommitted_more old mid new kept was_open left =
 pub uncommitted_after : (old mid new : State) → KeepsCommit old mid → IsTrue mid.in_transaction → IsTrue new.is_open → IsUnchanged mid new ⊎ IsRolledBack mid new → (new.committed ≡ old.committed) × (IsTrue new.in_transaction ⊎ (new.now ≡ old.committed))
 uncommitted_after old mid new kept inside is_open (inl same) = uncommitted_more old mid new kept same.0.was_open (left_whole mid new inside is_open (inl same))
 uncommitted_after old mid new kept inside is_open (inr back) = uncommitted_more old mid new kept (back.was_open is_open) (left_whole mid new inside is_open (inr back))
+
+-- what fails behind calls that were Ok: a statement, and a call that may have written before it failed
+module _ {S : Type 0} {g : Ghosts S} {old mid new : MutBor (Held S)} {A E B F : Type 0} {x : A} {r : Result B F} where
+  pub fails_behind : StaysWithin {A = A} {E = E} g old mid (Ok x) → StaysWithin g mid new r → FailsWhole (state g mid.now) (state g new.now) r → FailsUncommitted (state g old.now) (state g new.now) r
+  fails_behind first second fails clean inside is_open =
+      let before = clean_before second clean in
+      let within = first.inside before inside in
+      on_err_weaker r (uncommitted_after (state g old.now) (state g mid.now) (state g new.now) (first.kept before inside) within is_open) (fails clean within is_open)
+
+  pub uncommitted_behind : StaysWithin {A = A} {E = E} g old mid (Ok x) → StaysWithin g mid new r → FailsUncommitted (state g mid.now) (state g new.now) r → FailsUncommitted (state g old.now) (state g new.now) r
+  uncommitted_behind first second fails clean inside is_open =
+      let before = clean_before second clean in
+      let within = first.inside before inside in
+      let was_open = (second.kept clean within).was_open is_open in
+      on_err_weaker r (uncommitted_more (state g old.now) (state g mid.now) (state g new.now) (first.kept before inside) was_open) (fails clean within is_open)

@@ -1,7 +1,8 @@
 use Rattle.std.proofs.Common.{◌≡◌, take, IsTrue, length}
-use Rattle.sqlite.specs.State.{HasCleanDisk, KeepsCommit, Survives}
+use Rattle.sqlite.specs.State.{HasCleanDisk}
 use Rattle.sqlite.specs.Held.{state}
 use Rattle.dep_tables.specs.Tables.{tables_of, IsOurs}
+use Rattle.dep_tables.proofs.Chains.{Stays}
 use Rattle.dep_row_maps.specs.Stored.{blocks_of, put_blocks}
 use Rattle.dep_row_maps.specs.Clauses.{Sees}
 use Rattle.dep_files.proofs.blocks.put_blocks.Given as goal
@@ -11,7 +12,5 @@ invariant-loop-place g l =
     let old = state g.S.Store l.fn.tx.conn.now in
     let now = state g.S.Store l.tx.conn.now in
     (l.place-end ≡ length (blocks_of (g.C.Content.bytes l.content)))
-    × (l.tx.conn.ghost_name ≡ l.fn.tx.conn.ghost_name) × Survives old now (λ _. ⊥)
-    × (HasCleanDisk now → IsTrue old.in_transaction → IsTrue now.in_transaction)
-    × (HasCleanDisk now → IsTrue old.in_transaction → KeepsCommit old now)
+    × Stays g.S.Store l.fn.tx.conn l.tx.conn
     × (HasCleanDisk now → IsTrue old.in_transaction → IsOurs old → Sees now (record (tables_of old) { blocks = put_blocks l.owner l.part 0 (take l.place (blocks_of (g.C.Content.bytes l.content))) (tables_of old).blocks }))

@@ -1,10 +1,8 @@
-use Rattle.std.proofs.Common.{arith}
-use Rattle.sqlite.specs.State.{HasCleanDisk}
 use Rattle.sqlite.specs.Held.{state}
-use Rattle.sqlite.proofs.InsideLemmas.{keeps_then}
 use Rattle.dep_tables.specs.Tables.{tables_of}
 use Rattle.dep_tables.proofs.Results.{ok_then}
-use Rattle.dep_files.proofs.Results.{ok_both}
+use Rattle.dep_tables.proofs.Chains.{clean_before, stays_then}
+use Rattle.dep_files.proofs.Results.{ok_both, fails_behind}
 use Rattle.dep_files.proofs.FileCalls.{file_put, free_of}
 use Rattle.dep_files.proofs.files.put_file.Goals as goal
 
@@ -13,8 +11,8 @@ returns-clause-map g c clean inside ours s are o file there is same =
     let old = state g.S.Store c.args.tx.now.conn.now in
     let mid = state g.S.Store c.put_blocks.new.tx.conn.now in
     let new = state g.S.Store c.insert_file.new.tx.conn.now in
-    let before : HasCleanDisk mid = omega (arith, clean, c.insert_file.ensures.survives.clean) in
-    let within = c.in_ok-put_blocks.ensures.inside before inside in
+    let before = clean_before c.insert_file.ensures.stays clean in
+    let within = c.in_ok-put_blocks.ensures.stays.inside before inside in
     let first = c.in_ok-put_blocks.ensures.ok before inside ours in
     ok_both c.insert_file.result (c.insert_file.ensures.ok clean within first.ours) (c.insert_file.ensures.free clean within first.ours)
     (λ leads free. file_put (tables_of old) (tables_of mid) (tables_of new) s c.args.row.now (g.C.Content.bytes c.args.content.now) o file are ours.trees.ordered.1.1.1.1.0 ours.trees.ordered.1.1.1.1.1.1.1.1.0 there is same first.rows leads.rows free)
@@ -23,13 +21,13 @@ pub returns-clause-free : goal.returns-clause-free
 returns-clause-free g c clean inside ours s are =
     let old = state g.S.Store c.args.tx.now.conn.now in
     let mid = state g.S.Store c.put_blocks.new.tx.conn.now in
-    let before : HasCleanDisk mid = omega (arith, clean, c.insert_file.ensures.survives.clean) in
+    let before = clean_before c.insert_file.ensures.stays clean in
     let first = c.in_ok-put_blocks.ensures.ok before inside ours in
-    ok_then c.insert_file.result (c.insert_file.ensures.free clean (c.in_ok-put_blocks.ensures.inside before inside) first.ours)
+    ok_then c.insert_file.result (c.insert_file.ensures.free clean (c.in_ok-put_blocks.ensures.stays.inside before inside) first.ours)
     (λ free. free_of (tables_of old) (tables_of mid) s c.args.row.now.file _ are ours.trees.ordered.1.1.1.1.0 first.rows free)
 
-pub returns-clause-kept : goal.returns-clause-kept
-returns-clause-kept g c clean inside =
-    let mid = state g.S.Store c.put_blocks.new.tx.conn.now in
-    let before : HasCleanDisk mid = omega (arith, clean, c.insert_file.ensures.survives.clean) in
-    keeps_then (state g.S.Store c.args.tx.now.conn.now) mid (state g.S.Store c.insert_file.new.tx.conn.now) (c.put_blocks.ensures.kept before inside) (c.insert_file.ensures.kept clean (c.in_ok-put_blocks.ensures.inside before inside))
+pub returns-clause-stays : goal.returns-clause-stays
+returns-clause-stays g c = stays_then c.in_ok-put_blocks.ensures.stays c.insert_file.ensures.stays
+
+pub returns-clause-err : goal.returns-clause-err
+returns-clause-err g c = fails_behind c.in_ok-put_blocks.ensures.stays c.insert_file.ensures.stays c.insert_file.ensures.err
