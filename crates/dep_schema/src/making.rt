@@ -9,7 +9,7 @@ ghost use Rattle.sqlite_catalog.specs.Change.{created, next_tree};
 ghost use Rattle.dep_statements.specs.Adding.{Adds, AddsAll, Puts};
 ghost use Rattle.dep_tables.specs.Schema.{format_table, state_table, objects_table, metadata_table, files_table, uploads_table, segments_table, timed_out_table, blocks_table};
 ghost use Rattle.dep_tables.specs.Rows.{stored_format, stored_state};
-ghost use Rattle.dep_tables.specs.Clauses.{GoesOn, StaysInside, CommitsNothing};
+ghost use Rattle.dep_tables.specs.Clauses.{StaysWithin};
 ghost use Rattle.dep_schema.specs.Beside.{AreFree, with_ours};
 ghost use Rattle.dep_tables.specs.Versions.{our_version};
 ghost use Rattle.dep_schema.specs.Standing.{Turns, Sees, GainsOurs, no_schema, first_tables, first_state};
@@ -22,10 +22,7 @@ use sqlite::{Alter, Transaction};
 fn create_format<S: Alter>(tx: &mut Transaction<'_, S>) -> Result<(), StoreFault>
     ensures adds { Turns (state S.Store tx.old.conn.now) (state S.Store tx.new.conn.now) result
         (Adds format_table) }
-    ensures inside { GoesOn (state S.Store tx.old.conn.now) (state S.Store tx.new.conn.now) result }
-    ensures kept { StaysInside (state S.Store tx.old.conn.now) (state S.Store tx.new.conn.now) }
-    ensures same_reference { tx.new.conn.ghost_name ≡ tx.old.conn.ghost_name }
-    ensures survives { CommitsNothing (state S.Store tx.old.conn.now) (state S.Store tx.new.conn.now) }
+    ensures stays { StaysWithin S.Store tx.old.conn tx.new.conn result }
 {
     run(
         tx,
@@ -38,10 +35,7 @@ fn create_format<S: Alter>(tx: &mut Transaction<'_, S>) -> Result<(), StoreFault
 fn create_state<S: Alter>(tx: &mut Transaction<'_, S>) -> Result<(), StoreFault>
     ensures adds { Turns (state S.Store tx.old.conn.now) (state S.Store tx.new.conn.now) result
         (Adds state_table) }
-    ensures inside { GoesOn (state S.Store tx.old.conn.now) (state S.Store tx.new.conn.now) result }
-    ensures kept { StaysInside (state S.Store tx.old.conn.now) (state S.Store tx.new.conn.now) }
-    ensures same_reference { tx.new.conn.ghost_name ≡ tx.old.conn.ghost_name }
-    ensures survives { CommitsNothing (state S.Store tx.old.conn.now) (state S.Store tx.new.conn.now) }
+    ensures stays { StaysWithin S.Store tx.old.conn tx.new.conn result }
 {
     run(
         tx,
@@ -54,10 +48,7 @@ fn create_state<S: Alter>(tx: &mut Transaction<'_, S>) -> Result<(), StoreFault>
 fn create_objects<S: Alter>(tx: &mut Transaction<'_, S>) -> Result<(), StoreFault>
     ensures adds { Turns (state S.Store tx.old.conn.now) (state S.Store tx.new.conn.now) result
         (Adds objects_table) }
-    ensures inside { GoesOn (state S.Store tx.old.conn.now) (state S.Store tx.new.conn.now) result }
-    ensures kept { StaysInside (state S.Store tx.old.conn.now) (state S.Store tx.new.conn.now) }
-    ensures same_reference { tx.new.conn.ghost_name ≡ tx.old.conn.ghost_name }
-    ensures survives { CommitsNothing (state S.Store tx.old.conn.now) (state S.Store tx.new.conn.now) }
+    ensures stays { StaysWithin S.Store tx.old.conn tx.new.conn result }
 {
     run(
         tx,
@@ -70,10 +61,7 @@ fn create_objects<S: Alter>(tx: &mut Transaction<'_, S>) -> Result<(), StoreFaul
 fn create_metadata<S: Alter>(tx: &mut Transaction<'_, S>) -> Result<(), StoreFault>
     ensures adds { Turns (state S.Store tx.old.conn.now) (state S.Store tx.new.conn.now) result
         (Adds metadata_table) }
-    ensures inside { GoesOn (state S.Store tx.old.conn.now) (state S.Store tx.new.conn.now) result }
-    ensures kept { StaysInside (state S.Store tx.old.conn.now) (state S.Store tx.new.conn.now) }
-    ensures same_reference { tx.new.conn.ghost_name ≡ tx.old.conn.ghost_name }
-    ensures survives { CommitsNothing (state S.Store tx.old.conn.now) (state S.Store tx.new.conn.now) }
+    ensures stays { StaysWithin S.Store tx.old.conn tx.new.conn result }
 {
     run(
         tx,
@@ -86,10 +74,7 @@ fn create_metadata<S: Alter>(tx: &mut Transaction<'_, S>) -> Result<(), StoreFau
 fn create_files<S: Alter>(tx: &mut Transaction<'_, S>) -> Result<(), StoreFault>
     ensures adds { Turns (state S.Store tx.old.conn.now) (state S.Store tx.new.conn.now) result
         (Adds files_table) }
-    ensures inside { GoesOn (state S.Store tx.old.conn.now) (state S.Store tx.new.conn.now) result }
-    ensures kept { StaysInside (state S.Store tx.old.conn.now) (state S.Store tx.new.conn.now) }
-    ensures same_reference { tx.new.conn.ghost_name ≡ tx.old.conn.ghost_name }
-    ensures survives { CommitsNothing (state S.Store tx.old.conn.now) (state S.Store tx.new.conn.now) }
+    ensures stays { StaysWithin S.Store tx.old.conn tx.new.conn result }
 {
     run(
         tx,
@@ -102,10 +87,7 @@ fn create_files<S: Alter>(tx: &mut Transaction<'_, S>) -> Result<(), StoreFault>
 fn create_uploads<S: Alter>(tx: &mut Transaction<'_, S>) -> Result<(), StoreFault>
     ensures adds { Turns (state S.Store tx.old.conn.now) (state S.Store tx.new.conn.now) result
         (Adds uploads_table) }
-    ensures inside { GoesOn (state S.Store tx.old.conn.now) (state S.Store tx.new.conn.now) result }
-    ensures kept { StaysInside (state S.Store tx.old.conn.now) (state S.Store tx.new.conn.now) }
-    ensures same_reference { tx.new.conn.ghost_name ≡ tx.old.conn.ghost_name }
-    ensures survives { CommitsNothing (state S.Store tx.old.conn.now) (state S.Store tx.new.conn.now) }
+    ensures stays { StaysWithin S.Store tx.old.conn tx.new.conn result }
 {
     run(
         tx,
@@ -118,10 +100,7 @@ fn create_uploads<S: Alter>(tx: &mut Transaction<'_, S>) -> Result<(), StoreFaul
 fn create_segments<S: Alter>(tx: &mut Transaction<'_, S>) -> Result<(), StoreFault>
     ensures adds { Turns (state S.Store tx.old.conn.now) (state S.Store tx.new.conn.now) result
         (Adds segments_table) }
-    ensures inside { GoesOn (state S.Store tx.old.conn.now) (state S.Store tx.new.conn.now) result }
-    ensures kept { StaysInside (state S.Store tx.old.conn.now) (state S.Store tx.new.conn.now) }
-    ensures same_reference { tx.new.conn.ghost_name ≡ tx.old.conn.ghost_name }
-    ensures survives { CommitsNothing (state S.Store tx.old.conn.now) (state S.Store tx.new.conn.now) }
+    ensures stays { StaysWithin S.Store tx.old.conn tx.new.conn result }
 {
     run(
         tx,
@@ -134,10 +113,7 @@ fn create_segments<S: Alter>(tx: &mut Transaction<'_, S>) -> Result<(), StoreFau
 fn create_timed_out<S: Alter>(tx: &mut Transaction<'_, S>) -> Result<(), StoreFault>
     ensures adds { Turns (state S.Store tx.old.conn.now) (state S.Store tx.new.conn.now) result
         (Adds timed_out_table) }
-    ensures inside { GoesOn (state S.Store tx.old.conn.now) (state S.Store tx.new.conn.now) result }
-    ensures kept { StaysInside (state S.Store tx.old.conn.now) (state S.Store tx.new.conn.now) }
-    ensures same_reference { tx.new.conn.ghost_name ≡ tx.old.conn.ghost_name }
-    ensures survives { CommitsNothing (state S.Store tx.old.conn.now) (state S.Store tx.new.conn.now) }
+    ensures stays { StaysWithin S.Store tx.old.conn tx.new.conn result }
 {
     run(
         tx,
@@ -150,10 +126,7 @@ fn create_timed_out<S: Alter>(tx: &mut Transaction<'_, S>) -> Result<(), StoreFa
 fn create_blocks<S: Alter>(tx: &mut Transaction<'_, S>) -> Result<(), StoreFault>
     ensures adds { Turns (state S.Store tx.old.conn.now) (state S.Store tx.new.conn.now) result
         (Adds blocks_table) }
-    ensures inside { GoesOn (state S.Store tx.old.conn.now) (state S.Store tx.new.conn.now) result }
-    ensures kept { StaysInside (state S.Store tx.old.conn.now) (state S.Store tx.new.conn.now) }
-    ensures same_reference { tx.new.conn.ghost_name ≡ tx.old.conn.ghost_name }
-    ensures survives { CommitsNothing (state S.Store tx.old.conn.now) (state S.Store tx.new.conn.now) }
+    ensures stays { StaysWithin S.Store tx.old.conn tx.new.conn result }
 {
     run(
         tx,
@@ -170,10 +143,7 @@ fn add_format<S: Alter>(tx: &mut Transaction<'_, S>) -> Result<(), StoreFault>
         → (state S.Store tx.old.conn.now).now.schema ≡ with_ours others
         → OnOk result (Puts (next_tree others) (stored_format our_version)
         (state S.Store tx.old.conn.now).now (state S.Store tx.new.conn.now).now) }
-    ensures inside { GoesOn (state S.Store tx.old.conn.now) (state S.Store tx.new.conn.now) result }
-    ensures kept { StaysInside (state S.Store tx.old.conn.now) (state S.Store tx.new.conn.now) }
-    ensures same_reference { tx.new.conn.ghost_name ≡ tx.old.conn.ghost_name }
-    ensures survives { CommitsNothing (state S.Store tx.old.conn.now) (state S.Store tx.new.conn.now) }
+    ensures stays { StaysWithin S.Store tx.old.conn tx.new.conn result }
 {
     run(tx, "INSERT INTO format (id, version) VALUES (1, 1)", &[])
 }
@@ -186,10 +156,7 @@ fn add_state<S: Alter>(tx: &mut Transaction<'_, S>) -> Result<(), StoreFault>
         → (state S.Store tx.old.conn.now).now.schema ≡ with_ours others
         → OnOk result (Puts (next_tree (created others format_table)) (stored_state first_state)
         (state S.Store tx.old.conn.now).now (state S.Store tx.new.conn.now).now) }
-    ensures inside { GoesOn (state S.Store tx.old.conn.now) (state S.Store tx.new.conn.now) result }
-    ensures kept { StaysInside (state S.Store tx.old.conn.now) (state S.Store tx.new.conn.now) }
-    ensures same_reference { tx.new.conn.ghost_name ≡ tx.old.conn.ghost_name }
-    ensures survives { CommitsNothing (state S.Store tx.old.conn.now) (state S.Store tx.new.conn.now) }
+    ensures stays { StaysWithin S.Store tx.old.conn tx.new.conn result }
 {
     run(
         tx,
@@ -202,10 +169,7 @@ fn add_state<S: Alter>(tx: &mut Transaction<'_, S>) -> Result<(), StoreFault>
 fn create_first<S: Alter>(tx: &mut Transaction<'_, S>) -> Result<(), StoreFault>
     ensures adds { Turns (state S.Store tx.old.conn.now) (state S.Store tx.new.conn.now) result
         (AddsAll (format_table ∷ state_table ∷ objects_table ∷ [])) }
-    ensures inside { GoesOn (state S.Store tx.old.conn.now) (state S.Store tx.new.conn.now) result }
-    ensures kept { StaysInside (state S.Store tx.old.conn.now) (state S.Store tx.new.conn.now) }
-    ensures same_reference { tx.new.conn.ghost_name ≡ tx.old.conn.ghost_name }
-    ensures survives { CommitsNothing (state S.Store tx.old.conn.now) (state S.Store tx.new.conn.now) }
+    ensures stays { StaysWithin S.Store tx.old.conn tx.new.conn result }
 {
     create_format(tx)?;
     create_state(tx)?;
@@ -216,10 +180,7 @@ fn create_first<S: Alter>(tx: &mut Transaction<'_, S>) -> Result<(), StoreFault>
 fn create_second<S: Alter>(tx: &mut Transaction<'_, S>) -> Result<(), StoreFault>
     ensures adds { Turns (state S.Store tx.old.conn.now) (state S.Store tx.new.conn.now) result
         (AddsAll (metadata_table ∷ files_table ∷ uploads_table ∷ [])) }
-    ensures inside { GoesOn (state S.Store tx.old.conn.now) (state S.Store tx.new.conn.now) result }
-    ensures kept { StaysInside (state S.Store tx.old.conn.now) (state S.Store tx.new.conn.now) }
-    ensures same_reference { tx.new.conn.ghost_name ≡ tx.old.conn.ghost_name }
-    ensures survives { CommitsNothing (state S.Store tx.old.conn.now) (state S.Store tx.new.conn.now) }
+    ensures stays { StaysWithin S.Store tx.old.conn tx.new.conn result }
 {
     create_metadata(tx)?;
     create_files(tx)?;
@@ -230,10 +191,7 @@ fn create_second<S: Alter>(tx: &mut Transaction<'_, S>) -> Result<(), StoreFault
 fn create_last<S: Alter>(tx: &mut Transaction<'_, S>) -> Result<(), StoreFault>
     ensures adds { Turns (state S.Store tx.old.conn.now) (state S.Store tx.new.conn.now) result
         (AddsAll (segments_table ∷ timed_out_table ∷ blocks_table ∷ [])) }
-    ensures inside { GoesOn (state S.Store tx.old.conn.now) (state S.Store tx.new.conn.now) result }
-    ensures kept { StaysInside (state S.Store tx.old.conn.now) (state S.Store tx.new.conn.now) }
-    ensures same_reference { tx.new.conn.ghost_name ≡ tx.old.conn.ghost_name }
-    ensures survives { CommitsNothing (state S.Store tx.old.conn.now) (state S.Store tx.new.conn.now) }
+    ensures stays { StaysWithin S.Store tx.old.conn tx.new.conn result }
 {
     create_segments(tx)?;
     create_timed_out(tx)?;
@@ -250,10 +208,7 @@ fn add_rows<S: Alter>(tx: &mut Transaction<'_, S>) -> Result<(), StoreFault>
         × Puts (next_tree others) (stored_format our_version) (state S.Store tx.old.conn.now).now next
         × Puts (next_tree (created others format_table)) (stored_state first_state) next
         (state S.Store tx.new.conn.now).now) }
-    ensures inside { GoesOn (state S.Store tx.old.conn.now) (state S.Store tx.new.conn.now) result }
-    ensures kept { StaysInside (state S.Store tx.old.conn.now) (state S.Store tx.new.conn.now) }
-    ensures same_reference { tx.new.conn.ghost_name ≡ tx.old.conn.ghost_name }
-    ensures survives { CommitsNothing (state S.Store tx.old.conn.now) (state S.Store tx.new.conn.now) }
+    ensures stays { StaysWithin S.Store tx.old.conn tx.new.conn result }
 {
     add_format(tx)?;
     add_state(tx)
@@ -267,10 +222,7 @@ pub(crate) fn make_tables<S: Alter>(tx: &mut Transaction<'_, S>) -> Result<(), S
         → OnOk result (Sees (state S.Store tx.new.conn.now) first_tables) }
     ensures gains { Turns (state S.Store tx.old.conn.now) (state S.Store tx.new.conn.now) result
         GainsOurs }
-    ensures inside { GoesOn (state S.Store tx.old.conn.now) (state S.Store tx.new.conn.now) result }
-    ensures kept { StaysInside (state S.Store tx.old.conn.now) (state S.Store tx.new.conn.now) }
-    ensures same_reference { tx.new.conn.ghost_name ≡ tx.old.conn.ghost_name }
-    ensures survives { CommitsNothing (state S.Store tx.old.conn.now) (state S.Store tx.new.conn.now) }
+    ensures stays { StaysWithin S.Store tx.old.conn tx.new.conn result }
 {
     create_first(tx)?;
     create_second(tx)?;

@@ -6,7 +6,7 @@ ghost use Rattle.sqlite.specs.Order.{column};
 ghost use Rattle.sqlite.specs.State.{HasCleanDisk, IsUnchanged, Survives};
 ghost use Rattle.sqlite.specs.Held.{state};
 ghost use Rattle.dep_tables.specs.Tables.{Tables, tables_of, IsOurs};
-ghost use Rattle.dep_tables.specs.Clauses.{GoesOn, StaysInside, CommitsNothing};
+ghost use Rattle.dep_tables.specs.Clauses.{StaysWithin};
 ghost use Rattle.dep_tables.specs.Versions.{our_version, HasVersion};
 ghost use Rattle.dep_schema.specs.Standing.{no_schema, Holds, HoldsNone, Sees, Stands, IsOpenable, CommitsBySchema, CommitsOpen, IsBack, HasOtherVersion, GainsOurs, StandsBeside, first_tables};
 ghost use Rattle.dep_statements.specs.Adding.{HasCounters};
@@ -60,6 +60,7 @@ impl std::error::Error for OpenFault {}
 /// A connection over the tables of the store.
 #[derive(Drop)]
 pub struct Schema<S: Alter> {
+    /// The connection to the database, which has our tables.
     pub connection: Connection<S>,
 }
 
@@ -109,10 +110,7 @@ fn find_format<S: Alter>(tx: &mut Transaction<'_, S>) -> Result<bool, OpenFault>
     ensures left { HasCleanDisk (state S.Store tx.new.conn.now)
         → LacksFormat (state S.Store tx.old.conn.now).now.schema
         → OnOk result (IsUnchanged (state S.Store tx.old.conn.now) (state S.Store tx.new.conn.now)) }
-    ensures inside { GoesOn (state S.Store tx.old.conn.now) (state S.Store tx.new.conn.now) result }
-    ensures kept { StaysInside (state S.Store tx.old.conn.now) (state S.Store tx.new.conn.now) }
-    ensures same_reference { tx.new.conn.ghost_name ≡ tx.old.conn.ghost_name }
-    ensures survives { CommitsNothing (state S.Store tx.old.conn.now) (state S.Store tx.new.conn.now) }
+    ensures stays { StaysWithin S.Store tx.old.conn tx.new.conn result }
 {
     match tx.query_all("SELECT id, version FROM format", &[]) {
         Ok(rows) => {
@@ -153,10 +151,7 @@ fn find_or_make<S: Alter>(tx: &mut Transaction<'_, S>) -> Result<(), OpenFault>
     ensures lacking { HasCleanDisk (state S.Store tx.new.conn.now)
         → result ≡ Err OpenFault.UnknownVersion
         → LacksFormat (state S.Store tx.old.conn.now).now.schema → ⊥ }
-    ensures inside { GoesOn (state S.Store tx.old.conn.now) (state S.Store tx.new.conn.now) result }
-    ensures kept { StaysInside (state S.Store tx.old.conn.now) (state S.Store tx.new.conn.now) }
-    ensures same_reference { tx.new.conn.ghost_name ≡ tx.old.conn.ghost_name }
-    ensures survives { CommitsNothing (state S.Store tx.old.conn.now) (state S.Store tx.new.conn.now) }
+    ensures stays { StaysWithin S.Store tx.old.conn tx.new.conn result }
 {
     if find_format(tx)? {
         return Ok(());

@@ -1,6 +1,7 @@
-use Rattle.std.proofs.Common.{◌∙◌, inl, inr, refl}
+use Rattle.std.proofs.Common.{inl, inr, refl}
 use Rattle.sqlite.specs.Held.{state}
-use Rattle.dep_statements.proofs.Asked.{shown_keeps, shown_mode, asks_keep, asks_on}
+use Rattle.dep_statements.proofs.Asked.{asks_on}
+use Rattle.dep_tables.proofs.Asking.{same_stays, shown_stays, asks_stay}
 use Rattle.dep_schema.specs.Texts.{find_format_text}
 use Rattle.dep_schema.proofs.Version.{found_version, find_stays, none_shown, ours_asked, missing_only, named_fault, empty_lacks}
 use Rattle.dep_schema.proofs.opening.find_format.Goals as goal
@@ -18,11 +19,8 @@ returns-then-are_known-clause-same g c clean either = elim either [
   | inr empty ↦ absurd (none_shown (state g.S.Store c.args.tx.now.conn.now) (state g.S.Store c.query_all.new.self.conn.now) _ (empty_lacks _ empty) (c.in-Ok.ensures.ok clean))
 ]
 
-pub returns-then-are_known-clause-inside : goal.returns-then-are_known-clause-inside
-returns-then-are_known-clause-inside g c clean inside = shown_mode find_format_text _ (state g.S.Store c.args.tx.now.conn.now) (state g.S.Store c.query_all.new.self.conn.now) _ (c.in-Ok.ensures.ok clean) ∙ inside
-
-pub returns-then-are_known-clause-kept : goal.returns-then-are_known-clause-kept
-returns-then-are_known-clause-kept g c clean inside = shown_keeps find_format_text _ (state g.S.Store c.args.tx.now.conn.now) (state g.S.Store c.query_all.new.self.conn.now) inside _ (c.in-Ok.ensures.ok clean)
+pub returns-then-are_known-clause-stays : goal.returns-then-are_known-clause-stays
+returns-then-are_known-clause-stays g c = shown_stays g.S.Store c.args.tx.now.conn c.query_all.new.self.conn c.query_all.ensures.same_reference c.query_all.ensures.survives find_format_text _ _ c.in-Ok.ensures.ok
 
 pub returns-in-Ok-clause-empty : goal.returns-in-Ok-clause-empty
 returns-in-Ok-clause-empty g c clean empty said = none_shown (state g.S.Store c.args.tx.now.conn.now) (state g.S.Store c.query_all.new.self.conn.now) _ (empty_lacks _ empty) (c.in-Ok.ensures.ok clean)
@@ -34,8 +32,8 @@ returns-in-Ok-clause-ours g c clean ours said version =
     let not = c.if-are_known.false in
     cc
 
-pub returns-in-Ok-clause-kept : goal.returns-in-Ok-clause-kept
-returns-in-Ok-clause-kept g c clean inside = shown_keeps find_format_text _ (state g.S.Store c.args.tx.now.conn.now) (state g.S.Store c.query_all.new.self.conn.now) inside _ (c.in-Ok.ensures.ok clean)
+pub returns-in-Ok-clause-stays : goal.returns-in-Ok-clause-stays
+returns-in-Ok-clause-stays g c = shown_stays g.S.Store c.args.tx.now.conn c.query_all.new.self.conn c.query_all.ensures.same_reference c.query_all.ensures.survives find_format_text _ _ c.in-Ok.ensures.ok
 
 pub returns-then-is_missing-clause-ours : goal.returns-then-is_missing-clause-ours
 returns-then-is_missing-clause-ours g c clean ours =
@@ -45,12 +43,10 @@ pub returns-then-is_missing-clause-same : goal.returns-then-is_missing-clause-sa
 returns-then-is_missing-clause-same g c clean either =
     asks_on find_format_text _ (state g.S.Store c.args.tx.now.conn.now) (state g.S.Store c.query_all.new.self.conn.now) _ _ c.in-Err-SqlInputError.field-0-is (c.in-Err-SqlInputError.ensures.err clean)
 
-pub returns-then-is_missing-clause-inside : goal.returns-then-is_missing-clause-inside
-returns-then-is_missing-clause-inside g c clean inside =
-    (asks_on find_format_text _ (state g.S.Store c.args.tx.now.conn.now) (state g.S.Store c.query_all.new.self.conn.now) _ _ c.in-Err-SqlInputError.field-0-is (c.in-Err-SqlInputError.ensures.err clean)).0.mode ∙ inside
-
-pub returns-then-is_missing-clause-kept : goal.returns-then-is_missing-clause-kept
-returns-then-is_missing-clause-kept g c clean inside = asks_keep find_format_text _ (state g.S.Store c.args.tx.now.conn.now) (state g.S.Store c.query_all.new.self.conn.now) inside _ (c.in-Err-SqlInputError.ensures.err clean)
+pub returns-then-is_missing-clause-stays : goal.returns-then-is_missing-clause-stays
+returns-then-is_missing-clause-stays g c =
+    same_stays g.S.Store c.args.tx.now.conn c.query_all.new.self.conn c.query_all.ensures.same_reference c.query_all.ensures.survives (λ clean.
+    asks_on find_format_text _ (state g.S.Store c.args.tx.now.conn.now) (state g.S.Store c.query_all.new.self.conn.now) _ _ c.in-Err-SqlInputError.field-0-is (c.in-Err-SqlInputError.ensures.err clean))
 
 pub returns-in-Err-SqlInputError-clause-empty : goal.returns-in-Err-SqlInputError-clause-empty
 returns-in-Err-SqlInputError-clause-empty g c clean empty said =
@@ -62,8 +58,10 @@ pub returns-in-Err-SqlInputError-clause-ours : goal.returns-in-Err-SqlInputError
 returns-in-Err-SqlInputError-clause-ours g c clean ours said version =
     ours_asked (state g.S.Store c.args.tx.now.conn.now) (state g.S.Store c.query_all.new.self.conn.now) _ _ ours (c.in-Err-SqlInputError.ensures.err clean) c.in-Err-SqlInputError.field-0-is
 
-pub returns-in-Err-SqlInputError-clause-kept : goal.returns-in-Err-SqlInputError-clause-kept
-returns-in-Err-SqlInputError-clause-kept g c clean inside = asks_keep find_format_text _ (state g.S.Store c.args.tx.now.conn.now) (state g.S.Store c.query_all.new.self.conn.now) inside _ (c.in-Err-SqlInputError.ensures.err clean)
+pub returns-in-Err-SqlInputError-clause-stays : goal.returns-in-Err-SqlInputError-clause-stays
+returns-in-Err-SqlInputError-clause-stays g c =
+    same_stays g.S.Store c.args.tx.now.conn c.query_all.new.self.conn c.query_all.ensures.same_reference c.query_all.ensures.survives (λ clean.
+    asks_on find_format_text _ (state g.S.Store c.args.tx.now.conn.now) (state g.S.Store c.query_all.new.self.conn.now) _ _ c.in-Err-SqlInputError.field-0-is (c.in-Err-SqlInputError.ensures.err clean))
 
 pub returns-then-are_known-clause-lacking : goal.returns-then-are_known-clause-lacking
 returns-then-are_known-clause-lacking g c clean lacks = absurd (none_shown (state g.S.Store c.args.tx.now.conn.now) (state g.S.Store c.query_all.new.self.conn.now) _ lacks (c.in-Ok.ensures.ok clean))
@@ -91,8 +89,5 @@ returns g c = record {
   lacking = λ clean lacks said. named_fault c.fault_of.result c.from.result c.from.ensures said;
   same = λ clean either. tt;
   left = λ clean lacks. tt;
-  inside = λ clean inside. tt;
-  kept = λ clean inside. asks_keep find_format_text _ (state g.S.Store c.args.tx.now.conn.now) (state g.S.Store c.query_all.new.self.conn.now) inside _ (c.in-Err.ensures.err clean);
-  same_reference = c.query_all.ensures.same_reference;
-  survives = c.query_all.ensures.survives;
+  stays = asks_stay g.S.Store c.args.tx.now.conn c.query_all.new.self.conn c.query_all.ensures.same_reference c.query_all.ensures.survives find_format_text _ _ c.in-Err.ensures.err;
 }

@@ -14,7 +14,7 @@ returns-in-Err-clause-crash g c =
     let old = c.args.connection.now in
     let last = c.find_or_make.new.tx.conn.now in
     let begun = c.transaction-tx.ensures.begun in
-    let whole = survives_open (state g.S.Store old) (state g.S.Store last) (state g.S.Store c.commit.new.self.0) (survives_begin g.S.Store old (state g.S.Store last) _ (rw begun at c.find_or_make.ensures.survives)) c.commit.ensures.survives
+    let whole = survives_open (state g.S.Store old) (state g.S.Store last) (state g.S.Store c.commit.new.self.0) (survives_begin g.S.Store old (state g.S.Store last) _ (rw begun at c.find_or_make.ensures.stays.survives)) c.commit.ensures.survives
     (λ clean. search rules) (λ clean. search rules) (λ clean. search rules) in
     let same : c.commit.new.self.0 ≡ c.connection-2-1.given.0 = search rules in
     subst (λ h. Survives (state g.S.Store old) (state g.S.Store h) (CommitsBySchema (state g.S.Store old))) same whole
@@ -24,7 +24,7 @@ returns-in-Ok-clause-crash g c =
     let old = c.args.connection.now in
     let last = c.find_or_make.new.tx.conn.now in
     let begun = c.transaction-tx.ensures.begun in
-    let whole = survives_open (state g.S.Store old) (state g.S.Store last) (state g.S.Store c.commit.new.self.0) (survives_begin g.S.Store old (state g.S.Store last) _ (rw begun at c.find_or_make.ensures.survives)) c.commit.ensures.survives
+    let whole = survives_open (state g.S.Store old) (state g.S.Store last) (state g.S.Store c.commit.new.self.0) (survives_begin g.S.Store old (state g.S.Store last) _ (rw begun at c.find_or_make.ensures.stays.survives)) c.commit.ensures.survives
     (λ clean. search rules) (λ clean. search rules) (λ clean. search rules) in
     let same : c.commit.new.self.0 ≡ c.connection-2-1.given.0 = search rules in
     subst (λ h. Survives (state g.S.Store old) (state g.S.Store h) (CommitsBySchema (state g.S.Store old))) same whole
@@ -34,10 +34,10 @@ returns-in_err-find_or_make-clause-refused g c =
     let old = c.args.connection.now in
     let inside = c.find_or_make.new.tx.conn.now in
     let new = c.drop-tx.new.self.0 in
-    let worked = rw c.transaction-tx.ensures.begun at c.in_err-find_or_make.ensures in
+    let kept = rw c.transaction-tx.ensures.begun at c.in_err-find_or_make.ensures.stays.kept in
     let known = λ (is_open : IsTrue (state g.S.Store new).is_open).
     let clean = clean_if_open (g.S.Store.view new.store) (g.met.S.Store.shut_if_dirty new.store) is_open in
-    (worked.kept (omega (arith, clean, c.drop-tx.ensures.survives.clean)) refl).was_open ((c.drop-tx.ensures.undone clean).was_open is_open) in
+    (kept (omega (arith, clean, c.drop-tx.ensures.survives.clean)) refl).was_open ((c.drop-tx.ensures.undone clean).was_open is_open) in
     search rules
 
 pub returns-in-Err-clause-refused : goal.returns-in-Err-clause-refused
@@ -45,10 +45,10 @@ returns-in-Err-clause-refused g c =
     let old = c.args.connection.now in
     let inside = c.find_or_make.new.tx.conn.now in
     let new = c.commit.new.self.0 in
-    let worked = rw c.transaction-tx.ensures.begun at c.in_ok-find_or_make.ensures in
+    let kept = rw c.transaction-tx.ensures.begun at c.in_ok-find_or_make.ensures.stays.kept in
     let known = λ (is_open : IsTrue (state g.S.Store new).is_open).
     let clean = clean_if_open (g.S.Store.view new.store) (g.met.S.Store.shut_if_dirty new.store) is_open in
-    let whole : WholeTransaction g.S.Store old inside new = record { kept = worked.kept; survives = c.commit.ensures.survives; ends = λ h. inr (inl (c.in-Err.error, c.in-Err.ensures.err h)) } in
+    let whole : WholeTransaction g.S.Store old inside new = record { kept = kept; survives = c.commit.ensures.survives; ends = λ h. inr (inl (c.in-Err.error, c.in-Err.ensures.err h)) } in
     begins_open g.S.Store old inside new whole clean is_open in
     search rules
 
