@@ -1,11 +1,16 @@
--- One call after another.
-use Rattle.std.proofs.Common.{◌≡◌, ◌⊎◌, IsTrue, inl, inr, ◌∙◌, Result, Ok, Err, OnErr, arith}
-use Rattle.sqlite.specs.State.{State, HasCleanDisk, Survives, KeepsCommit, IsUnchanged, IsRolledBack}
+-- One call after another that only reads.
+use Rattle.std.proofs.Common.{◌⊎◌, IsTrue, inl, inr, ◌∙◌, Result, Ok}
+use Rattle.std.proofs.lemmas.Result.{on_err_weaker}
+use Rattle.std.specs.Borrow.{MutBor}
+use Rattle.sqlite_trees.specs.declared.store.Store.{Ghosts}
+use Rattle.sqlite.specs.Held.{Held, state}
+use Rattle.sqlite.specs.State.{State, IsUnchanged, IsRolledBack}
 use Rattle.sqlite.proofs.Callers.{unchanged_then}
-use Rattle.sqlite.proofs.StateLemmas.{survives_then}
-
-pub was_clean : (old new : State) → Survives old new (λ _. ⊥) → HasCleanDisk new → HasCleanDisk old
-was_clean old new survived clean = omega (arith, clean, survived.clean)
+use Rattle.dep_tables.specs.Clauses.{FailsReading, ReadsOnly, StaysWithin}
+use Rattle.dep_tables.proofs.Results.{ok_then}
+use Rattle.dep_tables.proofs.Chains.{clean_before}
+use Rattle.dep_row_maps.specs.Clauses.{KeepsOurs}
+use Rattle.dep_files.proofs.Results.{still_ours}
 
 -- a failure after a call that only read
 pub failed_since : (old mid new : State) → IsUnchanged old mid → IsUnchanged mid new ⊎ IsRolledBack mid new → IsUnchanged old new ⊎ IsRolledBack old new
@@ -18,24 +23,24 @@ failed_since old mid new same (inr back) = inr (record {
   counts = record { changes = back.counts.changes ∙ same.1.changes; last_rowid = back.counts.last_rowid ∙ same.1.last_rowid };
 })
 
--- nothing was committed by two calls
-pub survived : (old mid new : State) → Survives old mid (λ _. ⊥) → Survives mid new (λ _. ⊥) → Survives old new (λ _. ⊥)
-survived old mid new first second = survives_then old mid new _ _ (λ _. ⊥) (λ _ db none. none) (λ _ db none. none) first second
+module _ {S : Type 0} {g : Ghosts S} {old new : MutBor (Held S)} {A E : Type 0} {r : Result A E} where
+  -- what only reads leaves our tables
+  pub reads_ours : StaysWithin g old new r → ReadsOnly (state g old.now) (state g new.now) r → KeepsOurs (state g old.now) (state g new.now) r
+  reads_ours stays reads clean inside ours = ok_then r (reads clean ours) (λ same. still_ours (state g old.now) (state g new.now) same ours)
 
--- a failed statement after calls that committed nothing
-pub uncommitted_after : (old mid new : State) → KeepsCommit old mid → IsTrue mid.in_transaction → IsTrue new.is_open → IsUnchanged mid new ⊎ IsRolledBack mid new → (new.committed ≡ old.committed) × (IsTrue new.in_transaction ⊎ (new.now ≡ old.committed))
-uncommitted_after old mid new kept within is_open (inl same) = (same.0.committed_is ∙ kept.committed same.0.was_open, inl (same.0.mode ∙ within))
-uncommitted_after old mid new kept within is_open (inr back) =
-    let undone = back.undone is_open in
-    let before = kept.committed (back.was_open is_open) in
-    (undone.1 ∙ before, inr (undone.0 ∙ before))
+module _ {S : Type 0} {g : Ghosts S} {old mid new : MutBor (Held S)} {A E B F : Type 0} {x : A} {r : Result B F} where
+  -- a call that only reads, on an open store, behind one that was Ok
+  pub reads_then : StaysWithin {A = A} {E = E} g old mid (Ok x) → StaysWithin g mid new r → ReadsOnly {A = A} {E = E} (state g old.now) (state g mid.now) (Ok x)
+      → (IsTrue (state g mid.now).is_open → ReadsOnly (state g mid.now) (state g new.now) r) → ReadsOnly (state g old.now) (state g new.now) r
+  reads_then first second one two clean ours =
+      let same = one (clean_before second clean) ours in
+      ok_then r (two same.0.is_open clean (still_ours (state g old.now) (state g mid.now) same ours)) (λ more. unchanged_then (state g old.now) (state g mid.now) (state g new.now) same more)
 
--- the same of a call that may have written before it failed
-pub uncommitted_more : (old mid new : State) → KeepsCommit old mid → IsTrue mid.is_open → (new.committed ≡ mid.committed) × (IsTrue new.in_transaction ⊎ (new.now ≡ mid.committed)) → (new.committed ≡ old.committed) × (IsTrue new.in_transaction ⊎ (new.now ≡ old.committed))
-uncommitted_more old mid new kept was_open left =
-    let before = kept.committed was_open in
-    (left.0 ∙ before, elim left.1 [ inl on ↦ inl on | inr back ↦ inr (back ∙ before) ])
-
-pub err_then : {A E P Q : Type 0} (r : Result A E) → OnErr r P → (P → Q) → OnErr r Q
-err_then (Ok x) p f = tt
-err_then (Err e) p f = f p
+  -- the same of its failure
+  pub fails_reading : StaysWithin {A = A} {E = E} g old mid (Ok x) → StaysWithin g mid new r → ReadsOnly {A = A} {E = E} (state g old.now) (state g mid.now) (Ok x)
+      → FailsReading (state g mid.now) (state g new.now) r → FailsReading (state g old.now) (state g new.now) r
+  fails_reading first second one fails clean inside ours is_open =
+      let before = clean_before second clean in
+      let same = one before ours in
+      on_err_weaker r (failed_since (state g old.now) (state g mid.now) (state g new.now) same)
+      (fails clean (first.inside before inside) (still_ours (state g old.now) (state g mid.now) same ours) is_open)

@@ -8,7 +8,7 @@ ghost use Rattle.dep_types.specs.State.{Object, File, Upload};
 ghost use Rattle.dep_types.specs.Rows.{upload_row, file_row};
 ghost use Rattle.dep_types.specs.Uploads.{assembled, is_complete};
 ghost use Rattle.dep_tables.specs.Tables.{tables_of};
-ghost use Rattle.dep_tables.specs.Clauses.{GoesOn, StaysInside, CommitsNothing};
+ghost use Rattle.dep_tables.specs.Clauses.{StaysWithin};
 ghost use Rattle.dep_tables.specs.declared.owner.BlockOwner.TheVariants as owner;
 ghost use Rattle.dep_row_maps.specs.Stored.{move_parts};
 ghost use Rattle.dep_row_maps.specs.TablesAre.{TablesAre};
@@ -32,10 +32,7 @@ fn move_parts<S: Alter>(
         }) }
     ensures err { FailsUncommitted
         (state S.Store tx.old.conn.now) (state S.Store tx.new.conn.now) result }
-    ensures inside { GoesOn (state S.Store tx.old.conn.now) (state S.Store tx.new.conn.now) result }
-    ensures kept { StaysInside (state S.Store tx.old.conn.now) (state S.Store tx.new.conn.now) }
-    ensures same_reference { tx.new.conn.ghost_name ≡ tx.old.conn.ghost_name }
-    ensures survives { CommitsNothing (state S.Store tx.old.conn.now) (state S.Store tx.new.conn.now) }
+    ensures stays { StaysWithin S.Store tx.old.conn tx.new.conn result }
 {
     for before in 0..count {
         move_part(tx, upload, before + 1, file)?;
@@ -62,10 +59,7 @@ pub fn assemble<S: Alter>(
     ensures ours { KeepsOurs (state S.Store tx.old.conn.now) (state S.Store tx.new.conn.now) result }
     ensures err { FailsUncommitted
         (state S.Store tx.old.conn.now) (state S.Store tx.new.conn.now) result }
-    ensures inside { GoesOn (state S.Store tx.old.conn.now) (state S.Store tx.new.conn.now) result }
-    ensures kept { StaysInside (state S.Store tx.old.conn.now) (state S.Store tx.new.conn.now) }
-    ensures same_reference { tx.new.conn.ghost_name ≡ tx.old.conn.ghost_name }
-    ensures survives { CommitsNothing (state S.Store tx.old.conn.now) (state S.Store tx.new.conn.now) }
+    ensures stays { StaysWithin S.Store tx.old.conn tx.new.conn result }
 {
     move_parts(tx, upload.upload, upload.count, row.file)?;
     delete_segments(tx, upload.upload)?;

@@ -9,7 +9,7 @@ ghost use Rattle.sqlite.specs.Held.{state};
 ghost use Rattle.dep_types.specs.State.{State, Upload};
 ghost use Rattle.dep_types.specs.Uploads.{assembled};
 ghost use Rattle.dep_tables.specs.Tables.{tables_of, IsOurs};
-ghost use Rattle.dep_tables.specs.Clauses.{ReadsOnly, FailsReading, GoesOn, StaysInside, CommitsNothing};
+ghost use Rattle.dep_tables.specs.Clauses.{ReadsOnly, FailsReading, StaysWithin};
 ghost use Rattle.dep_tables.specs.Rows.{IsStorableKey, IsStorableSegment};
 ghost use Rattle.dep_tables.specs.declared.owner.BlockOwner.TheVariants as owner;
 ghost use Rattle.dep_row_maps.specs.Stored.{blocks_of, block_key};
@@ -43,10 +43,7 @@ fn segment_block<S: Alter>(
         → IfErr result
         (FailsSince S.Store (FailsToHash segment.now.upload) tx.old.conn.now tx.new.conn.now) }
     ensures err { FailsReading (state S.Store tx.old.conn.now) (state S.Store tx.new.conn.now) result }
-    ensures inside { GoesOn (state S.Store tx.old.conn.now) (state S.Store tx.new.conn.now) result }
-    ensures kept { StaysInside (state S.Store tx.old.conn.now) (state S.Store tx.new.conn.now) }
-    ensures same_reference { tx.new.conn.ghost_name ≡ tx.old.conn.ghost_name }
-    ensures survives { CommitsNothing (state S.Store tx.old.conn.now) (state S.Store tx.new.conn.now) }
+    ensures stays { StaysWithin S.Store tx.old.conn tx.new.conn result }
 {
     let key = BlockKey {
         owner: BlockOwner::Upload(segment.upload),
@@ -81,10 +78,7 @@ fn hash_segment<S: Alter>(
         → IfErr result
         (FailsSince S.Store (FailsToHash segment.now.upload) tx.old.conn.now tx.new.conn.now) }
     ensures err { FailsReading (state S.Store tx.old.conn.now) (state S.Store tx.new.conn.now) result }
-    ensures inside { GoesOn (state S.Store tx.old.conn.now) (state S.Store tx.new.conn.now) result }
-    ensures kept { StaysInside (state S.Store tx.old.conn.now) (state S.Store tx.new.conn.now) }
-    ensures same_reference { tx.new.conn.ghost_name ≡ tx.old.conn.ghost_name }
-    ensures survives { CommitsNothing (state S.Store tx.old.conn.now) (state S.Store tx.new.conn.now) }
+    ensures stays { StaysWithin S.Store tx.old.conn tx.new.conn result }
 {
     for place in 0..segment.size.div_ceil(BLOCK_SIZE as u64) {
         let block = segment_block(tx, segment, place)?;
@@ -114,10 +108,7 @@ pub fn hash_upload<S: Alter>(
         → HasStorableSegments s upload
         → IfErr result (FailsSince S.Store (FailsToHash upload) tx.old.conn.now tx.new.conn.now) }
     ensures err { FailsReading (state S.Store tx.old.conn.now) (state S.Store tx.new.conn.now) result }
-    ensures inside { GoesOn (state S.Store tx.old.conn.now) (state S.Store tx.new.conn.now) result }
-    ensures kept { StaysInside (state S.Store tx.old.conn.now) (state S.Store tx.new.conn.now) }
-    ensures same_reference { tx.new.conn.ghost_name ≡ tx.old.conn.ghost_name }
-    ensures survives { CommitsNothing (state S.Store tx.old.conn.now) (state S.Store tx.new.conn.now) }
+    ensures stays { StaysWithin S.Store tx.old.conn tx.new.conn result }
 {
     let rows = segments_of(tx, alloc, upload)?;
     let mut hasher = Sha256::new();

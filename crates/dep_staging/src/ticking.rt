@@ -7,7 +7,7 @@ ghost use Rattle.sqlite.specs.Held.{state};
 ghost use Rattle.dep_types.specs.Sound.{IsSound};
 ghost use Rattle.dep_types.specs.State as machine;
 ghost use Rattle.dep_tables.specs.Tables.{tables_of};
-ghost use Rattle.dep_tables.specs.Clauses.{FailsByRunning, FailsWhole, GoesOn, StaysInside, CommitsNothing};
+ghost use Rattle.dep_tables.specs.Clauses.{FailsByRunning, FailsWhole, StaysWithin};
 ghost use Rattle.dep_tables.specs.Rows.{IsStorableState, state_values};
 ghost use Rattle.dep_tables.specs.Texts.{write_state_text};
 ghost use Rattle.dep_row_maps.specs.Stored.{state_row};
@@ -41,10 +41,7 @@ fn expire<S: Alter>(tx: &mut Transaction<'_, S>, upload: u64) -> Result<(), Stor
         (upload < 2 ^ 63) (FailsToExpire upload) }
     ensures err { FailsUncommitted
         (state S.Store tx.old.conn.now) (state S.Store tx.new.conn.now) result }
-    ensures inside { GoesOn (state S.Store tx.old.conn.now) (state S.Store tx.new.conn.now) result }
-    ensures kept { StaysInside (state S.Store tx.old.conn.now) (state S.Store tx.new.conn.now) }
-    ensures same_reference { tx.new.conn.ghost_name ≡ tx.old.conn.ghost_name }
-    ensures survives { CommitsNothing (state S.Store tx.old.conn.now) (state S.Store tx.new.conn.now) }
+    ensures stays { StaysWithin S.Store tx.old.conn tx.new.conn result }
 {
     drop_upload(tx, upload)?;
     insert_timed_out(tx, upload)
@@ -66,10 +63,7 @@ fn expire_if_idle<S: Alter>(
         tx.old.conn.now tx.new.conn.now)) }
     ensures err { FailsReadingUncommitted
         (state S.Store tx.old.conn.now) (state S.Store tx.new.conn.now) result }
-    ensures inside { GoesOn (state S.Store tx.old.conn.now) (state S.Store tx.new.conn.now) result }
-    ensures kept { StaysInside (state S.Store tx.old.conn.now) (state S.Store tx.new.conn.now) }
-    ensures same_reference { tx.new.conn.ghost_name ≡ tx.old.conn.ghost_name }
-    ensures survives { CommitsNothing (state S.Store tx.old.conn.now) (state S.Store tx.new.conn.now) }
+    ensures stays { StaysWithin S.Store tx.old.conn tx.new.conn result }
 {
     let found = find_upload(tx, upload)?;
     if is_idle(config, clock, &found) {
@@ -95,10 +89,7 @@ fn expire_idle<S: Alter>(
         tx.old.conn.now tx.new.conn.now)) }
     ensures err { FailsReadingUncommitted
         (state S.Store tx.old.conn.now) (state S.Store tx.new.conn.now) result }
-    ensures inside { GoesOn (state S.Store tx.old.conn.now) (state S.Store tx.new.conn.now) result }
-    ensures kept { StaysInside (state S.Store tx.old.conn.now) (state S.Store tx.new.conn.now) }
-    ensures same_reference { tx.new.conn.ghost_name ≡ tx.old.conn.ghost_name }
-    ensures survives { CommitsNothing (state S.Store tx.old.conn.now) (state S.Store tx.new.conn.now) }
+    ensures stays { StaysWithin S.Store tx.old.conn tx.new.conn result }
 {
     let mut last = 0;
     'uploads: for passed in 0..u64::MAX {
@@ -127,10 +118,7 @@ fn set_clock<S: Alter>(
         (IsStorableState (record row.now { clock = clock }))
         write_state_text (state_values (record row.now { clock = clock })) }
     ensures err { FailsWhole (state S.Store tx.old.conn.now) (state S.Store tx.new.conn.now) result }
-    ensures inside { GoesOn (state S.Store tx.old.conn.now) (state S.Store tx.new.conn.now) result }
-    ensures kept { StaysInside (state S.Store tx.old.conn.now) (state S.Store tx.new.conn.now) }
-    ensures same_reference { tx.new.conn.ghost_name ≡ tx.old.conn.ghost_name }
-    ensures survives { CommitsNothing (state S.Store tx.old.conn.now) (state S.Store tx.new.conn.now) }
+    ensures stays { StaysWithin S.Store tx.old.conn tx.new.conn result }
 {
     if clock == row.clock {
         return Ok(());
@@ -164,10 +152,7 @@ pub fn tick<S: Alter>(
         tx.old.conn.now tx.new.conn.now)) }
     ensures err { FailsReadingUncommitted
         (state S.Store tx.old.conn.now) (state S.Store tx.new.conn.now) result }
-    ensures inside { GoesOn (state S.Store tx.old.conn.now) (state S.Store tx.new.conn.now) result }
-    ensures kept { StaysInside (state S.Store tx.old.conn.now) (state S.Store tx.new.conn.now) }
-    ensures same_reference { tx.new.conn.ghost_name ≡ tx.old.conn.ghost_name }
-    ensures survives { CommitsNothing (state S.Store tx.old.conn.now) (state S.Store tx.new.conn.now) }
+    ensures stays { StaysWithin S.Store tx.old.conn tx.new.conn result }
 {
     let row = read_state(tx)?;
     let clock = row.clock.max(moment.min(GREATEST_MOMENT));

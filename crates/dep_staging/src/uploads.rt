@@ -6,7 +6,7 @@ ghost use Rattle.sqlite.specs.Held.{state};
 ghost use Rattle.dep_types.specs.State.{Upload};
 ghost use Rattle.dep_types.specs.Rows.{upload_row};
 ghost use Rattle.dep_tables.specs.Tables.{tables_of};
-ghost use Rattle.dep_tables.specs.Clauses.{FailsByRunning, FailsWhole, GoesOn, StaysInside, CommitsNothing, RefusesNumbers};
+ghost use Rattle.dep_tables.specs.Clauses.{FailsByRunning, FailsWhole, StaysWithin, RefusesNumbers};
 ghost use Rattle.dep_tables.specs.Rows.{IsStorableUpload, upload_values};
 ghost use Rattle.dep_tables.specs.Texts.{insert_upload_text};
 ghost use Rattle.dep_row_maps.specs.TablesAre.{TablesAre, with_upload};
@@ -33,10 +33,7 @@ pub fn open_upload<S: Alter>(tx: &mut Transaction<'_, S>, row: &UploadRow) -> Re
         (state S.Store tx.old.conn.now) (state S.Store tx.new.conn.now) result
         (IsStorableUpload row.now) insert_upload_text (upload_values row.now) }
     ensures err { FailsWhole (state S.Store tx.old.conn.now) (state S.Store tx.new.conn.now) result }
-    ensures inside { GoesOn (state S.Store tx.old.conn.now) (state S.Store tx.new.conn.now) result }
-    ensures kept { StaysInside (state S.Store tx.old.conn.now) (state S.Store tx.new.conn.now) }
-    ensures same_reference { tx.new.conn.ghost_name ≡ tx.old.conn.ghost_name }
-    ensures survives { CommitsNothing (state S.Store tx.old.conn.now) (state S.Store tx.new.conn.now) }
+    ensures stays { StaysWithin S.Store tx.old.conn tx.new.conn result }
 {
     insert_upload(tx, row)
 }
@@ -55,10 +52,7 @@ pub fn drop_upload<S: Alter>(tx: &mut Transaction<'_, S>, upload: u64) -> Result
         (upload < 2 ^ 63) (FailsToDrop upload) }
     ensures err { FailsUncommitted
         (state S.Store tx.old.conn.now) (state S.Store tx.new.conn.now) result }
-    ensures inside { GoesOn (state S.Store tx.old.conn.now) (state S.Store tx.new.conn.now) result }
-    ensures kept { StaysInside (state S.Store tx.old.conn.now) (state S.Store tx.new.conn.now) }
-    ensures same_reference { tx.new.conn.ghost_name ≡ tx.old.conn.ghost_name }
-    ensures survives { CommitsNothing (state S.Store tx.old.conn.now) (state S.Store tx.new.conn.now) }
+    ensures stays { StaysWithin S.Store tx.old.conn tx.new.conn result }
 {
     delete_blocks(tx, BlockOwner::Upload(upload))?;
     delete_segments(tx, upload)?;

@@ -1,16 +1,16 @@
-use Rattle.std.proofs.Common.{◌<◌, ◌≤◌, ◌++◌, length, refl, rules, sym, ap, subst, ◌∙◌, append-nil, append_assoc}
+use Rattle.std.proofs.Common.{◌<◌, ◌≤◌, ◌++◌, length, rules, sym, ap, subst, ◌∙◌, append-nil, append_assoc}
 use Rattle.sha2.specs.Hashers.{Holds256}
 use Rattle.sqlite.specs.Held.{state}
-use Rattle.sqlite.proofs.StateLemmas.{survives_then, unchanged}
+use Rattle.sqlite.proofs.StateLemmas.{unchanged}
 use Rattle.sqlite.proofs.Callers.{unchanged_then}
-use Rattle.sqlite.proofs.InsideLemmas.{keeps_then}
 use Rattle.dep_tables.proofs.Results.{if_failed}
+use Rattle.dep_tables.proofs.Chains.{clean_before, stays_then, stays_ok, stays_err}
 use Rattle.dep_tables.specs.Tables.{Tables}
 use Rattle.dep_row_maps.specs.Stored.{blocks_of}
 use Rattle.dep_row_maps.specs.TablesAre.{TablesAre}
 use Rattle.dep_files.proofs.Results.{still_ours, same_tables}
 use Rattle.dep_files.proofs.Cuts.{one_block_more, all_blocks}
-use Rattle.dep_staging.proofs.Chains.{was_clean, failed_since}
+use Rattle.dep_staging.proofs.Chains.{failed_since}
 use Rattle.dep_staging.specs.Causes.{FailsToHash}
 use Rattle.dep_staging.proofs.Causes.{fails_later}
 use Rattle.dep_staging.proofs.Hashed.{counted, storable_key}
@@ -19,9 +19,6 @@ use Rattle.dep_staging.proofs.hashing.hash_segment.Goals as goal
 pub loop-place-init : goal.loop-place-init
 loop-place-init g c = (
   c.div_ceil-place-end.ensures,
-  refl,
-  search rules,
-  λ clean inside. inside,
   search rules,
   λ is_open clean ours. unchanged (state g.S.Store c.args.tx.now.conn.now) is_open,
   λ is_open clean ours s are bytes message its holds. subst (Holds256 c.args.hasher.now) (sym (append-nil message)) holds,
@@ -33,18 +30,15 @@ loop-place-preserved g c =
     let mid = state g.S.Store c.loop-place.tx.conn.now in
     let new = state g.S.Store c.segment_block.new.tx.conn.now in
     let inv = c.loop-place.invariant in
-    let earlier = was_clean mid new c.segment_block.ensures.survives in (
+    let earlier = clean_before c.segment_block.ensures.stays in (
       inv.0,
-      c.segment_block.ensures.same_reference ∙ inv.1,
-      survives_then old mid new _ _ (λ _. ⊥) (λ _ db none. none) (λ _ db none. none) inv.2 c.segment_block.ensures.survives,
-      λ clean inside. c.in_ok-block.ensures.inside clean (inv.3 (earlier clean) inside),
-      λ clean inside. keeps_then old mid new (inv.4 (earlier clean) inside) (c.segment_block.ensures.kept clean (inv.3 (earlier clean) inside)),
+      stays_ok (stays_then inv.1 c.in_ok-block.ensures.stays),
       λ is_open clean ours.
-          let same = inv.5 is_open (earlier clean) ours in
+          let same = inv.2 is_open (earlier clean) ours in
           unchanged_then old mid new same (c.in_ok-block.ensures.same clean (still_ours old mid same ours)),
       λ is_open clean ours s are bytes message its holds.
-          let same = inv.5 is_open (earlier clean) ours in
-          let so_far = inv.6 is_open (earlier clean) ours s are bytes message its holds in
+          let same = inv.2 is_open (earlier clean) ours in
+          let so_far = inv.3 is_open (earlier clean) ours s are bytes message its holds in
           let are_mid = subst (λ (t : Tables). TablesAre t s) (sym (same_tables old mid same)) are in
           let within : c.loop-place.place < length (blocks_of bytes) = subst (λ n. c.loop-place.place < n) (inv.0 ∙ counted s c.args.segment.now bytes its) c.loop-place-test.true in
           let block = c.as_slice.ensures.value ∙ c.in_ok-block.ensures.map clean (still_ours old mid same ours) s are_mid bytes its in
@@ -55,7 +49,10 @@ pub returns-clause-map : goal.returns-clause-map
 returns-clause-map g c clean ours is_open s are bytes message its holds =
     let inv = c.loop-place.invariant in
     let past : length (blocks_of bytes) ≤ c.loop-place.place = subst (λ n. n ≤ c.loop-place.place) (inv.0 ∙ counted s c.args.segment.now bytes its) c.loop-place-test.false in
-    subst (Holds256 c.loop-place.hasher) (ap (λ l. message ++ l) (all_blocks bytes c.loop-place.place past)) (inv.6 is_open clean ours s are bytes message its holds)
+    subst (Holds256 c.loop-place.hasher) (ap (λ l. message ++ l) (all_blocks bytes c.loop-place.place past)) (inv.3 is_open clean ours s are bytes message its holds)
+
+pub returns-in_err-block-clause-stays : goal.returns-in_err-block-clause-stays
+returns-in_err-block-clause-stays g c = stays_err c.from_residual.ensures.0 (stays_then c.loop-place.invariant.1 c.segment_block.ensures.stays)
 
 pub returns-in_err-block-clause-err : goal.returns-in_err-block-clause-err
 returns-in_err-block-clause-err g c clean inside ours is_open =
@@ -63,10 +60,10 @@ returns-in_err-block-clause-err g c clean inside ours is_open =
     let mid = state g.S.Store c.loop-place.tx.conn.now in
     let new = state g.S.Store c.segment_block.new.tx.conn.now in
     let inv = c.loop-place.invariant in
-    let before = was_clean mid new c.segment_block.ensures.survives clean in
-    let within = inv.3 before inside in
-    let was_open = (inv.4 before inside).was_open ((c.segment_block.ensures.kept clean within).was_open is_open) in
-    let same = inv.5 was_open before ours in
+    let before = clean_before c.segment_block.ensures.stays clean in
+    let within = inv.1.inside before inside in
+    let was_open = (inv.1.kept before inside).was_open ((c.segment_block.ensures.stays.kept clean within).was_open is_open) in
+    let same = inv.2 was_open before ours in
     if_failed _ (failed_since old mid new same (c.in_err-block.ensures.err clean within (still_ours old mid same ours) is_open))
 
 pub returns-in_err-block-clause-cause : goal.returns-in_err-block-clause-cause
@@ -75,10 +72,10 @@ returns-in_err-block-clause-cause g c clean ours is_open s are bytes its storabl
     let mid = c.loop-place.tx.conn.now in
     let new = c.segment_block.new.tx.conn.now in
     let inv = c.loop-place.invariant in
-    let same = inv.5 is_open (was_clean (state g.S.Store mid) (state g.S.Store new) c.segment_block.ensures.survives clean) ours in
+    let same = inv.2 is_open (clean_before c.segment_block.ensures.stays clean) ours in
     let are_mid = subst (λ (t : Tables). TablesAre t s) (sym (same_tables (state g.S.Store old) (state g.S.Store mid) same)) are in
     let within : c.loop-place.place < length (blocks_of bytes) = subst (λ n. c.loop-place.place < n) (inv.0 ∙ counted s c.args.segment.now bytes its) c.loop-place-test.true in
     let key = storable_key c.args.segment.now c.loop-place.place storable (subst (λ n. c.loop-place.place < n) inv.0 c.loop-place-test.true) in
-    let known = fails_later g.S.Store old mid new inv.2 (FailsToHash c.args.segment.now.upload) (FailsToHash c.args.segment.now.upload) (λ at now fault failed. failed) _
+    let known = fails_later g.S.Store old mid new inv.1.survives (FailsToHash c.args.segment.now.upload) (FailsToHash c.args.segment.now.upload) (λ at now fault failed. failed) _
     (c.in_err-block.ensures.cause clean (still_ours (state g.S.Store old) (state g.S.Store mid) same ours) s are_mid bytes its within key) in
     search rules

@@ -2,10 +2,11 @@ use Rattle.std.proofs.Common.{◌≡◌, ℕ, List, ◌++◌, take, IsTrue}
 use Rattle.std.specs.Int.{div_ceil}
 use Rattle.std.specs.List.{flat_map}
 use Rattle.sha2.specs.Hashers.{Holds256}
-use Rattle.sqlite.specs.State.{HasCleanDisk, KeepsCommit, Survives, IsUnchanged}
+use Rattle.sqlite.specs.State.{HasCleanDisk, IsUnchanged}
 use Rattle.sqlite.specs.Held.{state}
 use Rattle.dep_types.specs.State.{State}
 use Rattle.dep_tables.specs.Tables.{tables_of, IsOurs}
+use Rattle.dep_tables.proofs.Chains.{Stays}
 use Rattle.dep_row_maps.specs.Stored.{blocks_of}
 use Rattle.dep_row_maps.specs.TablesAre.{TablesAre}
 use Rattle.dep_staging.specs.Hashing.{IsSegmentOf}
@@ -16,9 +17,7 @@ invariant-loop-place g l =
     let old = state g.S.Store l.fn.tx.conn.now in
     let now = state g.S.Store l.tx.conn.now in
     (l.place-end ≡ div_ceil l.segment.size 65536)
-    × (l.tx.conn.ghost_name ≡ l.fn.tx.conn.ghost_name) × Survives old now (λ _. ⊥)
-    × (HasCleanDisk now → IsTrue old.in_transaction → IsTrue now.in_transaction)
-    × (HasCleanDisk now → IsTrue old.in_transaction → KeepsCommit old now)
+    × Stays g.S.Store l.fn.tx.conn l.tx.conn
     × (IsTrue old.is_open → HasCleanDisk now → IsOurs old → IsUnchanged old now)
     × (IsTrue old.is_open → HasCleanDisk now → IsOurs old → (s : State) → TablesAre (tables_of old) s
     → (bytes message : List ℕ) → IsSegmentOf s l.segment bytes → Holds256 l.fn.hasher message

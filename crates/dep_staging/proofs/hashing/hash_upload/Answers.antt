@@ -1,14 +1,13 @@
-use Rattle.std.proofs.Common.{◌≡◌, ◌≤◌, ◌∙◌, ℕ, List, length, map, refl, rules, sym, ap, subst}
+use Rattle.std.proofs.Common.{◌≡◌, ◌≤◌, ◌∙◌, ℕ, List, length, map, rules, sym, ap, subst}
 use Rattle.std.specs.FinMap as finmap
 use Rattle.std.specs.List.{flat_map}
 use Rattle.std.proofs.lemmas.List.{take_all, length-map}
 use Rattle.sha2.specs.Sha256.{sha256}
 use Rattle.sha2.specs.Hashers.{Holds256}
 use Rattle.sqlite.specs.Held.{state}
-use Rattle.sqlite.proofs.StateLemmas.{survives_then}
 use Rattle.sqlite.proofs.Callers.{unchanged_then}
-use Rattle.sqlite.proofs.InsideLemmas.{keeps_then}
 use Rattle.dep_tables.proofs.Results.{if_failed}
+use Rattle.dep_tables.proofs.Chains.{clean_before, stays_then, stays_ok, stays_err}
 use Rattle.dep_tables.specs.Tables.{Tables, tables_of}
 use Rattle.dep_tables.specs.declared.segments.SegmentRow.{SegmentRow}
 use Rattle.dep_row_maps.specs.TablesAre.{TablesAre, segments_at, joined}
@@ -16,7 +15,7 @@ use Rattle.dep_row_maps.proofs.Pieces.{assembled-joined}
 use Rattle.dep_row_maps.proofs.Readings.{segments_read}
 use Rattle.dep_row_maps.proofs.Whole.{segments_there}
 use Rattle.dep_files.proofs.Results.{still_ours, same_tables}
-use Rattle.dep_staging.proofs.Chains.{was_clean, failed_since}
+use Rattle.dep_staging.proofs.Chains.{fails_reading}
 use Rattle.dep_staging.specs.Causes.{FailsToHash}
 use Rattle.dep_staging.specs.Causes.FailsToHash.{segments}
 use Rattle.dep_staging.proofs.Causes.{fails_then, fails_later, survives_itself}
@@ -25,36 +24,29 @@ use Rattle.dep_staging.proofs.hashing.hash_upload.Goals as goal
 
 pub rows-init : goal.rows-init
 rows-init g c = (
-  refl,
   search rules,
-  λ clean inside. c.in_ok-rows.ensures.inside clean inside,
-  λ clean inside. c.segments_of.ensures.kept clean inside,
-  λ clean ours. c.in_ok-rows.ensures.same clean ours,
+  c.in_ok-rows.ensures.same,
   λ clean ours s are. c.new-hasher.ensures,
 )
 
 pub rows-preserved : goal.rows-preserved
 rows-preserved g c =
     let old = state g.S.Store c.args.tx.now.conn.now in
-    let first = state g.S.Store c.segments_of.new.tx.conn.now in
     let mid = state g.S.Store c.rows.tx.conn.now in
     let new = state g.S.Store c.hash_segment.new.tx.conn.now in
     let u = c.args.upload in
     let inv = c.rows.invariant in
-    let earlier = was_clean mid new c.hash_segment.ensures.survives in (
-      c.hash_segment.ensures.same_reference ∙ inv.0,
-      survives_then first mid new _ _ (λ _. ⊥) (λ _ db none. none) (λ _ db none. none) inv.1 c.hash_segment.ensures.survives,
-      λ clean inside. c.in_ok-hash_segment.ensures.inside clean (inv.2 (earlier clean) inside),
-      λ clean inside. keeps_then old mid new (inv.3 (earlier clean) inside) (c.hash_segment.ensures.kept clean (inv.2 (earlier clean) inside)),
+    let earlier = clean_before c.hash_segment.ensures.stays in (
+      stays_ok (stays_then inv.0 c.in_ok-hash_segment.ensures.stays),
       λ clean ours.
-          let same = inv.4 (earlier clean) ours in
+          let same = inv.1 (earlier clean) ours in
           unchanged_then old mid new same (c.in_ok-hash_segment.ensures.same same.0.is_open clean (still_ours old mid same ours)),
       λ clean ours s are.
-          let same = inv.4 (earlier clean) ours in
+          let same = inv.1 (earlier clean) ours in
           let es = finmap.entries (segments_at s.uploads u) in
           let listed : c.in_ok-rows.rows.items ≡ map (of_entry u) es =
-          segments_read (tables_of old) s are u c.in_ok-rows.rows.items (c.in_ok-rows.ensures.ok (was_clean first mid inv.1 (earlier clean)) ours) in
-          let so_far = inv.5 (earlier clean) ours s are in
+          segments_read (tables_of old) s are u c.in_ok-rows.rows.items (c.in_ok-rows.ensures.ok (clean_before inv.0 (earlier clean)) ours) in
+          let so_far = inv.2 (earlier clean) ours s are in
           let are_mid = subst (λ (t : Tables). TablesAre t s) (sym (same_tables old mid same)) are in
           let m = c.in_ok-hash_segment.ensures.map clean (still_ours old mid same ours) same.0.is_open s are_mid in
           let none : SegmentRow = record { upload = 0; number = 0; size = 0 } in
@@ -66,29 +58,25 @@ rows-preserved g c =
 pub returns-clause-map : goal.returns-clause-map
 returns-clause-map g c clean ours s are =
     let old = state g.S.Store c.args.tx.now.conn.now in
-    let first = state g.S.Store c.segments_of.new.tx.conn.now in
     let u = c.args.upload in
     let inv = c.rows.invariant in
     let es = finmap.entries (segments_at s.uploads u) in
     let listed : c.in_ok-rows.rows.items ≡ map (of_entry u) es =
-    segments_read (tables_of old) s are u c.in_ok-rows.rows.items (c.in_ok-rows.ensures.ok (was_clean first _ inv.1 clean) ours) in
+    segments_read (tables_of old) s are u c.in_ok-rows.rows.items (c.in_ok-rows.ensures.ok (clean_before inv.0 clean) ours) in
     let count : length c.as_slice-row-items.result.now ≡ length es = ap length (c.as_slice-row-items.ensures.value ∙ listed) ∙ length-map es (of_entry u) in
     let past : length es ≤ c.rows.row-index = subst (λ n. n ≤ c.rows.row-index) count c.rows-test.false in
-    c.finalize.ensures _ (subst (Holds256 c.rows.hasher) (ap (flat_map (λ (e : ℕ × List ℕ). e.1)) (take_all c.rows.row-index es past)) (inv.5 clean ours s are))
+    c.finalize.ensures _ (subst (Holds256 c.rows.hasher) (ap (flat_map (λ (e : ℕ × List ℕ). e.1)) (take_all c.rows.row-index es past)) (inv.2 clean ours s are))
 
 pub returns-clause-assembled : goal.returns-clause-assembled
 returns-clause-assembled g c clean ours s are it there within =
     returns-clause-map g c clean ours s are ∙ ap sha256 (ap joined (segments_there s.uploads c.args.upload it there) ∙ assembled-joined it within)
 
+pub returns-in_err-hash_segment-clause-stays : goal.returns-in_err-hash_segment-clause-stays
+returns-in_err-hash_segment-clause-stays g c = stays_err c.from_residual-in_err-hash_segment.ensures.0 (stays_then (stays_then c.in_ok-rows.ensures.stays c.rows.invariant.0) c.hash_segment.ensures.stays)
+
 pub returns-in_err-hash_segment-clause-err : goal.returns-in_err-hash_segment-clause-err
 returns-in_err-hash_segment-clause-err g c clean inside ours is_open =
-    let old = state g.S.Store c.args.tx.now.conn.now in
-    let mid = state g.S.Store c.rows.tx.conn.now in
-    let new = state g.S.Store c.hash_segment.new.tx.conn.now in
-    let inv = c.rows.invariant in
-    let before = was_clean mid new c.hash_segment.ensures.survives clean in
-    let same = inv.4 before ours in
-    if_failed _ (failed_since old mid new same (c.in_err-hash_segment.ensures.err clean (inv.2 before inside) (still_ours old mid same ours) is_open))
+    if_failed _ (fails_reading (stays_then c.in_ok-rows.ensures.stays c.rows.invariant.0) c.in_err-hash_segment.ensures.stays c.rows.invariant.1 c.in_err-hash_segment.ensures.err clean inside ours is_open)
 
 pub returns-in_err-rows-clause-cause : goal.returns-in_err-rows-clause-cause
 returns-in_err-rows-clause-cause g c clean ours s are storable =
@@ -100,23 +88,24 @@ returns-in_err-rows-clause-cause g c clean ours s are storable =
 pub returns-in_err-hash_segment-clause-cause : goal.returns-in_err-hash_segment-clause-cause
 returns-in_err-hash_segment-clause-cause g c clean ours s are storable =
     let old = c.args.tx.now.conn.now in
-    let first = c.segments_of.new.tx.conn.now in
     let mid = c.rows.tx.conn.now in
     let new = c.hash_segment.new.tx.conn.now in
     let u = c.args.upload in
     let inv = c.rows.invariant in
-    let before = was_clean (state g.S.Store mid) (state g.S.Store new) c.hash_segment.ensures.survives clean in
-    let same = inv.4 before ours in
+    let before = clean_before c.hash_segment.ensures.stays clean in
+    let same = inv.1 before ours in
     let are_mid = subst (λ (t : Tables). TablesAre t s) (sym (same_tables (state g.S.Store old) (state g.S.Store mid) same)) are in
     let es = finmap.entries (segments_at s.uploads u) in
     let listed : c.in_ok-rows.rows.items ≡ map (of_entry u) es =
-    segments_read (tables_of (state g.S.Store old)) s are u c.in_ok-rows.rows.items (c.in_ok-rows.ensures.ok (was_clean (state g.S.Store first) (state g.S.Store mid) inv.1 before) ours) in
+    segments_read (tables_of (state g.S.Store old)) s are u c.in_ok-rows.rows.items (c.in_ok-rows.ensures.ok (clean_before inv.0 before) ours) in
     let none : SegmentRow = record { upload = 0; number = 0; size = 0 } in
     let e = entry_of u es c.as_slice-row-items.result.now (finmap.entries_sorted (segments_at s.uploads u)) c.rows.row-index none
     (c.as_slice-row-items.ensures.value ∙ listed) c.rows-test.true in
     let its = segment_is s u c.rows.row-index _ e in
-    let known = fails_later g.S.Store old mid new
-    (survives_then (state g.S.Store old) (state g.S.Store first) (state g.S.Store mid) _ _ (λ _. ⊥) (λ _ db none. none) (λ _ db none. none) c.segments_of.ensures.survives inv.1)
-    _ (FailsToHash u) (λ at now fault failed. subst (λ k. FailsToHash k at now fault) (ap (λ (r : SegmentRow). r.upload) e.is) failed) _
+    let stays = stays_then c.in_ok-rows.ensures.stays inv.0 in
+    let known = fails_later g.S.Store old mid new stays.survives _ (FailsToHash u) (λ at now fault failed. subst (λ k. FailsToHash k at now fault) (ap (λ (r : SegmentRow). r.upload) e.is) failed) _
     (c.in_err-hash_segment.ensures.cause clean (still_ours (state g.S.Store old) (state g.S.Store mid) same ours) same.0.is_open s are_mid e.bytes its (storable_segment s u c.rows.row-index _ storable e)) in
     search rules
+
+pub returns-clause-stays : goal.returns-clause-stays
+returns-clause-stays g c = stays_ok (stays_then c.in_ok-rows.ensures.stays c.rows.invariant.0)

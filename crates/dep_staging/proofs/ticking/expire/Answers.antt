@@ -1,32 +1,25 @@
-use Rattle.std.proofs.Common.{arith, sym, subst}
+use Rattle.std.proofs.Common.{sym, subst}
 use Rattle.std.specs.FinMap as finmap
-use Rattle.sqlite.specs.State.{HasCleanDisk}
 use Rattle.sqlite.specs.Held.{state}
-use Rattle.sqlite.proofs.InsideLemmas.{keeps_then}
 use Rattle.dep_tables.specs.Tables.{Tables, tables_of}
 use Rattle.dep_tables.proofs.Results.{ok_then}
+use Rattle.dep_tables.proofs.Chains.{clean_before, stays_then}
+use Rattle.dep_files.proofs.Results.{fails_behind}
 use Rattle.dep_row_maps.specs.TablesAre.{TablesAre}
 use Rattle.dep_row_maps.proofs.Whole.{timed_out_put}
 use Rattle.dep_staging.specs.Expiring.{timed_out}
 use Rattle.dep_staging.specs.Causes.{FailsToDrop, FailsToExpire}
 use Rattle.dep_staging.specs.Causes.FailsToExpire.{drop, number}
 use Rattle.dep_staging.proofs.Causes.{fails_then, fails_later, if_err_then, survives_itself, if_err_is}
-use Rattle.dep_staging.proofs.Chains.{was_clean}
 use Rattle.dep_staging.proofs.ticking.expire.Goals as goal
 
 pub returns-clause-map : goal.returns-clause-map
 returns-clause-map g c clean inside ours s are =
     let mid = state g.S.Store c.drop_upload.new.tx.conn.now in
-    let before : HasCleanDisk mid = omega (arith, clean, c.insert_timed_out.ensures.survives.clean) in
+    let before = clean_before c.insert_timed_out.ensures.stays clean in
     let gone = c.in_ok-drop_upload.ensures.map before inside ours s are in
-    ok_then c.insert_timed_out.result (c.insert_timed_out.ensures.ok clean (c.in_ok-drop_upload.ensures.inside before inside) (c.in_ok-drop_upload.ensures.ours before inside ours))
+    ok_then c.insert_timed_out.result (c.insert_timed_out.ensures.ok clean (c.in_ok-drop_upload.ensures.stays.inside before inside) (c.in_ok-drop_upload.ensures.ours before inside ours))
     (λ leads. subst (λ (t : Tables). TablesAre t (timed_out c.args.upload s)) (sym leads.rows) (timed_out_put (tables_of mid) (record s { uploads = finmap.remove s.uploads c.args.upload }) gone c.args.upload))
-
-pub returns-clause-kept : goal.returns-clause-kept
-returns-clause-kept g c clean inside =
-    let mid = state g.S.Store c.drop_upload.new.tx.conn.now in
-    let before : HasCleanDisk mid = omega (arith, clean, c.insert_timed_out.ensures.survives.clean) in
-    keeps_then (state g.S.Store c.args.tx.now.conn.now) mid (state g.S.Store c.insert_timed_out.new.tx.conn.now) (c.drop_upload.ensures.kept before inside) (c.insert_timed_out.ensures.kept clean (c.in_ok-drop_upload.ensures.inside before inside))
 
 pub returns-in_err-drop_upload-clause-cause : goal.returns-in_err-drop_upload-clause-cause
 returns-in_err-drop_upload-clause-cause g c storable clean inside =
@@ -40,6 +33,12 @@ returns-clause-cause g c storable clean inside =
     let old = c.args.tx.now.conn.now in
     let mid = c.drop_upload.new.tx.conn.now in
     let new = c.insert_timed_out.new.tx.conn.now in
-    let before = was_clean (state g.S.Store mid) (state g.S.Store new) c.insert_timed_out.ensures.survives clean in
-    if_err_then c.insert_timed_out.result (c.insert_timed_out.ensures.cause storable clean (c.in_ok-drop_upload.ensures.inside before inside))
-    (λ fault failed. fails_then g.S.Store old mid new c.drop_upload.ensures.survives (FailsToExpire c.args.upload) fault (number failed))
+    let before = clean_before c.insert_timed_out.ensures.stays clean in
+    if_err_then c.insert_timed_out.result (c.insert_timed_out.ensures.cause storable clean (c.in_ok-drop_upload.ensures.stays.inside before inside))
+    (λ fault failed. fails_then g.S.Store old mid new c.drop_upload.ensures.stays.survives (FailsToExpire c.args.upload) fault (number failed))
+
+pub returns-clause-stays : goal.returns-clause-stays
+returns-clause-stays g c = stays_then c.in_ok-drop_upload.ensures.stays c.insert_timed_out.ensures.stays
+
+pub returns-clause-err : goal.returns-clause-err
+returns-clause-err g c = fails_behind c.in_ok-drop_upload.ensures.stays c.insert_timed_out.ensures.stays c.insert_timed_out.ensures.err

@@ -1,14 +1,12 @@
-use Rattle.dep_staging.proofs.Chains.{survived, was_clean}
-use Rattle.sqlite.proofs.InsideLemmas.{keeps_then}
-use Rattle.std.proofs.Common.{◌≡◌, ◌∙◌, true, false, arith, sym, subst}
+use Rattle.std.proofs.Common.{◌≡◌, ◌∙◌, true, false, sym, subst}
 use Rattle.std.specs.Prelude.{if◌then◌else◌}
-use Rattle.sqlite.specs.State.{HasCleanDisk}
 use Rattle.sqlite.specs.Held.{state}
 use Rattle.dep_types.specs.State.{expires}
 use Rattle.dep_tables.specs.Tables.{Tables, tables_of}
 use Rattle.dep_tables.proofs.Results.{ok_then, if_failed}
+use Rattle.dep_tables.proofs.Chains.{clean_before, stays_then}
 use Rattle.dep_row_maps.specs.TablesAre.{TablesAre}
-use Rattle.dep_files.proofs.Results.{still_ours, same_tables, left_whole}
+use Rattle.dep_files.proofs.Results.{still_ours, same_tables, left_whole, uncommitted_behind}
 use Rattle.dep_staging.specs.Expiring.{timed_out}
 use Rattle.dep_staging.proofs.Loaded.{idle_is}
 use Rattle.dep_staging.specs.Causes.{FailsToExpire, FailsToExpireAll}
@@ -22,10 +20,10 @@ returns-then-is_idle-clause-map g c clean inside ours s are =
     let mid = state g.S.Store c.find_upload.new.tx.conn.now in
     let new = state g.S.Store c.expire.new.tx.conn.now in
     let u = c.args.upload in
-    let before : HasCleanDisk mid = omega (arith, clean, c.expire.ensures.survives.clean) in
+    let before = clean_before c.expire.ensures.stays clean in
     let same = c.in_ok-found.ensures.same before ours in
     let yes : expires c.args.config.now c.args.clock s.uploads u ≡ true = sym (idle_is (tables_of old) s c.args.config.now c.args.clock u c.in_ok-found.found are (c.in_ok-found.ensures.ok before ours)) ∙ sym c.is_idle.ensures ∙ c.if-is_idle.true in
-    ok_then c.expire.result (c.expire.ensures.map clean (c.in_ok-found.ensures.inside before inside) (still_ours old mid same ours) s (subst (λ (t : Tables). TablesAre t s) (sym (same_tables old mid same)) are))
+    ok_then c.expire.result (c.expire.ensures.map clean (c.in_ok-found.ensures.stays.inside before inside) (still_ours old mid same ours) s (subst (λ (t : Tables). TablesAre t s) (sym (same_tables old mid same)) are))
     (λ gone. subst (λ b. TablesAre (tables_of new) (if b then timed_out u s else s)) (sym yes) gone)
 
 pub returns-else-is_idle-clause-map : goal.returns-else-is_idle-clause-map
@@ -49,38 +47,18 @@ returns-then-is_idle-clause-cause g c clean inside ours s are storable =
     let mid = c.find_upload.new.tx.conn.now in
     let new = c.expire.new.tx.conn.now in
     let u = c.args.upload in
-    let before : HasCleanDisk (state g.S.Store mid) = omega (arith, clean, c.expire.ensures.survives.clean) in
+    let before = clean_before c.expire.ensures.stays clean in
     let yes : expires c.args.config.now c.args.clock s.uploads u ≡ true = sym (idle_is (tables_of (state g.S.Store old)) s c.args.config.now c.args.clock u c.in_ok-found.found are (c.in_ok-found.ensures.ok before ours)) ∙ sym c.is_idle.ensures ∙ c.if-is_idle.true in
-    if_err_then c.expire.result (c.expire.ensures.cause storable clean (c.in_ok-found.ensures.inside before inside))
-    (λ fault failed. fails_later g.S.Store old mid new c.find_upload.ensures.survives (FailsToExpire u) (FailsToExpireAll c.args.config.now c.args.clock s.uploads)
+    if_err_then c.expire.result (c.expire.ensures.cause storable clean (c.in_ok-found.ensures.stays.inside before inside))
+    (λ fault failed. fails_later g.S.Store old mid new c.find_upload.ensures.stays.survives (FailsToExpire u) (FailsToExpireAll c.args.config.now c.args.clock s.uploads)
     (λ at now f it. ended u yes it) fault failed)
 
 pub returns-in_err-found-clause-err : goal.returns-in_err-found-clause-err
 returns-in_err-found-clause-err g c ours clean inside is_open =
     if_failed _ (left_whole (state g.S.Store c.args.tx.now.conn.now) (state g.S.Store c.find_upload.new.tx.conn.now) inside is_open (c.in_err-found.ensures.err clean inside ours is_open))
 
-pub returns-then-is_idle-clause-kept : goal.returns-then-is_idle-clause-kept
-returns-then-is_idle-clause-kept g c clean inside =
-    let old = state g.S.Store c.args.tx.now.conn.now in
-    let at_1 = state g.S.Store c.find_upload.new.tx.conn.now in
-    let at_2 = state g.S.Store c.expire.new.tx.conn.now in
-    let clean_1 = was_clean at_1 at_2 c.expire.ensures.survives clean in
-    let inside_1 = c.in_ok-found.ensures.inside clean_1 inside in
-    let kept_1 = c.find_upload.ensures.kept clean_1 inside in
-    keeps_then old at_1 at_2 kept_1 (c.expire.ensures.kept clean inside_1)
+pub returns-then-is_idle-clause-stays : goal.returns-then-is_idle-clause-stays
+returns-then-is_idle-clause-stays g c = stays_then c.in_ok-found.ensures.stays c.expire.ensures.stays
 
-pub returns-then-is_idle-clause-survives : goal.returns-then-is_idle-clause-survives
-returns-then-is_idle-clause-survives g c =
-    let old = state g.S.Store c.args.tx.now.conn.now in
-    let at_1 = state g.S.Store c.find_upload.new.tx.conn.now in
-    let at_2 = state g.S.Store c.expire.new.tx.conn.now in
-    survived old at_1 at_2 c.find_upload.ensures.survives c.expire.ensures.survives
-
-pub returns-then-is_idle-clause-inside : goal.returns-then-is_idle-clause-inside
-returns-then-is_idle-clause-inside g c clean inside =
-    let old = state g.S.Store c.args.tx.now.conn.now in
-    let at_1 = state g.S.Store c.find_upload.new.tx.conn.now in
-    let at_2 = state g.S.Store c.expire.new.tx.conn.now in
-    let clean_1 = was_clean at_1 at_2 c.expire.ensures.survives clean in
-    let inside_1 = c.in_ok-found.ensures.inside clean_1 inside in
-    c.expire.ensures.inside clean inside_1
+pub returns-then-is_idle-clause-err : goal.returns-then-is_idle-clause-err
+returns-then-is_idle-clause-err g c ours = uncommitted_behind c.in_ok-found.ensures.stays c.expire.ensures.stays c.expire.ensures.err
