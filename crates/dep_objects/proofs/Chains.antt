@@ -1,16 +1,8 @@
 -- One call after another.
-use Rattle.std.proofs.Common.{◌≡◌, ◌⊎◌, IsTrue, inl, inr, sym, ap, subst, ◌∙◌, arith}
-use Rattle.sqlite.specs.State.{State, HasCleanDisk, Survives, IsUnchanged, IsRolledBack}
+use Rattle.std.proofs.Common.{◌≡◌, ◌⊎◌, IsTrue, inl, inr, sym, ap, subst, ◌∙◌}
+use Rattle.sqlite.specs.State.{State, IsUnchanged, IsRolledBack}
 use Rattle.sqlite.proofs.Callers.{unchanged_then}
-use Rattle.sqlite.proofs.StateLemmas.{survives_then}
 use Rattle.dep_tables.specs.Tables.{tables_in, tables_of, IsOurs, HasOurTables}
-
-pub was_clean : (old new : State) → Survives old new (λ _. ⊥) → HasCleanDisk new → HasCleanDisk old
-was_clean old new survived clean = omega (arith, clean, survived.clean)
-
--- nothing was committed by two calls
-pub survived : (old mid new : State) → Survives old mid (λ _. ⊥) → Survives mid new (λ _. ⊥) → Survives old new (λ _. ⊥)
-survived old mid new first second = survives_then old mid new _ _ (λ _. ⊥) (λ _ db none. none) (λ _ db none. none) first second
 
 module _ (a b : State) (same : IsUnchanged a b) where
   pub still_ours : IsOurs a → IsOurs b

@@ -3,7 +3,7 @@
 ghost use Rattle.std.specs.Prelude.{◌≡◌, [], IfOk, IfErr, OnOk};
 ghost use Rattle.sqlite.specs.State.{HasCleanDisk};
 ghost use Rattle.sqlite.specs.Held.{state};
-ghost use Rattle.dep_tables.specs.Clauses.{ReadsOnly, FailsWhole, FailsReading, FailsByRunning, FailsToRead, GoesOn, JustOne, StaysInside, CommitsNothing, RefusesNumbers};
+ghost use Rattle.dep_tables.specs.Clauses.{ReadsOnly, FailsWhole, FailsReading, FailsByRunning, FailsToRead, JustOne, RefusesNumbers, StaysWithin};
 ghost use Rattle.dep_tables.specs.Rows.{IsStateRow, IsStorableState, state_values};
 ghost use Rattle.dep_tables.specs.Texts.{read_state_text, write_state_text};
 ghost use Rattle.dep_row_maps.specs.Stored.{state_row};
@@ -24,10 +24,7 @@ pub fn counters<S: Alter>(tx: &mut Transaction<'_, S>) -> Result<StateRow, Store
         → IfErr result (FailsToRead (JustOne IsStateRow) read_state_text []
         (state S.Store tx.old.conn.now) (state S.Store tx.new.conn.now)) }
     ensures err { FailsReading (state S.Store tx.old.conn.now) (state S.Store tx.new.conn.now) result }
-    ensures inside { GoesOn (state S.Store tx.old.conn.now) (state S.Store tx.new.conn.now) result }
-    ensures kept { StaysInside (state S.Store tx.old.conn.now) (state S.Store tx.new.conn.now) }
-    ensures same_reference { tx.new.conn.ghost_name ≡ tx.old.conn.ghost_name }
-    ensures survives { CommitsNothing (state S.Store tx.old.conn.now) (state S.Store tx.new.conn.now) }
+    ensures stays { StaysWithin S.Store tx.old.conn tx.new.conn result }
 {
     read_state(tx)
 }
@@ -45,10 +42,7 @@ pub fn set_counters<S: Alter>(tx: &mut Transaction<'_, S>, row: &StateRow) -> Re
         (state S.Store tx.old.conn.now) (state S.Store tx.new.conn.now) result
         (IsStorableState row.now) write_state_text (state_values row.now) }
     ensures err { FailsWhole (state S.Store tx.old.conn.now) (state S.Store tx.new.conn.now) result }
-    ensures inside { GoesOn (state S.Store tx.old.conn.now) (state S.Store tx.new.conn.now) result }
-    ensures kept { StaysInside (state S.Store tx.old.conn.now) (state S.Store tx.new.conn.now) }
-    ensures same_reference { tx.new.conn.ghost_name ≡ tx.old.conn.ghost_name }
-    ensures survives { CommitsNothing (state S.Store tx.old.conn.now) (state S.Store tx.new.conn.now) }
+    ensures stays { StaysWithin S.Store tx.old.conn tx.new.conn result }
 {
     write_state(tx, row)
 }

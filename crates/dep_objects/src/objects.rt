@@ -6,7 +6,7 @@ ghost use Rattle.sqlite.specs.Held.{state};
 ghost use Rattle.sqlite.specs.declared.types.Value.TheVariants.{Int};
 ghost use Rattle.dep_types.specs.Rows.{object_row};
 ghost use Rattle.dep_types.specs.Sound.{IsSound};
-ghost use Rattle.dep_tables.specs.Clauses.{AtMostOne, ReadsOnly, FailsReading, FailsByReading, GoesOn, StaysInside, CommitsNothing, RefusesNumbers};
+ghost use Rattle.dep_tables.specs.Clauses.{AtMostOne, ReadsOnly, FailsReading, FailsByReading, RefusesNumbers, StaysWithin};
 ghost use Rattle.dep_tables.specs.Rows.{IsNumberRow, IsObjectRow};
 ghost use Rattle.dep_tables.specs.Texts.{find_object_text, next_object_text};
 ghost use Rattle.dep_row_maps.specs.Keyed.{next_entry};
@@ -23,7 +23,9 @@ use std::alloc::Global;
 /// An object without its files.
 #[derive(Drop)]
 pub struct DescribedObject {
+    /// Its row.
     pub row: ObjectRow,
+    /// Its metadata.
     pub metadata: Metadata,
 }
 
@@ -40,10 +42,7 @@ pub fn load_object<S: Alter>(
     ensures same { ReadsOnly (state S.Store tx.old.conn.now) (state S.Store tx.new.conn.now) result }
     ensures ours { KeepsOurs (state S.Store tx.old.conn.now) (state S.Store tx.new.conn.now) result }
     ensures err { FailsReading (state S.Store tx.old.conn.now) (state S.Store tx.new.conn.now) result }
-    ensures inside { GoesOn (state S.Store tx.old.conn.now) (state S.Store tx.new.conn.now) result }
-    ensures kept { StaysInside (state S.Store tx.old.conn.now) (state S.Store tx.new.conn.now) }
-    ensures same_reference { tx.new.conn.ghost_name ≡ tx.old.conn.ghost_name }
-    ensures survives { CommitsNothing (state S.Store tx.old.conn.now) (state S.Store tx.new.conn.now) }
+    ensures stays { StaysWithin S.Store tx.old.conn tx.new.conn result }
 {
     let Some(row) = dep_tables::find_object(tx, object)? else {
         return Ok(None);
@@ -70,10 +69,7 @@ pub fn find_object<S: Alter>(
         (state S.Store tx.old.conn.now) (state S.Store tx.new.conn.now) result
         (object < 2 ^ 63) find_object_text (Int (pos object) ∷ []) (AtMostOne IsObjectRow) }
     ensures err { FailsReading (state S.Store tx.old.conn.now) (state S.Store tx.new.conn.now) result }
-    ensures inside { GoesOn (state S.Store tx.old.conn.now) (state S.Store tx.new.conn.now) result }
-    ensures kept { StaysInside (state S.Store tx.old.conn.now) (state S.Store tx.new.conn.now) }
-    ensures same_reference { tx.new.conn.ghost_name ≡ tx.old.conn.ghost_name }
-    ensures survives { CommitsNothing (state S.Store tx.old.conn.now) (state S.Store tx.new.conn.now) }
+    ensures stays { StaysWithin S.Store tx.old.conn tx.new.conn result }
 {
     dep_tables::find_object(tx, object)
 }
@@ -94,10 +90,7 @@ pub fn next_object<S: Alter>(
         (state S.Store tx.old.conn.now) (state S.Store tx.new.conn.now) result
         (after < 2 ^ 63) next_object_text (Int (pos after) ∷ []) (AtMostOne IsNumberRow) }
     ensures err { FailsReading (state S.Store tx.old.conn.now) (state S.Store tx.new.conn.now) result }
-    ensures inside { GoesOn (state S.Store tx.old.conn.now) (state S.Store tx.new.conn.now) result }
-    ensures kept { StaysInside (state S.Store tx.old.conn.now) (state S.Store tx.new.conn.now) }
-    ensures same_reference { tx.new.conn.ghost_name ≡ tx.old.conn.ghost_name }
-    ensures survives { CommitsNothing (state S.Store tx.old.conn.now) (state S.Store tx.new.conn.now) }
+    ensures stays { StaysWithin S.Store tx.old.conn tx.new.conn result }
 {
     dep_tables::next_object(tx, after)
 }
@@ -111,10 +104,7 @@ pub fn put_object<S: Alter>(tx: &mut Transaction<'_, S>, row: &ObjectRow) -> Res
         (metadata_at s.objects row.now.object) (files_at s.objects row.now.object))))) }
     ensures ours { KeepsOurs (state S.Store tx.old.conn.now) (state S.Store tx.new.conn.now) result }
     ensures err { FailsReading (state S.Store tx.old.conn.now) (state S.Store tx.new.conn.now) result }
-    ensures inside { GoesOn (state S.Store tx.old.conn.now) (state S.Store tx.new.conn.now) result }
-    ensures kept { StaysInside (state S.Store tx.old.conn.now) (state S.Store tx.new.conn.now) }
-    ensures same_reference { tx.new.conn.ghost_name ≡ tx.old.conn.ghost_name }
-    ensures survives { CommitsNothing (state S.Store tx.old.conn.now) (state S.Store tx.new.conn.now) }
+    ensures stays { StaysWithin S.Store tx.old.conn tx.new.conn result }
 {
     match dep_tables::find_object(tx, row.object)? {
         Some(_) => write_object(tx, row),
@@ -131,10 +121,7 @@ pub fn delete_object<S: Alter>(tx: &mut Transaction<'_, S>, object: u64) -> Resu
     ensures ours { KeepsOurs (state S.Store tx.old.conn.now) (state S.Store tx.new.conn.now) result }
     ensures err { FailsUncommitted
         (state S.Store tx.old.conn.now) (state S.Store tx.new.conn.now) result }
-    ensures inside { GoesOn (state S.Store tx.old.conn.now) (state S.Store tx.new.conn.now) result }
-    ensures kept { StaysInside (state S.Store tx.old.conn.now) (state S.Store tx.new.conn.now) }
-    ensures same_reference { tx.new.conn.ghost_name ≡ tx.old.conn.ghost_name }
-    ensures survives { CommitsNothing (state S.Store tx.old.conn.now) (state S.Store tx.new.conn.now) }
+    ensures stays { StaysWithin S.Store tx.old.conn tx.new.conn result }
 {
     delete_metadata(tx, object)?;
     dep_tables::delete_object(tx, object)

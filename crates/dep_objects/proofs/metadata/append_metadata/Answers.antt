@@ -1,13 +1,12 @@
 use Rattle.std.proofs.lemmas.Result.{on_err_weaker}
-use Rattle.sqlite.proofs.InsideLemmas.{keeps_then}
-use Rattle.std.proofs.Common.{sym, subst, map, arith}
-use Rattle.sqlite.specs.State.{HasCleanDisk}
+use Rattle.std.proofs.Common.{sym, subst, map}
 use Rattle.sqlite.specs.Held.{state}
 use Rattle.dep_types.specs.MetadataEntries.{name_and_texts}
+use Rattle.dep_tables.proofs.Chains.{clean_before, stays_then}
 use Rattle.dep_tables.proofs.Results.{ok_then}
 use Rattle.dep_tables.specs.Tables.{tables_of}
 use Rattle.dep_row_maps.specs.TablesAre.{TablesAre}
-use Rattle.dep_objects.proofs.Chains.{still_ours, survived, tables_same, uncommitted_since, was_clean}
+use Rattle.dep_objects.proofs.Chains.{still_ours, tables_same, uncommitted_since}
 use Rattle.dep_objects.proofs.Appending.{metadata_appended}
 use Rattle.dep_objects.proofs.metadata.append_metadata.Goals as goal
 
@@ -16,53 +15,30 @@ returns-clause-map g c clean inside ours s are o there =
     let old = state g.S.Store c.args.tx.now.conn.now in
     let mid = state g.S.Store c.load_metadata.new.tx.conn.now in
     let new = state g.S.Store c.put_entries.new.tx.conn.now in
-    let before : HasCleanDisk mid = omega (arith, clean, c.put_entries.ensures.survives.clean) in
+    let before = clean_before c.put_entries.ensures.stays clean in
     let same = c.in_ok-have.ensures.same before ours in
     let here = subst (λ t. TablesAre t s) (sym (tables_same old mid same)) are in
     let ours_mid = still_ours old mid same ours in
-    ok_then c.put_entries.result (c.put_entries.ensures.ok clean (c.in_ok-have.ensures.inside before inside) ours_mid)
+    ok_then c.put_entries.result (c.put_entries.ensures.ok clean (c.in_ok-have.ensures.stays.inside before inside) ours_mid)
     (λ sees. metadata_appended (tables_of mid) (tables_of new) s c.args.object o c.in_ok-have.have c.args.more.now (map name_and_texts c.entries.result.now) here ours_mid.trees.ordered.1.1.1.0 there c.entries.ensures
     (c.in_ok-have.ensures.map before inside ours s are) sees.rows)
 
-pub returns-clause-kept : goal.returns-clause-kept
-returns-clause-kept g c clean inside =
-    let old = state g.S.Store c.args.tx.now.conn.now in
-    let at_1 = state g.S.Store c.load_metadata.new.tx.conn.now in
-    let at_2 = state g.S.Store c.put_entries.new.tx.conn.now in
-    let clean_1 = was_clean at_1 at_2 c.put_entries.ensures.survives clean in
-    let inside_1 = c.in_ok-have.ensures.inside clean_1 inside in
-    let kept_1 = c.load_metadata.ensures.kept clean_1 inside in
-    keeps_then old at_1 at_2 kept_1 (c.put_entries.ensures.kept clean inside_1)
-
-pub returns-clause-survives : goal.returns-clause-survives
-returns-clause-survives g c =
-    let old = state g.S.Store c.args.tx.now.conn.now in
-    let at_1 = state g.S.Store c.load_metadata.new.tx.conn.now in
-    let at_2 = state g.S.Store c.put_entries.new.tx.conn.now in
-    survived old at_1 at_2 c.load_metadata.ensures.survives c.put_entries.ensures.survives
-
-pub returns-clause-inside : goal.returns-clause-inside
-returns-clause-inside g c clean inside =
-    let old = state g.S.Store c.args.tx.now.conn.now in
-    let at_1 = state g.S.Store c.load_metadata.new.tx.conn.now in
-    let at_2 = state g.S.Store c.put_entries.new.tx.conn.now in
-    let clean_1 = was_clean at_1 at_2 c.put_entries.ensures.survives clean in
-    let inside_1 = c.in_ok-have.ensures.inside clean_1 inside in
-    c.put_entries.ensures.inside clean inside_1
+pub returns-clause-stays : goal.returns-clause-stays
+returns-clause-stays g c = stays_then c.in_ok-have.ensures.stays c.put_entries.ensures.stays
 
 pub returns-clause-ours : goal.returns-clause-ours
 returns-clause-ours g c clean inside ours =
     let old = state g.S.Store c.args.tx.now.conn.now in
     let mid = state g.S.Store c.load_metadata.new.tx.conn.now in
-    let before = was_clean mid (state g.S.Store c.put_entries.new.tx.conn.now) c.put_entries.ensures.survives clean in
+    let before = clean_before c.put_entries.ensures.stays clean in
     let same = c.in_ok-have.ensures.same before ours in
-    ok_then c.put_entries.result (c.put_entries.ensures.ok clean (c.in_ok-have.ensures.inside before inside) (still_ours old mid same ours)) (λ sees. sees.ours)
+    ok_then c.put_entries.result (c.put_entries.ensures.ok clean (c.in_ok-have.ensures.stays.inside before inside) (still_ours old mid same ours)) (λ sees. sees.ours)
 
 pub returns-clause-err : goal.returns-clause-err
 returns-clause-err g c ours clean inside is_open =
     let old = state g.S.Store c.args.tx.now.conn.now in
     let mid = state g.S.Store c.load_metadata.new.tx.conn.now in
     let new = state g.S.Store c.put_entries.new.tx.conn.now in
-    let before = was_clean mid new c.put_entries.ensures.survives clean in
+    let before = clean_before c.put_entries.ensures.stays clean in
     let same = c.in_ok-have.ensures.same before ours in
-    on_err_weaker c.put_entries.result (uncommitted_since old mid same new) (c.put_entries.ensures.err clean (c.in_ok-have.ensures.inside before inside) is_open)
+    on_err_weaker c.put_entries.result (uncommitted_since old mid same new) (c.put_entries.ensures.err clean (c.in_ok-have.ensures.stays.inside before inside) is_open)

@@ -1,7 +1,8 @@
-use Rattle.std.proofs.Common.{◌≡◌, take, map, IsTrue}
-use Rattle.sqlite.specs.State.{HasCleanDisk, KeepsCommit, Survives}
+use Rattle.std.proofs.Common.{take, map, IsTrue}
+use Rattle.sqlite.specs.State.{HasCleanDisk}
 use Rattle.sqlite.specs.Held.{state}
 use Rattle.dep_types.specs.MetadataEntries.{name_and_texts}
+use Rattle.dep_tables.proofs.Chains.{Stays}
 use Rattle.dep_tables.specs.Tables.{tables_of, IsOurs}
 use Rattle.dep_row_maps.specs.Owned.{put_each}
 use Rattle.dep_row_maps.specs.Clauses.{Sees}
@@ -12,7 +13,5 @@ abbrev pub invariant-entries : goal.invariant-entries
 invariant-entries g l =
     let old = state g.S.Store l.fn.tx.conn.now in
     let now = state g.S.Store l.tx.conn.now in
-    (l.tx.conn.ghost_name ≡ l.fn.tx.conn.ghost_name) × Survives old now (λ _. ⊥)
-    × (HasCleanDisk now → IsTrue old.in_transaction → IsTrue now.in_transaction)
-    × (HasCleanDisk now → IsTrue old.in_transaction → KeepsCommit old now)
+    Stays g.S.Store l.fn.tx.conn l.tx.conn
     × (HasCleanDisk now → IsTrue old.in_transaction → IsOurs old → Sees now (record (tables_of old) { metadata = put_each (rows_beside l.fn.object l.fn.have (map name_and_texts (take l.entry-index l.entries))) (tables_of old).metadata }))

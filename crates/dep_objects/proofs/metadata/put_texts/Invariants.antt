@@ -1,6 +1,7 @@
 use Rattle.std.proofs.Common.{◌≡◌, ◌+◌, take, IsTrue}
-use Rattle.sqlite.specs.State.{HasCleanDisk, KeepsCommit, Survives}
+use Rattle.sqlite.specs.State.{HasCleanDisk}
 use Rattle.sqlite.specs.Held.{state}
+use Rattle.dep_tables.proofs.Chains.{Stays}
 use Rattle.dep_tables.specs.Tables.{tables_of, IsOurs}
 use Rattle.dep_row_maps.specs.Owned.{placed, put_each}
 use Rattle.dep_row_maps.specs.Stored.{text_values}
@@ -11,8 +12,6 @@ abbrev pub invariant-texts : goal.invariant-texts
 invariant-texts g l =
     let old = state g.S.Store l.fn.tx.conn.now in
     let now = state g.S.Store l.tx.conn.now in
-    (l.tx.conn.ghost_name ≡ l.fn.tx.conn.ghost_name) × Survives old now (λ _. ⊥)
-    × (HasCleanDisk now → IsTrue old.in_transaction → IsTrue now.in_transaction)
-    × (HasCleanDisk now → IsTrue old.in_transaction → KeepsCommit old now)
+    Stays g.S.Store l.fn.tx.conn l.tx.conn
     × (HasCleanDisk now → IsTrue old.in_transaction → IsOurs old → Sees now (record (tables_of old) { metadata = put_each (placed (text_values l.fn.object l.fn.entry.name) l.fn.start (take l.text-index l.fn.entry.texts)) (tables_of old).metadata }))
     × (l.place ≡ l.fn.start + l.text-index) × (l.text-items ≡ l.fn.entry.texts)

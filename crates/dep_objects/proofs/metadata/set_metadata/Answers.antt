@@ -1,7 +1,7 @@
-use Rattle.std.proofs.Common.{ap, ◌∙◌, map, arith}
-use Rattle.sqlite.specs.State.{HasCleanDisk}
+use Rattle.std.proofs.Common.{ap, ◌∙◌, map}
 use Rattle.sqlite.specs.Held.{state}
 use Rattle.dep_types.specs.MetadataEntries.{name_and_texts}
+use Rattle.dep_tables.proofs.Chains.{clean_before, stays_then}
 use Rattle.dep_tables.proofs.Results.{ok_then}
 use Rattle.dep_tables.specs.Tables.{tables_of}
 use Rattle.dep_row_maps.specs.Owned.{put_each}
@@ -14,8 +14,11 @@ returns-clause-map g c clean inside ours s are o there =
     let old = state g.S.Store c.args.tx.now.conn.now in
     let mid = state g.S.Store c.delete_metadata.new.tx.conn.now in
     let new = state g.S.Store c.put_entries-2.new.tx.conn.now in
-    let before : HasCleanDisk mid = omega (arith, clean, c.put_entries-2.ensures.survives.clean) in
+    let before = clean_before c.put_entries-2.ensures.stays clean in
     let first = c.in_ok-delete_metadata.ensures.ok before inside ours in
-    ok_then c.put_entries-2.result (c.put_entries-2.ensures.ok clean (c.in_ok-delete_metadata.ensures.inside before inside) first.ours)
+    ok_then c.put_entries-2.result (c.put_entries-2.ensures.ok clean (c.in_ok-delete_metadata.ensures.stays.inside before inside) first.ours)
     (λ sees. metadata_set (tables_of old) (tables_of mid) (tables_of new) s c.args.object o c.args.metadata.now (map name_and_texts c.entries.result.now) are ours.trees.ordered.1.1.1.0 there c.entries.ensures first.rows
     (sees.rows ∙ ap (λ m. record (tables_of mid) { metadata = put_each (rows_beside c.args.object m (map name_and_texts c.entries.result.now)) (tables_of mid).metadata }) c.new.ensures))
+
+pub returns-clause-stays : goal.returns-clause-stays
+returns-clause-stays g c = stays_then c.in_ok-delete_metadata.ensures.stays c.put_entries-2.ensures.stays

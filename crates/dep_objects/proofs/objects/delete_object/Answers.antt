@@ -1,7 +1,5 @@
-use Rattle.std.proofs.Common.{arith}
-use Rattle.sqlite.specs.State.{HasCleanDisk}
 use Rattle.sqlite.specs.Held.{state}
-use Rattle.sqlite.proofs.InsideLemmas.{keeps_then}
+use Rattle.dep_tables.proofs.Chains.{clean_before, stays_then}
 use Rattle.dep_tables.proofs.Results.{ok_then}
 use Rattle.dep_tables.specs.Tables.{tables_of}
 use Rattle.dep_objects.proofs.Puts.{object_gone}
@@ -12,14 +10,10 @@ returns-clause-map g c clean inside ours s are files =
     let old = state g.S.Store c.args.tx.now.conn.now in
     let mid = state g.S.Store c.delete_metadata.new.tx.conn.now in
     let new = state g.S.Store c.delete_object.new.tx.conn.now in
-    let before : HasCleanDisk mid = omega (arith, clean, c.delete_object.ensures.survives.clean) in
+    let before = clean_before c.delete_object.ensures.stays clean in
     let first = c.in_ok-delete_metadata.ensures.ok before inside ours in
-    ok_then c.delete_object.result (c.delete_object.ensures.ok clean (c.in_ok-delete_metadata.ensures.inside before inside) first.ours)
+    ok_then c.delete_object.result (c.delete_object.ensures.ok clean (c.in_ok-delete_metadata.ensures.stays.inside before inside) first.ours)
     (λ leads. object_gone (tables_of old) (tables_of mid) (tables_of new) s c.args.object are files first.rows leads.rows)
 
-pub returns-clause-kept : goal.returns-clause-kept
-returns-clause-kept g c clean inside =
-    let mid = state g.S.Store c.delete_metadata.new.tx.conn.now in
-    let before : HasCleanDisk mid = omega (arith, clean, c.delete_object.ensures.survives.clean) in
-    keeps_then (state g.S.Store c.args.tx.now.conn.now) mid (state g.S.Store c.delete_object.new.tx.conn.now) (c.in_ok-delete_metadata.ensures.kept before inside)
-    (c.delete_object.ensures.kept clean (c.in_ok-delete_metadata.ensures.inside before inside))
+pub returns-clause-stays : goal.returns-clause-stays
+returns-clause-stays g c = stays_then c.in_ok-delete_metadata.ensures.stays c.delete_object.ensures.stays

@@ -1,13 +1,12 @@
+use Rattle.dep_tables.proofs.Chains.{clean_before, stays_err, stays_ok, stays_then}
 use Rattle.dep_tables.proofs.Results.{if_failed}
 use Rattle.sqlite.proofs.Callers.{unchanged_then}
-use Rattle.sqlite.proofs.InsideLemmas.{keeps_then}
-use Rattle.std.proofs.Common.{sym, subst, ◌∙◌, arith}
-use Rattle.sqlite.specs.State.{HasCleanDisk}
+use Rattle.std.proofs.Common.{sym, subst, ◌∙◌}
 use Rattle.sqlite.specs.Held.{state}
 use Rattle.dep_tables.specs.Tables.{tables_of}
 use Rattle.dep_row_maps.specs.TablesAre.{TablesAre}
 use Rattle.dep_row_maps.proofs.Readings.{object_read}
-use Rattle.dep_objects.proofs.Chains.{still_ours, tables_same, failed_since, survived, was_clean}
+use Rattle.dep_objects.proofs.Chains.{still_ours, tables_same, failed_since}
 use Rattle.dep_objects.proofs.Puts.{described, none_described}
 use Rattle.dep_objects.proofs.objects.load_object.Goals as goal
 
@@ -19,72 +18,35 @@ pub returns-clause-map : goal.returns-clause-map
 returns-clause-map g c clean inside ours s are sound =
     let old = state g.S.Store c.args.tx.now.conn.now in
     let mid = state g.S.Store c.find_object.new.tx.conn.now in
-    let before : HasCleanDisk mid = omega (arith, clean, c.load_metadata.ensures.survives.clean) in
+    let before = clean_before c.load_metadata.ensures.stays clean in
     let same = c.in_ok-row.ensures.same before ours in
     let found = object_read (tables_of old) s are c.args.object c.in_ok-row.field-0 (c.in_ok-row.ensures.ok before ours) in
     let here = subst (λ t. TablesAre t s) (sym (tables_same old mid same)) are in
     described s c.args.object c.in-Some.row c.in_ok-metadata.metadata sound (sym c.in-Some.is ∙ found)
-    (c.in_ok-metadata.ensures.map clean (c.in_ok-row.ensures.inside before inside) (still_ours old mid same ours) s here)
+    (c.in_ok-metadata.ensures.map clean (c.in_ok-row.ensures.stays.inside before inside) (still_ours old mid same ours) s here)
 
-pub returns-in_err-metadata-clause-kept : goal.returns-in_err-metadata-clause-kept
-returns-in_err-metadata-clause-kept g c clean inside =
-    let old = state g.S.Store c.args.tx.now.conn.now in
-    let at_1 = state g.S.Store c.find_object.new.tx.conn.now in
-    let at_2 = state g.S.Store c.load_metadata.new.tx.conn.now in
-    let clean_1 = was_clean at_1 at_2 c.load_metadata.ensures.survives clean in
-    let inside_1 = c.in_ok-row.ensures.inside clean_1 inside in
-    let kept_1 = c.find_object.ensures.kept clean_1 inside in
-    keeps_then old at_1 at_2 kept_1 (c.load_metadata.ensures.kept clean inside_1)
+pub returns-in_err-metadata-clause-stays : goal.returns-in_err-metadata-clause-stays
+returns-in_err-metadata-clause-stays g c = stays_err c.from_residual-in_err-metadata.ensures.0 (stays_then c.in_ok-row.ensures.stays c.load_metadata.ensures.stays)
 
 pub returns-in_err-metadata-clause-err : goal.returns-in_err-metadata-clause-err
 returns-in_err-metadata-clause-err g c clean inside ours is_open =
     let old = state g.S.Store c.args.tx.now.conn.now in
     let at_1 = state g.S.Store c.find_object.new.tx.conn.now in
     let at_2 = state g.S.Store c.load_metadata.new.tx.conn.now in
-    let clean_1 = was_clean at_1 at_2 c.load_metadata.ensures.survives clean in
-    let inside_1 = c.in_ok-row.ensures.inside clean_1 inside in
+    let clean_1 = clean_before c.load_metadata.ensures.stays clean in
+    let inside_1 = c.in_ok-row.ensures.stays.inside clean_1 inside in
     let same_1 = c.in_ok-row.ensures.same clean_1 ours in
     if_failed _ (failed_since old at_1 same_1 at_2 (c.in_err-metadata.ensures.err clean inside_1 (still_ours old at_1 same_1 ours) is_open))
 
-pub returns-in_err-metadata-clause-survives : goal.returns-in_err-metadata-clause-survives
-returns-in_err-metadata-clause-survives g c =
-    let old = state g.S.Store c.args.tx.now.conn.now in
-    let at_1 = state g.S.Store c.find_object.new.tx.conn.now in
-    let at_2 = state g.S.Store c.load_metadata.new.tx.conn.now in
-    survived old at_1 at_2 c.find_object.ensures.survives c.load_metadata.ensures.survives
-
-pub returns-clause-kept : goal.returns-clause-kept
-returns-clause-kept g c clean inside =
-    let old = state g.S.Store c.args.tx.now.conn.now in
-    let at_1 = state g.S.Store c.find_object.new.tx.conn.now in
-    let at_2 = state g.S.Store c.load_metadata.new.tx.conn.now in
-    let clean_1 = was_clean at_1 at_2 c.load_metadata.ensures.survives clean in
-    let inside_1 = c.in_ok-row.ensures.inside clean_1 inside in
-    let kept_1 = c.find_object.ensures.kept clean_1 inside in
-    keeps_then old at_1 at_2 kept_1 (c.load_metadata.ensures.kept clean inside_1)
-
-pub returns-clause-survives : goal.returns-clause-survives
-returns-clause-survives g c =
-    let old = state g.S.Store c.args.tx.now.conn.now in
-    let at_1 = state g.S.Store c.find_object.new.tx.conn.now in
-    let at_2 = state g.S.Store c.load_metadata.new.tx.conn.now in
-    survived old at_1 at_2 c.find_object.ensures.survives c.load_metadata.ensures.survives
-
-pub returns-clause-inside : goal.returns-clause-inside
-returns-clause-inside g c clean inside =
-    let old = state g.S.Store c.args.tx.now.conn.now in
-    let at_1 = state g.S.Store c.find_object.new.tx.conn.now in
-    let at_2 = state g.S.Store c.load_metadata.new.tx.conn.now in
-    let clean_1 = was_clean at_1 at_2 c.load_metadata.ensures.survives clean in
-    let inside_1 = c.in_ok-row.ensures.inside clean_1 inside in
-    c.in_ok-metadata.ensures.inside clean inside_1
+pub returns-clause-stays : goal.returns-clause-stays
+returns-clause-stays g c = stays_ok (stays_then c.in_ok-row.ensures.stays c.in_ok-metadata.ensures.stays)
 
 pub returns-clause-same : goal.returns-clause-same
 returns-clause-same g c clean ours =
     let old = state g.S.Store c.args.tx.now.conn.now in
     let at_1 = state g.S.Store c.find_object.new.tx.conn.now in
     let at_2 = state g.S.Store c.load_metadata.new.tx.conn.now in
-    let clean_1 = was_clean at_1 at_2 c.load_metadata.ensures.survives clean in
+    let clean_1 = clean_before c.load_metadata.ensures.stays clean in
     let same_1 = c.in_ok-row.ensures.same clean_1 ours in
     let same_2 = unchanged_then old at_1 at_2 same_1 (c.in_ok-metadata.ensures.same clean (still_ours old at_1 same_1 ours)) in
     same_2
@@ -94,7 +56,7 @@ returns-clause-ours g c clean inside ours =
     let old = state g.S.Store c.args.tx.now.conn.now in
     let at_1 = state g.S.Store c.find_object.new.tx.conn.now in
     let at_2 = state g.S.Store c.load_metadata.new.tx.conn.now in
-    let clean_1 = was_clean at_1 at_2 c.load_metadata.ensures.survives clean in
+    let clean_1 = clean_before c.load_metadata.ensures.stays clean in
     let same_1 = c.in_ok-row.ensures.same clean_1 ours in
     let same_2 = unchanged_then old at_1 at_2 same_1 (c.in_ok-metadata.ensures.same clean (still_ours old at_1 same_1 ours)) in
     still_ours old at_2 same_2 ours

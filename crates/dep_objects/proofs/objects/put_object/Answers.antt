@@ -1,13 +1,12 @@
-use Rattle.sqlite.proofs.InsideLemmas.{keeps_then}
 use Rattle.std.proofs.lemmas.Result.{on_err_weaker}
-use Rattle.std.proofs.Common.{sym, subst, ◌∙◌, arith}
-use Rattle.sqlite.specs.State.{HasCleanDisk}
+use Rattle.std.proofs.Common.{sym, subst, ◌∙◌}
 use Rattle.sqlite.specs.Held.{state}
+use Rattle.dep_tables.proofs.Chains.{clean_before, stays_then}
 use Rattle.dep_tables.proofs.Results.{ok_then}
 use Rattle.dep_tables.specs.Tables.{tables_of}
 use Rattle.dep_row_maps.specs.TablesAre.{TablesAre}
 use Rattle.dep_row_maps.proofs.Readings.{object_read}
-use Rattle.dep_objects.proofs.Chains.{failed_since, still_ours, survived, tables_same, was_clean}
+use Rattle.dep_objects.proofs.Chains.{failed_since, still_ours, tables_same}
 use Rattle.dep_objects.proofs.Puts.{put_new, put_over}
 use Rattle.dep_objects.proofs.objects.put_object.Goals as goal
 
@@ -16,12 +15,12 @@ returns-in-Some-clause-map g c clean inside ours s are =
     let old = state g.S.Store c.args.tx.now.conn.now in
     let mid = state g.S.Store c.find_object.new.tx.conn.now in
     let new = state g.S.Store c.write_object.new.tx.conn.now in
-    let before : HasCleanDisk mid = omega (arith, clean, c.write_object.ensures.survives.clean) in
+    let before = clean_before c.write_object.ensures.stays clean in
     let same = c.in_ok-find_object.ensures.same before ours in
     let found = object_read (tables_of old) s are c.args.row.now.object c.in_ok-find_object.field-0 (c.in_ok-find_object.ensures.ok before ours) in
     let here = subst (λ t. TablesAre t s) (sym (tables_same old mid same)) are in
     let ours_mid = still_ours old mid same ours in
-    ok_then c.write_object.result (c.write_object.ensures.ok clean (c.in_ok-find_object.ensures.inside before inside) ours_mid)
+    ok_then c.write_object.result (c.write_object.ensures.ok clean (c.in_ok-find_object.ensures.stays.inside before inside) ours_mid)
     (λ leads. put_over s c.args.row.now (tables_of mid) (tables_of new) here ours_mid.trees.ordered.1.1.0 c.in-Some.field-0 (sym c.in-Some.is ∙ found) leads.rows)
 
 pub returns-in-None-clause-map : goal.returns-in-None-clause-map
@@ -29,10 +28,10 @@ returns-in-None-clause-map g c clean inside ours s are =
     let old = state g.S.Store c.args.tx.now.conn.now in
     let mid = state g.S.Store c.find_object.new.tx.conn.now in
     let new = state g.S.Store c.insert_object.new.tx.conn.now in
-    let before : HasCleanDisk mid = omega (arith, clean, c.insert_object.ensures.survives.clean) in
+    let before = clean_before c.insert_object.ensures.stays clean in
     let same = c.in_ok-find_object.ensures.same before ours in
     let here = subst (λ t. TablesAre t s) (sym (tables_same old mid same)) are in
-    ok_then c.insert_object.result (c.insert_object.ensures.ok clean (c.in_ok-find_object.ensures.inside before inside) (still_ours old mid same ours))
+    ok_then c.insert_object.result (c.insert_object.ensures.ok clean (c.in_ok-find_object.ensures.stays.inside before inside) (still_ours old mid same ours))
     (λ leads. put_new s c.args.row.now (tables_of mid) (tables_of new) here leads.rows)
 
 pub returns-in-Some-clause-err : goal.returns-in-Some-clause-err
@@ -40,85 +39,37 @@ returns-in-Some-clause-err g c clean inside ours is_open =
     let old = state g.S.Store c.args.tx.now.conn.now in
     let mid = state g.S.Store c.find_object.new.tx.conn.now in
     let new = state g.S.Store c.write_object.new.tx.conn.now in
-    let before = was_clean mid new c.write_object.ensures.survives clean in
+    let before = clean_before c.write_object.ensures.stays clean in
     let same = c.in_ok-find_object.ensures.same before ours in
-    on_err_weaker c.write_object.result (failed_since old mid same new) (c.write_object.ensures.err clean (c.in_ok-find_object.ensures.inside before inside) is_open)
+    on_err_weaker c.write_object.result (failed_since old mid same new) (c.write_object.ensures.err clean (c.in_ok-find_object.ensures.stays.inside before inside) is_open)
 
 pub returns-in-Some-clause-ours : goal.returns-in-Some-clause-ours
 returns-in-Some-clause-ours g c clean inside ours =
     let old = state g.S.Store c.args.tx.now.conn.now in
     let mid = state g.S.Store c.find_object.new.tx.conn.now in
-    let new = state g.S.Store c.write_object.new.tx.conn.now in
-    let before = was_clean mid new c.write_object.ensures.survives clean in
+    let before = clean_before c.write_object.ensures.stays clean in
     let same = c.in_ok-find_object.ensures.same before ours in
-    ok_then c.write_object.result (c.write_object.ensures.ok clean (c.in_ok-find_object.ensures.inside before inside) (still_ours old mid same ours)) (λ leads. leads.ours)
+    ok_then c.write_object.result (c.write_object.ensures.ok clean (c.in_ok-find_object.ensures.stays.inside before inside) (still_ours old mid same ours)) (λ leads. leads.ours)
 
 pub returns-in-None-clause-err : goal.returns-in-None-clause-err
 returns-in-None-clause-err g c clean inside ours is_open =
     let old = state g.S.Store c.args.tx.now.conn.now in
     let mid = state g.S.Store c.find_object.new.tx.conn.now in
     let new = state g.S.Store c.insert_object.new.tx.conn.now in
-    let before = was_clean mid new c.insert_object.ensures.survives clean in
+    let before = clean_before c.insert_object.ensures.stays clean in
     let same = c.in_ok-find_object.ensures.same before ours in
-    on_err_weaker c.insert_object.result (failed_since old mid same new) (c.insert_object.ensures.err clean (c.in_ok-find_object.ensures.inside before inside) is_open)
+    on_err_weaker c.insert_object.result (failed_since old mid same new) (c.insert_object.ensures.err clean (c.in_ok-find_object.ensures.stays.inside before inside) is_open)
 
 pub returns-in-None-clause-ours : goal.returns-in-None-clause-ours
 returns-in-None-clause-ours g c clean inside ours =
     let old = state g.S.Store c.args.tx.now.conn.now in
     let mid = state g.S.Store c.find_object.new.tx.conn.now in
-    let new = state g.S.Store c.insert_object.new.tx.conn.now in
-    let before = was_clean mid new c.insert_object.ensures.survives clean in
+    let before = clean_before c.insert_object.ensures.stays clean in
     let same = c.in_ok-find_object.ensures.same before ours in
-    ok_then c.insert_object.result (c.insert_object.ensures.ok clean (c.in_ok-find_object.ensures.inside before inside) (still_ours old mid same ours)) (λ leads. leads.ours)
+    ok_then c.insert_object.result (c.insert_object.ensures.ok clean (c.in_ok-find_object.ensures.stays.inside before inside) (still_ours old mid same ours)) (λ leads. leads.ours)
 
-pub returns-in-Some-clause-kept : goal.returns-in-Some-clause-kept
-returns-in-Some-clause-kept g c clean inside =
-    let old = state g.S.Store c.args.tx.now.conn.now in
-    let at_1 = state g.S.Store c.find_object.new.tx.conn.now in
-    let at_2 = state g.S.Store c.write_object.new.tx.conn.now in
-    let clean_1 = was_clean at_1 at_2 c.write_object.ensures.survives clean in
-    let inside_1 = c.in_ok-find_object.ensures.inside clean_1 inside in
-    let kept_1 = c.find_object.ensures.kept clean_1 inside in
-    keeps_then old at_1 at_2 kept_1 (c.write_object.ensures.kept clean inside_1)
+pub returns-in-Some-clause-stays : goal.returns-in-Some-clause-stays
+returns-in-Some-clause-stays g c = stays_then c.in_ok-find_object.ensures.stays c.write_object.ensures.stays
 
-pub returns-in-Some-clause-survives : goal.returns-in-Some-clause-survives
-returns-in-Some-clause-survives g c =
-    let old = state g.S.Store c.args.tx.now.conn.now in
-    let at_1 = state g.S.Store c.find_object.new.tx.conn.now in
-    let at_2 = state g.S.Store c.write_object.new.tx.conn.now in
-    survived old at_1 at_2 c.find_object.ensures.survives c.write_object.ensures.survives
-
-pub returns-in-Some-clause-inside : goal.returns-in-Some-clause-inside
-returns-in-Some-clause-inside g c clean inside =
-    let old = state g.S.Store c.args.tx.now.conn.now in
-    let at_1 = state g.S.Store c.find_object.new.tx.conn.now in
-    let at_2 = state g.S.Store c.write_object.new.tx.conn.now in
-    let clean_1 = was_clean at_1 at_2 c.write_object.ensures.survives clean in
-    let inside_1 = c.in_ok-find_object.ensures.inside clean_1 inside in
-    c.write_object.ensures.inside clean inside_1
-
-pub returns-in-None-clause-kept : goal.returns-in-None-clause-kept
-returns-in-None-clause-kept g c clean inside =
-    let old = state g.S.Store c.args.tx.now.conn.now in
-    let at_1 = state g.S.Store c.find_object.new.tx.conn.now in
-    let at_2 = state g.S.Store c.insert_object.new.tx.conn.now in
-    let clean_1 = was_clean at_1 at_2 c.insert_object.ensures.survives clean in
-    let inside_1 = c.in_ok-find_object.ensures.inside clean_1 inside in
-    let kept_1 = c.find_object.ensures.kept clean_1 inside in
-    keeps_then old at_1 at_2 kept_1 (c.insert_object.ensures.kept clean inside_1)
-
-pub returns-in-None-clause-survives : goal.returns-in-None-clause-survives
-returns-in-None-clause-survives g c =
-    let old = state g.S.Store c.args.tx.now.conn.now in
-    let at_1 = state g.S.Store c.find_object.new.tx.conn.now in
-    let at_2 = state g.S.Store c.insert_object.new.tx.conn.now in
-    survived old at_1 at_2 c.find_object.ensures.survives c.insert_object.ensures.survives
-
-pub returns-in-None-clause-inside : goal.returns-in-None-clause-inside
-returns-in-None-clause-inside g c clean inside =
-    let old = state g.S.Store c.args.tx.now.conn.now in
-    let at_1 = state g.S.Store c.find_object.new.tx.conn.now in
-    let at_2 = state g.S.Store c.insert_object.new.tx.conn.now in
-    let clean_1 = was_clean at_1 at_2 c.insert_object.ensures.survives clean in
-    let inside_1 = c.in_ok-find_object.ensures.inside clean_1 inside in
-    c.insert_object.ensures.inside clean inside_1
+pub returns-in-None-clause-stays : goal.returns-in-None-clause-stays
+returns-in-None-clause-stays g c = stays_then c.in_ok-find_object.ensures.stays c.insert_object.ensures.stays
