@@ -7,7 +7,7 @@ ghost use Rattle.dep_types.specs.Sound.{IsSound};
 ghost use Rattle.dep_answers.specs.Subjects.{shown_at};
 ghost use Rattle.dep_answers.specs.declared.subject.Subject.TheVariants as subject;
 ghost use Rattle.dep_tables.specs.Tables.{IsOurs};
-ghost use Rattle.dep_tables.specs.Clauses.{ReadsOnly, FailsReading, GoesOn, StaysInside, CommitsNothing};
+ghost use Rattle.dep_tables.specs.Clauses.{ReadsOnly, FailsReading, StaysWithin};
 ghost use Rattle.dep_row_maps.specs.Clauses.{FromMaps, KeepsOurs};
 
 use crate::objects::load_object_view;
@@ -29,10 +29,7 @@ fn show_object<S: Alter>(
         (λ s. IsSound s → IfOk result (λ shown. shown ≡ shown_at s (subject.Object object))) }
     ensures same { ReadsOnly (state S.Store tx.old.conn.now) (state S.Store tx.new.conn.now) result }
     ensures err { FailsReading (state S.Store tx.old.conn.now) (state S.Store tx.new.conn.now) result }
-    ensures inside { GoesOn (state S.Store tx.old.conn.now) (state S.Store tx.new.conn.now) result }
-    ensures kept { StaysInside (state S.Store tx.old.conn.now) (state S.Store tx.new.conn.now) }
-    ensures same_reference { tx.new.conn.ghost_name ≡ tx.old.conn.ghost_name }
-    ensures survives { CommitsNothing (state S.Store tx.old.conn.now) (state S.Store tx.new.conn.now) }
+    ensures stays { StaysWithin S.Store tx.old.conn tx.new.conn result }
 {
     match load_object_view(tx, alloc, object)? {
         Some(view) => Ok(Shown::Object(view)),
@@ -45,10 +42,7 @@ fn show_row<S: Alter>(tx: &mut Transaction<'_, S>, object: u64) -> Result<Shown,
         (λ s. IfOk result (λ shown. shown ≡ shown_at s (subject.ObjectRow object))) }
     ensures same { ReadsOnly (state S.Store tx.old.conn.now) (state S.Store tx.new.conn.now) result }
     ensures err { FailsReading (state S.Store tx.old.conn.now) (state S.Store tx.new.conn.now) result }
-    ensures inside { GoesOn (state S.Store tx.old.conn.now) (state S.Store tx.new.conn.now) result }
-    ensures kept { StaysInside (state S.Store tx.old.conn.now) (state S.Store tx.new.conn.now) }
-    ensures same_reference { tx.new.conn.ghost_name ≡ tx.old.conn.ghost_name }
-    ensures survives { CommitsNothing (state S.Store tx.old.conn.now) (state S.Store tx.new.conn.now) }
+    ensures stays { StaysWithin S.Store tx.old.conn tx.new.conn result }
 {
     match find_object(tx, object)? {
         Some(row) => Ok(Shown::ObjectRow(row)),
@@ -65,10 +59,7 @@ fn show_metadata<S: Alter>(
         (λ s. IsSound s → IfOk result (λ shown. shown ≡ shown_at s (subject.Metadata object))) }
     ensures same { ReadsOnly (state S.Store tx.old.conn.now) (state S.Store tx.new.conn.now) result }
     ensures err { FailsReading (state S.Store tx.old.conn.now) (state S.Store tx.new.conn.now) result }
-    ensures inside { GoesOn (state S.Store tx.old.conn.now) (state S.Store tx.new.conn.now) result }
-    ensures kept { StaysInside (state S.Store tx.old.conn.now) (state S.Store tx.new.conn.now) }
-    ensures same_reference { tx.new.conn.ghost_name ≡ tx.old.conn.ghost_name }
-    ensures survives { CommitsNothing (state S.Store tx.old.conn.now) (state S.Store tx.new.conn.now) }
+    ensures stays { StaysWithin S.Store tx.old.conn tx.new.conn result }
 {
     match load_object(tx, alloc, object)? {
         Some(described) => Ok(Shown::Metadata {
@@ -84,10 +75,7 @@ fn show_file<S: Alter>(tx: &mut Transaction<'_, S>, id: FileId) -> Result<Shown,
         (λ s. IfOk result (λ shown. shown ≡ shown_at s (subject.File id))) }
     ensures same { ReadsOnly (state S.Store tx.old.conn.now) (state S.Store tx.new.conn.now) result }
     ensures err { FailsReading (state S.Store tx.old.conn.now) (state S.Store tx.new.conn.now) result }
-    ensures inside { GoesOn (state S.Store tx.old.conn.now) (state S.Store tx.new.conn.now) result }
-    ensures kept { StaysInside (state S.Store tx.old.conn.now) (state S.Store tx.new.conn.now) }
-    ensures same_reference { tx.new.conn.ghost_name ≡ tx.old.conn.ghost_name }
-    ensures survives { CommitsNothing (state S.Store tx.old.conn.now) (state S.Store tx.new.conn.now) }
+    ensures stays { StaysWithin S.Store tx.old.conn tx.new.conn result }
 {
     match find_file(tx, id.object, id.file)? {
         Some(row) => Ok(Shown::File(row)),
@@ -104,10 +92,7 @@ fn show_upload<S: Alter>(
         (λ s. IfOk result (λ shown. shown ≡ shown_at s (subject.Upload upload))) }
     ensures same { ReadsOnly (state S.Store tx.old.conn.now) (state S.Store tx.new.conn.now) result }
     ensures err { FailsReading (state S.Store tx.old.conn.now) (state S.Store tx.new.conn.now) result }
-    ensures inside { GoesOn (state S.Store tx.old.conn.now) (state S.Store tx.new.conn.now) result }
-    ensures kept { StaysInside (state S.Store tx.old.conn.now) (state S.Store tx.new.conn.now) }
-    ensures same_reference { tx.new.conn.ghost_name ≡ tx.old.conn.ghost_name }
-    ensures survives { CommitsNothing (state S.Store tx.old.conn.now) (state S.Store tx.new.conn.now) }
+    ensures stays { StaysWithin S.Store tx.old.conn tx.new.conn result }
 {
     match load_upload(tx, alloc, upload)? {
         FoundUpload::Live(staged) => Ok(Shown::Upload {
@@ -135,10 +120,7 @@ pub fn load_shown<S: Alter>(
         → OnOk result ((state S.Store tx.new.conn.now).now ≡ (state S.Store tx.old.conn.now).now) }
     ensures ours { KeepsOurs (state S.Store tx.old.conn.now) (state S.Store tx.new.conn.now) result }
     ensures err { FailsReading (state S.Store tx.old.conn.now) (state S.Store tx.new.conn.now) result }
-    ensures inside { GoesOn (state S.Store tx.old.conn.now) (state S.Store tx.new.conn.now) result }
-    ensures kept { StaysInside (state S.Store tx.old.conn.now) (state S.Store tx.new.conn.now) }
-    ensures same_reference { tx.new.conn.ghost_name ≡ tx.old.conn.ghost_name }
-    ensures survives { CommitsNothing (state S.Store tx.old.conn.now) (state S.Store tx.new.conn.now) }
+    ensures stays { StaysWithin S.Store tx.old.conn tx.new.conn result }
 {
     match *subject {
         Subject::Nothing => Ok(Shown::Nothing),

@@ -1,9 +1,10 @@
 use Rattle.std.proofs.Common.{◌≡◌, map, take, IsTrue}
-use Rattle.sqlite.specs.State.{HasCleanDisk, KeepsCommit, Survives, IsUnchanged}
+use Rattle.sqlite.specs.State.{HasCleanDisk, IsUnchanged}
 use Rattle.sqlite.specs.Held.{state}
 use Rattle.dep_types.specs.State.{State}
 use Rattle.dep_types.specs.Sound.{IsSound}
 use Rattle.dep_tables.specs.Tables.{tables_of, IsOurs}
+use Rattle.dep_tables.proofs.Chains.{Stays}
 use Rattle.dep_row_maps.specs.TablesAre.{TablesAre}
 use Rattle.dep_rulings.specs.Views.{upload_view}
 use Rattle.dep_views.specs.Referred.{AreKnown}
@@ -14,9 +15,7 @@ abbrev pub invariant-uploads : goal.invariant-uploads
 invariant-uploads g l =
     let old = state g.S.Store l.fn.tx.conn.now in
     let now = state g.S.Store l.tx.conn.now in
-    (l.tx.conn.ghost_name ≡ l.fn.tx.conn.ghost_name) × Survives old now (λ _. ⊥)
-    × (HasCleanDisk now → IsTrue old.in_transaction → IsTrue now.in_transaction)
-    × (HasCleanDisk now → IsTrue old.in_transaction → KeepsCommit old now)
+    Stays g.S.Store l.fn.tx.conn l.tx.conn
     × (IsTrue old.is_open → HasCleanDisk now → IsOurs old → IsUnchanged old now)
     × (IsTrue old.is_open → HasCleanDisk now → IsTrue old.in_transaction → IsOurs old → (s : State) → TablesAre (tables_of old) s → IsSound s
     → AreKnown s l.known × (l.views.items ≡ map (upload_view l.by_reference s) (take l.upload-index l.uploads)))

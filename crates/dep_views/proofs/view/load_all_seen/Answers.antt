@@ -1,130 +1,28 @@
-use Rattle.dep_files.proofs.Results.{still_ours}
-use Rattle.dep_staging.proofs.Chains.{failed_since, survived, was_clean}
+use Rattle.dep_staging.proofs.Chains.{fails_reading, reads_ours, reads_then}
 use Rattle.dep_tables.proofs.Results.{if_failed}
-use Rattle.sqlite.proofs.Callers.{unchanged_then}
-use Rattle.sqlite.proofs.InsideLemmas.{keeps_then}
-use Rattle.sqlite.specs.Held.{state}
+use Rattle.dep_tables.proofs.Chains.{stays_then, stays_ok, stays_err}
 use Rattle.dep_views.proofs.view.load_all_seen.Goals as goal
 
-pub returns-in_err-uploads-clause-kept : goal.returns-in_err-uploads-clause-kept
-returns-in_err-uploads-clause-kept g c clean inside =
-    let old = state g.S.Store c.args.tx.now.conn.now in
-    let at_1 = state g.S.Store c.load_object_seen.new.tx.conn.now in
-    let at_2 = state g.S.Store c.load_uploads.new.tx.conn.now in
-    let clean_1 = was_clean at_1 at_2 c.load_uploads.ensures.survives clean in
-    let inside_1 = c.in_ok-object.ensures.inside clean_1 inside in
-    let kept_1 = c.load_object_seen.ensures.kept clean_1 inside in
-    keeps_then old at_1 at_2 kept_1 (c.load_uploads.ensures.kept clean inside_1)
+pub returns-in_err-uploads-clause-stays : goal.returns-in_err-uploads-clause-stays
+returns-in_err-uploads-clause-stays g c = stays_err c.from_residual-in_err-uploads.ensures.0 (stays_then c.in_ok-object.ensures.stays c.load_uploads.ensures.stays)
 
 pub returns-in_err-uploads-clause-err : goal.returns-in_err-uploads-clause-err
 returns-in_err-uploads-clause-err g c clean inside ours is_open =
-    let old = state g.S.Store c.args.tx.now.conn.now in
-    let at_1 = state g.S.Store c.load_object_seen.new.tx.conn.now in
-    let at_2 = state g.S.Store c.load_uploads.new.tx.conn.now in
-    let clean_1 = was_clean at_1 at_2 c.load_uploads.ensures.survives clean in
-    let inside_1 = c.in_ok-object.ensures.inside clean_1 inside in
-    let same_1 = c.in_ok-object.ensures.same clean_1 ours in
-    if_failed _ (failed_since old at_1 at_2 same_1 (c.in_err-uploads.ensures.err clean inside_1 (still_ours old at_1 same_1 ours) is_open))
+    if_failed _ (fails_reading c.in_ok-object.ensures.stays c.in_err-uploads.ensures.stays c.in_ok-object.ensures.same c.in_err-uploads.ensures.err clean inside ours is_open)
 
-pub returns-in_err-uploads-clause-survives : goal.returns-in_err-uploads-clause-survives
-returns-in_err-uploads-clause-survives g c =
-    let old = state g.S.Store c.args.tx.now.conn.now in
-    let at_1 = state g.S.Store c.load_object_seen.new.tx.conn.now in
-    let at_2 = state g.S.Store c.load_uploads.new.tx.conn.now in
-    survived old at_1 at_2 c.load_object_seen.ensures.survives c.load_uploads.ensures.survives
-
-pub returns-in_err-file-clause-kept : goal.returns-in_err-file-clause-kept
-returns-in_err-file-clause-kept g c clean inside =
-    let old = state g.S.Store c.args.tx.now.conn.now in
-    let at_1 = state g.S.Store c.load_object_seen.new.tx.conn.now in
-    let at_2 = state g.S.Store c.load_uploads.new.tx.conn.now in
-    let at_3 = state g.S.Store c.find_touched_file.new.tx.conn.now in
-    let clean_2 = was_clean at_2 at_3 c.find_touched_file.ensures.survives clean in
-    let clean_1 = was_clean at_1 at_2 c.load_uploads.ensures.survives clean_2 in
-    let inside_1 = c.in_ok-object.ensures.inside clean_1 inside in
-    let inside_2 = c.in_ok-uploads.ensures.inside clean_2 inside_1 in
-    let kept_1 = c.load_object_seen.ensures.kept clean_1 inside in
-    let kept_2 = keeps_then old at_1 at_2 kept_1 (c.load_uploads.ensures.kept clean_2 inside_1) in
-    keeps_then old at_2 at_3 kept_2 (c.find_touched_file.ensures.kept clean inside_2)
+pub returns-in_err-file-clause-stays : goal.returns-in_err-file-clause-stays
+returns-in_err-file-clause-stays g c = stays_err c.from_residual-in_err-file.ensures.0 (stays_then (stays_then c.in_ok-object.ensures.stays c.in_ok-uploads.ensures.stays) c.find_touched_file.ensures.stays)
 
 pub returns-in_err-file-clause-err : goal.returns-in_err-file-clause-err
 returns-in_err-file-clause-err g c clean inside ours is_open =
-    let old = state g.S.Store c.args.tx.now.conn.now in
-    let at_1 = state g.S.Store c.load_object_seen.new.tx.conn.now in
-    let at_2 = state g.S.Store c.load_uploads.new.tx.conn.now in
-    let at_3 = state g.S.Store c.find_touched_file.new.tx.conn.now in
-    let clean_2 = was_clean at_2 at_3 c.find_touched_file.ensures.survives clean in
-    let clean_1 = was_clean at_1 at_2 c.load_uploads.ensures.survives clean_2 in
-    let inside_1 = c.in_ok-object.ensures.inside clean_1 inside in
-    let inside_2 = c.in_ok-uploads.ensures.inside clean_2 inside_1 in
-    let same_1 = c.in_ok-object.ensures.same clean_1 ours in
-    let same_2 = unchanged_then old at_1 at_2 same_1 (c.in_ok-uploads.ensures.same same_1.0.is_open clean_2 (still_ours old at_1 same_1 ours)) in
-    if_failed _ (failed_since old at_2 at_3 same_2 (c.in_err-file.ensures.err clean inside_2 (still_ours old at_2 same_2 ours) is_open))
+    if_failed _ (fails_reading (stays_then c.in_ok-object.ensures.stays c.in_ok-uploads.ensures.stays) c.in_err-file.ensures.stays (reads_then c.in_ok-object.ensures.stays c.in_ok-uploads.ensures.stays c.in_ok-object.ensures.same c.in_ok-uploads.ensures.same) c.in_err-file.ensures.err clean inside ours is_open)
 
-pub returns-in_err-file-clause-survives : goal.returns-in_err-file-clause-survives
-returns-in_err-file-clause-survives g c =
-    let old = state g.S.Store c.args.tx.now.conn.now in
-    let at_1 = state g.S.Store c.load_object_seen.new.tx.conn.now in
-    let at_2 = state g.S.Store c.load_uploads.new.tx.conn.now in
-    let at_3 = state g.S.Store c.find_touched_file.new.tx.conn.now in
-    survived old at_2 at_3 (survived old at_1 at_2 c.load_object_seen.ensures.survives c.load_uploads.ensures.survives) c.find_touched_file.ensures.survives
-
-pub returns-clause-kept : goal.returns-clause-kept
-returns-clause-kept g c clean inside =
-    let old = state g.S.Store c.args.tx.now.conn.now in
-    let at_1 = state g.S.Store c.load_object_seen.new.tx.conn.now in
-    let at_2 = state g.S.Store c.load_uploads.new.tx.conn.now in
-    let at_3 = state g.S.Store c.find_touched_file.new.tx.conn.now in
-    let clean_2 = was_clean at_2 at_3 c.find_touched_file.ensures.survives clean in
-    let clean_1 = was_clean at_1 at_2 c.load_uploads.ensures.survives clean_2 in
-    let inside_1 = c.in_ok-object.ensures.inside clean_1 inside in
-    let inside_2 = c.in_ok-uploads.ensures.inside clean_2 inside_1 in
-    let kept_1 = c.load_object_seen.ensures.kept clean_1 inside in
-    let kept_2 = keeps_then old at_1 at_2 kept_1 (c.load_uploads.ensures.kept clean_2 inside_1) in
-    keeps_then old at_2 at_3 kept_2 (c.find_touched_file.ensures.kept clean inside_2)
-
-pub returns-clause-survives : goal.returns-clause-survives
-returns-clause-survives g c =
-    let old = state g.S.Store c.args.tx.now.conn.now in
-    let at_1 = state g.S.Store c.load_object_seen.new.tx.conn.now in
-    let at_2 = state g.S.Store c.load_uploads.new.tx.conn.now in
-    let at_3 = state g.S.Store c.find_touched_file.new.tx.conn.now in
-    survived old at_2 at_3 (survived old at_1 at_2 c.load_object_seen.ensures.survives c.load_uploads.ensures.survives) c.find_touched_file.ensures.survives
-
-pub returns-clause-inside : goal.returns-clause-inside
-returns-clause-inside g c clean inside =
-    let old = state g.S.Store c.args.tx.now.conn.now in
-    let at_1 = state g.S.Store c.load_object_seen.new.tx.conn.now in
-    let at_2 = state g.S.Store c.load_uploads.new.tx.conn.now in
-    let at_3 = state g.S.Store c.find_touched_file.new.tx.conn.now in
-    let clean_2 = was_clean at_2 at_3 c.find_touched_file.ensures.survives clean in
-    let clean_1 = was_clean at_1 at_2 c.load_uploads.ensures.survives clean_2 in
-    let inside_1 = c.in_ok-object.ensures.inside clean_1 inside in
-    let inside_2 = c.in_ok-uploads.ensures.inside clean_2 inside_1 in
-    c.in_ok-file.ensures.inside clean inside_2
+pub returns-clause-stays : goal.returns-clause-stays
+returns-clause-stays g c = stays_ok (stays_then (stays_then c.in_ok-object.ensures.stays c.in_ok-uploads.ensures.stays) c.in_ok-file.ensures.stays)
 
 pub returns-clause-same : goal.returns-clause-same
-returns-clause-same g c clean ours =
-    let old = state g.S.Store c.args.tx.now.conn.now in
-    let at_1 = state g.S.Store c.load_object_seen.new.tx.conn.now in
-    let at_2 = state g.S.Store c.load_uploads.new.tx.conn.now in
-    let at_3 = state g.S.Store c.find_touched_file.new.tx.conn.now in
-    let clean_2 = was_clean at_2 at_3 c.find_touched_file.ensures.survives clean in
-    let clean_1 = was_clean at_1 at_2 c.load_uploads.ensures.survives clean_2 in
-    let same_1 = c.in_ok-object.ensures.same clean_1 ours in
-    let same_2 = unchanged_then old at_1 at_2 same_1 (c.in_ok-uploads.ensures.same same_1.0.is_open clean_2 (still_ours old at_1 same_1 ours)) in
-    let same_3 = unchanged_then old at_2 at_3 same_2 (c.in_ok-file.ensures.same same_2.0.is_open clean (still_ours old at_2 same_2 ours)) in
-    same_3
+returns-clause-same g c =
+    reads_then (stays_then c.in_ok-object.ensures.stays c.in_ok-uploads.ensures.stays) c.in_ok-file.ensures.stays (reads_then c.in_ok-object.ensures.stays c.in_ok-uploads.ensures.stays c.in_ok-object.ensures.same c.in_ok-uploads.ensures.same) c.in_ok-file.ensures.same
 
 pub returns-clause-ours : goal.returns-clause-ours
-returns-clause-ours g c clean inside ours =
-    let old = state g.S.Store c.args.tx.now.conn.now in
-    let at_1 = state g.S.Store c.load_object_seen.new.tx.conn.now in
-    let at_2 = state g.S.Store c.load_uploads.new.tx.conn.now in
-    let at_3 = state g.S.Store c.find_touched_file.new.tx.conn.now in
-    let clean_2 = was_clean at_2 at_3 c.find_touched_file.ensures.survives clean in
-    let clean_1 = was_clean at_1 at_2 c.load_uploads.ensures.survives clean_2 in
-    let same_1 = c.in_ok-object.ensures.same clean_1 ours in
-    let same_2 = unchanged_then old at_1 at_2 same_1 (c.in_ok-uploads.ensures.same same_1.0.is_open clean_2 (still_ours old at_1 same_1 ours)) in
-    let same_3 = unchanged_then old at_2 at_3 same_2 (c.in_ok-file.ensures.same same_2.0.is_open clean (still_ours old at_2 same_2 ours)) in
-    still_ours old at_3 same_3 ours
+returns-clause-ours g c = reads_ours (returns-clause-stays g c) (returns-clause-same g c)
