@@ -1,4 +1,5 @@
 use Rattle.std.proofs.Common.{◌≡◌, length, refl, rules}
+use Rattle.sqlite.specs.Held.{state}
 use Rattle.dep_commands.proofs.TellLemmas.{told_object, object_fails, leaves_held}
 use Rattle.dep_commands.proofs.auditing.tell_object.Goals as goal
 
@@ -25,10 +26,10 @@ pub returns-clause-kept : goal.returns-clause-kept
 returns-clause-kept g c clean t at = (c.in_ok-audit.ensures.ok clean t at).1
 
 pub returns-in_err-audit-clause-stop : goal.returns-in_err-audit-clause-stop
-returns-in_err-audit-clause-stop g c clean s h = leaves_held s h.means (c.in_err-audit.ensures.stop clean h.tables h.stands)
+returns-in_err-audit-clause-stop g c clean s h = leaves_held (state g.S.Store c.audit.new.self) s h.means (c.in_err-audit.ensures.stop clean h.tables h.stands)
 
 pub returns-in_err-tell_damaged-clause-stop : goal.returns-in_err-tell_damaged-clause-stop
-returns-in_err-tell_damaged-clause-stop g c clean s h = leaves_held s h.means (c.in_ok-audit.ensures.stop clean h.tables h.stands)
+returns-in_err-tell_damaged-clause-stop g c clean s h = leaves_held (state g.S.Store c.audit.new.self) s h.means (c.in_ok-audit.ensures.stop clean h.tables h.stands)
 
 pub returns-clause-stop : goal.returns-clause-stop
-returns-clause-stop g c clean s h = leaves_held s h.means (c.in_ok-audit.ensures.stop clean h.tables h.stands)
+returns-clause-stop g c clean s h = leaves_held (state g.S.Store c.audit.new.self) s h.means (c.in_ok-audit.ensures.stop clean h.tables h.stands)
