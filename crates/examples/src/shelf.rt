@@ -1,5 +1,6 @@
 //! A sink of a bag in memory.
-ghost use Rattle.std.specs.Prelude.{◌≡◌};
+ghost use Rattle.std.specs.Prelude.{◌≡◌, OnOk, OnErr};
+ghost use Rattle.dep_types.specs.Writing.{HasRisen};
 
 use crate::page::Page;
 use dep_types::{BagSink, Outlet, SinkFailed, WriteFailed};
@@ -39,7 +40,10 @@ impl<'a> Shelf<'a> {
         self.has_memory
     }
 
-    fn put(&mut self, call: Call, parts: &[&[u8]]) -> Result<(), SinkFailed> {
+    fn put(&mut self, call: Call, parts: &[&[u8]]) -> Result<(), SinkFailed>
+        ensures count { OnOk result (self.new.failures ≡ self.old.failures) }
+        ensures cause { OnErr result (HasRisen self.old.failures self.new.failures) }
+    {
         if self.fails(call) {
             return Err(self.failed());
         }
@@ -52,7 +56,9 @@ impl<'a> Shelf<'a> {
         }
     }
 
-    fn fails(&mut self, call: Call) -> bool {
+    fn fails(&mut self, call: Call) -> bool
+        ensures { self.new.failures ≡ self.old.failures }
+    {
         let Some((failing, before)) = self.failing else {
             return false;
         };
@@ -63,7 +69,9 @@ impl<'a> Shelf<'a> {
         before == 0
     }
 
-    fn failed(&mut self) -> SinkFailed {
+    fn failed(&mut self) -> SinkFailed
+        ensures { HasRisen self.old.failures self.new.failures }
+    {
         self.failures = self.failures.saturating_add(1);
         SinkFailed
     }
