@@ -1,3 +1,4 @@
+pub mod Chains
 pub mod Steps
 pub mod Staged
 pub mod Added

@@ -8,7 +8,7 @@ ghost use Rattle.dep_types.specs.Rows.{upload_row};
 ghost use Rattle.dep_types.specs.Numbers.{has_room};
 ghost use Rattle.dep_types.specs.Uploads.{assembled};
 ghost use Rattle.dep_fixity.specs.Fixity.{digests_of};
-ghost use Rattle.dep_tables.specs.Clauses.{GoesOn, StaysInside, CommitsNothing};
+ghost use Rattle.dep_tables.specs.Clauses.{StaysWithin};
 ghost use Rattle.dep_row_maps.specs.TablesAre.{with_object};
 ghost use Rattle.dep_row_maps.specs.Clauses.{FromMaps, KeepsOurs, SeesState};
 ghost use Rattle.dep_decisions.specs.Effects.{file_from, is_reference, with_files};
@@ -118,10 +118,7 @@ fn put_posted<S: Alter>(
         → OnOk result (SeesState (state S.Store tx.new.conn.now)
         (with_file s numbers.object o numbers.file (made_file s new.now change.now.content.now)))) }
     ensures ours { KeepsOurs (state S.Store tx.old.conn.now) (state S.Store tx.new.conn.now) result }
-    ensures inside { GoesOn (state S.Store tx.old.conn.now) (state S.Store tx.new.conn.now) result }
-    ensures kept { StaysInside (state S.Store tx.old.conn.now) (state S.Store tx.new.conn.now) }
-    ensures same_reference { tx.new.conn.ghost_name ≡ tx.old.conn.ghost_name }
-    ensures survives { CommitsNothing (state S.Store tx.old.conn.now) (state S.Store tx.new.conn.now) }
+    ensures stays { StaysWithin S.Store tx.old.conn tx.new.conn result }
 {
     let extent = Extent {
         size: change.content.as_slice().len() as u64,
@@ -175,10 +172,7 @@ fn put_assembled<S: Alter>(
         → OnOk result (SeesState (state S.Store tx.new.conn.now)
         (deposited s numbers.object o numbers.file (made_file s new.now (assembled it)) u))) }
     ensures ours { KeepsOurs (state S.Store tx.old.conn.now) (state S.Store tx.new.conn.now) result }
-    ensures inside { GoesOn (state S.Store tx.old.conn.now) (state S.Store tx.new.conn.now) result }
-    ensures kept { StaysInside (state S.Store tx.old.conn.now) (state S.Store tx.new.conn.now) }
-    ensures same_reference { tx.new.conn.ghost_name ≡ tx.old.conn.ghost_name }
-    ensures survives { CommitsNothing (state S.Store tx.old.conn.now) (state S.Store tx.new.conn.now) }
+    ensures stays { StaysWithin S.Store tx.old.conn tx.new.conn result }
 {
     let upload = whole_upload(change.view, index)?;
     let extent = Extent {
@@ -204,10 +198,7 @@ fn put_new_file<S: Alter>(
         (with_new_file s numbers.object o numbers.file
         (file_from s change.now.content.now new.now) new.now.source))) }
     ensures ours { KeepsOurs (state S.Store tx.old.conn.now) (state S.Store tx.new.conn.now) result }
-    ensures inside { GoesOn (state S.Store tx.old.conn.now) (state S.Store tx.new.conn.now) result }
-    ensures kept { StaysInside (state S.Store tx.old.conn.now) (state S.Store tx.new.conn.now) }
-    ensures same_reference { tx.new.conn.ghost_name ≡ tx.old.conn.ghost_name }
-    ensures survives { CommitsNothing (state S.Store tx.old.conn.now) (state S.Store tx.new.conn.now) }
+    ensures stays { StaysWithin S.Store tx.old.conn tx.new.conn result }
 {
     match new.source {
         Source::Posted(digests) => put_posted(tx, change, numbers, new, digests),
@@ -229,10 +220,7 @@ pub(crate) fn put_new_files<S: Alter>(
         → OnOk result (SeesState (state S.Store tx.new.conn.now)
         (with_new_files s change.now.content.now object o files.now))) }
     ensures ours { KeepsOurs (state S.Store tx.old.conn.now) (state S.Store tx.new.conn.now) result }
-    ensures inside { GoesOn (state S.Store tx.old.conn.now) (state S.Store tx.new.conn.now) result }
-    ensures kept { StaysInside (state S.Store tx.old.conn.now) (state S.Store tx.new.conn.now) }
-    ensures same_reference { tx.new.conn.ghost_name ≡ tx.old.conn.ghost_name }
-    ensures survives { CommitsNothing (state S.Store tx.old.conn.now) (state S.Store tx.new.conn.now) }
+    ensures stays { StaysWithin S.Store tx.old.conn tx.new.conn result }
 {
     'files: for (index, new) in files.iter().enumerate() {
         let numbers = FileNumbers {
@@ -258,10 +246,7 @@ pub(crate) fn set_files<S: Alter>(
         → OnOk result (SeesState (state S.Store tx.new.conn.now)
         (with_new_files s change.now.content.now n (with_files s map.empty o) files.now))) }
     ensures ours { KeepsOurs (state S.Store tx.old.conn.now) (state S.Store tx.new.conn.now) result }
-    ensures inside { GoesOn (state S.Store tx.old.conn.now) (state S.Store tx.new.conn.now) result }
-    ensures kept { StaysInside (state S.Store tx.old.conn.now) (state S.Store tx.new.conn.now) }
-    ensures same_reference { tx.new.conn.ghost_name ≡ tx.old.conn.ghost_name }
-    ensures survives { CommitsNothing (state S.Store tx.old.conn.now) (state S.Store tx.new.conn.now) }
+    ensures stays { StaysWithin S.Store tx.old.conn tx.new.conn result }
 {
     let row = touched(change.view)?;
     write_row(tx, &files_changed(change.view, row))?;
@@ -284,10 +269,7 @@ pub(crate) fn set_file<S: Alter>(
         (with_object s n
         (with_files s (map.insert o.files file (made_file s new.now change.now.content.now)) o)))) }
     ensures ours { KeepsOurs (state S.Store tx.old.conn.now) (state S.Store tx.new.conn.now) result }
-    ensures inside { GoesOn (state S.Store tx.old.conn.now) (state S.Store tx.new.conn.now) result }
-    ensures kept { StaysInside (state S.Store tx.old.conn.now) (state S.Store tx.new.conn.now) }
-    ensures same_reference { tx.new.conn.ghost_name ≡ tx.old.conn.ghost_name }
-    ensures survives { CommitsNothing (state S.Store tx.old.conn.now) (state S.Store tx.new.conn.now) }
+    ensures stays { StaysWithin S.Store tx.old.conn tx.new.conn result }
 {
     let Source::Posted(digests) = new.source else {
         return Err(StoreFault::Store);

@@ -1,15 +1,13 @@
-use Rattle.dep_staging.proofs.Chains.{survived, was_clean}
-use Rattle.sqlite.proofs.InsideLemmas.{keeps_then}
-use Rattle.std.proofs.Common.{arith}
 use Rattle.std.specs.FinMap as finmap
-use Rattle.sqlite.specs.State.{HasCleanDisk}
 use Rattle.sqlite.specs.Held.{state}
 use Rattle.dep_types.specs.State.{State, Object}
+use Rattle.dep_tables.proofs.Chains.{clean_before, stays_then}
 use Rattle.dep_tables.specs.Tables.{tables_of}
 use Rattle.dep_tables.proofs.Results.{ok_then}
 use Rattle.dep_row_maps.specs.TablesAre.{with_object}
 use Rattle.dep_row_maps.proofs.Lens.{get_here}
 use Rattle.dep_decisions.specs.Effects.{joined, with_texts}
+use Rattle.dep_changes.proofs.Chains.{ours_then}
 use Rattle.dep_changes.proofs.Steps.{texts_of_row, its_number, its_own, at_number, texts_at, files_kept_at, written_again}
 use Rattle.dep_changes.proofs.deposits.append_texts.Goals as goal
 
@@ -18,7 +16,7 @@ returns-clause-map g c clean inside ours s are o it numbers there its texts file
     let view = c.args.change.now.view.now in
     let mid = state g.S.Store c.write_row.new.tx.conn.now in
     let new = state g.S.Store c.append_metadata.new.tx.conn.now in
-    let before : HasCleanDisk mid = omega (arith, clean, c.append_metadata.ensures.survives.clean) in
+    let before = clean_before c.append_metadata.ensures.stays clean in
     let n = c.args.row.object in
     let now = c.texts_changed.result in
     let mark : Object = with_texts s it.metadata it in
@@ -29,41 +27,11 @@ returns-clause-map g c clean inside ours s are o it numbers there its texts file
     let one : State = with_object s n mark in
     let after : Object = with_texts s (joined (finmap.entries c.args.metadata.now) it.metadata) it in
     ok_then c.append_metadata.result
-    (c.append_metadata.ensures.map clean (c.in_ok-write_row.ensures.inside before inside) (c.in_ok-write_row.ensures.ours before inside ours) one put mark (get_here s.objects n mark))
+    (c.append_metadata.ensures.map clean (c.in_ok-write_row.ensures.stays.inside before inside) (c.in_ok-write_row.ensures.ours before inside ours) one put mark (get_here s.objects n mark))
     (λ added. written_again (tables_of new) s n mark after added)
 
-pub returns-clause-kept : goal.returns-clause-kept
-returns-clause-kept g c clean inside =
-    let old = state g.S.Store c.args.tx.now.conn.now in
-    let at_1 = state g.S.Store c.write_row.new.tx.conn.now in
-    let at_2 = state g.S.Store c.append_metadata.new.tx.conn.now in
-    let clean_1 = was_clean at_1 at_2 c.append_metadata.ensures.survives clean in
-    let inside_1 = c.in_ok-write_row.ensures.inside clean_1 inside in
-    let kept_1 = c.write_row.ensures.kept clean_1 inside in
-    keeps_then old at_1 at_2 kept_1 (c.append_metadata.ensures.kept clean inside_1)
-
-pub returns-clause-survives : goal.returns-clause-survives
-returns-clause-survives g c =
-    let old = state g.S.Store c.args.tx.now.conn.now in
-    let at_1 = state g.S.Store c.write_row.new.tx.conn.now in
-    let at_2 = state g.S.Store c.append_metadata.new.tx.conn.now in
-    survived old at_1 at_2 c.write_row.ensures.survives c.append_metadata.ensures.survives
-
-pub returns-clause-inside : goal.returns-clause-inside
-returns-clause-inside g c clean inside =
-    let old = state g.S.Store c.args.tx.now.conn.now in
-    let at_1 = state g.S.Store c.write_row.new.tx.conn.now in
-    let at_2 = state g.S.Store c.append_metadata.new.tx.conn.now in
-    let clean_1 = was_clean at_1 at_2 c.append_metadata.ensures.survives clean in
-    let inside_1 = c.in_ok-write_row.ensures.inside clean_1 inside in
-    c.append_metadata.ensures.inside clean inside_1
+pub returns-clause-stays : goal.returns-clause-stays
+returns-clause-stays g c = stays_then c.in_ok-write_row.ensures.stays c.append_metadata.ensures.stays
 
 pub returns-clause-ours : goal.returns-clause-ours
-returns-clause-ours g c clean inside ours =
-    let old = state g.S.Store c.args.tx.now.conn.now in
-    let at_1 = state g.S.Store c.write_row.new.tx.conn.now in
-    let at_2 = state g.S.Store c.append_metadata.new.tx.conn.now in
-    let clean_1 = was_clean at_1 at_2 c.append_metadata.ensures.survives clean in
-    let inside_1 = c.in_ok-write_row.ensures.inside clean_1 inside in
-    let ours_1 = c.in_ok-write_row.ensures.ours clean_1 inside ours in
-    c.append_metadata.ensures.ours clean inside_1 ours_1
+returns-clause-ours g c = ours_then c.in_ok-write_row.ensures.stays c.append_metadata.ensures.stays c.in_ok-write_row.ensures.ours c.append_metadata.ensures.ours

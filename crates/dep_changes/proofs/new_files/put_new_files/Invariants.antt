@@ -1,8 +1,9 @@
 use Rattle.std.proofs.Common.{◌≡◌, Some, take, IsTrue}
 use Rattle.std.specs.FinMap as map
-use Rattle.sqlite.specs.State.{HasCleanDisk, KeepsCommit, Survives}
+use Rattle.sqlite.specs.State.{HasCleanDisk}
 use Rattle.sqlite.specs.Held.{state}
 use Rattle.dep_types.specs.State.{State, Object}
+use Rattle.dep_tables.proofs.Chains.{Stays}
 use Rattle.dep_tables.specs.Tables.{IsOurs}
 use Rattle.dep_row_maps.specs.Clauses.{SeesState}
 use Rattle.dep_changes.specs.Told.{TellsNumbers, AreSources}
@@ -13,9 +14,7 @@ abbrev pub invariant-files : goal.invariant-files
 invariant-files g l =
     let old = state g.S.Store l.fn.tx.conn.now in
     let now = state g.S.Store l.tx.conn.now in
-    (l.tx.conn.ghost_name ≡ l.fn.tx.conn.ghost_name) × Survives old now (λ _. ⊥)
-    × (HasCleanDisk now → IsTrue old.in_transaction → IsTrue now.in_transaction)
-    × (HasCleanDisk now → IsTrue old.in_transaction → KeepsCommit old now)
+    Stays g.S.Store l.fn.tx.conn l.tx.conn
     × (HasCleanDisk now → IsTrue old.in_transaction → IsOurs old → IsOurs now)
     × (HasCleanDisk now → IsTrue old.in_transaction → IsOurs old
     → (s : State) → SeesState old s → (o : Object) → TellsNumbers l.change.view.now s → map.get s.objects l.object ≡ Some o

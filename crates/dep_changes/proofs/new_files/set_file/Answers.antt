@@ -1,16 +1,15 @@
-use Rattle.dep_staging.proofs.Chains.{survived, was_clean}
-use Rattle.sqlite.proofs.InsideLemmas.{keeps_then}
-use Rattle.std.proofs.Common.{◌≡◌, refl, arith}
+use Rattle.std.proofs.Common.{◌≡◌, Ok, refl}
 use Rattle.std.specs.FinMap as finmap
-use Rattle.sqlite.specs.State.{HasCleanDisk}
 use Rattle.sqlite.specs.Held.{state}
 use Rattle.dep_types.specs.State.{State, Object, File}
 use Rattle.dep_fixity.specs.Fixity.{digests_of}
+use Rattle.dep_tables.proofs.Chains.{clean_before, stays_err, stays_then}
 use Rattle.dep_tables.specs.Tables.{tables_of}
 use Rattle.dep_tables.proofs.Results.{ok_then}
 use Rattle.dep_row_maps.specs.TablesAre.{with_object}
 use Rattle.dep_row_maps.proofs.Lens.{get_here}
 use Rattle.dep_decisions.specs.Effects.{with_files}
+use Rattle.dep_changes.proofs.Chains.{ours_then}
 use Rattle.dep_changes.specs.Changed.{made_file}
 use Rattle.dep_changes.proofs.Steps.{files_row, number_is, its_number, its_own, at_number, there_at, texts_at, files_kept_at, written_again, file_replaced}
 use Rattle.dep_changes.proofs.new_files.set_file.Goals as goal
@@ -23,9 +22,9 @@ returns-clause-map g c clean inside ours s are n o file numbers told source =
     let one = state g.S.Store c.write_row.new.tx.conn.now in
     let two = state g.S.Store c.delete_file.new.tx.conn.now in
     let new = state g.S.Store c.put_posted.new.tx.conn.now in
-    let clean_two : HasCleanDisk two = omega (arith, clean, c.put_posted.ensures.survives.clean) in
-    let clean_one : HasCleanDisk one = omega (arith, clean_two, c.delete_file.ensures.survives.clean) in
-    let inside_one = c.in_ok-write_row.ensures.inside clean_one inside in
+    let clean_two = clean_before c.put_posted.ensures.stays clean in
+    let clean_one = clean_before c.delete_file.ensures.stays clean_two in
+    let inside_one = c.in_ok-write_row.ensures.stays.inside clean_one inside in
     let ours_one = c.in_ok-write_row.ensures.ours clean_one inside ours in
     let row = c.in_ok-row.row in
     let number = number_is s n o view.object told.0.0 row c.in_ok-row.ensures in
@@ -44,71 +43,18 @@ returns-clause-map g c clean inside ours s are n o file numbers told source =
     let it : Object = with_files s (finmap.insert (finmap.remove o.files f) f made) o in
     let digests : c.in-Posted.digests ≡ digests_of content = let posted = c.in-Posted.is in cc in
     ok_then c.put_posted.result
-    (c.put_posted.ensures.map clean (c.in_ok-delete_file.ensures.inside clean_two inside_one) (c.in_ok-delete_file.ensures.ours clean_two inside_one ours_one) second gone left numbers
+    (c.put_posted.ensures.map clean (c.in_ok-delete_file.ensures.stays.inside clean_two inside_one) (c.in_ok-delete_file.ensures.ours clean_two inside_one ours_one) second gone left numbers
     (there_at second.objects row.object n left number (get_here s.objects n left)) digests)
     (λ there. file_replaced (tables_of new) s n o f made (written_again (tables_of new) s n left it (at_number (tables_of new) second row.object n it number there)))
 
-pub returns-in_err-delete_file-clause-kept : goal.returns-in_err-delete_file-clause-kept
-returns-in_err-delete_file-clause-kept g c clean inside =
-    let old = state g.S.Store c.args.tx.now.conn.now in
-    let at_1 = state g.S.Store c.write_row.new.tx.conn.now in
-    let at_2 = state g.S.Store c.delete_file.new.tx.conn.now in
-    let clean_1 = was_clean at_1 at_2 c.delete_file.ensures.survives clean in
-    let inside_1 = c.in_ok-write_row.ensures.inside clean_1 inside in
-    let kept_1 = c.write_row.ensures.kept clean_1 inside in
-    keeps_then old at_1 at_2 kept_1 (c.delete_file.ensures.kept clean inside_1)
+pub returns-in_err-delete_file-clause-stays : goal.returns-in_err-delete_file-clause-stays
+returns-in_err-delete_file-clause-stays g c = stays_err c.from_residual-in_err-delete_file.ensures.0 (stays_then c.in_ok-write_row.ensures.stays c.delete_file.ensures.stays)
 
-pub returns-in_err-delete_file-clause-survives : goal.returns-in_err-delete_file-clause-survives
-returns-in_err-delete_file-clause-survives g c =
-    let old = state g.S.Store c.args.tx.now.conn.now in
-    let at_1 = state g.S.Store c.write_row.new.tx.conn.now in
-    let at_2 = state g.S.Store c.delete_file.new.tx.conn.now in
-    survived old at_1 at_2 c.write_row.ensures.survives c.delete_file.ensures.survives
-
-pub returns-clause-kept : goal.returns-clause-kept
-returns-clause-kept g c clean inside =
-    let old = state g.S.Store c.args.tx.now.conn.now in
-    let at_1 = state g.S.Store c.write_row.new.tx.conn.now in
-    let at_2 = state g.S.Store c.delete_file.new.tx.conn.now in
-    let at_3 = state g.S.Store c.put_posted.new.tx.conn.now in
-    let clean_2 = was_clean at_2 at_3 c.put_posted.ensures.survives clean in
-    let clean_1 = was_clean at_1 at_2 c.delete_file.ensures.survives clean_2 in
-    let inside_1 = c.in_ok-write_row.ensures.inside clean_1 inside in
-    let inside_2 = c.in_ok-delete_file.ensures.inside clean_2 inside_1 in
-    let kept_1 = c.write_row.ensures.kept clean_1 inside in
-    let kept_2 = keeps_then old at_1 at_2 kept_1 (c.delete_file.ensures.kept clean_2 inside_1) in
-    keeps_then old at_2 at_3 kept_2 (c.put_posted.ensures.kept clean inside_2)
-
-pub returns-clause-survives : goal.returns-clause-survives
-returns-clause-survives g c =
-    let old = state g.S.Store c.args.tx.now.conn.now in
-    let at_1 = state g.S.Store c.write_row.new.tx.conn.now in
-    let at_2 = state g.S.Store c.delete_file.new.tx.conn.now in
-    let at_3 = state g.S.Store c.put_posted.new.tx.conn.now in
-    survived old at_2 at_3 (survived old at_1 at_2 c.write_row.ensures.survives c.delete_file.ensures.survives) c.put_posted.ensures.survives
-
-pub returns-clause-inside : goal.returns-clause-inside
-returns-clause-inside g c clean inside =
-    let old = state g.S.Store c.args.tx.now.conn.now in
-    let at_1 = state g.S.Store c.write_row.new.tx.conn.now in
-    let at_2 = state g.S.Store c.delete_file.new.tx.conn.now in
-    let at_3 = state g.S.Store c.put_posted.new.tx.conn.now in
-    let clean_2 = was_clean at_2 at_3 c.put_posted.ensures.survives clean in
-    let clean_1 = was_clean at_1 at_2 c.delete_file.ensures.survives clean_2 in
-    let inside_1 = c.in_ok-write_row.ensures.inside clean_1 inside in
-    let inside_2 = c.in_ok-delete_file.ensures.inside clean_2 inside_1 in
-    c.put_posted.ensures.inside clean inside_2
+pub returns-clause-stays : goal.returns-clause-stays
+returns-clause-stays g c = stays_then (stays_then c.in_ok-write_row.ensures.stays c.in_ok-delete_file.ensures.stays) c.put_posted.ensures.stays
 
 pub returns-clause-ours : goal.returns-clause-ours
-returns-clause-ours g c clean inside ours =
-    let old = state g.S.Store c.args.tx.now.conn.now in
-    let at_1 = state g.S.Store c.write_row.new.tx.conn.now in
-    let at_2 = state g.S.Store c.delete_file.new.tx.conn.now in
-    let at_3 = state g.S.Store c.put_posted.new.tx.conn.now in
-    let clean_2 = was_clean at_2 at_3 c.put_posted.ensures.survives clean in
-    let clean_1 = was_clean at_1 at_2 c.delete_file.ensures.survives clean_2 in
-    let inside_1 = c.in_ok-write_row.ensures.inside clean_1 inside in
-    let inside_2 = c.in_ok-delete_file.ensures.inside clean_2 inside_1 in
-    let ours_1 = c.in_ok-write_row.ensures.ours clean_1 inside ours in
-    let ours_2 = c.in_ok-delete_file.ensures.ours clean_2 inside_1 ours_1 in
-    c.put_posted.ensures.ours clean inside_2 ours_2
+returns-clause-ours g c =
+    let two = stays_then c.in_ok-write_row.ensures.stays c.in_ok-delete_file.ensures.stays in
+    let ours_two = ours_then {r = Ok tt} c.in_ok-write_row.ensures.stays c.in_ok-delete_file.ensures.stays c.in_ok-write_row.ensures.ours c.in_ok-delete_file.ensures.ours in
+    ours_then two c.put_posted.ensures.stays ours_two c.put_posted.ensures.ours

@@ -1,15 +1,14 @@
-use Rattle.dep_staging.proofs.Chains.{survived, was_clean}
-use Rattle.sqlite.proofs.InsideLemmas.{keeps_then}
-use Rattle.std.proofs.Common.{refl, arith}
+use Rattle.std.proofs.Common.{Ok, refl}
 use Rattle.std.specs.FinMap as finmap
-use Rattle.sqlite.specs.State.{HasCleanDisk}
 use Rattle.sqlite.specs.Held.{state}
 use Rattle.dep_types.specs.State.{State, Object}
+use Rattle.dep_tables.proofs.Chains.{clean_before, stays_err, stays_then}
 use Rattle.dep_tables.specs.Tables.{tables_of}
 use Rattle.dep_tables.proofs.Results.{ok_then}
 use Rattle.dep_row_maps.specs.TablesAre.{with_object}
 use Rattle.dep_row_maps.proofs.Lens.{get_here}
 use Rattle.dep_decisions.specs.Effects.{with_files}
+use Rattle.dep_changes.proofs.Chains.{ours_then}
 use Rattle.dep_changes.proofs.Added.{new_files_again}
 use Rattle.dep_changes.proofs.Steps.{files_row, number_is, its_number, its_own, at_number, there_at, texts_at, files_kept_at, written_again}
 use Rattle.dep_changes.proofs.new_files.set_files.Goals as goal
@@ -21,9 +20,9 @@ returns-clause-map g c clean inside ours s are n o numbers told sources =
     let one = state g.S.Store c.write_row.new.tx.conn.now in
     let two = state g.S.Store c.delete_files.new.tx.conn.now in
     let new = state g.S.Store c.put_new_files.new.tx.conn.now in
-    let clean_two : HasCleanDisk two = omega (arith, clean, c.put_new_files.ensures.survives.clean) in
-    let clean_one : HasCleanDisk one = omega (arith, clean_two, c.delete_files.ensures.survives.clean) in
-    let inside_one = c.in_ok-write_row.ensures.inside clean_one inside in
+    let clean_two = clean_before c.put_new_files.ensures.stays clean in
+    let clean_one = clean_before c.delete_files.ensures.stays clean_two in
+    let inside_one = c.in_ok-write_row.ensures.stays.inside clean_one inside in
     let ours_one = c.in_ok-write_row.ensures.ours clean_one inside ours in
     let row = c.in_ok-row.row in
     let number = number_is s n o view.object told.0 row c.in_ok-row.ensures in
@@ -39,71 +38,18 @@ returns-clause-map g c clean inside ours s are n o numbers told sources =
     (c.in_ok-delete_files.ensures.map clean_two inside_one ours_one first put mark (there_at first.objects row.object n mark number (get_here s.objects n mark)))) in
     let second : State = with_object s n bare in
     ok_then c.put_new_files.result
-    (c.put_new_files.ensures.map clean (c.in_ok-delete_files.ensures.inside clean_two inside_one) (c.in_ok-delete_files.ensures.ours clean_two inside_one ours_one) second gone bare numbers
+    (c.put_new_files.ensures.map clean (c.in_ok-delete_files.ensures.stays.inside clean_two inside_one) (c.in_ok-delete_files.ensures.ours clean_two inside_one ours_one) second gone bare numbers
     (there_at second.objects row.object n bare number (get_here s.objects n bare)) sources)
     (λ added. new_files_again (tables_of new) s content row.object n bare bare c.args.files.now number added)
 
-pub returns-in_err-delete_files-clause-kept : goal.returns-in_err-delete_files-clause-kept
-returns-in_err-delete_files-clause-kept g c clean inside =
-    let old = state g.S.Store c.args.tx.now.conn.now in
-    let at_1 = state g.S.Store c.write_row.new.tx.conn.now in
-    let at_2 = state g.S.Store c.delete_files.new.tx.conn.now in
-    let clean_1 = was_clean at_1 at_2 c.delete_files.ensures.survives clean in
-    let inside_1 = c.in_ok-write_row.ensures.inside clean_1 inside in
-    let kept_1 = c.write_row.ensures.kept clean_1 inside in
-    keeps_then old at_1 at_2 kept_1 (c.delete_files.ensures.kept clean inside_1)
+pub returns-in_err-delete_files-clause-stays : goal.returns-in_err-delete_files-clause-stays
+returns-in_err-delete_files-clause-stays g c = stays_err c.from_residual-in_err-delete_files.ensures.0 (stays_then c.in_ok-write_row.ensures.stays c.delete_files.ensures.stays)
 
-pub returns-in_err-delete_files-clause-survives : goal.returns-in_err-delete_files-clause-survives
-returns-in_err-delete_files-clause-survives g c =
-    let old = state g.S.Store c.args.tx.now.conn.now in
-    let at_1 = state g.S.Store c.write_row.new.tx.conn.now in
-    let at_2 = state g.S.Store c.delete_files.new.tx.conn.now in
-    survived old at_1 at_2 c.write_row.ensures.survives c.delete_files.ensures.survives
-
-pub returns-clause-kept : goal.returns-clause-kept
-returns-clause-kept g c clean inside =
-    let old = state g.S.Store c.args.tx.now.conn.now in
-    let at_1 = state g.S.Store c.write_row.new.tx.conn.now in
-    let at_2 = state g.S.Store c.delete_files.new.tx.conn.now in
-    let at_3 = state g.S.Store c.put_new_files.new.tx.conn.now in
-    let clean_2 = was_clean at_2 at_3 c.put_new_files.ensures.survives clean in
-    let clean_1 = was_clean at_1 at_2 c.delete_files.ensures.survives clean_2 in
-    let inside_1 = c.in_ok-write_row.ensures.inside clean_1 inside in
-    let inside_2 = c.in_ok-delete_files.ensures.inside clean_2 inside_1 in
-    let kept_1 = c.write_row.ensures.kept clean_1 inside in
-    let kept_2 = keeps_then old at_1 at_2 kept_1 (c.delete_files.ensures.kept clean_2 inside_1) in
-    keeps_then old at_2 at_3 kept_2 (c.put_new_files.ensures.kept clean inside_2)
-
-pub returns-clause-survives : goal.returns-clause-survives
-returns-clause-survives g c =
-    let old = state g.S.Store c.args.tx.now.conn.now in
-    let at_1 = state g.S.Store c.write_row.new.tx.conn.now in
-    let at_2 = state g.S.Store c.delete_files.new.tx.conn.now in
-    let at_3 = state g.S.Store c.put_new_files.new.tx.conn.now in
-    survived old at_2 at_3 (survived old at_1 at_2 c.write_row.ensures.survives c.delete_files.ensures.survives) c.put_new_files.ensures.survives
-
-pub returns-clause-inside : goal.returns-clause-inside
-returns-clause-inside g c clean inside =
-    let old = state g.S.Store c.args.tx.now.conn.now in
-    let at_1 = state g.S.Store c.write_row.new.tx.conn.now in
-    let at_2 = state g.S.Store c.delete_files.new.tx.conn.now in
-    let at_3 = state g.S.Store c.put_new_files.new.tx.conn.now in
-    let clean_2 = was_clean at_2 at_3 c.put_new_files.ensures.survives clean in
-    let clean_1 = was_clean at_1 at_2 c.delete_files.ensures.survives clean_2 in
-    let inside_1 = c.in_ok-write_row.ensures.inside clean_1 inside in
-    let inside_2 = c.in_ok-delete_files.ensures.inside clean_2 inside_1 in
-    c.put_new_files.ensures.inside clean inside_2
+pub returns-clause-stays : goal.returns-clause-stays
+returns-clause-stays g c = stays_then (stays_then c.in_ok-write_row.ensures.stays c.in_ok-delete_files.ensures.stays) c.put_new_files.ensures.stays
 
 pub returns-clause-ours : goal.returns-clause-ours
-returns-clause-ours g c clean inside ours =
-    let old = state g.S.Store c.args.tx.now.conn.now in
-    let at_1 = state g.S.Store c.write_row.new.tx.conn.now in
-    let at_2 = state g.S.Store c.delete_files.new.tx.conn.now in
-    let at_3 = state g.S.Store c.put_new_files.new.tx.conn.now in
-    let clean_2 = was_clean at_2 at_3 c.put_new_files.ensures.survives clean in
-    let clean_1 = was_clean at_1 at_2 c.delete_files.ensures.survives clean_2 in
-    let inside_1 = c.in_ok-write_row.ensures.inside clean_1 inside in
-    let inside_2 = c.in_ok-delete_files.ensures.inside clean_2 inside_1 in
-    let ours_1 = c.in_ok-write_row.ensures.ours clean_1 inside ours in
-    let ours_2 = c.in_ok-delete_files.ensures.ours clean_2 inside_1 ours_1 in
-    c.put_new_files.ensures.ours clean inside_2 ours_2
+returns-clause-ours g c =
+    let two = stays_then c.in_ok-write_row.ensures.stays c.in_ok-delete_files.ensures.stays in
+    let ours_two = ours_then {r = Ok tt} c.in_ok-write_row.ensures.stays c.in_ok-delete_files.ensures.stays c.in_ok-write_row.ensures.ours c.in_ok-delete_files.ensures.ours in
+    ours_then two c.put_new_files.ensures.stays ours_two c.put_new_files.ensures.ours
