@@ -1,5 +1,6 @@
 -- One transaction from its beginning to its end, over whatever tables the store has.
 use Rattle.std.proofs.Common.{◌≡◌, ◌⊎◌, ℕ, List, inl, inr, true, false, Result, Ok, Err, IfOk, OnOk, OnErr, IsErr, IsTrue, refl, sym, ap, subst, ◌∙◌, arith}
+use Rattle.std.specs.Borrow.{MutBor}
 use Rattle.sqlite.specs.Effect.{Database}
 use Rattle.sqlite.specs.Order.{Row}
 use Rattle.sqlite.specs.State.{IsNotRun, IsUnchanged, HasCleanDisk, IsRolledBack, Commits, Shows, Survives}
@@ -11,7 +12,7 @@ use Rattle.sqlite.specs.declared.error.Error.{Error}
 use Rattle.sqlite_trees.specs.declared.store.Store.{Ghosts}
 use Rattle.dep_types.specs.State.{State}
 use Rattle.dep_tables.specs.Tables.{Tables, tables_in, tables_of, AreOurs, HasOurTables, IsOurs}
-use Rattle.dep_tables.specs.Clauses.{CommitsNothing, StaysInside}
+use Rattle.dep_tables.specs.Clauses.{CommitsNothing, StaysInside, StaysWithin}
 use Rattle.dep_schema.specs.Standing.{Holds, Stands, EndsTransaction}
 use Rattle.dep_schema.proofs.Transactions.{begins_open, stands_left}
 use Rattle.dep_store.specs.Standing.{TablesStandFor, StandsFor, Leaves}
@@ -193,6 +194,22 @@ module _ {S : Type 0} (g : Ghosts S) (old inside new : Held S) where
         where
           undone : HasCleanDisk (state g new) → IsRolledBack (state g inside) (state g new)
           undone clean = undone_by_commit (state g inside) (state g new) error (goes_on (clean_inside (λ trees. trees ≡ (state g inside).now.trees) survives clean)) (fails clean)
+
+-- a call on the transaction that was begun does such work
+pub works_within : {S A E : Type 0} {begun inside : MutBor (Held S)} {r : Result A E} (g : Ghosts S) (old new : Held S) → StaysWithin g begun inside r
+    → begun.now ≡ record old { in_transaction = true } → (IsTrue (state g old).is_open → IsSettled (state g old)) → (IsTrue (state g new).is_open → HasCleanDisk (state g new))
+    → Works g old inside.now new
+works_within {S = S} {inside = inside} g old new stays is settled shut = record {
+  settled = settled;
+  shut = shut;
+  kept = subst (λ (h : Held S). StaysInside (state g h) (state g inside.now)) is stays.kept;
+  survives = subst (λ (h : Held S). CommitsNothing (state g h) (state g inside.now)) is stays.survives;
+}
+
+-- and after an Ok the transaction goes on
+pub still_inside : {S A E : Type 0} {begun inside : MutBor (Held S)} {x : A} (g : Ghosts S) (old : Held S) → StaysWithin {A = A} {E = E} g begun inside (Ok x)
+    → begun.now ≡ record old { in_transaction = true } → HasCleanDisk (state g inside.now) → IsTrue (state g inside.now).in_transaction
+still_inside {S = S} g old stays is clean = stays.inside clean (subst (λ (h : Held S). IsTrue h.in_transaction) (sym is) refl)
 
 pub nothing_told : {A E : Type 0} (result : Result A E) (P : Type 0) → IsErr result → OnOk result P
 nothing_told (Ok answer) P failed = cc failed

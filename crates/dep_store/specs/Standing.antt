@@ -26,8 +26,10 @@ pub record IsLeftAs (trees : Trees) (s : State) : Type 0 where
 
 -- whatever a crash leaves now stands for one of these states
 abbrev pub Leaves : db.State → (State → Type 0) → Type 0
-Leaves d allowed = (trees : Trees) → d.may_leave trees → (left : State) × IsLeftAs trees left × allowed left
+Leaves d allowed = (trees : Trees) → d.may_leave trees
+    → (left : State) × IsLeftAs trees left × allowed left
 
 -- for each state that it stood for, it stands for one that is so related to it
 abbrev pub Carries : (old new : db.State) → (State → State → Type 0) → Type 0
-Carries old new related = (s : State) → StandsFor old s → (left : State) × StandsFor new left × related s left
+Carries old new related = (s : State) → StandsFor old s
+    → (left : State) × StandsFor new left × related s left

@@ -13,7 +13,8 @@ abbrev pub OnlyTells : {A : Type 0} → (Tables → A → Type 0) → Tables →
 OnlyTells told before answer after = told before answer × (after ≡ before)
 
 -- for each state that the tables stood for this is told, and they stand for the next one
-abbrev pub OverStates : {A : Type 0} → (State → A → Type 0) → (State → State) → Tables → A → Tables → Type 0
+abbrev pub OverStates : {A : Type 0} → (State → A → Type 0) → (State → State)
+    → Tables → A → Tables → Type 0
 OverStates told next before answer after =
     (s : State) → TablesStandFor before s → told s answer × TablesStandFor after (next s)
 
@@ -33,4 +34,5 @@ pub record Transacts {A E : Type 0} (old new : db.State) (result : Result A E)
 -- while it is open, all is as it was, between transactions
 abbrev pub IsBackAt : (old new : db.State) → Type 0
 IsBackAt old new = IsTrue new.is_open
-    → IsTrue old.is_open × (new.now ≡ old.now) × (new.committed ≡ old.committed) × (new.in_transaction ≡ false)
+    → IsTrue old.is_open × (new.now ≡ old.now) × (new.committed ≡ old.committed)
+    × (new.in_transaction ≡ false)

@@ -23,11 +23,15 @@ pub(crate) fn audit_object<S: Alter>(
     requires settled { (state S.Store connection.old).in_transaction ≡ false }
     ensures ok { HasCleanDisk (state S.Store connection.new)
         → (t : Tables) → Stands (state S.Store connection.old) t
-        → IfOk result (λ audit. IsObjectAudited t object audit × Stands (state S.Store connection.new) t) }
+        → IfOk result (λ audit.
+        IsObjectAudited t object audit × Stands (state S.Store connection.new) t) }
     ensures still { IsTrue (state S.Store connection.new).is_open
-        → (t : Tables) → Stands (state S.Store connection.old) t → Stands (state S.Store connection.new) t }
-    ensures honest { HasCleanDisk (state S.Store connection.new) → HasCleanDisk (state S.Store connection.old) }
-    ensures open { IsTrue (state S.Store connection.new).is_open → IsTrue (state S.Store connection.old).is_open }
+        → (t : Tables) → Stands (state S.Store connection.old) t
+        → Stands (state S.Store connection.new) t }
+    ensures honest { HasCleanDisk (state S.Store connection.new)
+        → HasCleanDisk (state S.Store connection.old) }
+    ensures open { IsTrue (state S.Store connection.new).is_open
+        → IsTrue (state S.Store connection.old).is_open }
     ensures stop { HasCleanDisk (state S.Store connection.new)
         → (t : Tables) → Stands (state S.Store connection.old) t
         → (trees : Trees) → (state S.Store connection.new).may_leave trees → Holds trees t }

@@ -18,15 +18,20 @@ pub(crate) fn open_tables<S: Alter>(
 ) -> Result<Connection<S>, (OpenFault, Connection<S>)>
     requires settled { (state S.Store connection).in_transaction ≡ false }
     ensures fresh { IfOk result (λ opened. HasCleanDisk (state S.Store opened)
-        → HoldsNone (state S.Store connection).now.trees → StandsFor (state S.Store opened) empty_state) }
+        → HoldsNone (state S.Store connection).now.trees
+        → StandsFor (state S.Store opened) empty_state) }
     ensures found { IfOk result (λ opened. HasCleanDisk (state S.Store opened)
-        → (s : State) → IsLeftAs (state S.Store connection).now.trees s → StandsFor (state S.Store opened) s) }
+        → (s : State) → IsLeftAs (state S.Store connection).now.trees s
+        → StandsFor (state S.Store opened) s) }
     ensures tables { IfOk result (λ opened. HasCleanDisk (state S.Store opened)
-        → (t : Tables) → Holds (state S.Store connection).now.trees t → Stands (state S.Store opened) t) }
+        → (t : Tables) → Holds (state S.Store connection).now.trees t
+        → Stands (state S.Store opened) t) }
     ensures refused { IfErr result (λ e. HasCleanDisk (state S.Store e.1)
         → e.0 ≡ OpenFault.UnknownVersion → IsOpenable (state S.Store connection) → ⊥) }
-    ensures known { IfErr result (λ e. HasCleanDisk (state S.Store e.1) → IsTrue (state S.Store connection).is_open
-        → (s : State) → IsLeftAs (state S.Store connection).now.trees s → e.0 ≡ OpenFault.UnknownVersion → ⊥) }
+    ensures known { IfErr result (λ e. HasCleanDisk (state S.Store e.1)
+        → IsTrue (state S.Store connection).is_open
+        → (s : State) → IsLeftAs (state S.Store connection).now.trees s
+        → e.0 ≡ OpenFault.UnknownVersion → ⊥) }
     ensures left { IfErr result (λ e. IsTrue (state S.Store e.1).is_open
         → IsBack (state S.Store connection) (state S.Store e.1)) }
     ensures mode { MatchResult result

@@ -13,7 +13,7 @@ ghost use Rattle.dep_decisions.specs.Effects.{effect};
 ghost use Rattle.dep_rulings.specs.Rulings.{IsRuling, HasRoomFor};
 ghost use Rattle.dep_rulings.specs.Views.{view_of};
 ghost use Rattle.dep_rulings.specs.declared.ruling.Ruling.TheVariants.{Do};
-ghost use Rattle.dep_tables.specs.Clauses.{ReadsOnly, GoesOn, StaysInside, CommitsNothing};
+ghost use Rattle.dep_tables.specs.Clauses.{ReadsOnly, StaysWithin};
 ghost use Rattle.dep_row_maps.specs.Clauses.{FromMaps, KeepsOurs, SeesState};
 ghost use Rattle.dep_answers.specs.Performing.{IsReady, IsReply};
 ghost use Rattle.dep_answers.specs.Replies.{answer_to, refused_answer};
@@ -51,10 +51,7 @@ fn rule<S: Alter>(
     ensures room { IfOk result (λ ruled. HasRoomFor ruled.view.next ruled.ruling) }
     ensures same { ReadsOnly (state S.Store tx.old.conn.now) (state S.Store tx.new.conn.now) result }
     ensures ours { KeepsOurs (state S.Store tx.old.conn.now) (state S.Store tx.new.conn.now) result }
-    ensures inside { GoesOn (state S.Store tx.old.conn.now) (state S.Store tx.new.conn.now) result }
-    ensures kept { StaysInside (state S.Store tx.old.conn.now) (state S.Store tx.new.conn.now) }
-    ensures same_reference { tx.new.conn.ghost_name ≡ tx.old.conn.ghost_name }
-    ensures survives { CommitsNothing (state S.Store tx.old.conn.now) (state S.Store tx.new.conn.now) }
+    ensures stays { StaysWithin S.Store tx.old.conn tx.new.conn result }
 {
     let touched = match touches(alloc, config, operation) {
         Ok(touched) => touched,
@@ -101,8 +98,11 @@ pub(crate) fn accept(
     delivery: Delivery,
 ) -> Result<Performed, StoreFault>
     ensures { IfOk result (λ p. (s : State) → IsSound s
-        → shown.now ≡ shown_at s (subject_of s.next operation.now.target.resource operation.now.target.method)
-        → IsReply s (answer_to service.now s operation.now.target.resource operation.now.target.method) delivery p) }
+        → shown.now ≡ shown_at s
+        (subject_of s.next operation.now.target.resource operation.now.target.method)
+        → IsReply s
+        (answer_to service.now s operation.now.target.resource operation.now.target.method)
+        delivery p) }
 {
     match accepted(alloc, service, &operation.target, shown, delivery) {
         Ok(performed) => Ok(performed),
@@ -120,16 +120,16 @@ fn carry<S: Alter>(
 ) -> Result<Shown, StoreFault>
     requires { IsTrue (room_for view.now.next (numbers_for decision.now)) }
     ensures map { FromMaps (state S.Store tx.old.conn.now) (state S.Store tx.new.conn.now)
-        (λ s. (config : Config) → IsSound s → AreFit operation.now.fields → view.now ≡ view_of config s operation.now
+        (λ s. (config : Config) → IsSound s → AreFit operation.now.fields
+        → view.now ≡ view_of config s operation.now
         → IsRuling config s operation.now (Do decision.now)
-        → IfOk result (λ shown. SeesState (state S.Store tx.new.conn.now) (effect config s operation.now)
+        → IfOk result (λ shown.
+        SeesState (state S.Store tx.new.conn.now) (effect config s operation.now)
         × (shown ≡ shown_at (effect config s operation.now)
-        (subject_of (effect config s operation.now).next operation.now.target.resource operation.now.target.method)))) }
+        (subject_of (effect config s operation.now).next
+        operation.now.target.resource operation.now.target.method)))) }
     ensures ours { KeepsOurs (state S.Store tx.old.conn.now) (state S.Store tx.new.conn.now) result }
-    ensures inside { GoesOn (state S.Store tx.old.conn.now) (state S.Store tx.new.conn.now) result }
-    ensures kept { StaysInside (state S.Store tx.old.conn.now) (state S.Store tx.new.conn.now) }
-    ensures same_reference { tx.new.conn.ghost_name ≡ tx.old.conn.ghost_name }
-    ensures survives { CommitsNothing (state S.Store tx.old.conn.now) (state S.Store tx.new.conn.now) }
+    ensures stays { StaysWithin S.Store tx.old.conn tx.new.conn result }
 {
     carry_out(tx, alloc, view, decision, &operation.content)?;
     let next = view.next.after_taking(&numbers_for(decision));
@@ -149,12 +149,10 @@ fn follow<S: Alter>(
     ensures map { FromMaps (state S.Store tx.old.conn.now) (state S.Store tx.new.conn.now)
         (λ s. IsSound s → AreFit operation.now.fields → Rules service.now s operation.now ruled.now
         → IfOk result (λ p. IsReady (operation_step service.now s operation.now) p
-        × SeesState (state S.Store tx.new.conn.now) (operation_step service.now s operation.now).state)) }
+        × SeesState (state S.Store tx.new.conn.now)
+        (operation_step service.now s operation.now).state)) }
     ensures ours { KeepsOurs (state S.Store tx.old.conn.now) (state S.Store tx.new.conn.now) result }
-    ensures inside { GoesOn (state S.Store tx.old.conn.now) (state S.Store tx.new.conn.now) result }
-    ensures kept { StaysInside (state S.Store tx.old.conn.now) (state S.Store tx.new.conn.now) }
-    ensures same_reference { tx.new.conn.ghost_name ≡ tx.old.conn.ghost_name }
-    ensures survives { CommitsNothing (state S.Store tx.old.conn.now) (state S.Store tx.new.conn.now) }
+    ensures stays { StaysWithin S.Store tx.old.conn tx.new.conn result }
 {
     let delivery = delivery_at(ruled.view.clock, operation);
     match &ruled.ruling {
@@ -178,12 +176,10 @@ fn answer<S: Alter>(
     ensures map { FromMaps (state S.Store tx.old.conn.now) (state S.Store tx.new.conn.now)
         (λ s. IsSound s → AreFit operation.now.fields
         → IfOk result (λ p. IsReady (operation_step service.now s operation.now) p
-        × SeesState (state S.Store tx.new.conn.now) (operation_step service.now s operation.now).state)) }
+        × SeesState (state S.Store tx.new.conn.now)
+        (operation_step service.now s operation.now).state)) }
     ensures ours { KeepsOurs (state S.Store tx.old.conn.now) (state S.Store tx.new.conn.now) result }
-    ensures inside { GoesOn (state S.Store tx.old.conn.now) (state S.Store tx.new.conn.now) result }
-    ensures kept { StaysInside (state S.Store tx.old.conn.now) (state S.Store tx.new.conn.now) }
-    ensures same_reference { tx.new.conn.ghost_name ≡ tx.old.conn.ghost_name }
-    ensures survives { CommitsNothing (state S.Store tx.old.conn.now) (state S.Store tx.new.conn.now) }
+    ensures stays { StaysWithin S.Store tx.old.conn tx.new.conn result }
 {
     let ruled = rule(tx, alloc, service.config(), operation)?;
     let performed = follow(tx, alloc, service, operation, &ruled);

@@ -7,7 +7,7 @@ ghost use Rattle.sqlite.specs.State.{HasCleanDisk, Survives};
 ghost use Rattle.sqlite.specs.Held.{state};
 ghost use Rattle.dep_types.specs.State.{State};
 ghost use Rattle.dep_types.specs.Sound.{IsSound};
-ghost use Rattle.dep_tables.specs.Clauses.{ReadsOnly, GoesOn, StaysInside, CommitsNothing};
+ghost use Rattle.dep_tables.specs.Clauses.{ReadsOnly, StaysWithin};
 ghost use Rattle.dep_row_maps.specs.Clauses.{FromMaps};
 ghost use Rattle.dep_store.specs.Remembering.{Recalls, IsRecalled, is_left};
 ghost use Rattle.dep_store.specs.Transactions.{IsBackAt};
@@ -56,10 +56,7 @@ fn is_idle<S: Alter>(
     ensures map { FromMaps (state S.Store tx.old.conn.now) (state S.Store tx.new.conn.now)
         (λ s. IfOk result (λ idle. idle ≡ is_left max_idle clock s.uploads upload)) }
     ensures same { ReadsOnly (state S.Store tx.old.conn.now) (state S.Store tx.new.conn.now) result }
-    ensures inside { GoesOn (state S.Store tx.old.conn.now) (state S.Store tx.new.conn.now) result }
-    ensures kept { StaysInside (state S.Store tx.old.conn.now) (state S.Store tx.new.conn.now) }
-    ensures same_reference { tx.new.conn.ghost_name ≡ tx.old.conn.ghost_name }
-    ensures survives { CommitsNothing (state S.Store tx.old.conn.now) (state S.Store tx.new.conn.now) }
+    ensures stays { StaysWithin S.Store tx.old.conn tx.new.conn result }
 {
     let found = find_upload(tx, upload)?;
     Ok(was_left(max_idle, clock, &found))
@@ -75,10 +72,7 @@ fn has_idle<S: Alter>(
         (λ s. finmap.get s.uploads 0 ≡ None
         → IfOk result (λ idle. idle ≡ false
         → (u : ℕ) → is_left max_idle clock s.uploads u ≡ false)) }
-    ensures inside { GoesOn (state S.Store tx.old.conn.now) (state S.Store tx.new.conn.now) result }
-    ensures kept { StaysInside (state S.Store tx.old.conn.now) (state S.Store tx.new.conn.now) }
-    ensures same_reference { tx.new.conn.ghost_name ≡ tx.old.conn.ghost_name }
-    ensures survives { CommitsNothing (state S.Store tx.old.conn.now) (state S.Store tx.new.conn.now) }
+    ensures stays { StaysWithin S.Store tx.old.conn tx.new.conn result }
 {
     let mut last = 0;
     'uploads: for _ in 0..u64::MAX {
@@ -103,9 +97,7 @@ fn read_still<S: Alter>(
         (λ s. IsSound s → IfOk result (λ found. (m : Remembered) → found ≡ Some m → Recalls m s)) }
     ensures covers { IfOk result (λ found. (m : Remembered) → found ≡ Some m
         → (moment ≤ m.clock) × (m.max_idle ≡ config.now.staging_max_idle)) }
-    ensures kept { StaysInside (state S.Store tx.old.conn.now) (state S.Store tx.new.conn.now) }
-    ensures same_reference { tx.new.conn.ghost_name ≡ tx.old.conn.ghost_name }
-    ensures survives { CommitsNothing (state S.Store tx.old.conn.now) (state S.Store tx.new.conn.now) }
+    ensures stays { StaysWithin S.Store tx.old.conn tx.new.conn result }
 {
     let row = counters(tx)?;
     if row.clock < moment {

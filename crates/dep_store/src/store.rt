@@ -60,25 +60,30 @@ impl<S: Alter> Model for Store<S> {
 }
 
 impl<S: Alter> Store<S> {
-    /// Opens a database that has no table yet, whose tables are then made, or one that has the tables of
-    /// the store. After a fault the connection is handed back.
+    /// Opens a database that has no table yet, whose tables are then made, or one that has the tables
+    /// of the store. After a fault the connection is handed back.
     pub fn open(
         alloc: Global,
         connection: Connection<S>,
     ) -> Result<Store<S>, (OpenFault, Connection<S>)>
         requires settled { (state S.Store connection).in_transaction ≡ false }
         ensures fresh { IfOk result (λ store. HasCleanDisk (state S.Store store)
-            → HoldsNone (state S.Store connection).now.trees → StandsFor (state S.Store store) empty_state) }
+            → HoldsNone (state S.Store connection).now.trees
+            → StandsFor (state S.Store store) empty_state) }
         ensures found { IfOk result (λ store. HasCleanDisk (state S.Store store)
-            → (s : State) → IsLeftAs (state S.Store connection).now.trees s → StandsFor (state S.Store store) s) }
+            → (s : State) → IsLeftAs (state S.Store connection).now.trees s
+            → StandsFor (state S.Store store) s) }
         ensures refused { IfErr result (λ e. HasCleanDisk (state S.Store e.1)
             → e.0 ≡ OpenFault.UnknownVersion → IsOpenable (state S.Store connection) → ⊥) }
         // So it is of tables that stand for no state.
         ensures tables { IfOk result (λ store. HasCleanDisk (state S.Store store)
-            → (t : Tables) → Holds (state S.Store connection).now.trees t → Stands (state S.Store store) t) }
+            → (t : Tables) → Holds (state S.Store connection).now.trees t
+            → Stands (state S.Store store) t) }
         // What a store left is never of a version that is not known.
-        ensures known { IfErr result (λ e. HasCleanDisk (state S.Store e.1) → IsTrue (state S.Store connection).is_open
-            → (s : State) → IsLeftAs (state S.Store connection).now.trees s → e.0 ≡ OpenFault.UnknownVersion → ⊥) }
+        ensures known { IfErr result (λ e. HasCleanDisk (state S.Store e.1)
+            → IsTrue (state S.Store connection).is_open
+            → (s : State) → IsLeftAs (state S.Store connection).now.trees s
+            → e.0 ≡ OpenFault.UnknownVersion → ⊥) }
         ensures left { IfErr result (λ e. IsTrue (state S.Store e.1).is_open
             → IsBack (state S.Store connection) (state S.Store e.1)) }
         ensures mode { MatchResult result
@@ -107,14 +112,16 @@ impl<S: Alter> Store<S> {
     /// Moves the clock to the moment, and never back, and ends the uploads that were left idle. It
     /// answers the clock.
     pub fn tick(&mut self, config: &Config, moment: Moment) -> Result<Moment, StoreFault>
-        ensures ok { HasCleanDisk (state S.Store self.new) → (s : State) → StandsFor (state S.Store self.old) s
+        ensures ok { HasCleanDisk (state S.Store self.new)
+            → (s : State) → StandsFor (state S.Store self.old) s
             → IfOk result (λ clock. (clock ≡ (tick config.now s moment).clock)
             × StandsFor (state S.Store self.new) (tick config.now s moment)) }
         ensures err { IsTrue (state S.Store self.new).is_open
             → (s : State) → StandsFor (state S.Store self.old) s
             → OnErr result (StandsFor (state S.Store self.new) s) }
         ensures honest { HasCleanDisk (state S.Store self.new) → HasCleanDisk (state S.Store self.old) }
-        ensures open { IsTrue (state S.Store self.new).is_open → IsTrue (state S.Store self.old).is_open }
+        ensures open { IsTrue (state S.Store self.new).is_open
+            → IsTrue (state S.Store self.old).is_open }
         ensures stop { HasCleanDisk (state S.Store self.new)
             → (s : State) → StandsFor (state S.Store self.old) s
             → Leaves (state S.Store self.new) (λ left. (left ≡ s) ⊎ (left ≡ tick config.now s moment)) }
@@ -139,12 +146,14 @@ impl<S: Alter> Store<S> {
     ) -> Result<Performed, StoreFault>
         ensures ok { HasCleanDisk (state S.Store self.new) → AreFit operation.now.fields
             → (s : State) → StandsFor (state S.Store self.old) s
-            → IfOk result (Performs (operation_step service.now s operation.now) (state S.Store self.new)) }
+            → IfOk result
+            (Performs (operation_step service.now s operation.now) (state S.Store self.new)) }
         ensures err { IsTrue (state S.Store self.new).is_open
             → (s : State) → StandsFor (state S.Store self.old) s
             → OnErr result (StandsFor (state S.Store self.new) s) }
         ensures honest { HasCleanDisk (state S.Store self.new) → HasCleanDisk (state S.Store self.old) }
-        ensures open { IsTrue (state S.Store self.new).is_open → IsTrue (state S.Store self.old).is_open }
+        ensures open { IsTrue (state S.Store self.new).is_open
+            → IsTrue (state S.Store self.old).is_open }
         ensures stop { HasCleanDisk (state S.Store self.new) → AreFit operation.now.fields
             → (s : State) → StandsFor (state S.Store self.old) s
             → Leaves (state S.Store self.new)
@@ -165,20 +174,24 @@ impl<S: Alter> Store<S> {
     /// Sends the content of the file of this number, one block at a time.
     pub fn stream<O: Outlet>(&mut self, file: u64, out: &mut O) -> Result<(), StreamFault>
         ensures streams { (sent : List ℕ) × Appends (O.taken out.old) (O.taken out.new) sent
-            × (HasCleanDisk (state S.Store self.new) → (s : State) → StandsFor (state S.Store self.old) s
+            × (HasCleanDisk (state S.Store self.new)
+            → (s : State) → StandsFor (state S.Store self.old) s
             → IsStreamed s file sent result) }
-        ensures ok { HasCleanDisk (state S.Store self.new) → (s : State) → StandsFor (state S.Store self.old) s
+        ensures ok { HasCleanDisk (state S.Store self.new)
+            → (s : State) → StandsFor (state S.Store self.old) s
             → OnOk result (StandsFor (state S.Store self.new) s) }
         ensures err { IsTrue (state S.Store self.new).is_open
             → (s : State) → StandsFor (state S.Store self.old) s
             → OnErr result (StandsFor (state S.Store self.new) s) }
         ensures honest { HasCleanDisk (state S.Store self.new) → HasCleanDisk (state S.Store self.old) }
-        ensures open { IsTrue (state S.Store self.new).is_open → IsTrue (state S.Store self.old).is_open }
+        ensures open { IsTrue (state S.Store self.new).is_open
+            → IsTrue (state S.Store self.old).is_open }
         ensures stop { HasCleanDisk (state S.Store self.new)
             → (s : State) → StandsFor (state S.Store self.old) s
             → Leaves (state S.Store self.new) (λ left. left ≡ s) }
         ensures kept { OnOk result (O.failures out.new ≡ O.failures out.old) }
-        ensures cause { result ≡ Err StreamFault.Writer → HasRisen (O.failures out.old) (O.failures out.new) }
+        ensures cause { result ≡ Err StreamFault.Writer
+            → HasRisen (O.failures out.old) (O.failures out.new) }
     {
         if !self.connection.is_autocommit() {
             return Err(StreamFault::Store);
@@ -189,14 +202,17 @@ impl<S: Alter> Store<S> {
 
     /// The object of this number, if there is one, with its metadata and its files.
     pub fn view(&mut self, object: u64) -> Result<Option<ObjectView>, StoreFault>
-        ensures ok { HasCleanDisk (state S.Store self.new) → (s : State) → StandsFor (state S.Store self.old) s
-            → IfOk result (λ found. (found ≡ option_map (object_view object) (finmap.get s.objects object))
+        ensures ok { HasCleanDisk (state S.Store self.new)
+            → (s : State) → StandsFor (state S.Store self.old) s
+            → IfOk result (λ found.
+            (found ≡ option_map (object_view object) (finmap.get s.objects object))
             × StandsFor (state S.Store self.new) s) }
         ensures err { IsTrue (state S.Store self.new).is_open
             → (s : State) → StandsFor (state S.Store self.old) s
             → OnErr result (StandsFor (state S.Store self.new) s) }
         ensures honest { HasCleanDisk (state S.Store self.new) → HasCleanDisk (state S.Store self.old) }
-        ensures open { IsTrue (state S.Store self.new).is_open → IsTrue (state S.Store self.old).is_open }
+        ensures open { IsTrue (state S.Store self.new).is_open
+            → IsTrue (state S.Store self.old).is_open }
         ensures stop { HasCleanDisk (state S.Store self.new)
             → (s : State) → StandsFor (state S.Store self.old) s
             → Leaves (state S.Store self.new) (λ left. left ≡ s) }
@@ -213,14 +229,16 @@ impl<S: Alter> Store<S> {
 
     /// The least number of an object above this one.
     pub fn next_object(&mut self, after: u64) -> Result<Option<u64>, StoreFault>
-        ensures ok { HasCleanDisk (state S.Store self.new) → (s : State) → StandsFor (state S.Store self.old) s
+        ensures ok { HasCleanDisk (state S.Store self.new)
+            → (s : State) → StandsFor (state S.Store self.old) s
             → IfOk result (λ found. (found ≡ option_map (λ e. e.0) (next_entry s.objects after))
             × StandsFor (state S.Store self.new) s) }
         ensures err { IsTrue (state S.Store self.new).is_open
             → (s : State) → StandsFor (state S.Store self.old) s
             → OnErr result (StandsFor (state S.Store self.new) s) }
         ensures honest { HasCleanDisk (state S.Store self.new) → HasCleanDisk (state S.Store self.old) }
-        ensures open { IsTrue (state S.Store self.new).is_open → IsTrue (state S.Store self.old).is_open }
+        ensures open { IsTrue (state S.Store self.new).is_open
+            → IsTrue (state S.Store self.old).is_open }
         ensures stop { HasCleanDisk (state S.Store self.new)
             → (s : State) → StandsFor (state S.Store self.old) s
             → Leaves (state S.Store self.new) (λ left. left ≡ s) }
@@ -245,11 +263,13 @@ impl<S: Alter> Store<S> {
     pub fn audit(&mut self, object: u64) -> Result<Audit, StoreFault>
         ensures ok { HasCleanDisk (state S.Store self.new)
             → (t : Tables) → Stands (state S.Store self.old) t
-            → IfOk result (λ audit. IsObjectAudited t object audit × Stands (state S.Store self.new) t) }
+            → IfOk result (λ audit.
+            IsObjectAudited t object audit × Stands (state S.Store self.new) t) }
         ensures still { IsTrue (state S.Store self.new).is_open
             → (t : Tables) → Stands (state S.Store self.old) t → Stands (state S.Store self.new) t }
         ensures honest { HasCleanDisk (state S.Store self.new) → HasCleanDisk (state S.Store self.old) }
-        ensures open { IsTrue (state S.Store self.new).is_open → IsTrue (state S.Store self.old).is_open }
+        ensures open { IsTrue (state S.Store self.new).is_open
+            → IsTrue (state S.Store self.old).is_open }
         ensures stop { HasCleanDisk (state S.Store self.new)
             → (t : Tables) → Stands (state S.Store self.old) t
             → (trees : Trees) → (state S.Store self.new).may_leave trees → Holds trees t }
@@ -265,7 +285,8 @@ impl<S: Alter> Store<S> {
     pub fn settled(&self)
         ensures left { (s : State) → StandsFor (state S.Store self.now) s
             → Leaves (state S.Store self.now) (λ left. left ≡ s) }
-        ensures clean { IsTrue (state S.Store self.now).is_open → HasCleanDisk (state S.Store self.now) }
+        ensures clean { IsTrue (state S.Store self.now).is_open
+            → HasCleanDisk (state S.Store self.now) }
     {}
 
     /// Gives the connection back.

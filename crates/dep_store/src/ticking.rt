@@ -21,7 +21,8 @@ fn move_clock<S: Alter>(
 ) -> Result<Moment, StoreFault>
     requires settled { (state S.Store connection.old).in_transaction ≡ false }
     ensures transacts { Transacts (state S.Store connection.old) (state S.Store connection.new) result
-        (OverStates (λ s clock. clock ≡ (tick config.now s moment).clock) (λ s. tick config.now s moment)) }
+        (OverStates (λ s clock. clock ≡ (tick config.now s moment).clock)
+        (λ s. tick config.now s moment)) }
 {
     let mut tx = connection.transaction();
     let moved = dep_staging::tick(&mut tx, config, moment)?;
@@ -61,7 +62,8 @@ pub(crate) fn advance<S: Alter>(
     requires recalls { IsRecalled (state S.Store connection.old) remembered.old }
     ensures recalls { IsRecalled (state S.Store connection.new) remembered.new }
     ensures transacts { Transacts (state S.Store connection.old) (state S.Store connection.new) result
-        (OverStates (λ s clock. clock ≡ (tick config.now s moment).clock) (λ s. tick config.now s moment)) }
+        (OverStates (λ s clock. clock ≡ (tick config.now s moment).clock)
+        (λ s. tick config.now s moment)) }
 {
     if let Some(clock) = clock_still(remembered, config, moment) {
         let shown = Moment::new(clock);

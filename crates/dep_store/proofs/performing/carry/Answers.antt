@@ -1,6 +1,6 @@
-use Rattle.std.proofs.Common.{refl, arith}
-use Rattle.sqlite.specs.State.{HasCleanDisk}
+use Rattle.std.proofs.Common.{refl}
 use Rattle.sqlite.specs.Held.{state}
+use Rattle.dep_tables.proofs.Chains.{clean_before, stays_then}
 use Rattle.dep_decisions.specs.Effects.{effect}
 use Rattle.dep_soundness.proofs.Accepted.{effect_sound}
 use Rattle.dep_store.proofs.Stepping.{next_after, shown_after}
@@ -10,10 +10,13 @@ pub returns-clause-map : goal.returns-clause-map
 returns-clause-map g c clean within ours s are config sound fit seen ruling =
     let op = c.args.operation.now in
     let mid = state g.S.Store c.carry_out.new.tx.conn.now in
-    let before : HasCleanDisk mid = omega (arith, clean, c.load_shown.ensures.survives.clean) in
+    let before = clean_before c.load_shown.ensures.stays clean in
     let made = c.in_ok-carry_out.ensures.map before within ours s are config op sound seen ruling refl in
     let then = c.in_ok-carry_out.ensures.ours before within ours in
     let next = next_after config s op c.args.view.now c.args.decision.now c.after_taking-next.result seen ruling.1 (rw c.numbers_for.ensures at c.after_taking-next.ensures) in
     shown_after (effect config s op) op mid (state g.S.Store c.load_shown.new.tx.conn.now) c.after_taking-next.result c.of-subject.result c.load_shown.result made c.of-subject.ensures next
     (c.load_shown.ensures.still clean then)
-    (c.load_shown.ensures.map clean (c.in_ok-carry_out.ensures.inside before within) then (effect config s op) made (effect_sound config s op fit ruling.0 sound))
+    (c.load_shown.ensures.map clean (c.in_ok-carry_out.ensures.stays.inside before within) then (effect config s op) made (effect_sound config s op fit ruling.0 sound))
+
+pub returns-clause-stays : goal.returns-clause-stays
+returns-clause-stays g c = stays_then c.in_ok-carry_out.ensures.stays c.load_shown.ensures.stays

@@ -1,9 +1,10 @@
 use Rattle.std.proofs.Common.{◌≡◌, ◌≤◌, ℕ, None, IsTrue, false}
 use Rattle.std.specs.FinMap as finmap
-use Rattle.sqlite.specs.State.{HasCleanDisk, KeepsCommit, Survives}
+use Rattle.sqlite.specs.State.{HasCleanDisk}
 use Rattle.sqlite.specs.Held.{state}
 use Rattle.dep_types.specs.State.{State}
 use Rattle.dep_tables.specs.Tables.{tables_of, IsOurs}
+use Rattle.dep_tables.proofs.Chains.{Stays}
 use Rattle.dep_row_maps.specs.TablesAre.{TablesAre}
 use Rattle.dep_store.specs.Remembering.{is_left}
 use Rattle.dep_store.proofs.remembering.has_idle.Given as goal
@@ -12,9 +13,7 @@ abbrev pub invariant-uploads : goal.invariant-uploads
 invariant-uploads g l =
     let old = state g.S.Store l.fn.tx.conn.now in
     let now = state g.S.Store l.tx.conn.now in
-    (l.tx.conn.ghost_name ≡ l.fn.tx.conn.ghost_name) × Survives old now (λ _. ⊥)
-    × (HasCleanDisk now → IsTrue old.in_transaction → IsTrue now.in_transaction)
-    × (HasCleanDisk now → IsTrue old.in_transaction → KeepsCommit old now)
+    Stays g.S.Store l.fn.tx.conn l.tx.conn
     × (HasCleanDisk now → IsOurs old → now.now ≡ old.now)
     × (HasCleanDisk now → IsTrue old.in_transaction → IsOurs old → (s : State) → TablesAre (tables_of old) s → finmap.get s.uploads 0 ≡ None
     → (u : ℕ) → u ≤ l.last → is_left l.max_idle l.clock s.uploads u ≡ false)
