@@ -1,5 +1,4 @@
-use Rattle.std.proofs.Common.{ap, subst, arith}
-use Rattle.sqlite.specs.State.{HasCleanDisk}
+use Rattle.std.proofs.Common.{ap, subst}
 use Rattle.sqlite.specs.Held.{state}
 use Rattle.dep_rulings.specs.Rulings.{IsRuling}
 use Rattle.dep_rulings.specs.declared.ruling.Ruling.{Ruling}

@@ -1,4 +1,4 @@
-use Rattle.std.proofs.Common.{rules, ◌≡◌, refl}
+use Rattle.std.proofs.Common.{rules, ◌≡◌}
 use Rattle.sqlite.proofs.StateLemmas.{clean_if_open}
 use Rattle.dep_tables.specs.Edits.{AreFileRowsOf}
 use Rattle.dep_store.proofs.Transacting.{gave_up, committed, uncommitted, began_open, nothing_told, works_within, still_inside}
@@ -10,11 +10,11 @@ returns-in_err-found g c =
     let old = c.args.connection.now in
     let inside = c.files_of.new.tx.conn.now in
     let new = c.drop-tx.new.self.0 in
-    let works = works_within g.S.Store old new c.in_err-found.ensures.stays c.transaction-tx.ensures.begun (λ is_open trees h. g.met.S.Store.settled old.store trees is_open h)
+    let work = works_within g.S.Store old new c.in_err-found.ensures.stays c.transaction-tx.ensures.begun (λ is_open trees h. g.met.S.Store.settled old.store trees is_open h)
     (clean_if_open (g.S.Store.view new.store) (g.met.S.Store.shut_if_dirty new.store)) in
     let same : new ≡ c.connection-1.given.0 = search rules in
     record {
-      transacts = gave_up g.S.Store old inside new _ c.from_residual.result c.from_residual.ensures.0 works
+      transacts = gave_up g.S.Store old inside new _ c.from_residual.result c.from_residual.ensures.0 work
           c.drop-tx.ensures.undone c.drop-tx.ensures.survives _ same;
       opened = λ clean. nothing_told c.from_residual.result _ c.from_residual.ensures.0;
     }
@@ -25,14 +25,14 @@ returns-in-Ok g c =
     let inside = c.files_of.new.tx.conn.now in
     let new = c.commit.new.self.0 in
     let worked = rw c.transaction-tx.ensures.begun at c.in_ok-found.ensures in
-    let works = works_within g.S.Store old new c.in_ok-found.ensures.stays c.transaction-tx.ensures.begun (λ is_open trees h. g.met.S.Store.settled old.store trees is_open h)
+    let work = works_within g.S.Store old new c.in_ok-found.ensures.stays c.transaction-tx.ensures.begun (λ is_open trees h. g.met.S.Store.settled old.store trees is_open h)
     (clean_if_open (g.S.Store.view new.store) (g.met.S.Store.shut_if_dirty new.store)) in
     let same : new ≡ c.connection-2-1.given.0 = search rules in
     record {
-      transacts = committed g.S.Store old inside new _ _ works
+      transacts = committed g.S.Store old inside new _ _ work
           (tells g.S.Store old inside (λ t rows. AreFileRowsOf c.args.object t rows.items) c.in_ok-found.found worked.ok worked.same)
           (λ clean. let ok = c.in-Ok.ensures.ok clean in (ok.1, ok.2, ok.3)) c.commit.ensures.survives _ same;
-      opened = began_open g.S.Store old inside new works
+      opened = began_open g.S.Store old inside new work
           (λ clean. let ok = c.in-Ok.ensures.ok clean in (ok.1, ok.2, ok.3)) c.commit.ensures.survives _ same;
     }
 
@@ -42,11 +42,11 @@ returns-in-Err g c =
     let inside = c.files_of.new.tx.conn.now in
     let new = c.commit.new.self.0 in
     let worked = rw c.transaction-tx.ensures.begun at c.in_ok-found.ensures in
-    let works = works_within g.S.Store old new c.in_ok-found.ensures.stays c.transaction-tx.ensures.begun (λ is_open trees h. g.met.S.Store.settled old.store trees is_open h)
+    let work = works_within g.S.Store old new c.in_ok-found.ensures.stays c.transaction-tx.ensures.begun (λ is_open trees h. g.met.S.Store.settled old.store trees is_open h)
     (clean_if_open (g.S.Store.view new.store) (g.met.S.Store.shut_if_dirty new.store)) in
     let same : new ≡ c.connection-2-1.given.0 = search rules in
     record {
-      transacts = uncommitted g.S.Store old inside new _ c.in_ok-found.found _ c.in-Err.error works
+      transacts = uncommitted g.S.Store old inside new _ c.in_ok-found.found _ c.in-Err.error work
           (tells g.S.Store old inside (λ t rows. AreFileRowsOf c.args.object t rows.items) c.in_ok-found.found worked.ok worked.same)
           (still_inside g.S.Store old c.in_ok-found.ensures.stays c.transaction-tx.ensures.begun) (λ clean. c.in-Err.ensures.err clean) c.commit.ensures.survives _ same;
       opened = λ clean. tt;

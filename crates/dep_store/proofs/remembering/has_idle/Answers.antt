@@ -2,7 +2,7 @@ use Rattle.std.proofs.Common.{sym, subst, ◌∙◌}
 use Rattle.sqlite.specs.Effect.{Database}
 use Rattle.sqlite.specs.Held.{state}
 use Rattle.dep_tables.specs.Tables.{tables_in, tables_of, HasOurTables}
-use Rattle.dep_tables.proofs.Chains.{clean_before, stays_then, stays_ok, stays_err}
+use Rattle.dep_tables.proofs.Chains.{clean_before, stays_then, stays_ok}
 use Rattle.dep_row_maps.specs.TablesAre.{TablesAre}
 use Rattle.dep_row_maps.proofs.Readings.{next_upload_read}
 use Rattle.dep_staging.proofs.Next.{next_of, none_after}

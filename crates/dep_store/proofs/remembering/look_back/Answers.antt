@@ -13,10 +13,10 @@ returns-in_err-found-clause-back g c =
     let old = c.args.connection.now in
     let inside = c.read_still.new.tx.conn.now in
     let new = c.drop-tx.new.self.0 in
-    let works = works_within g.S.Store old new c.in_err-found.ensures.stays c.transaction-tx.ensures.begun (λ is_open trees h. g.met.S.Store.settled old.store trees is_open h)
+    let work = works_within g.S.Store old new c.in_err-found.ensures.stays c.transaction-tx.ensures.begun (λ is_open trees h. g.met.S.Store.settled old.store trees is_open h)
     (clean_if_open (g.S.Store.view new.store) (g.met.S.Store.shut_if_dirty new.store)) in
     let same : new ≡ c.connection-1.given.0 = search rules in
-    back_by_rollback g.S.Store old inside new works
+    back_by_rollback g.S.Store old inside new work
     c.drop-tx.ensures.undone c.drop-tx.ensures.survives (c.is_autocommit-between.ensures.settled (search rules)) _ same
 
 pub returns-clause-back : goal.returns-clause-back
@@ -24,10 +24,10 @@ returns-clause-back g c =
     let old = c.args.connection.now in
     let inside = c.read_still.new.tx.conn.now in
     let new = c.rollback.new.self.0 in
-    let works = works_within g.S.Store old new c.in_ok-found.ensures.stays c.transaction-tx.ensures.begun (λ is_open trees h. g.met.S.Store.settled old.store trees is_open h)
+    let work = works_within g.S.Store old new c.in_ok-found.ensures.stays c.transaction-tx.ensures.begun (λ is_open trees h. g.met.S.Store.settled old.store trees is_open h)
     (clean_if_open (g.S.Store.view new.store) (g.met.S.Store.shut_if_dirty new.store)) in
     let same : new ≡ c.connection-2-1.given.0 = search rules in
-    back_by_rollback g.S.Store old inside new works
+    back_by_rollback g.S.Store old inside new work
     c.rollback.ensures.undone c.rollback.ensures.survives (c.is_autocommit-between.ensures.settled (search rules)) _ same
 
 pub returns-clause-recalls : goal.returns-clause-recalls
@@ -36,10 +36,10 @@ returns-clause-recalls g c m is s stands =
     let inside = c.read_still.new.tx.conn.now in
     let new = c.rollback.new.self.0 in
     let worked = rw c.transaction-tx.ensures.begun at c.in_ok-found.ensures in
-    let works = works_within g.S.Store old new c.in_ok-found.ensures.stays c.transaction-tx.ensures.begun (λ is_open trees h. g.met.S.Store.settled old.store trees is_open h)
+    let work = works_within g.S.Store old new c.in_ok-found.ensures.stays c.transaction-tx.ensures.begun (λ is_open trees h. g.met.S.Store.settled old.store trees is_open h)
     (clean_if_open (g.S.Store.view new.store) (g.met.S.Store.shut_if_dirty new.store)) in
     let same : new ≡ c.connection-2-1.given.0 = search rules in
-    let back = back_by_rollback g.S.Store old inside new works
+    let back = back_by_rollback g.S.Store old inside new work
     c.rollback.ensures.undone c.rollback.ensures.survives (c.is_autocommit-between.ensures.settled (search rules)) new refl in
     let now = subst (λ h. StandsFor (state g.S.Store h) s) (sym same) stands in
     let was = stood_before (state g.S.Store old) (state g.S.Store new) back c.requires.settled s now in
