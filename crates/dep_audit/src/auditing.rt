@@ -8,6 +8,7 @@ ghost use Rattle.dep_files.specs.Reading.{IsKept};
 ghost use Rattle.dep_audit.specs.Fixity.{IsAudited, KeepsDamaged};
 
 use crate::hashing::hash_blocks;
+use crate::watch::Watch;
 use dep_tables::BlockOwner;
 use dep_types::{FileRow, StoreFault};
 use sqlite::{Alter, Connection};
@@ -23,10 +24,11 @@ pub struct Audit {
 }
 
 // Notes the number of the file where its bytes have another digest.
-fn keep_damaged<S: Alter>(
+fn keep_damaged<S: Alter, W: Watch>(
     connection: &mut Connection<S>,
     damaged: &mut Vec<u64>,
     row: &FileRow,
+    watch: &mut W,
 ) -> Result<(), StoreFault>
     ensures notes { HasCleanDisk (state S.Store connection.new) → IsOurs (state S.Store connection.old)
         → OnOk result (KeepsDamaged (tables_of (state S.Store connection.old)) row.now
@@ -42,7 +44,7 @@ fn keep_damaged<S: Alter>(
     ensures survives { IsOurs (state S.Store connection.old)
         → Survives (state S.Store connection.old) (state S.Store connection.new) (λ _. ⊥) }
 {
-    let digest = match hash_blocks(connection, BlockOwner::File(row.file)) {
+    let digest = match hash_blocks(connection, BlockOwner::File(row.file), watch) {
         Ok(digest) => digest,
         Err(fault) => return Err(fault),
     };
@@ -57,12 +59,13 @@ fn keep_damaged<S: Alter>(
 
 /// Checks files by the SHA-256 of the bytes that stand in the tables: those of all blocks that name the file, by
 /// part and place, whatever they are. Each block is read once, and one is held at a time. The rows are those that
-/// the tables keep of the files. A number of 2^63 or more is a fault of the store, and so is a block that has no
+/// the tables keep of the files. The watch is told of each block. A number of 2^63 or more is a fault of the store, and so is a block that has no
 /// bytes.
-pub fn audit_files<S: Alter>(
+pub fn audit_files<S: Alter, W: Watch>(
     connection: &mut Connection<S>,
     alloc: Global,
     files: &[FileRow],
+    watch: &mut W,
 ) -> Result<Audit, StoreFault>
     ensures audits { HasCleanDisk (state S.Store connection.new) → IsOurs (state S.Store connection.old)
         → IfOk result (IsAudited (tables_of (state S.Store connection.old)) files.now) }
@@ -79,7 +82,7 @@ pub fn audit_files<S: Alter>(
 {
     let mut damaged = Vec::new(alloc);
     'files: for row in files {
-        match keep_damaged(connection, &mut damaged, row) {
+        match keep_damaged(connection, &mut damaged, row, watch) {
             Ok(()) => {}
             Err(fault) => return Err(fault),
         }

@@ -11,19 +11,21 @@ ghost use Rattle.dep_streams.specs.Sent.{blob_of};
 ghost use Rattle.dep_tables.specs.Tables.{tables_of, IsOurs};
 ghost use Rattle.dep_audit.specs.Fixity.{IsDigestOf, HashesShown};
 
+use crate::watch::Watch;
 use dep_tables::{BlockOwner, fault_of, is_storable_owner, owner_params};
 use dep_types::StoreFault;
 use sha2::{Digest, Sha256};
 use sqlite::types::ValueRef;
 use sqlite::{Alter, Connection, Row};
 
-fn hash_row(row: &Row, hasher: &mut Sha256) -> Result<(), StoreFault>
+fn hash_row<W: Watch>(row: &Row, hasher: &mut Sha256, watch: &mut W) -> Result<(), StoreFault>
     ensures { OnOk result ((message : List ℕ) → Holds256 hasher.old message
         → Holds256 hasher.new (message ++ blob_of row.now)) }
 {
     match row.get_ref(2) {
         Ok(ValueRef::Blob(bytes)) => {
             hasher.update(bytes);
+            watch.advance(bytes.len() as u64);
             Ok(())
         }
         _ => Err(StoreFault::Store),
@@ -31,10 +33,11 @@ fn hash_row(row: &Row, hasher: &mut Sha256) -> Result<(), StoreFault>
 }
 
 // The SHA-256 of the third column of each row that a query shows, joined.
-fn hash_rows<S: Alter>(
+fn hash_rows<S: Alter, W: Watch>(
     connection: &mut Connection<S>,
     sql: &str,
     params: &[ValueRef<'_>],
+    watch: &mut W,
 ) -> Result<[u8; 32], StoreFault>
     ensures hashes { HasCleanDisk (state S.Store connection.new)
         → IsPlain (understood connection.old.schema sql.now)
@@ -64,7 +67,7 @@ fn hash_rows<S: Alter>(
         let Some(row) = next else {
             return Ok(hasher.finalize());
         };
-        match hash_row(row, &mut hasher) {
+        match hash_row(row, &mut hasher, watch) {
             Ok(()) => {}
             Err(fault) => return Err(fault),
         }
@@ -74,9 +77,10 @@ fn hash_rows<S: Alter>(
 
 /// The SHA-256 of the blocks of an owner, joined by part and place. It holds one block at a time. A number of
 /// 2^63 or more is a fault of the store.
-pub(crate) fn hash_blocks<S: Alter>(
+pub(crate) fn hash_blocks<S: Alter, W: Watch>(
     connection: &mut Connection<S>,
     owner: BlockOwner,
+    watch: &mut W,
 ) -> Result<[u8; 32], StoreFault>
     ensures hashes { HasCleanDisk (state S.Store connection.new) → IsOurs (state S.Store connection.old)
         → IfOk result (IsDigestOf (tables_of (state S.Store connection.old)) owner) }
@@ -98,5 +102,6 @@ pub(crate) fn hash_blocks<S: Alter>(
         connection,
         "SELECT part, place, bytes FROM blocks WHERE kind = ?1 AND owner = ?2 ORDER BY part, place",
         &owner_params(owner),
+        watch,
     )
 }

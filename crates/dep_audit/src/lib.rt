@@ -3,5 +3,7 @@
 
 mod auditing;
 mod hashing;
+mod watch;
 
 pub use auditing::{Audit, audit_files};
+pub use watch::{Unwatched, Watch};

@@ -15,6 +15,7 @@ use crate::audit_fault::AuditFault;
 use crate::lines::{tell_count, tell_damaged};
 use crate::outcome::Outcome;
 use crate::tally::Tally;
+use dep_audit::Watch;
 use dep_store::Store;
 use dep_types::Outlet;
 use sqlite::Alter;
@@ -22,8 +23,13 @@ use std::alloc::Global;
 
 /// Checks all files of all objects by their SHA-256, in the order of the objects' numbers and then of the files'. It
 /// writes a line for each damaged one, once its object was checked, and at last a line of how many were checked and
-/// how many are damaged.
-pub fn audit_all<S: Alter, W: Outlet>(alloc: Global, store: &mut Store<S>, out: &mut W) -> Outcome
+/// how many are damaged. The watch is told of each block that is read.
+pub fn audit_all<S: Alter, W: Outlet, P: Watch>(
+    alloc: Global,
+    store: &mut Store<S>,
+    out: &mut W,
+    watch: &mut P,
+) -> Outcome
     ensures writes { (written : List ℕ) × Appends (W.taken out.old) (W.taken out.new) written
         × (HasCleanDisk (state S.Store store.new) → (t : Tables)
         → Stands (state S.Store store.old) t → Audits t written result) }
@@ -38,7 +44,7 @@ pub fn audit_all<S: Alter, W: Outlet>(alloc: Global, store: &mut Store<S>, out: 
     ensures cause { result ≡ Outcome.TransferFault →
         HasRisen (W.failures out.old) (W.failures out.new) }
 {
-    let tally = match tell_objects(alloc, store, out) {
+    let tally = match tell_objects(alloc, store, out, watch) {
         Ok(tally) => tally,
         Err(fault) => return outcome_of(fault),
     };
@@ -59,10 +65,11 @@ fn outcome_of(fault: AuditFault) -> Outcome
 }
 
 // Writes the lines of all objects.
-fn tell_objects<S: Alter, W: Outlet>(
+fn tell_objects<S: Alter, W: Outlet, P: Watch>(
     alloc: Global,
     store: &mut Store<S>,
     out: &mut W,
+    watch: &mut P,
 ) -> Result<Tally, AuditFault>
     ensures writes { (written : List ℕ) × Appends (W.taken out.old) (W.taken out.new) written
         × (HasCleanDisk (state S.Store store.new) → (t : Tables)
@@ -87,7 +94,7 @@ fn tell_objects<S: Alter, W: Outlet>(
         let Some(object) = store.next_object(after)? else {
             return Ok(tally);
         };
-        let more = tell_object(alloc, store, object, out)?;
+        let more = tell_object(alloc, store, object, out, watch)?;
         tally = tally.plus(more)?;
         after = object;
     }
@@ -95,11 +102,12 @@ fn tell_objects<S: Alter, W: Outlet>(
 }
 
 // Writes the lines of an object.
-fn tell_object<S: Alter, W: Outlet>(
+fn tell_object<S: Alter, W: Outlet, P: Watch>(
     alloc: Global,
     store: &mut Store<S>,
     object: u64,
     out: &mut W,
+    watch: &mut P,
 ) -> Result<Tally, AuditFault>
     ensures writes { (written : List ℕ) × Appends (W.taken out.old) (W.taken out.new) written
         × (HasCleanDisk (state S.Store store.new) → (t : Tables)
@@ -117,7 +125,7 @@ fn tell_object<S: Alter, W: Outlet>(
     ensures quiet { IsQuiet result (W.failures out.old) (W.failures out.new) }
     ensures cause { HasCause result (W.failures out.old) (W.failures out.new) }
 {
-    let audit = store.audit(object)?;
+    let audit = store.audit(object, watch)?;
     tell_damaged(alloc, object, audit.damaged.as_slice(), out)?;
     Ok(Tally {
         checked: audit.checked,

@@ -10,5 +10,6 @@ mod outcome;
 mod tally;
 
 pub use auditing::audit_all;
+pub use dep_audit::{Unwatched, Watch};
 pub use exporting::export_object;
 pub use outcome::Outcome;

@@ -9,16 +9,17 @@ ghost use Rattle.dep_schema.specs.Standing.{Holds, Stands};
 ghost use Rattle.dep_store.specs.Auditing.{IsObjectAudited};
 
 use crate::reading::list_files;
-use dep_audit::{Audit, audit_files};
+use dep_audit::{Audit, Watch, audit_files};
 use dep_types::StoreFault;
 use sqlite::{Alter, Connection};
 use std::alloc::Global;
 
 /// Checks the files whose rows name the object.
-pub(crate) fn audit_object<S: Alter>(
+pub(crate) fn audit_object<S: Alter, W: Watch>(
     connection: &mut Connection<S>,
     alloc: Global,
     object: u64,
+    watch: &mut W,
 ) -> Result<Audit, StoreFault>
     requires settled { (state S.Store connection.old).in_transaction ≡ false }
     ensures ok { HasCleanDisk (state S.Store connection.new)
@@ -37,5 +38,5 @@ pub(crate) fn audit_object<S: Alter>(
         → (trees : Trees) → (state S.Store connection.new).may_leave trees → Holds trees t }
 {
     let files = list_files(connection, alloc, object)?;
-    audit_files(connection, alloc, files.as_slice())
+    audit_files(connection, alloc, files.as_slice(), watch)
 }

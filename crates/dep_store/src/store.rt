@@ -28,7 +28,7 @@ use crate::remembering::Remembered;
 use crate::showing::serve;
 use crate::ticking::advance;
 use dep_answers::{Performed, Service};
-use dep_audit::Audit;
+use dep_audit::{Audit, Watch};
 use dep_decisions::Operation;
 use dep_files::stream_content;
 use dep_moment::Moment;
@@ -259,8 +259,9 @@ impl<S: Alter> Store<S> {
     }
 
     /// Checks the files of this object by the SHA-256 of the bytes that stand in the tables, also where
-    /// the rows stand for no state. Each block is read once, and one is held at a time.
-    pub fn audit(&mut self, object: u64) -> Result<Audit, StoreFault>
+    /// the rows stand for no state. Each block is read once, and one is held at a time: the
+    /// watch is told of it.
+    pub fn audit<W: Watch>(&mut self, object: u64, watch: &mut W) -> Result<Audit, StoreFault>
         ensures ok { HasCleanDisk (state S.Store self.new)
             → (t : Tables) → Stands (state S.Store self.old) t
             → IfOk result (λ audit.
@@ -278,7 +279,7 @@ impl<S: Alter> Store<S> {
             return Err(StoreFault::Store);
         }
         self.remembered = None;
-        audit_object(&mut self.connection, self.alloc, object)
+        audit_object(&mut self.connection, self.alloc, object, watch)
     }
 
     /// While the store stands for a state, a crash leaves that state.

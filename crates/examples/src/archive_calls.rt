@@ -4,7 +4,7 @@ use crate::page::Page;
 use crate::settings::number;
 use crate::shelf::{Call, Shelf};
 use crate::trouble::Trouble;
-use dep_commands::{Outcome, audit_all, export_object};
+use dep_commands::{Outcome, Unwatched, audit_all, export_object};
 use dep_store::Store;
 use dep_types::{StoreFault, Through};
 use sqlite::MemStore;
@@ -52,7 +52,7 @@ impl ArchiveCall {
             }
             ArchiveCall::Audit(object) => audited(store, object, page),
             ArchiveCall::AuditAll => {
-                let outcome = audit_all(alloc, store, &mut Through::new(page));
+                let outcome = audit_all(alloc, store, &mut Through::new(page), &mut Unwatched);
                 word_of(outcome, true)
             }
         }
@@ -65,7 +65,7 @@ fn audited(
     object: u64,
     page: &mut Page,
 ) -> Result<&'static str, Trouble> {
-    let audit = match store.audit(object) {
+    let audit = match store.audit(object, &mut Unwatched) {
         Ok(audit) => audit,
         Err(StoreFault::Store) => return Ok("store-fault"),
         Err(StoreFault::Memory) => return Err(Trouble::Memory),

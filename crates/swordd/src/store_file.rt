@@ -1,8 +1,8 @@
 //! What is done with the store in a file.
 
 use crate::service::{Door, serve_store};
-use dep_commands::{Outcome, audit_all, export_object};
-use dep_folder::{Folder, FolderSink};
+use dep_commands::{Outcome, Watch, audit_all, export_object};
+use dep_folder::{Folder, FolderSink, Progress};
 use dep_schema::OpenFault;
 use dep_store::Store;
 use dep_types::Through;
@@ -74,10 +74,7 @@ fn done<S: Alter>(rt: &HostRuntime, job: Job<'_>, mut store: Store<S>) -> (Outco
     match job {
         Job::Serve(door) => serve_store(rt, door, store),
         Job::Export { object, folder } => (export_into(rt, &mut store, object, folder), store),
-        Job::Audit => (
-            audit_all(rt.alloc(), &mut store, &mut Through::new(rt.stdout())),
-            store,
-        ),
+        Job::Audit => (audit_here(rt, &mut store), store),
     }
 }
 
@@ -92,5 +89,22 @@ fn export_into<S: Alter>(
         Ok(folder) => export_object(rt.alloc(), store, object, &mut FolderSink::new(folder)),
         Err(error) if error.kind() == ErrorKind::OutOfMemory => Outcome::StoreFault,
         Err(_) => Outcome::TransferFault,
+    }
+}
+
+// The lines go to standard output, and how far it came to standard error.
+fn audit_here<S: Alter>(rt: &HostRuntime, store: &mut Store<S>) -> Outcome {
+    let mut lines = Through::new(rt.stdout());
+    let mut told = Told(Progress::new(rt));
+    audit_all(rt.alloc(), store, &mut lines, &mut told)
+}
+
+// Tells the progress of an audit.
+#[derive(Drop)]
+struct Told<'a>(Progress<'a>);
+
+impl Watch for Told<'_> {
+    fn advance(&mut self, octets: u64) {
+        self.0.advance(octets);
     }
 }

@@ -1,0 +1,14 @@
+//! How far a reading came.
+
+/// Is told how many bytes were read, while they are.
+pub trait Watch {
+    /// So many bytes more were read.
+    fn advance(&mut self, octets: u64);
+}
+
+/// Looks at nothing.
+pub struct Unwatched;
+
+impl Watch for Unwatched {
+    fn advance(&mut self, _octets: u64) {}
+}
