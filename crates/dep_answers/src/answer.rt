@@ -40,6 +40,7 @@ impl Model for Content {
 }
 
 impl Content {
+    /// A text of this form.
     pub(crate) fn new(form: Form, bytes: Octets) -> Content
         ensures { result ≡ content_of form bytes }
     {

@@ -5,7 +5,9 @@ use dep_moment::Moment;
 /// Which file: the number of its object, and its own.
 #[derive(Clone, Copy, Debug, PartialEq, Eq)]
 pub struct FileId {
+    /// The number of the object.
     pub object: u64,
+    /// The number of the file.
     pub file: u64,
 }
 

@@ -13,6 +13,7 @@ use dep_types::{
 /// What has to be read of the archive for a reply.
 #[derive(Clone, Copy)]
 pub enum Subject {
+    /// Nothing has to be read.
     Nothing,
     /// All that is told of the object with this number.
     Object(u64),
@@ -31,14 +32,22 @@ pub enum Subject {
 pub enum Shown {
     /// Nothing had to be read, or nothing is there.
     Nothing,
+    /// An object with its metadata and files.
     Object(ObjectView),
+    /// An object without its metadata and files.
     ObjectRow(ObjectRow),
+    /// An object without its files.
     Metadata {
+        /// The object's row.
         object: ObjectRow,
+        /// Its metadata.
         metadata: Metadata,
     },
+    /// A file without its bytes.
     File(FileRow),
+    /// An upload without the bytes of its segments.
     Upload {
+        /// The upload's row.
         upload: UploadRow,
         /// The numbers of the segments that were received, ascending.
         received: Numbers,

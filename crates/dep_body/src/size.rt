@@ -26,6 +26,7 @@ pub(crate) struct SizeLine {
 }
 
 impl SizeLine {
+    /// A line of which nothing has come.
     pub fn new() -> SizeLine
         ensures length { result.length ≡ 0 }
         ensures after_cr { result.after_cr ≡ false }
@@ -56,6 +57,8 @@ impl SizeLine {
 }
 
 impl SizeReading {
+    /// The reading with one byte more. The size is in hexadecimal digits of either case, and counted up to `limit`,
+    /// however many digits follow (RFC 9112, section 7.1).
     pub fn with(self, byte: u8, limit: u64) -> SizeReading
         ensures { result ≡ size_after limit self byte }
     {

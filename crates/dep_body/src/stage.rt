@@ -19,11 +19,14 @@ pub(crate) enum Stage {
     Section(Trailers),
     /// Behind the body.
     Done,
+    /// Behind malformed chunks.
     Bad,
+    /// Behind a chunk line that asks for more content than is allowed.
     TooLarge,
 }
 
 impl Stage {
+    /// Whether no byte that follows is read.
     pub fn is_settled(self) -> bool
         ensures { result ≡ is_settled self }
     {

@@ -28,6 +28,7 @@ pub(crate) struct Trailers {
 }
 
 impl Trailers {
+    /// Trailers of which nothing has come.
     pub fn new() -> Trailers
         ensures length { result.length ≡ 0 }
         ensures good { result.good ≡ true }
@@ -60,6 +61,8 @@ impl Trailers {
 }
 
 impl TrailerReading {
+    /// The reading with one byte more. A line is a token, a colon, and bytes other than NUL, CR and LF (RFC 9110,
+    /// section 5.1; RFC 9112, section 7.1.2).
     pub fn with(self, byte: u8) -> TrailerReading
         ensures { result ≡ trailer_after self byte }
     {

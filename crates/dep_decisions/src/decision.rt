@@ -18,9 +18,11 @@ pub enum Source {
 /// A file that is deposited.
 #[derive(Drop)]
 pub struct NewFile {
+    /// Its name: 1 to 255 bytes of UTF-8.
     pub name: Text,
     /// Its media type (RFC 9110, section 8.3).
     pub media: Text,
+    /// Where its bytes come from.
     pub source: Source,
     /// On whose behalf it is deposited.
     pub behalf: Option<Text>,
@@ -87,7 +89,9 @@ impl NewFiles {
 /// What is deposited.
 #[derive(Drop)]
 pub enum Deposit {
+    /// These files.
     Files(NewFiles),
+    /// This metadata.
     Metadata(Metadata),
 }
 

@@ -6,10 +6,13 @@ use dep_types::{Octets, Target};
 /// A request for a resource and a method that it has.
 #[derive(Drop)]
 pub struct Operation<'a> {
+    /// What the path names, and the method.
     pub target: Target,
+    /// What the fields of SWORD 3.0 tell.
     pub fields: SwordFields,
     /// The entity tags that the request asks for (RFC 9110, section 13.1.1).
     pub if_match: Option<IfMatch<'a>>,
+    /// The bytes of the body; a GET, a HEAD and a DELETE ignore them.
     pub content: Octets,
     /// The connection is closed after the reply.
     pub closes: bool,

@@ -52,6 +52,7 @@ fn purpose_of(kind: &Kind) -> Purpose
     }
 }
 
+/// Whether this method of the resource takes such a content.
 pub(crate) fn takes_kind(target: &Target, kind: &Kind) -> bool
     ensures { result ≡ takes_kind target.now.resource target.now.method kind.now }
 {
@@ -122,6 +123,7 @@ fn is_absent(disposition: &Field<Kind>) -> bool
     }
 }
 
+/// Whether In-Progress is there and true.
 pub(crate) fn is_true(in_progress: &Field<bool>) -> bool
     ensures { result ≡ is_true in_progress.now }
 {

@@ -25,6 +25,7 @@ impl Model for Buffer {
 }
 
 impl Buffer {
+    /// No bytes. It takes no memory.
     pub fn new(alloc: Global) -> Buffer
         ensures { result ≡ [] }
     {
@@ -35,12 +36,14 @@ impl Buffer {
         }
     }
 
+    /// The bytes that are left.
     pub fn as_slice(&self) -> &[u8]
         ensures { result.now ≡ self.now }
     {
         &self.bytes.as_slice()[self.gone..]
     }
 
+    /// Adds a piece at the end.
     pub fn append(&mut self, piece: &[u8]) -> Result<(), AllocError>
         ensures ok { OnOk result (self.new ≡ self.old ++ piece.now) }
         ensures err { OnErr result (self.new ≡ self.old) }
@@ -48,6 +51,7 @@ impl Buffer {
         self.bytes.extend_from_slice(piece)
     }
 
+    /// Drops so many bytes at the front. It gives room back where memory allows, and never fails.
     pub fn drop_front(&mut self, count: usize)
         requires { count ≤ length self.old }
         ensures { self.new ≡ drop count self.old }
@@ -56,6 +60,7 @@ impl Buffer {
         self.free_room();
     }
 
+    /// Keeps so many bytes at the front alone. It gives room back where memory allows, and never fails.
     pub fn truncate(&mut self, count: usize)
         requires { count ≤ length self.old }
         ensures { self.new ≡ take count self.old }

@@ -38,6 +38,7 @@ pub(crate) struct Work {
 }
 
 impl Work {
+    /// Nothing has come. A content may have at most `limit` bytes. It takes no memory.
     pub fn new(alloc: Global, limit: u64) -> Work
         ensures { Keeps limit false [] result }
     {

@@ -6,6 +6,7 @@ use std::marker::Model;
 /// What the head of a reply tells. The texts stand in the head as they are, so none may hold a line break.
 #[derive(Debug, Drop)]
 pub struct Reply<'a> {
+    /// The status (RFC 9110, section 15).
     pub status: Status,
     /// The moment of the reply (RFC 9110, section 6.6.1).
     pub date: Moment,

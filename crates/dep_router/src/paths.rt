@@ -10,6 +10,7 @@ use dep_types::{GREATEST_NUMBER, Octets, Resource};
 use percent_encoding::percent_decode;
 use std::alloc::{AllocError, Global};
 
+/// The resource that a path names; `None` where it names none. Nothing but a path in a bag takes memory.
 pub(crate) fn resource_at(alloc: Global, path: &[u8]) -> Result<Option<Resource>, AllocError>
     ensures ok { IfOk result (λ resource. resource ≡ resource_of (segments path.now)) }
     ensures err { OnErr result (is_bag_file (resource_of (segments path.now)) ≡ true) }

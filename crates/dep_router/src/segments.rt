@@ -4,7 +4,7 @@ ghost use Rattle.std.specs.Option.{option_copied};
 ghost use Rattle.dep_router.specs.Targets.{segments};
 ghost use Rattle.dep_router.specs.Segments.{segments_left};
 
-// The first segment, and what follows its slash.
+/// The first segment, and what follows its slash.
 pub(crate) fn next_segment(path: &[u8]) -> (&[u8], Option<&[u8]>)
     ensures { segments path.now ≡ result.0.now ∷ segments_left (option_copied result.1) }
 {

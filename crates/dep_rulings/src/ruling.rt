@@ -6,6 +6,8 @@ use dep_types::Refusal;
 /// What the rules say of a request.
 #[derive(Drop)]
 pub enum Ruling {
+    /// It is accepted, and asks for this.
     Do(Decision),
+    /// It is refused, and changes nothing.
     Refuse(Refusal),
 }

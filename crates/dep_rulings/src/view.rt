@@ -52,6 +52,7 @@ pub struct Touched {
 /// An upload that is there.
 #[derive(Drop)]
 pub struct LiveUpload {
+    /// What was told at its opening, and the moment of its last segment.
     pub row: UploadRow,
     /// The numbers of the segments that were received, ascending. For a deposit by reference none is
     /// told.
@@ -65,14 +66,18 @@ pub struct LiveUpload {
 pub enum UploadState {
     /// It was not given yet, or its upload is gone.
     Unknown,
+    /// It was idle for longer than is allowed, and its segments are gone.
     TimedOut,
+    /// The upload is there.
     Live(LiveUpload),
 }
 
 /// What is known at the number of an upload.
 #[derive(Drop)]
 pub struct UploadView {
+    /// The number.
     pub upload: u64,
+    /// What became of it.
     pub state: UploadState,
 }
 

@@ -8,9 +8,13 @@ pub const GREATEST_NUMBER: u64 = 4_000_000_000_000_000_000;
 /// The next number of each kind, or how many of each kind are taken. A number is never given twice.
 #[derive(Clone, Copy, Debug, PartialEq, Eq)]
 pub struct Counters {
+    /// Of objects.
     pub object: u64,
+    /// Of files, which are counted over all objects.
     pub file: u64,
+    /// Of staged uploads.
     pub upload: u64,
+    /// Of changes, whose numbers are the entity tags.
     pub change: u64,
 }
 

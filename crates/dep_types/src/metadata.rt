@@ -43,7 +43,9 @@ impl TextList {
 /// A name of metadata, and the texts under it.
 #[derive(Drop)]
 pub struct MetadataEntry {
+    /// The name, as `dc:title`.
     pub name: Text,
+    /// The texts, in the order in which they were given.
     pub texts: TextList,
 }
 

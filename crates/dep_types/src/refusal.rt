@@ -6,24 +6,43 @@ ghost use Rattle.dep_types.specs.Refusals.{facts_of};
 /// error document tells (SWORD 3.0, error documents).
 #[derive(Clone, Copy, Debug, PartialEq, Eq)]
 pub enum Refusal {
+    /// The request is malformed, or a field or a reference of it doesn't fit the operation.
     BadRequest,
+    /// The content is no document of the kind that the request tells.
     ContentMalformed,
+    /// The sizes of an upload don't agree or pass `max_upload`, or a segment has another length.
     InvalidSegmentSize,
+    /// The upload has no segment of this number, or has received it.
     UnexpectedSegment,
+    /// An upload would have more segments than `max_segments`.
     SegmentLimitExceeded,
+    /// An upload would have more bytes than `max_assembled`.
     MaxAssembledSizeExceeded,
+    /// The path names no resource, or nothing is there.
     NotFound,
+    /// The resource doesn't have this method (RFC 9110, section 15.5.6).
     MethodNotAllowed,
+    /// The upload was idle for longer than `staging_max_idle` seconds.
     SegmentedUploadTimedOut,
+    /// The content, or that of an upload, hasn't a digest that was promised for it.
     DigestMismatch,
+    /// The tags of If-Match don't hold (RFC 9110, section 13.1.1).
     ETagNotMatched,
+    /// If-Match is absent though the configuration requires it.
     ETagRequired,
+    /// The configuration allows no deposit on behalf of others.
     OnBehalfOfNotAllowed,
+    /// An entry of a deposit by reference points at no upload of this server.
     ByReferenceNotAllowed,
+    /// The body has more bytes than `max_upload`.
     MaxUploadSizeExceeded,
+    /// The content is encoded, or a document isn't JSON by its Content-Type.
     ContentTypeNotAcceptable,
+    /// Metadata-Format names another format than that of SWORD 3.0.
     MetadataFormatNotAcceptable,
+    /// Packaging names another one than Binary of SWORD 3.0.
     PackagingFormatNotAcceptable,
+    /// The numbers of objects, files, uploads or changes have ended.
     StoreFull,
 }
 
