@@ -82,8 +82,8 @@ optional read None = Some None
 optional read (Some d) = option_map (λ x. Some x) (read d)
 
 -- the text that the URL standard gives for a text
-abbrev pub spelled : List ℕ → Option (List ℕ)
-spelled text = option_map (λ url. serialize url) (result_ok (parse_url None text))
+abbrev pub url_text : List ℕ → Option (List ℕ)
+url_text text = option_map (λ url. serialize url) (result_ok (parse_url None text))
 
 -- what follows this front
 abbrev pub behind : (front text : List ℕ) → Option (List ℕ)
@@ -97,7 +97,7 @@ abbrev pub pointed_by : Config → List ℕ → Pointed
 pointed_by config url = option_map_or (λ n. Upload n) (upload_number config url) Elsewhere
 
 unfoldable pub target_of : Config → Data → Option Pointed
-target_of config d = option_map (pointed_by config) (text_under (codes "@id") d >>= spelled)
+target_of config d = option_map (pointed_by config) (text_under (codes "@id") d >>= url_text)
 
 -- the file name of an attachment
 abbrev pub form_name : DispositionValue → Option (List ℕ)

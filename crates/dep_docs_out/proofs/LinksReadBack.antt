@@ -9,7 +9,7 @@ use Rattle.dep_moment.proofs.Ascii.{rfc3339-ascii}
 use Rattle.dep_types.specs.declared.config.Config.{Config}
 use Rattle.dep_types.specs.declared.rows.FileRow.{FileRow}
 use Rattle.dep_docs_out.specs.Documents.{file_url, link_data, deposit_members, behalf_members, kept_members, relations_data, deposit_relation}
-use Rattle.dep_docs_out.specs.Json.{document, items, members, whole}
+use Rattle.dep_docs_out.specs.Json.{document, items, members, whole_number}
 use Rattle.dep_docs_out.specs.ReadBack.{FileHasTexts}
 use Rattle.dep_docs_out.proofs.ReadingBack.{is_plain, are_plain}
 use Rattle.dep_docs_out.proofs.Utf8.{HasUtf8, ItemsHaveUtf8, MembersHaveUtf8, IsText, decimal_utf8, is_text}
@@ -53,11 +53,11 @@ links_utf8 config n (file ∷ files) base depositor h = (link_utf8 config n file
 
 -- ---- numbers
 
-pub numbers_plain : (ks : List ℕ) (n : ℕ) → AllByRecursion (λ k. k < 2 ^ 64) ks → are_plain (items (map whole ks)) n ≡ true
+pub numbers_plain : (ks : List ℕ) (n : ℕ) → AllByRecursion (λ k. k < 2 ^ 64) ks → are_plain (items (map whole_number ks)) n ≡ true
 numbers_plain [] n h = refl
 numbers_plain (k ∷ ks) n h = and_from _ _ (lt-ltb k (2 ^ 64) h.0) (numbers_plain ks n h.1)
 
-pub numbers_utf8 : (ks : List ℕ) → ItemsHaveUtf8 (items (map whole ks))
+pub numbers_utf8 : (ks : List ℕ) → ItemsHaveUtf8 (items (map whole_number ks))
 numbers_utf8 [] = tt
 numbers_utf8 (k ∷ ks) = (tt, numbers_utf8 ks)
 

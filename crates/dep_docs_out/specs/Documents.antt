@@ -15,7 +15,7 @@ use Rattle.dep_types.specs.State.{Texts}
 use Rattle.dep_types.specs.Names.{binary, metadata_format}
 use Rattle.dep_moment.specs.Civil.{rfc3339_text}
 use Rattle.dep_types.specs.Limits.{greatest_moment}
-use Rattle.dep_docs_out.specs.Json.{text, whole, list, text_list, whole_list, only, document}
+use Rattle.dep_docs_out.specs.Json.{text, whole_number, list, text_list, number_list, only, document}
 
 abbrev pub context : List ℕ × Data
 context = (codes "@context", text (codes "https://swordapp.github.io/swordv3/swordv3.jsonld"))
@@ -58,9 +58,9 @@ service_limits config =
     ∷ (codes "dc:title", text config.title)
     ∷ (codes "dcterms:abstract", text config.abstract_text)
     ∷ (codes "digest", only (codes "SHA-256"))
-    ∷ (codes "maxAssembledSize", whole config.max_assembled)
-    ∷ (codes "maxSegments", whole config.max_segments)
-    ∷ (codes "maxUploadSize", whole config.max_upload)
+    ∷ (codes "maxAssembledSize", whole_number config.max_assembled)
+    ∷ (codes "maxSegments", whole_number config.max_segments)
+    ∷ (codes "maxUploadSize", whole_number config.max_upload)
     ∷ []
 
 -- where it takes it
@@ -69,7 +69,7 @@ service_places config root staging =
     (codes "onBehalfOf", boolean config.on_behalf_of)
     ∷ (codes "root", text root)
     ∷ (codes "staging", text staging)
-    ∷ (codes "stagingMaxIdle", whole config.staging_max_idle)
+    ∷ (codes "stagingMaxIdle", whole_number config.staging_max_idle)
     ∷ (codes "version", text (codes "http://purl.org/net/sword/3.0"))
     ∷ []
 
@@ -234,10 +234,10 @@ expecting count received =
 -- which segments an upload waits for, and which it has
 unfoldable pub segments_data : UploadRow → (received : List ℕ) → Data
 segments_data row received = document
-    ((codes "expecting", whole_list (expecting row.count received))
-    ∷ (codes "received", whole_list received)
-    ∷ (codes "segment_size", whole row.segment_size)
-    ∷ (codes "size", whole row.size)
+    ((codes "expecting", number_list (expecting row.count received))
+    ∷ (codes "received", number_list received)
+    ∷ (codes "segment_size", whole_number row.segment_size)
+    ∷ (codes "size", whole_number row.size)
     ∷ [])
 
 abbrev pub upload_members : (place : List ℕ) → UploadRow → (received : List ℕ)

@@ -8,8 +8,8 @@ use Rattle.serde_json.specs.Written.{outline}
 abbrev pub text : List ℕ → Data
 text s = string s
 
-abbrev pub whole : ℕ → Data
-whole n = number (unsigned n)
+abbrev pub whole_number : ℕ → Data
+whole_number n = number (unsigned n)
 
 abbrev pub items : List Data → Items
 items [] = no_items
@@ -22,8 +22,8 @@ list ds = array (items ds)
 abbrev pub text_list : List (List ℕ) → Data
 text_list ss = list (map text ss)
 
-abbrev pub whole_list : List ℕ → Data
-whole_list ns = list (map whole ns)
+abbrev pub number_list : List ℕ → Data
+number_list ns = list (map whole_number ns)
 
 -- a list of one text
 abbrev pub only : List ℕ → Data

@@ -90,8 +90,8 @@ impl Document {
     }
 
     /// A whole number that is an item of a list.
-    pub fn whole_item(&mut self, number: u64) -> Result<(), AllocError>
-        ensures { OnOk result (AddsItems self.old self.new (spec.whole number ∷ [])) }
+    pub fn whole_number_item(&mut self, number: u64) -> Result<(), AllocError>
+        ensures { OnOk result (AddsItems self.old self.new (spec.whole_number number ∷ [])) }
     {
         self.out.u64(number)
     }
@@ -125,11 +125,11 @@ impl Document {
     }
 
     /// A member that is a whole number.
-    pub fn whole(&mut self, name: &str, number: u64) -> Result<(), AllocError>
-        ensures { OnOk result (AddsMember self.old self.new name.now (spec.whole number)) }
+    pub fn whole_number(&mut self, name: &str, number: u64) -> Result<(), AllocError>
+        ensures { OnOk result (AddsMember self.old self.new name.now (spec.whole_number number)) }
     {
         self.name(name)?;
-        self.whole_item(number)
+        self.whole_number_item(number)
     }
 
     /// A member that is a truth value.

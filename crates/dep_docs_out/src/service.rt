@@ -56,9 +56,9 @@ fn add_limits(document: &mut Document, config: &Config) -> Result<(), AllocError
     document.text("dc:title", config.title.as_str())?;
     document.text("dcterms:abstract", config.abstract_text.as_str())?;
     document.only("digest", "SHA-256")?;
-    document.whole("maxAssembledSize", config.max_assembled)?;
-    document.whole("maxSegments", config.max_segments)?;
-    document.whole("maxUploadSize", config.max_upload)
+    document.whole_number("maxAssembledSize", config.max_assembled)?;
+    document.whole_number("maxSegments", config.max_segments)?;
+    document.whole_number("maxUploadSize", config.max_upload)
 }
 
 // Where it takes it.
@@ -75,6 +75,6 @@ fn add_places(
     document.flag("onBehalfOf", config.on_behalf_of)?;
     document.text("root", root)?;
     document.text("staging", staging)?;
-    document.whole("stagingMaxIdle", config.staging_max_idle)?;
+    document.whole_number("stagingMaxIdle", config.staging_max_idle)?;
     document.text("version", "http://purl.org/net/sword/3.0")
 }

@@ -62,8 +62,8 @@ fn add_segments(
     document.begin_object()?;
     add_expecting(document, upload.count, received)?;
     add_received(document, received)?;
-    document.whole("segment_size", upload.segment_size)?;
-    document.whole("size", upload.size)?;
+    document.whole_number("segment_size", upload.segment_size)?;
+    document.whole_number("size", upload.size)?;
     document.end_object()
 }
 
@@ -71,7 +71,7 @@ fn add_expecting(document: &mut Document, count: u64, received: &[u64]) -> Resul
     requires first { All (λ k. 1 ≤ k) received.now }
     requires rising { IsStrictlyIncreasing received.now }
     ensures { OnOk result (AddsMember document.old document.new (codes "expecting")
-        (json_spec.whole_list (spec.expecting count received.now))) }
+        (json_spec.number_list (spec.expecting count received.now))) }
 {
     document.name("expecting")?;
     document.begin_list()?;
@@ -80,7 +80,7 @@ fn add_expecting(document: &mut Document, count: u64, received: &[u64]) -> Resul
         let number = before + 1;
         match left.split_first() {
             Some((first, rest)) if *first == number => left = rest,
-            _ => document.whole_item(number)?,
+            _ => document.whole_number_item(number)?,
         }
     }
     document.end_list()
@@ -88,12 +88,12 @@ fn add_expecting(document: &mut Document, count: u64, received: &[u64]) -> Resul
 
 fn add_received(document: &mut Document, received: &[u64]) -> Result<(), AllocError>
     ensures { OnOk result (AddsMember document.old document.new (codes "received")
-        (json_spec.whole_list received.now)) }
+        (json_spec.number_list received.now)) }
 {
     document.name("received")?;
     document.begin_list()?;
     for number in received {
-        document.whole_item(*number)?;
+        document.whole_number_item(*number)?;
     }
     document.end_list()
 }

@@ -6,11 +6,11 @@ use Rattle.dep_docs_out.proofs.service.add_limits.Goals as goal
 pub returns : goal.returns
 unfolding service_limits
 returns c =
-    on_ok_weaker c.whole-3.result (λ e.
+    on_ok_weaker c.whole_number-3.result (λ e.
     c.in_ok-flag.ensures
     ⨾ rw c.as_str.ensures at c.in_ok-text.ensures
     ⨾ rw c.as_str-2.ensures at c.in_ok-text-2.ensures
     ⨾ c.in_ok-only.ensures
-    ⨾ c.in_ok-whole.ensures
-    ⨾ c.in_ok-whole-2.ensures
-    ⨾ e) c.whole-3.ensures
+    ⨾ c.in_ok-whole_number.ensures
+    ⨾ c.in_ok-whole_number-2.ensures
+    ⨾ e) c.whole_number-3.ensures

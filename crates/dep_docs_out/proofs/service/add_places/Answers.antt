@@ -10,5 +10,5 @@ returns c =
     c.in_ok-flag.ensures
     ⨾ c.in_ok-text.ensures
     ⨾ c.in_ok-text-2.ensures
-    ⨾ c.in_ok-whole.ensures
+    ⨾ c.in_ok-whole_number.ensures
     ⨾ e) c.text-3.ensures

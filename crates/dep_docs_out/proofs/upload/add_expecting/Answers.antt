@@ -3,12 +3,12 @@ use Rattle.std.proofs.lemmas.List.{map-append, nil_from_length}
 use Rattle.json.specs.Token.{Token}
 use Rattle.std.proofs.lemmas.Result.{on_ok_weaker}
 use Rattle.serde_json.specs.Data.{Data}
-use Rattle.dep_docs_out.specs.Json.{AddsItems, whole}
+use Rattle.dep_docs_out.specs.Json.{AddsItems, whole_number}
 use Rattle.dep_docs_out.specs.Documents.{expecting}
 use Rattle.dep_docs_out.proofs.TokenLemmas.{list_member, more_items, no_items_more}
 use Rattle.dep_docs_out.proofs.Waiting.{IsLeft, IsNotFirst, all_left, received_next, expecting_same, expected_next, expecting_more}
 use Rattle.dep_docs_out.proofs.upload.add_expecting.Goals as goal
-use Rattle.dep_docs_out.proofs.upload.add_expecting.Goals.{in-Some, in_default+in_ok-whole_item-in_default, in_default-via-in-Some+else-first-number, in_default-via-in_default}
+use Rattle.dep_docs_out.proofs.upload.add_expecting.Goals.{in-Some, in_default+in_ok-whole_number_item-in_default, in_default-via-in-Some+else-first-number, in_default-via-in_default}
 
 pub loop-before-init : goal.loop-before-init
 loop-before-init c = record {
@@ -17,9 +17,9 @@ loop-before-init c = record {
 }
 
 written_more : {old between new : List Token} (n : ℕ) (received : List ℕ) → expecting (n + 1) received ≡ expecting n received ++ ((n + 1) ∷ [])
-    → AddsItems old between (map (λ k. whole k) (expecting n received)) → AddsItems between new (whole (n + 1) ∷ []) → AddsItems old new (map (λ k. whole k) (expecting (n + 1) received))
+    → AddsItems old between (map (λ k. whole_number k) (expecting n received)) → AddsItems between new (whole_number (n + 1) ∷ []) → AddsItems old new (map (λ k. whole_number k) (expecting (n + 1) received))
 written_more {old} {between} {new} n received is g h =
-    subst (λ (ds : List Data). AddsItems old new ds) (sym (ap (map (λ k. whole k)) is ∙ map-append (λ k. whole k) (expecting n received) ((n + 1) ∷ []))) (more_items g h)
+    subst (λ (ds : List Data). AddsItems old new ds) (sym (ap (map (λ k. whole_number k)) is ∙ map-append (λ k. whole_number k) (expecting n received) ((n + 1) ∷ []))) (more_items g h)
 
 pub loop-before-preserved : goal.loop-before-preserved
 loop-before-preserved c =
@@ -32,9 +32,9 @@ loop-before-preserved c =
           let here : IsLeft n received (w.in-Some.first.now ∷ w.in-Some.rest.now) = rw w.in-Some.ensures.cases.0 at held.left in
           rw (w.left-is, w.document-is) (record {
             left = received_next _ _ w.if-first-number.true here;
-            written = subst (λ ks. AddsItems c.begin_list.new.self c.loop-before.document (map (λ k. whole k) ks)) (sym (expecting_same _ _ w.if-first-number.true here)) held.written;
+            written = subst (λ ks. AddsItems c.begin_list.new.self c.loop-before.document (map (λ k. whole_number k) ks)) (sym (expecting_same _ _ w.if-first-number.true here)) held.written;
           })
-      | in_default+in_ok-whole_item-in_default w ↦
+      | in_default+in_ok-whole_number_item-in_default w ↦
           let other : IsNotFirst (n + 1) left =
           elim w.in_default.branch [
             | in_default-via-in-Some+else-first-number v ↦ rw v.in-Some.ensures.cases.0 v.if-first-number.false
@@ -42,12 +42,12 @@ loop-before-preserved c =
           ] in
           rw (w.left-is, w.document-is) (record {
             left = expected_next other held.left;
-            written = written_more n received (expecting_more other held.left) held.written w.in_ok-whole_item-in_default.ensures;
+            written = written_more n received (expecting_more other held.left) held.written w.in_ok-whole_number_item-in_default.ensures;
           })
     ]
 
 pub returns : goal.returns
 returns c =
     let all : c.loop-before.before ≡ c.args.count = omega arith in
-    let numbers = subst (λ n. AddsItems c.begin_list.new.self c.loop-before.document (map (λ k. whole k) (expecting n c.args.received.now))) all c.loop-before.invariant.written in
+    let numbers = subst (λ n. AddsItems c.begin_list.new.self c.loop-before.document (map (λ k. whole_number k) (expecting n c.args.received.now))) all c.loop-before.invariant.written in
     on_ok_weaker c.end_list.result (λ e. list_member c.in_ok-name.ensures c.in_ok-begin_list.ensures numbers e) c.end_list.ensures

@@ -8,5 +8,5 @@ unfolding segments_data
 returns c =
     on_ok_weaker c.end_object.result (λ e.
     object_member c.in_ok-name.ensures c.in_ok-begin_object.ensures
-    (c.in_ok-add_expecting.ensures ⨾ c.in_ok-add_received.ensures ⨾ c.in_ok-whole.ensures ⨾ c.in_ok-whole-2.ensures)
+    (c.in_ok-add_expecting.ensures ⨾ c.in_ok-add_received.ensures ⨾ c.in_ok-whole_number.ensures ⨾ c.in_ok-whole_number-2.ensures)
     e) c.end_object.ensures
