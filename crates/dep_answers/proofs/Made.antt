@@ -24,7 +24,7 @@ use Rattle.dep_docs_in.specs.declared.reference.Reference.{Reference}
 use Rattle.dep_docs_out.specs.Documents.{status_document, object_url, upload_document, upload_url}
 use Rattle.dep_decisions.specs.Kinds.{kind_of, kind_by, kind_without, is_completion, may_complete, may_hold, takes_kind}
 use Rattle.dep_decisions.specs.Decisions.{decision, decision_at, decision_with, deposit_by, deposit_of, ingests, opened, references_in, referred_files}
-use Rattle.dep_decisions.specs.Rules.{document_refusal, of_document, of_kind, references_refusal, refusal, rows_met}
+use Rattle.dep_decisions.specs.Rules.{document_refusal, document_rule, kind_rule, references_refusal, refusal, rows_met}
 use Rattle.dep_decisions.specs.Effects.{effect, effect_of, filled, fresh}
 use Rattle.dep_decisions.specs.declared.operation.Operation.{Operation}
 use Rattle.dep_decisions.specs.declared.decision.Deposit.{Deposit}
@@ -78,12 +78,12 @@ no_completion : (op : Operation) → may_complete op.target.resource op.target.m
 unfolding is_completion
 no_completion op e = none_of (may_complete op.target.resource op.target.method) _ _ _ e
 
-pub kind_unless : (op : Operation) → is_completion op ≡ false → of_kind op ≡ None → (kind : Kind) × (kind_of op ≡ Some kind)
-unfolding of_kind
+pub kind_unless : (op : Operation) → is_completion op ≡ false → kind_rule op ≡ None → (kind : Kind) × (kind_of op ≡ Some kind)
+unfolding kind_rule
 kind_unless op none e =
     it_is (kind_of op) (either_true (is_some (kind_of op)) (is_completion op) (unless-none (is_some (kind_of op) || is_completion op) BadRequest e) none)
 
-pub told_kind : (op : Operation) → may_complete op.target.resource op.target.method ≡ false → of_kind op ≡ None
+pub told_kind : (op : Operation) → may_complete op.target.resource op.target.method ≡ false → kind_rule op ≡ None
     → (kind : Kind) × (kind_of op ≡ Some kind)
 told_kind op whole e = kind_unless op (no_completion op whole) e
 
@@ -99,8 +99,8 @@ module _ (config : Config) (s : State) (op : Operation) where
   abbrev refs : Option (List Reference)
   refs = references_in config op
 
-  pub document_passed : (kind : Kind) → kind_of op ≡ Some kind → of_document config s op ≡ None → document_refusal config s op kind ≡ None
-  unfolding of_document
+  pub document_passed : (kind : Kind) → kind_of op ≡ Some kind → document_rule config s op ≡ None → document_refusal config s op kind ≡ None
+  unfolding document_rule
   document_passed kind is e = ap (option_and_then (document_refusal config s op)) (sym is) ∙ e
 
   references_there : (o : Option (List Reference)) → references_refusal s o ≡ None → (entries : List Reference) × (o ≡ Some entries)

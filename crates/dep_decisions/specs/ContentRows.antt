@@ -11,7 +11,7 @@ use Rattle.dep_fields.specs.declared.field.Field.{Field}
 use Rattle.dep_fields.specs.declared.field.Field.TheVariants.{Absent, Bad, Value}
 use Rattle.dep_decisions.specs.Kinds.{kind_of}
 use Rattle.dep_decisions.specs.Purposes.{purpose_of}
-use Rattle.dep_decisions.specs.Rules.{is_json, of_encoding, of_format, of_in_progress, of_kind, of_type, value_refusal}
+use Rattle.dep_decisions.specs.Rules.{is_json, encoding_rule, format_rule, in_progress_rule, kind_rule, type_rule, value_refusal}
 use Rattle.dep_decisions.specs.declared.operation.Operation.{Operation}
 use Rattle.dep_decisions.specs.declared.purpose.Purpose.{Purpose}
 use Rattle.dep_decisions.specs.declared.purpose.Purpose.TheVariants.{File, Metadata, References}
@@ -38,12 +38,12 @@ type_by op _ = None
 -- 8 to 11
 unfoldable pub fields_refusal : Operation → Option Refusal
 fields_refusal op = first_of
-    (of_encoding op ∷ of_kind op ∷ of_in_progress op ∷ of_format op ∷ of_type op ∷ [])
+    (encoding_rule op ∷ kind_rule op ∷ in_progress_rule op ∷ format_rule op ∷ type_rule op ∷ [])
 
 -- the same by the purpose of the content
 unfoldable pub fields_by : Operation → Option Purpose → Option Refusal
 fields_by op purpose = first_of
-    (of_encoding op ∷ of_kind op ∷ of_in_progress op ∷ format_by op purpose ∷ type_by op purpose
+    (encoding_rule op ∷ kind_rule op ∷ in_progress_rule op ∷ format_by op purpose ∷ type_by op purpose
     ∷ [])
 
 -- the digests of the content, where one is promised

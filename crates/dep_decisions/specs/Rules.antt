@@ -52,8 +52,8 @@ behalf_refusal false (Value text) = Some OnBehalfOfNotAllowed
 behalf_refusal true Bad = Some BadRequest
 behalf_refusal true (Value text) = None
 
-unfoldable pub of_behalf : Config → Operation → Option Refusal
-of_behalf config op = behalf_refusal config.on_behalf_of op.fields.on_behalf_of
+unfoldable pub behalf_rule : Config → Operation → Option Refusal
+behalf_rule config op = behalf_refusal config.on_behalf_of op.fields.on_behalf_of
 
 -- ---- 6: what is there
 
@@ -82,8 +82,8 @@ presence_refusal s (Upload u) = upload_refusal s u
 presence_refusal s (BagList n) = unless (has_object s n) NotFound
 presence_refusal s (BagFile n path) = unless (has_bag_path s n path) NotFound
 
-unfoldable pub of_presence : State → Operation → Option Refusal
-of_presence s op = presence_refusal s op.target.resource
+unfoldable pub presence_rule : State → Operation → Option Refusal
+presence_rule s op = presence_refusal s op.target.resource
 
 -- ---- 7: If-Match
 
@@ -101,8 +101,8 @@ tag_refusal required members None = None
 tag_refusal required None (Some tag) = when required ETagRequired
 tag_refusal required (Some members) (Some tag) = unless (holds members tag) ETagNotMatched
 
-unfoldable pub of_tag : Config → State → Operation → Option Refusal
-of_tag config s op =
+unfoldable pub tag_rule : Config → State → Operation → Option Refusal
+tag_rule config s op =
     tag_refusal config.require_if_match op.if_match (tag_at s op.target.resource)
 
 -- ---- 8 to 11: the fields of a content
@@ -114,14 +114,14 @@ value_refusal accepts r Bad = Some BadRequest
 value_refusal accepts r (Value x) = unless (accepts x) r
 
 -- 8
-unfoldable pub of_encoding : Operation → Option Refusal
-of_encoding op =
+unfoldable pub encoding_rule : Operation → Option Refusal
+encoding_rule op =
     value_refusal (λ v. str_eq_ignore_ascii_case v (codes "identity")) ContentTypeNotAcceptable
     op.fields.content_encoding
 
 -- 9: what the content is for
-unfoldable pub of_kind : Operation → Option Refusal
-of_kind op = unless (is_some (kind_of op) || is_completion op) BadRequest
+unfoldable pub kind_rule : Operation → Option Refusal
+kind_rule op = unless (is_some (kind_of op) || is_completion op) BadRequest
 
 -- the deposits that may go on
 abbrev pub reads_in_progress : Resource → Method → Bool
@@ -131,8 +131,8 @@ reads_in_progress (Object n) Put = true
 reads_in_progress _ _ = false
 
 -- 9: In-Progress
-unfoldable pub of_in_progress : Operation → Option Refusal
-of_in_progress op =
+unfoldable pub in_progress_rule : Operation → Option Refusal
+in_progress_rule op =
     if reads_in_progress op.target.resource op.target.method
     then value_refusal (λ b. true) BadRequest op.fields.in_progress else None
 
@@ -148,8 +148,8 @@ format_refusal op of.Metadata =
 format_refusal op _ = None
 
 -- 10: Packaging and Metadata-Format
-unfoldable pub of_format : Operation → Option Refusal
-of_format op = by_kind op (format_refusal op)
+unfoldable pub format_rule : Operation → Option Refusal
+format_rule op = by_kind op (format_refusal op)
 
 -- what stands before the first semicolon, without the blanks about it
 abbrev pub media_name : List ℕ → List ℕ
@@ -169,13 +169,13 @@ type_refusal op of.References =
 type_refusal op _ = None
 
 -- 11: Content-Type
-unfoldable pub of_type : Operation → Option Refusal
-of_type op = by_kind op (type_refusal op)
+unfoldable pub type_rule : Operation → Option Refusal
+type_rule op = by_kind op (type_refusal op)
 
 -- ---- 12: Digest
 
-unfoldable pub of_digest : Operation → Option Refusal
-of_digest op =
+unfoldable pub digest_rule : Operation → Option Refusal
+digest_rule op =
     value_refusal (λ list. keeps list (digests_of op.content)) DigestMismatch op.fields.digest
 
 -- ---- 13: the document
@@ -208,8 +208,8 @@ has_digests list u =
     is_kept u.sha256 (digests_of (assembled u)).sha256 && keeps list (digests_of (assembled u))
 
 -- the rules on references, of which the first is that they can be read; within a rule entry by entry
-unfoldable pub of_references : State → List Reference → Option Refusal
-of_references s refs = first_of
+unfoldable pub entries_refusal : State → List Reference → Option Refusal
+entries_refusal s refs = first_of
     (each (λ r. unless (is_some (upload_number r.target)) ByReferenceNotAllowed) refs
     ∷ each (λ r. unless (is_binary r.packaging) PackagingFormatNotAcceptable) refs
     ∷ when (stands_twice (filter_map (λ r. upload_number r.target) refs)) BadRequest
@@ -221,7 +221,7 @@ of_references s refs = first_of
 
 abbrev pub references_refusal : State → Option (List Reference) → Option Refusal
 references_refusal s None = Some ContentMalformed
-references_refusal s (Some refs) = of_references s refs
+references_refusal s (Some refs) = entries_refusal s refs
 
 abbrev pub document_refusal : Config → State → Operation → Kind → Option Refusal
 document_refusal config s op of.Metadata =
@@ -229,8 +229,8 @@ document_refusal config s op of.Metadata =
 document_refusal config s op of.References = references_refusal s (references_in config op)
 document_refusal config s op _ = None
 
-unfoldable pub of_document : Config → State → Operation → Option Refusal
-of_document config s op = by_kind op (document_refusal config s op)
+unfoldable pub document_rule : Config → State → Operation → Option Refusal
+document_rule config s op = by_kind op (document_refusal config s op)
 
 -- ---- 14: sizes and segments
 
@@ -258,25 +258,25 @@ size_refusal config s op (of.Opening o) = opening_refusal config o
 size_refusal config s op (of.Segment k) = received_refusal s op.target.resource k op.content
 size_refusal config s op _ = None
 
-unfoldable pub of_sizes : Config → State → Operation → Option Refusal
-of_sizes config s op = by_kind op (size_refusal config s op)
+unfoldable pub size_rule : Config → State → Operation → Option Refusal
+size_rule config s op = by_kind op (size_refusal config s op)
 
 -- ---- 15: numbers
 
-unfoldable pub of_room : Config → State → Operation → Option Refusal
-of_room config s op = unless (room_for s.next (numbers_for (decision config op))) StoreFull
+unfoldable pub room_rule : Config → State → Operation → Option Refusal
+room_rule config s op = unless (room_for s.next (numbers_for (decision config op))) StoreFull
 
 -- ---- the order
 
 -- 5 and 6: who asks, and for what
 abbrev pub first_rows : Config → State → Operation → List (Option Refusal)
-first_rows config s op = of_behalf config op ∷ of_presence s op ∷ []
+first_rows config s op = behalf_rule config op ∷ presence_rule s op ∷ []
 
 -- 8 to 14
 abbrev pub content_rows : Config → State → Operation → List (Option Refusal)
 content_rows config s op =
-    of_encoding op ∷ of_kind op ∷ of_in_progress op ∷ of_format op ∷ of_type op
-    ∷ of_digest op ∷ of_document config s op ∷ of_sizes config s op ∷ []
+    encoding_rule op ∷ kind_rule op ∷ in_progress_rule op ∷ format_rule op ∷ type_rule op
+    ∷ digest_rule op ∷ document_rule config s op ∷ size_rule config s op ∷ []
 
 -- the rules that a method meets, in their order: a content has only POST and PUT, and no tag guards
 -- what is only read, or an upload that is dropped
@@ -285,10 +285,10 @@ rows_met config s op resource Get = first_rows config s op
 rows_met config s op resource Head = first_rows config s op
 rows_met config s op (Upload u) Delete = first_rows config s op
 rows_met config s op resource Delete =
-    first_rows config s op ++ of_tag config s op ∷ of_room config s op ∷ []
+    first_rows config s op ++ tag_rule config s op ∷ room_rule config s op ∷ []
 rows_met config s op resource method =
-    first_rows config s op ++ of_tag config s op ∷ content_rows config s op
-    ++ of_room config s op ∷ []
+    first_rows config s op ++ tag_rule config s op ∷ content_rows config s op
+    ++ room_rule config s op ∷ []
 
 -- why a request is refused, if it is
 unfoldable pub refusal : Config → State → Operation → Option Refusal

@@ -6,7 +6,7 @@ ghost use Rattle.std.specs.Str.{str_eq_ignore_ascii_case};
 ghost use Rattle.dep_types.specs.Names.{binary, metadata_format};
 ghost use Rattle.dep_types.specs.declared.refusal.Refusal.TheVariants as why;
 ghost use Rattle.dep_decisions.specs.ContentRows.{digests_if_promised, fields_by, fields_refusal, format_by, purpose_in, type_by};
-ghost use Rattle.dep_decisions.specs.Rules.{is_json, media_name, of_digest, of_encoding, of_in_progress, of_kind, reads_in_progress, unless};
+ghost use Rattle.dep_decisions.specs.Rules.{is_json, media_name, digest_rule, encoding_rule, in_progress_rule, kind_rule, reads_in_progress, unless};
 
 use crate::asked::content_digests;
 use crate::operation::Operation;
@@ -48,9 +48,9 @@ fn rows_by(operation: &Operation<'_>, purpose: Option<Purpose>) -> Option<Refusa
 }
 
 /// Rule 8: Content-Encoding.
-#[tactic(auto, unfolding(crate::specs::Rules::of_encoding))]
+#[tactic(auto, unfolding(crate::specs::Rules::encoding_rule))]
 fn encoding_row(operation: &Operation<'_>) -> Option<Refusal>
-    ensures { result ≡ of_encoding operation.now }
+    ensures { result ≡ encoding_rule operation.now }
 {
     match &operation.fields.content_encoding {
         Field::Absent => None,
@@ -72,10 +72,10 @@ fn is_identity(coding: &Octets) -> bool
 }
 
 /// Rule 9: what the content is for.
-#[tactic(auto, unfolding(crate::specs::Rules::of_kind))]
+#[tactic(auto, unfolding(crate::specs::Rules::kind_rule))]
 fn kind_row(operation: &Operation<'_>, purpose: Option<Purpose>) -> Option<Refusal>
     requires { purpose ≡ purpose_in operation.now }
-    ensures { result ≡ of_kind operation.now }
+    ensures { result ≡ kind_rule operation.now }
 {
     if purpose.is_some() || is_completion(operation) {
         None
@@ -85,9 +85,9 @@ fn kind_row(operation: &Operation<'_>, purpose: Option<Purpose>) -> Option<Refus
 }
 
 /// Rule 9: In-Progress.
-#[tactic(auto, unfolding(crate::specs::Rules::of_in_progress))]
+#[tactic(auto, unfolding(crate::specs::Rules::in_progress_rule))]
 fn progress_row(operation: &Operation<'_>) -> Option<Refusal>
-    ensures { result ≡ of_in_progress operation.now }
+    ensures { result ≡ in_progress_rule operation.now }
 {
     if !reads_in_progress(&operation.target) {
         return None;
@@ -215,10 +215,10 @@ pub fn digests_if_promised(operation: &Operation<'_>) -> Option<Digests>
 }
 
 /// Rule 12: Digest.
-#[tactic(auto, unfolding(crate::specs::Rules::of_digest))]
+#[tactic(auto, unfolding(crate::specs::Rules::digest_rule))]
 pub fn digest_row(operation: &Operation<'_>, digests: Option<Digests>) -> Option<Refusal>
     requires { digests ≡ digests_if_promised operation.now operation.now.fields.digest }
-    ensures { result ≡ of_digest operation.now }
+    ensures { result ≡ digest_rule operation.now }
 {
     match (&operation.fields.digest, digests) {
         (Field::Bad, _) => Some(Refusal::BadRequest),

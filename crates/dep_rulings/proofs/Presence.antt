@@ -15,11 +15,11 @@ use Rattle.dep_types.specs.declared.refusal.Refusal.TheVariants.{NotFound, Segme
 use Rattle.dep_types.specs.declared.target.Resource.{Resource}
 use Rattle.dep_types.specs.declared.target.Resource.TheVariants.{Service, Object, Metadata, FileSet, File, Staging, Upload, BagList, BagFile}
 use Rattle.dep_decisions.specs.Decisions.{references_in}
-use Rattle.dep_decisions.specs.Rules.{has_bag_path, of_presence, of_tag, presence_refusal, received_refusal, segment_refusal, tag_at, tag_refusal, unless}
+use Rattle.dep_decisions.specs.Rules.{has_bag_path, presence_rule, tag_rule, presence_refusal, received_refusal, segment_refusal, tag_at, tag_refusal, unless}
 use Rattle.dep_decisions.specs.declared.operation.Operation.{Operation}
 use Rattle.dep_rulings.specs.Rows.{tag_row}
 use Rattle.dep_rulings.specs.Seen.{live_refusal, presence_seen, received_seen, segment_by, segment_seen, state_refusal, tag_seen, views_refusal}
-use Rattle.dep_rulings.specs.Views.{file_in, live_upload, object_in, path_in, upload_view, uploads_in, view_of}
+use Rattle.dep_rulings.specs.Views.{file_in, live_upload, object_in, path_in, upload_view, uploads_in, true_view}
 use Rattle.dep_rulings.specs.declared.view.UploadState.TheVariants.{Unknown, TimedOut, Live}
 use Rattle.dep_rulings.proofs.Staged.{not_by_reference}
 use Rattle.dep_rulings.proofs.Tests.{among}
@@ -65,7 +65,7 @@ module _ (config : Config) (s : State) (op : Operation) where
       ap (λ o. unless (is_some (o >>= (λ n. option_map (object_row n) (finmap.get s.objects n)))) NotFound) at
       ∙ ap (λ b. unless b NotFound) (has_row (object_row n) (finmap.get s.objects n))
 
-  pub presence_is : (resource : Resource) → op.target.resource ≡ resource → presence_seen (view_of config s op) resource ≡ presence_refusal s resource
+  pub presence_is : (resource : Resource) → op.target.resource ≡ resource → presence_seen (true_view config s op) resource ≡ presence_refusal s resource
   presence_is Service at = refl
   presence_is (Object n) at = object_is n (ap object_in at)
   presence_is (Metadata n) at = object_is n (ap object_in at)
@@ -81,7 +81,7 @@ module _ (config : Config) (s : State) (op : Operation) where
   presence_is (BagFile n path) at =
       ap (λ r. unless (option_map_or (λ n. option_map_or (has_bag_path s n) (path_in r) false) (object_in r) false) NotFound) at
 
-  tag_is : (resource : Resource) → op.target.resource ≡ resource → tag_seen (view_of config s op) resource ≡ tag_at s resource
+  tag_is : (resource : Resource) → op.target.resource ≡ resource → tag_seen (true_view config s op) resource ≡ tag_at s resource
   tag_is Service at = refl
   tag_is (Object n) at =
       ap (λ r. option_map (λ (row : ObjectRow). row.object_tag) (object_in r >>= (λ n. option_map (object_row n) (finmap.get s.objects n)))) at
@@ -101,7 +101,7 @@ module _ (config : Config) (s : State) (op : Operation) where
   tag_is (BagFile n path) at = refl
 
   pub received_is : (resource : Resource) (k : ℕ) → op.target.resource ≡ resource
-      → received_seen (view_of config s op) resource k op.content ≡ received_refusal s resource k op.content
+      → received_seen (true_view config s op) resource k op.content ≡ received_refusal s resource k op.content
   received_is (Upload u) k at =
       ap (λ refs. segment_seen (map (upload_view (is_some refs) s) (uploads_in op.target.resource refs)) k op.content) (not_by_reference config op u at)
       ∙ ap (λ r. segment_seen (map (upload_view false s) (uploads_in r None)) k op.content) at
@@ -115,10 +115,10 @@ module _ (config : Config) (s : State) (op : Operation) where
   received_is (BagList n) k at = refl
   received_is (BagFile n path) k at = refl
 
-  pub presence_row_is : presence_seen (view_of config s op) op.target.resource ≡ of_presence s op
-  unfolding of_presence
+  pub presence_row_is : presence_seen (true_view config s op) op.target.resource ≡ presence_rule s op
+  unfolding presence_rule
   presence_row_is = presence_is op.target.resource refl
 
-  pub tag_row_is : tag_row config (view_of config s op) op ≡ of_tag config s op
-  unfolding of_tag
+  pub tag_row_is : tag_row config (true_view config s op) op ≡ tag_rule config s op
+  unfolding tag_rule
   tag_row_is = ap (tag_refusal config.require_if_match op.if_match) (tag_is op.target.resource refl)

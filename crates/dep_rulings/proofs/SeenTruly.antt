@@ -18,7 +18,7 @@ use Rattle.dep_decisions.specs.Asked.{asked_at}
 use Rattle.dep_decisions.specs.Decisions.{decision, decision_with, numbers_for, references_in}
 use Rattle.dep_decisions.specs.Kinds.{kind_of}
 use Rattle.dep_decisions.specs.Purposes.{purpose_of}
-use Rattle.dep_decisions.specs.Rules.{document_refusal, of_behalf, of_digest, of_document, of_encoding, of_format, of_in_progress, of_kind, of_presence, of_room, of_sizes, of_tag, of_type, references_refusal, refusal, rows_met, size_refusal, unless}
+use Rattle.dep_decisions.specs.Rules.{document_refusal, behalf_rule, digest_rule, document_rule, encoding_rule, format_rule, in_progress_rule, kind_rule, presence_rule, room_rule, size_rule, tag_rule, type_rule, references_refusal, refusal, rows_met, size_refusal, unless}
 use Rattle.dep_decisions.specs.declared.operation.Operation.{Operation}
 use Rattle.dep_decisions.specs.declared.decision.Decision.{Decision}
 use Rattle.dep_decisions.specs.declared.decision.Decision.TheVariants.{Show, DropUpload}
@@ -27,7 +27,7 @@ use Rattle.dep_rulings.specs.Checks.{IsRoomRuling}
 use Rattle.dep_decisions.specs.ContentRows.{fields_refusal, purpose_in}
 use Rattle.dep_rulings.specs.Rows.{IsSeen, access_refusal, content_by, content_refusal, document_by, has_content, reads_alone, refusal_seen, room_refusal, size_by, tag_row}
 use Rattle.dep_rulings.specs.Rulings.{HasRoomFor, IsRuling, RulesBy}
-use Rattle.dep_rulings.specs.Views.{uploads_in, upload_view, view_of}
+use Rattle.dep_rulings.specs.Views.{uploads_in, upload_view, true_view}
 use Rattle.dep_rulings.specs.Walks.{references_seen}
 use Rattle.dep_rulings.specs.declared.ruling.Ruling.{Ruling}
 use Rattle.dep_rulings.specs.declared.ruling.Ruling.TheVariants.{Do, Refuse}
@@ -43,7 +43,7 @@ module _ (config : Config) (s : State) (op : Operation) where
   references_by_views None = refl
   references_by_views (Some refs) = references_are s refs
 
-  document_for : (o : Option Kind) → kind_of op ≡ o → document_by (view_of config s op) op (option_map purpose_of o) ≡ option_and_then (document_refusal config s op) o
+  document_for : (o : Option Kind) → kind_of op ≡ o → document_by (true_view config s op) op (option_map purpose_of o) ≡ option_and_then (document_refusal config s op) o
   unfolding document_by
   document_for None is = refl
   document_for (Some (of.File name)) is = refl
@@ -54,11 +54,11 @@ module _ (config : Config) (s : State) (op : Operation) where
   document_for (Some (of.Opening o)) is = refl
   document_for (Some (of.Segment k)) is = refl
 
-  document_is : document_by (view_of config s op) op (purpose_in op) ≡ of_document config s op
-  unfolding of_document
+  document_is : document_by (true_view config s op) op (purpose_in op) ≡ document_rule config s op
+  unfolding document_rule
   document_is = document_for (kind_of op) refl
 
-  size_for : (o : Option Kind) → size_by config (view_of config s op) op (option_map purpose_of o) ≡ option_and_then (size_refusal config s op) o
+  size_for : (o : Option Kind) → size_by config (true_view config s op) op (option_map purpose_of o) ≡ option_and_then (size_refusal config s op) o
   unfolding size_by
   size_for None = refl
   size_for (Some (of.File name)) = refl
@@ -67,40 +67,40 @@ module _ (config : Config) (s : State) (op : Operation) where
   size_for (Some (of.Opening o)) = refl
   size_for (Some (of.Segment k)) = received_is config s op op.target.resource k refl
 
-  size_is : size_by config (view_of config s op) op (purpose_in op) ≡ of_sizes config s op
-  unfolding of_sizes
+  size_is : size_by config (true_view config s op) op (purpose_in op) ≡ size_rule config s op
+  unfolding size_rule
   size_is = size_for (kind_of op)
 
   -- ---- the rules by what is seen
 
   abbrev access_at : Resource → Method → Option Refusal
   access_at resource method = first_of
-      (of_behalf config op ∷ of_presence s op ∷ (if reads_alone resource method then None else of_tag config s op) ∷ [])
+      (behalf_rule config op ∷ presence_rule s op ∷ (if reads_alone resource method then None else tag_rule config s op) ∷ [])
 
-  access_is : access_refusal config (view_of config s op) op ≡ access_at op.target.resource op.target.method
+  access_is : access_refusal config (true_view config s op) op ≡ access_at op.target.resource op.target.method
   unfolding access_refusal
   access_is =
-      ap (λ p. first_of (of_behalf config op ∷ p ∷ (if reads_alone op.target.resource op.target.method then None else tag_row config (view_of config s op) op) ∷ [])) (presence_row_is config s op)
-      ∙ ap (λ t. first_of (of_behalf config op ∷ of_presence s op ∷ (if reads_alone op.target.resource op.target.method then None else t) ∷ [])) (tag_row_is config s op)
+      ap (λ p. first_of (behalf_rule config op ∷ p ∷ (if reads_alone op.target.resource op.target.method then None else tag_row config (true_view config s op) op) ∷ [])) (presence_row_is config s op)
+      ∙ ap (λ t. first_of (behalf_rule config op ∷ presence_rule s op ∷ (if reads_alone op.target.resource op.target.method then None else t) ∷ [])) (tag_row_is config s op)
 
   abbrev content_of : (document size : Option Refusal) → Option Refusal
-  content_of d z = first_of (fields_refusal op ∷ of_digest op ∷ d ∷ z ∷ [])
+  content_of d z = first_of (fields_refusal op ∷ digest_rule op ∷ d ∷ z ∷ [])
 
   abbrev content_at : Method → Option Refusal
-  content_at method = if has_content method then content_of (of_document config s op) (of_sizes config s op) else None
+  content_at method = if has_content method then content_of (document_rule config s op) (size_rule config s op) else None
 
-  content_rows_are : content_by config (view_of config s op) op (purpose_in op) ≡ content_of (of_document config s op) (of_sizes config s op)
+  content_rows_are : content_by config (true_view config s op) op (purpose_in op) ≡ content_of (document_rule config s op) (size_rule config s op)
   unfolding content_by
   content_rows_are =
-      ap (λ d. content_of d (size_by config (view_of config s op) op (purpose_in op))) document_is
-      ∙ ap (λ z. content_of (of_document config s op) z) size_is
+      ap (λ d. content_of d (size_by config (true_view config s op) op (purpose_in op))) document_is
+      ∙ ap (λ z. content_of (document_rule config s op) z) size_is
 
-  content_is : content_refusal config (view_of config s op) op ≡ content_at op.target.method
+  content_is : content_refusal config (true_view config s op) op ≡ content_at op.target.method
   unfolding content_refusal
   content_is = ap (λ c. if has_content op.target.method then c else None) content_rows_are
 
-  room_is : room_refusal (view_of config s op) op ≡ of_room config s op
-  unfolding room_refusal of_room
+  room_is : room_refusal (true_view config s op) op ≡ room_rule config s op
+  unfolding room_refusal room_rule
   room_is = refl
 
   -- ---- nothing is taken by what is only read, or dropped
@@ -110,12 +110,12 @@ module _ (config : Config) (s : State) (op : Operation) where
   decided resource method at to =
       ap (λ r. asked_at (references_in config op) op r method) (sym at) ∙ asked_by (references_in config op) op method to
 
-  room_for_show : decision config op ≡ Show → of_room config s op ≡ None
-  unfolding of_room room_for
+  room_for_show : decision config op ≡ Show → room_rule config s op ≡ None
+  unfolding room_rule room_for
   room_for_show e = ap (λ d. unless (room_for s.next (numbers_for d)) StoreFull) e
 
-  room_for_drop : (u : ℕ) → decision config op ≡ DropUpload u → of_room config s op ≡ None
-  unfolding of_room room_for
+  room_for_drop : (u : ℕ) → decision config op ≡ DropUpload u → room_rule config s op ≡ None
+  unfolding room_rule room_for
   room_for_drop u e = ap (λ d. unless (room_for s.next (numbers_for d)) StoreFull) e
 
   -- ---- the order, over rows that are any
@@ -151,46 +151,46 @@ module _ (config : Config) (s : State) (op : Operation) where
       ∙ joined (first_of (e ∷ k ∷ i ∷ f ∷ y ∷ []) ∷ d ∷ o ∷ z ∷ []) (m ∷ []))
 
   abbrev at_once : Resource → Method → Option Refusal
-  at_once resource method = first_of (access_at resource method ∷ content_at method ∷ of_room config s op ∷ [])
+  at_once resource method = first_of (access_at resource method ∷ content_at method ∷ room_rule config s op ∷ [])
 
   dropped : (resource : Resource) → op.target.resource ≡ resource → op.target.method ≡ Delete → first_of (rows_met config s op resource Delete) ≡ at_once resource Delete
-  dropped (Upload u) at to = read_is (of_behalf config op) (of_presence s op) (of_room config s op) (room_for_drop u (sym (decided (Upload u) Delete at to)))
-  dropped Service at to = dropped_is (of_behalf config op) (of_presence s op) (of_tag config s op) (of_room config s op)
-  dropped (Object n) at to = dropped_is (of_behalf config op) (of_presence s op) (of_tag config s op) (of_room config s op)
-  dropped (Metadata n) at to = dropped_is (of_behalf config op) (of_presence s op) (of_tag config s op) (of_room config s op)
-  dropped (FileSet n) at to = dropped_is (of_behalf config op) (of_presence s op) (of_tag config s op) (of_room config s op)
-  dropped (File n f) at to = dropped_is (of_behalf config op) (of_presence s op) (of_tag config s op) (of_room config s op)
-  dropped Staging at to = dropped_is (of_behalf config op) (of_presence s op) (of_tag config s op) (of_room config s op)
-  dropped (BagList n) at to = dropped_is (of_behalf config op) (of_presence s op) (of_tag config s op) (of_room config s op)
-  dropped (BagFile n path) at to = dropped_is (of_behalf config op) (of_presence s op) (of_tag config s op) (of_room config s op)
+  dropped (Upload u) at to = read_is (behalf_rule config op) (presence_rule s op) (room_rule config s op) (room_for_drop u (sym (decided (Upload u) Delete at to)))
+  dropped Service at to = dropped_is (behalf_rule config op) (presence_rule s op) (tag_rule config s op) (room_rule config s op)
+  dropped (Object n) at to = dropped_is (behalf_rule config op) (presence_rule s op) (tag_rule config s op) (room_rule config s op)
+  dropped (Metadata n) at to = dropped_is (behalf_rule config op) (presence_rule s op) (tag_rule config s op) (room_rule config s op)
+  dropped (FileSet n) at to = dropped_is (behalf_rule config op) (presence_rule s op) (tag_rule config s op) (room_rule config s op)
+  dropped (File n f) at to = dropped_is (behalf_rule config op) (presence_rule s op) (tag_rule config s op) (room_rule config s op)
+  dropped Staging at to = dropped_is (behalf_rule config op) (presence_rule s op) (tag_rule config s op) (room_rule config s op)
+  dropped (BagList n) at to = dropped_is (behalf_rule config op) (presence_rule s op) (tag_rule config s op) (room_rule config s op)
+  dropped (BagFile n path) at to = dropped_is (behalf_rule config op) (presence_rule s op) (tag_rule config s op) (room_rule config s op)
 
-  written : first_of (of_behalf config op ∷ of_presence s op ∷ of_tag config s op ∷ of_encoding op ∷ of_kind op ∷ of_in_progress op ∷ of_format op ∷ of_type op
-      ∷ of_digest op ∷ of_document config s op ∷ of_sizes config s op ∷ of_room config s op ∷ [])
-      ≡ first_of (first_of (of_behalf config op ∷ of_presence s op ∷ of_tag config s op ∷ [])
-      ∷ content_of (of_document config s op) (of_sizes config s op) ∷ of_room config s op ∷ [])
+  written : first_of (behalf_rule config op ∷ presence_rule s op ∷ tag_rule config s op ∷ encoding_rule op ∷ kind_rule op ∷ in_progress_rule op ∷ format_rule op ∷ type_rule op
+      ∷ digest_rule op ∷ document_rule config s op ∷ size_rule config s op ∷ room_rule config s op ∷ [])
+      ≡ first_of (first_of (behalf_rule config op ∷ presence_rule s op ∷ tag_rule config s op ∷ [])
+      ∷ content_of (document_rule config s op) (size_rule config s op) ∷ room_rule config s op ∷ [])
   unfolding fields_refusal
-  written = written_is (of_behalf config op) (of_presence s op) (of_tag config s op) (of_encoding op) (of_kind op) (of_in_progress op) (of_format op) (of_type op)
-      (of_digest op) (of_document config s op) (of_sizes config s op) (of_room config s op)
+  written = written_is (behalf_rule config op) (presence_rule s op) (tag_rule config s op) (encoding_rule op) (kind_rule op) (in_progress_rule op) (format_rule op) (type_rule op)
+      (digest_rule op) (document_rule config s op) (size_rule config s op) (room_rule config s op)
 
   in_order : (resource : Resource) (method : Method) → op.target.resource ≡ resource → op.target.method ≡ method
       → first_of (rows_met config s op resource method) ≡ at_once resource method
-  in_order resource Get at to = read_is (of_behalf config op) (of_presence s op) (of_room config s op)
+  in_order resource Get at to = read_is (behalf_rule config op) (presence_rule s op) (room_rule config s op)
       (room_for_show (sym (decided resource Get at to) ∙ sym (shown_by_get (references_in config op) op resource)))
-  in_order resource Head at to = read_is (of_behalf config op) (of_presence s op) (of_room config s op)
+  in_order resource Head at to = read_is (behalf_rule config op) (presence_rule s op) (room_rule config s op)
       (room_for_show (sym (decided resource Head at to) ∙ sym (shown_by_head (references_in config op) op resource)))
   in_order resource Delete at to = dropped resource at to
   in_order resource Post at to = written
   in_order resource Put at to = written
 
-  pub seen_truly : refusal_seen config (view_of config s op) op ≡ refusal config s op
+  pub seen_truly : refusal_seen config (true_view config s op) op ≡ refusal config s op
   unfolding refusal_seen refusal
   seen_truly =
-      ap (λ a. first_of (a ∷ content_refusal config (view_of config s op) op ∷ room_refusal (view_of config s op) op ∷ [])) access_is
-      ∙ ap (λ c. first_of (access_at op.target.resource op.target.method ∷ c ∷ room_refusal (view_of config s op) op ∷ [])) content_is
+      ap (λ a. first_of (a ∷ content_refusal config (true_view config s op) op ∷ room_refusal (true_view config s op) op ∷ [])) access_is
+      ∙ ap (λ c. first_of (access_at op.target.resource op.target.method ∷ c ∷ room_refusal (true_view config s op) op ∷ [])) content_is
       ∙ ap (λ m. first_of (access_at op.target.resource op.target.method ∷ content_at op.target.method ∷ m ∷ [])) room_is
       ∙ sym (in_order op.target.resource op.target.method refl refl)
 
-  told : (ruling : Ruling) → IsSeen config (view_of config s op) op ruling → IsRuling config s op ruling
+  told : (ruling : Ruling) → IsSeen config (true_view config s op) op ruling → IsRuling config s op ruling
   told (Refuse r) is = sym seen_truly ∙ is
   told (Do d) is = (sym seen_truly ∙ is.0, is.1)
 

@@ -16,7 +16,7 @@ use Rattle.dep_docs_in.specs.declared.reference.Reference.{Reference}
 use Rattle.dep_docs_in.specs.declared.reference.Pointed.{Pointed}
 use Rattle.dep_docs_in.specs.declared.reference.Pointed.TheVariants.{Upload as AnUpload, Elsewhere}
 use Rattle.dep_decisions.specs.Decisions.{upload_number}
-use Rattle.dep_decisions.specs.Rules.{each, has_digests, has_length, is_binary, of_references, passes, stands_twice, unless, upload_refusal, when}
+use Rattle.dep_decisions.specs.Rules.{each, has_digests, has_length, is_binary, entries_refusal, passes, stands_twice, unless, upload_refusal, when}
 use Rattle.dep_rulings.specs.Views.{live_upload, upload_state, upload_view, uploads_named}
 use Rattle.dep_rulings.specs.Walks.{at_entry, entries_seen, has_digests_seen, if_live, packaging_refusal, repeat_refusal, rule_of, target_refusal, walk}
 use Rattle.dep_rulings.specs.declared.references.UploadRule.TheVariants.{IsThere, IsWhole, HasLength, HasDigests}
@@ -169,8 +169,8 @@ module _ (s : State) where
   )
 
   -- the rules on references, by the views of their uploads
-  pub references_are : (refs : List Reference) → entries_seen (views_of refs) refs ≡ of_references s refs
-  unfolding of_references entries_seen
+  pub references_are : (refs : List Reference) → entries_seen (views_of refs) refs ≡ entries_refusal s refs
+  unfolding entries_refusal entries_seen
   references_are refs =
       let is_there = walked (rule_of IsThere) (λ r. option_and_then (upload_refusal s) (upload_number r.target)) refs (everywhere _ _ there refs) in
       let is_whole = walked (rule_of IsWhole) (λ r. unless (passes s r is_complete) BadRequest) refs (everywhere _ _ whole refs) in

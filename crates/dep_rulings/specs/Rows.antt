@@ -13,7 +13,7 @@ use Rattle.dep_docs_in.specs.Documents.{metadata_read, references_read}
 use Rattle.dep_docs_in.specs.declared.reference.Reference.{Reference}
 use Rattle.dep_decisions.specs.ContentRows.{fields_refusal, purpose_in}
 use Rattle.dep_decisions.specs.Decisions.{decision_with, numbers_for}
-use Rattle.dep_decisions.specs.Rules.{of_behalf, of_digest, opening_refusal, tag_refusal, unless}
+use Rattle.dep_decisions.specs.Rules.{behalf_rule, digest_rule, opening_refusal, tag_refusal, unless}
 use Rattle.dep_decisions.specs.declared.operation.Operation.{Operation}
 use Rattle.dep_decisions.specs.declared.purpose.Purpose.{Purpose}
 use Rattle.dep_decisions.specs.declared.purpose.Purpose.TheVariants.{Metadata, References, Opening, Segment}
@@ -57,7 +57,7 @@ tag_row config view op =
 -- 5 to 7
 unfoldable pub access_refusal : Config → View → Operation → Option Refusal
 access_refusal config view op = first_of
-    (of_behalf config op
+    (behalf_rule config op
     ∷ presence_seen view op.target.resource
     ∷ (if reads_alone op.target.resource op.target.method then None else tag_row config view op)
     ∷ [])
@@ -65,7 +65,7 @@ access_refusal config view op = first_of
 -- 8 to 14
 unfoldable pub content_by : Config → View → Operation → Option Purpose → Option Refusal
 content_by config view op purpose = first_of
-    (fields_refusal op ∷ of_digest op ∷ document_by view op purpose
+    (fields_refusal op ∷ digest_rule op ∷ document_by view op purpose
     ∷ size_by config view op purpose ∷ [])
 
 abbrev pub has_content : Method → Bool

@@ -7,7 +7,7 @@ use Rattle.dep_types.specs.declared.counters.Counters.{Counters}
 use Rattle.dep_decisions.specs.Decisions.{decision, numbers_for}
 use Rattle.dep_decisions.specs.Rules.{refusal}
 use Rattle.dep_decisions.specs.declared.operation.Operation.{Operation}
-use Rattle.dep_rulings.specs.Views.{view_of}
+use Rattle.dep_rulings.specs.Views.{true_view}
 use Rattle.dep_rulings.specs.declared.ruling.Ruling.{Ruling}
 use Rattle.dep_rulings.specs.declared.ruling.Ruling.TheVariants.{Do, Refuse}
 use Rattle.dep_rulings.specs.declared.view.View.{View}
@@ -20,7 +20,7 @@ IsRuling config s op (Do d) = (refusal config s op ≡ None) × (d ≡ decision 
 -- it is the ruling in each state of which the view tells truly
 abbrev pub RulesBy : Config → View → Operation → Ruling → Type 0
 RulesBy config view op ruling =
-    (s : State) → view ≡ view_of config s op → IsRuling config s op ruling
+    (s : State) → view ≡ true_view config s op → IsRuling config s op ruling
 
 -- what is let through can be given its numbers
 abbrev pub HasRoomFor : Counters → Ruling → Type 0

@@ -118,5 +118,5 @@ seen_at s t = record {
 }
 
 -- the view that tells the state truly where the request touches it
-abbrev pub view_of : Config → State → Operation → View
-view_of config s op = seen_at s (touched_by config op)
+abbrev pub true_view : Config → State → Operation → View
+true_view config s op = seen_at s (touched_by config op)

@@ -41,24 +41,24 @@ abbrev pub has_digests_seen : Reference → LiveUpload → Digests → Bool
 has_digests_seen r l digests = is_kept l.row.sha256 digests.sha256 && keeps r.digest digests
 
 -- the digests are told where no segment is missing
-abbrev pub whole_rule : UploadState → Option Refusal
-whole_rule state = unless (if_live (λ l. is_some l.digests) state) BadRequest
+abbrev pub whole_upload_rule : UploadState → Option Refusal
+whole_upload_rule state = unless (if_live (λ l. is_some l.digests) state) BadRequest
 
-abbrev pub length_rule : Reference → UploadState → Option Refusal
-length_rule r state =
+abbrev pub upload_length_rule : Reference → UploadState → Option Refusal
+upload_length_rule r state =
     unless (if_live (λ l. option_map_or (λ n. n == l.row.size) r.length true) state) BadRequest
 
-abbrev pub digest_rule : Reference → UploadState → Option Refusal
-digest_rule r state =
+abbrev pub upload_digest_rule : Reference → UploadState → Option Refusal
+upload_digest_rule r state =
     unless (if_live (λ l. option_map_or (has_digests_seen r l) l.digests true) state)
     DigestMismatch
 
 -- what each rule says of an entry and its upload
 unfoldable pub rule_of : UploadRule → Reference → UploadState → Option Refusal
 rule_of IsThere r state = state_refusal state
-rule_of IsWhole r state = whole_rule state
-rule_of HasLength r state = length_rule r state
-rule_of HasDigests r state = digest_rule r state
+rule_of IsWhole r state = whole_upload_rule state
+rule_of HasLength r state = upload_length_rule r state
+rule_of HasDigests r state = upload_digest_rule r state
 
 abbrev pub points_elsewhere : Reference → Bool
 points_elsewhere r = not (is_some (upload_number r.target))

@@ -5,7 +5,7 @@ ghost use Rattle.std.specs.Option.{option_copied};
 ghost use Rattle.dep_fixity.specs.Fixity.{is_kept};
 ghost use Rattle.dep_decisions.specs.Rules.{stands_twice};
 ghost use Rattle.dep_rulings.specs.Seen.{state_refusal};
-ghost use Rattle.dep_rulings.specs.Walks.{digest_rule, entries_seen, is_other_packaging, length_rule, packaging_refusal, points_elsewhere, references_seen, repeat_refusal, rule_of, target_refusal, walk, whole_rule};
+ghost use Rattle.dep_rulings.specs.Walks.{upload_digest_rule, entries_seen, is_other_packaging, upload_length_rule, packaging_refusal, points_elsewhere, references_seen, repeat_refusal, rule_of, target_refusal, walk, whole_upload_rule};
 
 use crate::view::{UploadState, UploadView};
 use dep_decisions::is_binary;
@@ -203,7 +203,7 @@ pub(crate) fn state_row(state: &UploadState) -> Option<Refusal>
 }
 
 fn whole_row(state: &UploadState) -> Option<Refusal>
-    ensures { result ≡ whole_rule state.now }
+    ensures { result ≡ whole_upload_rule state.now }
 {
     match state {
         UploadState::Live(upload) if upload.digests.is_none() => Some(Refusal::BadRequest),
@@ -212,7 +212,7 @@ fn whole_row(state: &UploadState) -> Option<Refusal>
 }
 
 fn length_row(reference: &Reference, state: &UploadState) -> Option<Refusal>
-    ensures { result ≡ length_rule reference.now state.now }
+    ensures { result ≡ upload_length_rule reference.now state.now }
 {
     let UploadState::Live(upload) = state else {
         return None;
@@ -224,7 +224,7 @@ fn length_row(reference: &Reference, state: &UploadState) -> Option<Refusal>
 }
 
 fn digest_row(reference: &Reference, state: &UploadState) -> Option<Refusal>
-    ensures { result ≡ digest_rule reference.now state.now }
+    ensures { result ≡ upload_digest_rule reference.now state.now }
 {
     let UploadState::Live(upload) = state else {
         return None;

@@ -2,7 +2,7 @@
 ghost use Rattle.std.specs.Prelude.{◌≡◌};
 ghost use Rattle.dep_types.specs.Uploads.{sizes_agree};
 ghost use Rattle.dep_types.specs.declared.refusal.Refusal.TheVariants as why;
-ghost use Rattle.dep_decisions.specs.Rules.{of_behalf, opening_refusal, tag_refusal, unless};
+ghost use Rattle.dep_decisions.specs.Rules.{behalf_rule, opening_refusal, tag_refusal, unless};
 ghost use Rattle.dep_rulings.specs.Rows.{size_by};
 ghost use Rattle.dep_rulings.specs.Seen.{is_received, live_refusal, presence_seen, row_length, segment_seen, tag_seen, views_refusal};
 
@@ -13,9 +13,9 @@ use dep_fields::{Field, IfMatch, Opening};
 use dep_types::{Config, Octets, Refusal, Resource, UploadRow};
 
 /// Rule 5: On-Behalf-Of.
-#[tactic(auto, unfolding(dep_decisions::specs::Rules::of_behalf))]
+#[tactic(auto, unfolding(dep_decisions::specs::Rules::behalf_rule))]
 pub(crate) fn behalf_row(config: &Config, operation: &Operation<'_>) -> Option<Refusal>
-    ensures { result ≡ of_behalf config.now operation.now }
+    ensures { result ≡ behalf_rule config.now operation.now }
 {
     match &operation.fields.on_behalf_of {
         Field::Absent => None,

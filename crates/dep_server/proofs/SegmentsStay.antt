@@ -22,7 +22,7 @@ use Rattle.dep_fields.specs.declared.kind.Kind.{Kind}
 use Rattle.dep_fields.specs.declared.kind.Kind.TheVariants as of
 use Rattle.dep_decisions.specs.Kinds.{kind_of}
 use Rattle.dep_decisions.specs.Decisions.{decision, decision_with, references_in, received, numbers_for, decision_at}
-use Rattle.dep_decisions.specs.Rules.{refusal, rows_met, of_presence, presence_refusal, segment_refusal, unless}
+use Rattle.dep_decisions.specs.Rules.{refusal, rows_met, presence_rule, presence_refusal, segment_refusal, unless}
 use Rattle.dep_decisions.specs.Effects.{effect, effect_of, at, without, used, fresh, with_segment}
 use Rattle.dep_decisions.specs.declared.operation.Operation.{Operation}
 use Rattle.dep_decisions.specs.declared.decision.Decision.{Decision}
@@ -200,7 +200,7 @@ asked config op u k target kind =
     ∙ ap (λ (o : Option Kind). unwrap_or (option_and_then (received u) o) Show) kind
 
 presence : (config : Config) (s : State) (op : Operation) (u : ℕ) → op.target ≡ record { resource = at_resource.Upload u; method = Post } → refusal config s op ≡ None → presence_refusal s (at_resource.Upload u) ≡ None
-unfolding refusal of_presence
+unfolding refusal presence_rule
 presence config s op u target accepted =
     let passed : first_of (rows_met config s op (at_resource.Upload u) Post) ≡ None =
     ap (λ (t : Target). first_of (rows_met config s op t.resource t.method)) (sym target) ∙ accepted in

@@ -25,7 +25,7 @@ use Rattle.dep_docs_in.specs.declared.reference.Reference.{Reference}
 use Rattle.dep_docs_in.proofs.FitDocuments.{metadata-fit, references-fit, nothing-kept}
 use Rattle.dep_decisions.specs.Kinds.{kind_of, kind_by, kind_without, is_completion, may_hold, takes_kind}
 use Rattle.dep_decisions.specs.Decisions.{assembled_file, decision, decision_at, decision_with, deposit_by, deposit_of, files_of, ingests, opened, posted_file, received, referred_files, references_by, references_in, replaced_file, texts_of, upload_number, value_of}
-use Rattle.dep_decisions.specs.Rules.{of_presence, of_sizes, opening_refusal, presence_refusal, received_refusal, refusal, rows_met, segment_refusal, size_refusal, unless, when}
+use Rattle.dep_decisions.specs.Rules.{presence_rule, size_rule, opening_refusal, presence_refusal, received_refusal, refusal, rows_met, segment_refusal, size_refusal, unless, when}
 use Rattle.dep_decisions.specs.Effects.{effect}
 use Rattle.dep_soundness.specs.Fit.{IsFitDecision, IsFitDeposit, IsFitFile, AreFitFiles}
 use Rattle.dep_decisions.specs.declared.operation.Operation.{Operation}
@@ -200,12 +200,12 @@ module _ (config : Config) (s : State) (op : Operation) (fit : AreFit op.fields)
       ∙ ap (λ r. received_refusal s r k op.content) (sym at)
       ∙ passed
 
-  sizes : of_sizes config s op ≡ None → option_and_then (size_refusal config s op) (kind_of op) ≡ None
-  unfolding of_sizes
+  sizes : size_rule config s op ≡ None → option_and_then (size_refusal config s op) (kind_of op) ≡ None
+  unfolding size_rule
   sizes e = e
 
-  file_there : (n f : ℕ) → op.target.resource ≡ File n f → of_presence s op ≡ None → is_some (file_at s n f) ≡ true
-  unfolding of_presence
+  file_there : (n f : ℕ) → op.target.resource ≡ File n f → presence_rule s op ≡ None → is_some (file_at s n f) ≡ true
+  unfolding presence_rule
   file_there n f at e = unless-none (is_some (file_at s n f)) NotFound (ap (presence_refusal s) (sym at) ∙ e)
 
   fits : Fits (deposit_of (references_in config op) op)

@@ -11,7 +11,7 @@ use Rattle.dep_types.specs.declared.target.Resource.TheVariants.{Service, Object
 use Rattle.dep_types.specs.declared.target.Method.{Method}
 use Rattle.dep_types.specs.declared.target.Method.TheVariants.{Get, Head, Post, Put, Delete}
 use Rattle.dep_decisions.specs.Decisions.{decision, decision_at, decision_with, numbers_for, references_in}
-use Rattle.dep_decisions.specs.Rules.{of_room, refusal, rows_met}
+use Rattle.dep_decisions.specs.Rules.{room_rule, refusal, rows_met}
 use Rattle.dep_decisions.specs.declared.operation.Operation.{Operation}
 use Rattle.dep_decisions.specs.declared.decision.Decision.TheVariants.{Show}
 use Rattle.dep_soundness.proofs.FoundInMaps.{all_passed, unless-none}
@@ -49,8 +49,8 @@ module _ (config : Config) (s : State) (op : Operation) where
   head_takes (BagList n) = refl
   head_takes (BagFile n path) = refl
 
-  room : of_room config s op ≡ None → room_for s.next (numbers_for (decision config op)) ≡ true
-  unfolding of_room
+  room : room_rule config s op ≡ None → room_for s.next (numbers_for (decision config op)) ≡ true
+  unfolding room_rule
   room e = unless-none _ StoreFull e
 
   asked_room : (resource : Resource) (method : Method) → op.target.resource ≡ resource → op.target.method ≡ method
@@ -62,7 +62,7 @@ module _ (config : Config) (s : State) (op : Operation) where
       ∙ ap (room_for s.next) none
       ∙ nothing_has_room s.next
 
-  last_of_content : (resource : Resource) → first_of (rows_met config s op resource Post) ≡ None → of_room config s op ≡ None
+  last_of_content : (resource : Resource) → first_of (rows_met config s op resource Post) ≡ None → room_rule config s op ≡ None
   last_of_content resource e =
       let rows = all_passed (rows_met config s op resource Post) e in rows.1.1.1.1.1.1.1.1.1.1.1.0
 

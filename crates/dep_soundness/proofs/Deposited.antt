@@ -23,7 +23,7 @@ use Rattle.dep_fields.specs.declared.kind.Kind.TheVariants as of
 use Rattle.dep_docs_in.specs.declared.reference.Reference.{Reference}
 use Rattle.dep_decisions.specs.Kinds.{is_absent, is_completion, kind_by, kind_of, kind_without, may_complete, may_hold, takes_kind}
 use Rattle.dep_decisions.specs.Decisions.{appended_or_completed, assembled_file, decision_at, decision_with, deposit_by, deposit_of, files_of, ingests, references_by, references_in, referred_files}
-use Rattle.dep_decisions.specs.Rules.{document_refusal, has_object, of_document, of_presence, of_references, presence_refusal, references_refusal, refusal, rows_met, unless}
+use Rattle.dep_decisions.specs.Rules.{document_refusal, has_object, document_rule, presence_rule, entries_refusal, presence_refusal, references_refusal, refusal, rows_met, unless}
 use Rattle.dep_decisions.specs.Effects.{added, appended, at, effect, effect_of, file_from, filled, ingested_by, uploads_of, with_files, without}
 use Rattle.dep_decisions.specs.declared.operation.Operation.{Operation}
 use Rattle.dep_decisions.specs.declared.decision.NewFile.{NewFile}
@@ -270,15 +270,15 @@ module _ (config : Config) (s : State) (op : Operation) (refs : List Reference) 
   kind : kind_of op ≡ Some of.References
   kind = kind_is config op refs read
 
-  document : of_document config s op ≡ None → of_references s refs ≡ None
-  unfolding of_document
+  document : document_rule config s op ≡ None → entries_refusal s refs ≡ None
+  unfolding document_rule
   document e =
       ap (references_refusal s) (sym read)
       ∙ ap (λ (o : Option Kind). option_and_then (document_refusal config s op) o) (sym (kind_is config op refs read))
       ∙ e
 
   rows : (resource : Resource) (method : Method) → (method ≡ Post) ⊎ (method ≡ Put) → first_of (rows_met config s op resource method) ≡ None
-      → (of_presence s op ≡ None) × (of_document config s op ≡ None)
+      → (presence_rule s op ≡ None) × (document_rule config s op ≡ None)
   rows resource Post by e = let all = all_passed (rows_met config s op resource Post) e in (all.1.0, all.1.1.1.1.1.1.1.1.1.0)
   rows resource Put by e = let all = all_passed (rows_met config s op resource Put) e in (all.1.0, all.1.1.1.1.1.1.1.1.1.0)
   rows resource Get (inl by) e = cc by
@@ -288,12 +288,12 @@ module _ (config : Config) (s : State) (op : Operation) (refs : List Reference) 
   rows resource Delete (inl by) e = cc by
   rows resource Delete (inr by) e = cc by
 
-  passed : refusal config s op ≡ None → (of_presence s op ≡ None) × (of_document config s op ≡ None)
+  passed : refusal config s op ≡ None → (presence_rule s op ≡ None) × (document_rule config s op ≡ None)
   unfolding refusal
   passed e = rows op.target.resource op.target.method (takes op.target.resource op.target.method (said op (kind_is config op refs read)).takes) e
 
-  present : of_presence s op ≡ None → presence_refusal s op.target.resource ≡ None
-  unfolding of_presence
+  present : presence_rule s op ≡ None → presence_refusal s op.target.resource ≡ None
+  unfolding presence_rule
   present e = e
 
   has_it : (r : Reference) (i : ℕ) → refusal config s op ≡ None → slice_get refs i ≡ Some r → (is : IsReferred s r)

@@ -15,7 +15,7 @@ use Rattle.dep_docs_in.specs.declared.reference.Reference.{Reference}
 use Rattle.dep_docs_in.specs.declared.reference.Pointed.{Pointed}
 use Rattle.dep_docs_in.specs.declared.reference.Pointed.TheVariants.{Upload as AnUpload, Elsewhere}
 use Rattle.dep_decisions.specs.Decisions.{assembled_file, referred_files, upload_number}
-use Rattle.dep_decisions.specs.Rules.{each, has_digests, has_length, is_binary, of_references, passes, stands_twice, unless, upload_refusal, when}
+use Rattle.dep_decisions.specs.Rules.{each, has_digests, has_length, is_binary, entries_refusal, passes, stands_twice, unless, upload_refusal, when}
 use Rattle.dep_decisions.specs.Effects.{upload_of, uploads_of, without}
 use Rattle.dep_decisions.specs.declared.operation.Operation.{Operation}
 use Rattle.dep_decisions.specs.declared.decision.NewFile.{NewFile}
@@ -70,8 +70,8 @@ pub record IsReferred (s : State) (r : Reference) : Type 0 where
   pub length : has_length r.length was ≡ true
   pub digests : has_digests r.digest was ≡ true
 
-pub all_known : (s : State) (refs : List Reference) → of_references s refs ≡ None → each (λ r. unless (is_some (upload_number r.target)) ByReferenceNotAllowed) refs ≡ None
-unfolding of_references
+pub all_known : (s : State) (refs : List Reference) → entries_refusal s refs ≡ None → each (λ r. unless (is_some (upload_number r.target)) ByReferenceNotAllowed) refs ≡ None
+unfolding entries_refusal
 all_known s refs e = (first_two (each (λ r. unless (is_some (upload_number r.target)) ByReferenceNotAllowed) refs) (rest s refs) e).0 where
   rest : (s : State) (refs : List Reference) → List (Option Refusal)
   rest s refs =
@@ -83,8 +83,8 @@ all_known s refs e = (first_two (each (λ r. unless (is_some (upload_number r.ta
       ∷ each (λ r. unless (passes s r (has_digests r.digest)) DigestMismatch) refs
       ∷ []
 
-pub referred : (s : State) (refs : List Reference) (i : ℕ) (r : Reference) → of_references s refs ≡ None → slice_get refs i ≡ Some r → IsReferred s r
-unfolding of_references
+pub referred : (s : State) (refs : List Reference) (i : ℕ) (r : Reference) → entries_refusal s refs ≡ None → slice_get refs i ≡ Some r → IsReferred s r
+unfolding entries_refusal
 referred s refs i r e at =
     let rows = all_passed
     (each (λ r. unless (is_some (upload_number r.target)) ByReferenceNotAllowed) refs
