@@ -7,10 +7,11 @@ use dep_types::{Config, Octets};
 use std::alloc::{AllocError, Global};
 use std::marker::Model;
 
-/// A configuration, with the service document that it makes, which is spelled once. Contracts see it
-/// as the configuration.
+/// A configuration, with the service document that it makes, which is spelled once, and the allocator
+/// that replies grow in. Contracts see it as the configuration.
 #[derive(Drop)]
 pub struct Service {
+    alloc: Global,
     config: Config,
     document: Octets,
 }
@@ -33,7 +34,16 @@ impl Service {
         ensures { IfOk result (λ service. service ≡ config) }
     {
         let document = Octets::from_vec(service_doc(alloc, &config)?);
-        Ok(Service { config, document })
+        Ok(Service {
+            alloc,
+            config,
+            document,
+        })
+    }
+
+    /// The allocator.
+    pub fn alloc(&self) -> Global {
+        self.alloc
     }
 
     /// The configuration.
