@@ -104,11 +104,19 @@ impl<'a> Case<'a> {
 
 /// Whether two lines set the same thing.
 pub fn overlap(one: &str, other: &str) -> bool {
-    for left in one.split(" & ") {
-        for right in other.split(" & ") {
-            if place_of(left) == place_of(right) {
-                return true;
-            }
+    for setting in one.split(" & ") {
+        if sets(other, place_of(setting)) {
+            return true;
+        }
+    }
+    false
+}
+
+// Whether a line sets what stands at this place among the keys.
+fn sets(line: &str, place: Option<usize>) -> bool {
+    for setting in line.split(" & ") {
+        if place_of(setting) == place {
+            return true;
         }
     }
     false

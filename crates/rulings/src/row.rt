@@ -5,7 +5,9 @@ use crate::case::overlap;
 /// A line of the table: what it sets, and the ruling.
 #[derive(Clone, Copy)]
 pub struct Row<'a> {
+    /// What it sets, parted by ` & `.
     pub settings: &'a str,
+    /// The refusal's name, or what is asked for.
     pub ruling: &'a str,
 }
 

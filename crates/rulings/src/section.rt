@@ -9,13 +9,15 @@ use std::alloc::Global;
 /// A section: its lines, and what those read so far set.
 #[derive(Clone, Copy)]
 pub struct Section<'a> {
+    alloc: Global,
     lines: &'a str,
     case: Case<'a>,
 }
 
 impl<'a> Section<'a> {
-    pub fn new(lines: &'a str, case: Case<'a>) -> Section<'a> {
-        Section { lines, case }
+    /// The section of these lines, before the first is read, on top of a case.
+    pub fn new(alloc: Global, lines: &'a str, case: Case<'a>) -> Section<'a> {
+        Section { alloc, lines, case }
     }
 
     /// What is set.
@@ -25,13 +27,7 @@ impl<'a> Section<'a> {
 
     /// Sets what a line sets, or plays it: by itself, and where it is refused with each refusal above it. It tells
     /// how many rulings were played; the ruling is told too.
-    pub fn play(
-        &mut self,
-        alloc: Global,
-        place: usize,
-        line: &'a str,
-        told: &mut String,
-    ) -> Result<u64, Trouble> {
+    pub fn play(&mut self, place: usize, line: &'a str, told: &mut String) -> Result<u64, Trouble> {
         // The first line is the title.
         if place == 0 || line.is_empty() || line.starts_with("//") {
             return Ok(0);
@@ -41,9 +37,9 @@ impl<'a> Section<'a> {
             return Ok(0);
         };
         let alone = self.case.with(row.settings)?;
-        check(alloc, &alone, row.ruling, told)?;
+        check(self.alloc, &alone, row.ruling, told)?;
         if row.is_refused() {
-            self.play_pairs(alloc, &alone, row, place, told)
+            self.play_pairs(&alone, row, place, told)
         } else {
             Ok(1)
         }
@@ -52,7 +48,6 @@ impl<'a> Section<'a> {
     // Plays a refusal with each one above it.
     fn play_pairs(
         &self,
-        alloc: Global,
         alone: &Case<'a>,
         row: Row<'a>,
         place: usize,
@@ -61,7 +56,7 @@ impl<'a> Section<'a> {
         let mut count = 1u64;
         for line in self.lines.split('\n').take(place) {
             if let Some(earlier) = Row::refused_beside(line, row) {
-                check_pair(alloc, alone, earlier, told)?;
+                check_pair(self.alloc, alone, earlier, told)?;
                 count = count.saturating_add(1);
             }
         }

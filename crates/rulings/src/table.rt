@@ -17,6 +17,7 @@ pub struct Tally {
 }
 
 impl Tally {
+    /// No line was played.
     pub fn new(alloc: Global) -> Tally {
         Tally {
             rulings: 0,
@@ -48,23 +49,22 @@ fn play_section<'a>(
     world: Case<'a>,
     tally: &mut Tally,
 ) -> io::Result<Case<'a>> {
-    let mut section = Section::new(lines, world);
+    let mut section = Section::new(alloc, lines, world);
     for (place, line) in lines.split('\n').enumerate() {
-        play_line(rt, alloc, &mut section, place, line, tally)?;
+        play_line(rt, &mut section, place, line, tally)?;
     }
     Ok(section.case())
 }
 
 fn play_line<'a>(
     rt: &impl Print,
-    alloc: Global,
     section: &mut Section<'a>,
     place: usize,
     line: &'a str,
     tally: &mut Tally,
 ) -> io::Result<()> {
     tally.lines = tally.lines.saturating_add(1);
-    match section.play(alloc, place, line, &mut tally.told) {
+    match section.play(place, line, &mut tally.told) {
         Ok(count) => tally.rulings = tally.rulings.saturating_add(count),
         Err(trouble) => {
             let (number, told) = (tally.lines, &tally.told);

@@ -4,7 +4,7 @@ use dep_decisions::{Decision, Deposit, NewFile, NewFiles, Source};
 use dep_fields::Opening;
 use dep_fixity::to_hex;
 use dep_rulings::Ruling;
-use dep_types::Metadata;
+use dep_types::{Metadata, MetadataEntry};
 use std::alloc::AllocError;
 
 /// Adds the ruling to a text.
@@ -142,14 +142,19 @@ fn tell_file(text: &mut String, file: &NewFile) -> Result<(), AllocError> {
 
 fn tell_metadata(text: &mut String, metadata: &Metadata) -> Result<(), AllocError> {
     for entry in metadata.entries() {
-        text.push(' ')?;
-        text.push_str(entry.name.as_str())?;
-        let mut sign = '=';
-        for value in entry.texts.as_slice() {
-            text.push(sign)?;
-            text.push_str(value.as_str())?;
-            sign = ',';
-        }
+        tell_entry(text, entry)?;
+    }
+    Ok(())
+}
+
+fn tell_entry(text: &mut String, entry: &MetadataEntry) -> Result<(), AllocError> {
+    text.push(' ')?;
+    text.push_str(entry.name.as_str())?;
+    let mut sign = '=';
+    for value in entry.texts.as_slice() {
+        text.push(sign)?;
+        text.push_str(value.as_str())?;
+        sign = ',';
     }
     Ok(())
 }
