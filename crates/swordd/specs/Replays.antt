@@ -20,10 +20,11 @@ outcome_of ReadFault = TransferFault
 outcome_of WriteFault = TransferFault
 outcome_of Bound = TransferFault
 
--- One connection of the machine, from its opening over the empty archive to its close, each piece at the moment: what
--- was read are its pieces, what was written is what the machine sends for them, and it answers them as they were
--- answered.
-pub record IsReplayed (base : List ℕ) (moment : ℕ) (before after : Wire) (served : Served) : Type 0 where
+-- One connection of the machine, from its opening over the empty archive to its close, each piece at
+-- the moment: what was read are its pieces, what was written is what the machine sends for them, and
+-- it answers them as they were answered.
+pub record IsReplayed (base : List ℕ) (moment : ℕ) (before after : Wire) (served : Served)
+    : Type 0 where
   pub number : ℕ
   pub turns : List Turn
   pub talked : World

@@ -16,7 +16,8 @@ pub record Conversation : Type 0 where
   pub turns : List Turn
 
 -- its pieces are as a reader gives them, and each came at the clock's answer
-pub record IsConversation {C : Type 0} (ticks : C → ℕ → C → Type 0) (clock : C) (talk : Conversation) : Type 0 where
+pub record IsConversation {C : Type 0} (ticks : C → ℕ → C → Type 0) (clock : C)
+    (talk : Conversation) : Type 0 where
   pub sizes : ArePieces talk.turns
   pub moments : (last : C) × Clocks ticks clock talk.turns last
 
@@ -26,14 +27,16 @@ all_records_of talks = flat_map (λ t. records_of t.number t.turns) talks
 
 module _ {S : Type 0} (g : Ghosts S) where
   -- one connection, over some reader and some outlet
-  pub record ServesOne {C : Type 0} (ticks : C → ℕ → C → Type 0) (clock : C) (old new : Hub S g) (served : Served) : Type 0 where
+  pub record ServesOne {C : Type 0} (ticks : C → ℕ → C → Type 0) (clock : C)
+      (old new : Hub S g) (served : Served) : Type 0 where
     pub before : Wire
     pub after : Wire
     pub converses : ConversesOver g ticks (session g old before clock) new after served
 
-  -- So many connections, some of which could not be opened: for all records that it stood for, the hub stands for them
-  -- with those of the others behind them, one connection after another.
-  pub record ServesMany {C : Type 0} (ticks : C → ℕ → C → Type 0) (clock : C) (old new : Hub S g) (count : ℕ) : Type 0 where
+  -- So many connections, some of which could not be opened: for all records that it stood for, the
+  -- hub stands for them with those of the others behind them, one connection after another.
+  pub record ServesMany {C : Type 0} (ticks : C → ℕ → C → Type 0) (clock : C)
+      (old new : Hub S g) (count : ℕ) : Type 0 where
     pub talks : List Conversation
     pub unserved : ℕ
     pub counted : length talks + unserved ≡ count
@@ -41,7 +44,8 @@ module _ {S : Type 0} (g : Ghosts S) where
     pub adds : AddsAll g old new (all_records_of talks)
 
   -- all of them, or those before accepting failed
-  abbrev pub Serves : {C : Type 0} → (ticks : C → ℕ → C → Type 0) → (clock : C) → (old new : Hub S g) → (count : ℕ) → Outcome → Type 0
+  abbrev pub Serves : {C : Type 0} → (ticks : C → ℕ → C → Type 0) → (clock : C)
+      → (old new : Hub S g) → (count : ℕ) → Outcome → Type 0
   Serves ticks clock old new count outcome =
       (ServesMany ticks clock old new count × (outcome ≡ Done))
       ⊎ ((k : ℕ) × (k < count) × ServesMany ticks clock old new k × (outcome ≡ TransferFault))

@@ -20,4 +20,5 @@ program_config base = record {
 -- the base at a port of 127.0.0.1, whose URLs leave the port 80 out
 abbrev pub base_at : ℕ → List ℕ
 base_at port =
-    if port == 80 then codes "http://127.0.0.1" else codes "http://127.0.0.1" ++ codes ":" ++ decimal port
+    if port == 80 then codes "http://127.0.0.1"
+    else codes "http://127.0.0.1" ++ codes ":" ++ decimal port

@@ -4,9 +4,11 @@ ghost use Rattle.swordd.specs.Commands.{asked_of, replay, serve, export, audit};
 
 /// A moment has up to 64 bits, also with zeros before it.
 pub fn words_of_a_replay()
-    ensures greatest { asked_of (codes "replay" ∷ codes "0018446744073709551615" ∷ codes "http://h" ∷ [])
+    ensures greatest { asked_of
+        (codes "replay" ∷ codes "0018446744073709551615" ∷ codes "http://h" ∷ [])
         ≡ Some (replay 18446744073709551615 (codes "http://h")) }
-    ensures above { asked_of (codes "replay" ∷ codes "18446744073709551616" ∷ codes "http://h" ∷ []) ≡ None }
+    ensures above { asked_of
+        (codes "replay" ∷ codes "18446744073709551616" ∷ codes "http://h" ∷ []) ≡ None }
     ensures negative { asked_of (codes "replay" ∷ codes "-1" ∷ codes "http://h" ∷ []) ≡ None }
 {}
 
@@ -24,11 +26,13 @@ pub fn words_of_a_service()
 
 /// The number of an object is written as in the path of a URL; files and folders are taken as they stand.
 pub fn words_of_an_export()
-    ensures greatest { asked_of (codes "export" ∷ codes "f" ∷ codes "4000000000000000000" ∷ codes "d" ∷ [])
+    ensures greatest { asked_of
+        (codes "export" ∷ codes "f" ∷ codes "4000000000000000000" ∷ codes "d" ∷ [])
         ≡ Some (export (codes "f") 4000000000000000000 (codes "d")) }
     ensures least { asked_of (codes "export" ∷ codes "" ∷ codes "1" ∷ codes "" ∷ [])
         ≡ Some (export [] 1 []) }
-    ensures above { asked_of (codes "export" ∷ codes "f" ∷ codes "4000000000000000001" ∷ codes "d" ∷ []) ≡ None }
+    ensures above { asked_of
+        (codes "export" ∷ codes "f" ∷ codes "4000000000000000001" ∷ codes "d" ∷ []) ≡ None }
     ensures none { asked_of (codes "export" ∷ codes "f" ∷ codes "0" ∷ codes "d" ∷ []) ≡ None }
     ensures zero { asked_of (codes "export" ∷ codes "f" ∷ codes "01" ∷ codes "d" ∷ []) ≡ None }
     ensures few { asked_of (codes "export" ∷ codes "f" ∷ codes "1" ∷ []) ≡ None }
