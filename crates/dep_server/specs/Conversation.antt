@@ -103,8 +103,8 @@ module _ {S : Type 0} (g : Ghosts S) where
     pub piece : List ℕ
     pub moment : ℕ
     pub sent : List ℕ
-    pub arrives :
-        IsArrival g before.hub after.hub number piece moment sent before.wire.failures after.wire.failures answer
+    pub arrives : IsArrival g before.hub after.hub number piece moment sent
+        before.wire.failures after.wire.failures answer
     pub some : 0 < length piece
     pub small : length piece ≤ most_read
     pub transfers : Transfers before.wire after.wire piece sent

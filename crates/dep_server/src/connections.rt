@@ -22,12 +22,14 @@ impl Model for ConnId {
 }
 
 impl ConnId {
+    /// The connection of this number.
     pub(crate) fn new(number: u64) -> ConnId
         ensures { result ≡ number }
     {
         ConnId { number }
     }
 
+    /// Its number, which a hub gives from 0 on.
     pub(crate) fn number(self) -> u64
         ensures { result ≡ self }
     {

@@ -9,7 +9,7 @@ ghost use Rattle.dep_server.specs.Numbers.{Ascends, Ascends-prop, most_connectio
 
 use crate::arrived::Arrived;
 use crate::connections::{ConnId, Connection, index_among};
-use crate::serving::serve;
+use crate::serving::{Piece, serve};
 use dep_answers::Service;
 use dep_message::Intake;
 use dep_moment::Moment;
@@ -23,7 +23,6 @@ use std::fmt;
 /// All connections, and the one store that they share.
 #[derive(Drop)]
 pub struct Hub<S: Alter> {
-    alloc: Global,
     config: Service,
     store: Store<S>,
     connections: Vec<Connection>,
@@ -108,7 +107,6 @@ impl<S: Alter> Hub<S> {
             return Err((HubFault::Memory, store));
         };
         Ok(Hub {
-            alloc,
             config,
             store,
             connections: Vec::new(alloc),
@@ -149,7 +147,7 @@ impl<S: Alter> Hub<S> {
         let number = self.next;
         let connection = Connection {
             number,
-            intake: Intake::new(self.alloc, self.config.config().max_upload),
+            intake: Intake::new(self.config.alloc(), self.config.config().max_upload),
         };
         let Ok(()) = self.connections.push(connection) else {
             return Err(ConnectFault::Memory);
@@ -177,21 +175,18 @@ impl<S: Alter> Hub<S> {
         ensures there { IsSome (intake_of self.old.connections.items connection)
             → (result ≢ Arrived.NoSuch) × IsSome (intake_of self.new.connections.items connection) }
         ensures arrival { ComesTo S.Store (O.taken out.old) (O.taken out.new)
-            (O.failures out.old) (O.failures out.new) self.old self.new connection piece.now moment result }
+            (O.failures out.old) (O.failures out.new)
+            self.old self.new connection piece.now moment result }
     {
         let Some(i) = index_among(self.connections.as_slice(), connection.number()) else {
             return Arrived::NoSuch;
         };
         let kept = &mut self.connections[i];
-        serve(
-            self.alloc,
-            &self.config,
-            &mut self.store,
-            &mut kept.intake,
-            piece,
+        let piece = Piece {
+            bytes: piece,
             moment,
-            out,
-        )
+        };
+        serve(&self.config, &mut self.store, &mut kept.intake, &piece, out)
     }
 
     /// Forgets a connection.
@@ -225,7 +220,6 @@ impl<S: Alter> Hub<S> {
             (λ found. Run self.config first (records ++ stopped ∷ []) (first_world found)) }
     {
         let Hub {
-            alloc: _,
             config: _,
             store,
             connections: _,

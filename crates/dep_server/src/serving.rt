@@ -10,33 +10,39 @@ ghost use Rattle.dep_server.specs.Serving.{ServesOver, arrival_of, answer_after}
 
 use crate::arrived::Arrived;
 use crate::sending::{Answered, send_want_of_memory};
-use crate::step::{answer_continue, answer_fault, answer_message};
+use crate::step::{StreamRefusal, answer_continue, answer_fault, answer_message};
 use dep_answers::Service;
 use dep_message::{Intake, Step};
 use dep_moment::Moment;
 use dep_store::Store;
 use dep_types::Outlet;
 use sqlite::Alter;
-use std::alloc::{AllocError, Global};
+use std::alloc::AllocError;
+
+/// A piece of a connection's stream, and when it came.
+#[derive(Clone, Copy)]
+pub(crate) struct Piece<'a> {
+    pub bytes: &'a [u8],
+    pub moment: Moment,
+}
 
 /// Takes the piece, and answers each item that is complete with it.
 pub(crate) fn serve<S: Alter, O: Outlet>(
-    alloc: Global,
     service: &Service,
     store: &mut Store<S>,
     intake: &mut Intake,
-    piece: &[u8],
-    moment: Moment,
+    piece: &Piece<'_>,
     out: &mut O,
 ) -> Arrived
-    ensures served { ServesOver service.now (arrival_of intake.old piece.now moment)
+    ensures served { ServesOver service.now
+        (arrival_of intake.old piece.now.bytes.now piece.now.moment)
         (outside (O.taken out.old) (O.failures out.old) (state S.Store store.old))
         (outside (O.taken out.new) (O.failures out.new)
         (state S.Store store.new)) intake.new.place result }
     ensures limit { intake.new.limit ≡ intake.old.limit }
     ensures there { result ≢ Arrived.NoSuch }
 {
-    if let Err(AllocError) = intake.feed(piece) {
+    if let Err(AllocError) = intake.feed(piece.bytes) {
         return give_up(intake, out);
     }
     loop {
@@ -45,7 +51,8 @@ pub(crate) fn serve<S: Alter, O: Outlet>(
             Ok(Step::NeedMore) => return Arrived::Open,
             Ok(Step::Dead) => return Arrived::Closed,
             Ok(Step::Refused(refusal, is_bare)) => {
-                let answer = answer_fault(alloc, service, store, refusal, is_bare, moment, out);
+                let fault = StreamRefusal { refusal, is_bare };
+                let answer = answer_fault(service, store, fault, piece.moment, out);
                 return end(intake, answer);
             }
             Ok(Step::Continue100) => match answer_continue(store, out) {
@@ -53,7 +60,7 @@ pub(crate) fn serve<S: Alter, O: Outlet>(
                 answer => return end(intake, answer),
             },
             Ok(Step::Message(message)) => {
-                match answer_message(alloc, service, store, message, moment, out) {
+                match answer_message(service, store, message, piece.moment, out) {
                     Answered::Sent => {}
                     answer => return end(intake, answer),
                 }

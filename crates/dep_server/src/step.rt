@@ -29,9 +29,15 @@ use dep_types::{Octets, Outlet, Refusal, StoreFault, Target};
 use sqlite::Alter;
 use std::alloc::{AllocError, Global};
 
+/// What a fault of a stream is answered: why it is refused, and whether the reply has no body.
+#[derive(Clone, Copy)]
+pub(crate) struct StreamRefusal {
+    pub refusal: Refusal,
+    pub is_bare: bool,
+}
+
 /// Steps a whole message: the clock goes on, and then the message is answered.
 pub(crate) fn answer_message<S: Alter, O: Outlet>(
-    alloc: Global,
     service: &Service,
     store: &mut Store<S>,
     message: Message,
@@ -44,7 +50,7 @@ pub(crate) fn answer_message<S: Alter, O: Outlet>(
         (Request message) moment result }
 {
     match store.tick(service.config(), moment) {
-        Ok(clock) => match perform(alloc, service, store, message, clock) {
+        Ok(clock) => match perform(service, store, message, clock) {
             Ok(performed) => send_performed(store, &performed, out),
             Err(fault) => send_fault(fault, out),
         },
@@ -64,38 +70,35 @@ pub(crate) fn answer_continue<S: Alter, O: Outlet>(store: &Store<S>, out: &mut O
 
 /// Steps a fault of a stream: the clock goes on, and the connection is closed after the reply.
 pub(crate) fn answer_fault<S: Alter, O: Outlet>(
-    alloc: Global,
     service: &Service,
     store: &mut Store<S>,
-    refusal: Refusal,
-    is_bare: bool,
+    fault: StreamRefusal,
     moment: Moment,
     out: &mut O,
 ) -> Answered
     ensures { Answers service.now
         (outside (O.taken out.old) (O.failures out.old) (state S.Store store.old))
         (outside (O.taken out.new) (O.failures out.new) (state S.Store store.new))
-        (Fault refusal is_bare) moment result }
+        (Fault fault.refusal fault.is_bare) moment result }
 {
     match store.tick(service.config(), moment) {
         Ok(clock) => {
             let delivery = Delivery {
                 clock,
-                is_bare,
+                is_bare: fault.is_bare,
                 closes: true,
             };
-            match refused(alloc, refusal, None, delivery) {
+            match refused(service.alloc(), fault.refusal, None, delivery) {
                 Ok(performed) => send_performed(store, &performed, out),
                 Err(AllocError) => send_fault(StoreFault::Memory, out),
             }
         }
-        Err(fault) => send_fault(fault, out),
+        Err(store_fault) => send_fault(store_fault, out),
     }
 }
 
 // What a message comes to, once the clock has gone on and is this one.
 fn perform<S: Alter>(
-    alloc: Global,
     service: &Service,
     store: &mut Store<S>,
     message: Message,
@@ -124,8 +127,9 @@ fn perform<S: Alter>(
         is_bare: is_without_body(&message.head),
         closes: closes(&message.head),
     };
+    let alloc = service.alloc();
     match Routes::new(alloc).route(message.head.method(), message.head.path()) {
-        Ok(Routed::To(target)) => operate(alloc, service, store, message, target),
+        Ok(Routed::To(target)) => operate(service, store, message, target),
         Ok(Routed::NotFound) => {
             drop(message);
             refuse(alloc, Refusal::NotFound, None, delivery)
@@ -160,7 +164,6 @@ fn refuse(
 
 // What a request for a resource comes to.
 fn operate<S: Alter>(
-    alloc: Global,
     service: &Service,
     store: &mut Store<S>,
     message: Message,
@@ -183,7 +186,7 @@ fn operate<S: Alter>(
         (found ≡ (operation_step service.now s (operation_of message target)).state)) }
 {
     let Message { head, content } = message;
-    match operation_of(alloc, &head, content, target) {
+    match operation_of(service.alloc(), &head, content, target) {
         Ok(operation) => {
             let performed = store.perform(service, &operation);
             drop(operation);

@@ -8,7 +8,7 @@ use Rattle.dep_server.proofs.serving.serve.Given as goal
 -- what was read so far was answered
 abbrev pub invariant-loop-intake : goal.invariant-loop-intake
 invariant-loop-intake g l = record {
-  served : Progress l.service (arrival_of l.fn.intake l.piece l.moment)
+  served : Progress l.service (arrival_of l.fn.intake l.piece.bytes.now l.piece.moment)
       (outside (g.O.Outlet.taken l.fn.out) (g.O.Outlet.failures l.fn.out) (state g.S.Store l.fn.store))
       (outside (g.O.Outlet.taken l.out) (g.O.Outlet.failures l.out) (state g.S.Store l.store)) l.intake.place;
   limit : l.intake.limit ≡ l.fn.intake.limit;

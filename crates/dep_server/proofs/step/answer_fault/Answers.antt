@@ -15,7 +15,7 @@ pub returns-in-Ok-refused : goal.returns-in-Ok-refused
 unfolding step
 returns-in-Ok-refused g c =
     let config = c.args.service.now in
-    let delivery : Delivery = record { clock = c.in-Ok.clock; is_bare = c.args.is_bare; closes = true } in
+    let delivery : Delivery = record { clock = c.in-Ok.clock; is_bare = c.args.fault.is_bare; closes = true } in
     let x = c.send_performed.ensures in
     record {
       sent = x.sent;
@@ -27,10 +27,10 @@ returns-in-Ok-refused g c =
       steps = λ disk s stands.
           let t = (rw c.config.ensures at c.in-Ok.ensures.ok) (x.passes.honest disk) s stands in
           let now = tick config s c.args.moment in
-          made_from config s (Fault c.args.refusal c.args.is_bare) c.args.moment x.sent _ _ _ c.send_performed.result refl
-          (answers_from config s (Fault c.args.refusal c.args.is_bare) c.args.moment x.sent _ _ c.send_performed.result
-          (x.sends disk (step config s (Fault c.args.refusal c.args.is_bare) c.args.moment)
-          (record { state = t.1; ready = refusal_ready now delivery c.in-Ok-refused.performed c.args.refusal None c.args.is_bare true t.0 refl refl c.in-Ok-refused.ensures })));
+          made_from config s (Fault c.args.fault.refusal c.args.fault.is_bare) c.args.moment x.sent _ _ _ c.send_performed.result refl
+          (answers_from config s (Fault c.args.fault.refusal c.args.fault.is_bare) c.args.moment x.sent _ _ c.send_performed.result
+          (x.sends disk (step config s (Fault c.args.fault.refusal c.args.fault.is_bare) c.args.moment)
+          (record { state = t.1; ready = refusal_ready now delivery c.in-Ok-refused.performed c.args.fault.refusal None c.args.fault.is_bare true t.0 refl refl c.in-Ok-refused.ensures })));
     }
 
 pub returns-in-Err-refused : goal.returns-in-Err-refused
@@ -38,7 +38,7 @@ unfolding step
 returns-in-Err-refused g c =
     let config = c.args.service.now in
     let new = state g.S.Store c.tick.new.self in
-    answers_fixed config (outside (g.O.Outlet.taken c.args.out.now) (g.O.Outlet.failures c.args.out.now) (state g.S.Store c.args.store.now)) (outside (g.O.Outlet.taken c.send_fault.new.out) (g.O.Outlet.failures c.send_fault.new.out) (state g.S.Store c.tick.new.self)) (Fault c.args.refusal c.args.is_bare) c.args.moment Memory
+    answers_fixed config (outside (g.O.Outlet.taken c.args.out.now) (g.O.Outlet.failures c.args.out.now) (state g.S.Store c.args.store.now)) (outside (g.O.Outlet.taken c.send_fault.new.out) (g.O.Outlet.failures c.send_fault.new.out) (state g.S.Store c.tick.new.self)) (Fault c.args.fault.refusal c.args.fault.is_bare) c.args.moment Memory
     c.tick.ensures.honest c.tick.ensures.open
     (λ disk s stands.
     let t = (rw c.config.ensures at c.in-Ok.ensures.ok) disk s stands in record {
@@ -54,7 +54,7 @@ pub returns-in-Err : goal.returns-in-Err
 unfolding step
 returns-in-Err g c =
     let new = state g.S.Store c.tick.new.self in
-    answers_fixed c.args.service.now (outside (g.O.Outlet.taken c.args.out.now) (g.O.Outlet.failures c.args.out.now) (state g.S.Store c.args.store.now)) (outside (g.O.Outlet.taken c.send_fault-in-Err.new.out) (g.O.Outlet.failures c.send_fault-in-Err.new.out) (state g.S.Store c.tick.new.self)) (Fault c.args.refusal c.args.is_bare) c.args.moment c.in-Err.fault
+    answers_fixed c.args.service.now (outside (g.O.Outlet.taken c.args.out.now) (g.O.Outlet.failures c.args.out.now) (state g.S.Store c.args.store.now)) (outside (g.O.Outlet.taken c.send_fault-in-Err.new.out) (g.O.Outlet.failures c.send_fault-in-Err.new.out) (state g.S.Store c.tick.new.self)) (Fault c.args.fault.refusal c.args.fault.is_bare) c.args.moment c.in-Err.store_fault
     c.tick.ensures.honest c.tick.ensures.open
     (λ disk s stands. record {
       left = s;
