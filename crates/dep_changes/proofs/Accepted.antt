@@ -24,7 +24,7 @@ use Rattle.dep_docs_in.specs.Documents.{metadata_read}
 use Rattle.dep_docs_in.specs.declared.reference.Reference.{Reference}
 use Rattle.dep_decisions.specs.Kinds.{is_completion, kind_of}
 use Rattle.dep_decisions.specs.Decisions.{assembled_file, decision, decision_at, decision_with, deposit_by, deposit_of, files_of, ingests, opened, posted_file, received, referred_files, references_by, references_in, replaced_file, texts_of, upload_number}
-use Rattle.dep_decisions.specs.Rules.{document_refusal, each, has_digests, has_length, has_object, is_binary, of_document, of_presence, of_references, of_sizes, passes, presence_refusal, received_refusal, references_refusal, refusal, rows_met, segment_refusal, size_refusal, stands_twice, unless, upload_refusal, when}
+use Rattle.dep_decisions.specs.Rules.{document_refusal, each, has_digests, has_length, has_object, is_binary, document_rule, presence_rule, entries_refusal, size_rule, passes, presence_refusal, received_refusal, references_refusal, refusal, rows_met, segment_refusal, size_refusal, stands_twice, unless, upload_refusal, when}
 use Rattle.dep_decisions.specs.Effects.{uploads_of}
 use Rattle.dep_decisions.specs.declared.operation.Operation.{Operation}
 use Rattle.dep_decisions.specs.declared.decision.NewFile.{NewFile}
@@ -32,7 +32,7 @@ use Rattle.dep_decisions.specs.declared.decision.Deposit.{Deposit}
 use Rattle.dep_decisions.specs.declared.decision.Deposit.TheVariants as deposit
 use Rattle.dep_decisions.specs.declared.decision.Decision.{Decision}
 use Rattle.dep_decisions.specs.declared.decision.Decision.TheVariants.{Show, Create, Append, Replace, Complete, SetMetadata, SetFiles}
-use Rattle.dep_rulings.specs.Views.{live_upload, referred_uploads, seen_at, touched_with, upload_view, uploads_named, view_of}
+use Rattle.dep_rulings.specs.Views.{live_upload, referred_uploads, seen_at, touched_with, upload_view, uploads_named, true_view}
 use Rattle.dep_rulings.specs.declared.view.View.{View}
 use Rattle.dep_rulings.specs.declared.view.UploadState.TheVariants.{TimedOut, Unknown, Live}
 use Rattle.dep_rulings.specs.declared.view.UploadView.{UploadView}
@@ -74,8 +74,8 @@ first_two : (o : Option Refusal) (rest : List (Option Refusal)) → first_of (o 
 first_two None rest e = (refl, e)
 first_two (Some r) rest e = cc e
 
-named_once : (s : State) (refs : List Reference) → of_references s refs ≡ None → stands_twice (uploads_named refs) ≡ false
-unfolding of_references
+named_once : (s : State) (refs : List Reference) → entries_refusal s refs ≡ None → stands_twice (uploads_named refs) ≡ false
+unfolding entries_refusal
 named_once s refs e =
     let rows = all_passed
     (each (λ r. unless (is_some (upload_number r.target)) ByReferenceNotAllowed) refs
@@ -132,7 +132,7 @@ module _ (s : State) (sound : IsSound s) where
         subst (λ (o : Option ℕ). AreIn (cons_option (option_map (assembled_file op r) o) (referred_files op refs)) (map (upload_view true s) (cons_option o (uploads_named refs)))) (sym is.number)
         (one_source r is (referred_files op refs) (map (upload_view true s) (uploads_named refs)) (all_sources refs (λ i x at. passed (suc i) x at)))
 
-    referred_sources : (refs : List Reference) → of_references s refs ≡ None → AreSources s op.content (map (upload_view true s) (uploads_named refs)) (referred_files op refs)
+    referred_sources : (refs : List Reference) → entries_refusal s refs ≡ None → AreSources s op.content (map (upload_view true s) (uploads_named refs)) (referred_files op refs)
     referred_sources refs e = (all_sources refs (λ i r at. referred s refs i r e at), ap stands_twice (uploads_are op refs) ∙ named_once s refs e)
 
 -- ---- what an accepted deposit takes
@@ -170,9 +170,9 @@ module _ (config : Config) (s : State) (op : Operation) (sound : IsSound s) wher
   references_have None is passed = tt
   references_have (Some refs) is passed = referred_sources s sound op refs (sym (ap (references_refusal s) is) ∙ passed)
 
-  module _ (document : of_document config s op ≡ None) where
+  module _ (document : document_rule config s op ≡ None) where
     passed_by : (k : Kind) → kind_of op ≡ Some k → document_refusal config s op k ≡ None
-    unfolding of_document
+    unfolding document_rule
     passed_by k is = sym (ap (option_and_then (document_refusal config s op)) is) ∙ document
 
     by_kind : (o : Option Kind) → kind_of op ≡ o → Have (uploads_seen (references_in config op)) (option_and_then (deposit_by (references_in config op) op) o)
@@ -293,8 +293,8 @@ module _ (config : Config) (s : State) (op : Operation) (sound : IsSound s) wher
       let sized = ap (option_and_then (λ x. segment_refusal x k op.content)) (sym there.1) ∙ ap (λ (r : Resource). received_refusal s r k op.content) (sym at) ∙ passed in
       (there.0, (ap (λ (r : Option (List Reference)). upload_view (is_some r) s u ∷ []) (no_references k is), there.1, lacks there.0 k sized))
 
-  sizes : of_sizes config s op ≡ None → option_and_then (size_refusal config s op) (kind_of op) ≡ None
-  unfolding of_sizes
+  sizes : size_rule config s op ≡ None → option_and_then (size_refusal config s op) (kind_of op) ≡ None
+  unfolding size_rule
   sizes e = e
 
   asked : (resource : Resource) (method : Method) → op.target.resource ≡ resource → presence_refusal s resource ≡ None → first_of (rows_met config s op resource method) ≡ None → Asked resource method
@@ -353,7 +353,7 @@ module _ (config : Config) (s : State) (op : Operation) (sound : IsSound s) wher
   asked (BagList n) method at present e = tt
   asked (BagFile n path) method at present e = tt
 
-  present_by : (resource : Resource) (method : Method) → first_of (rows_met config s op resource method) ≡ None → of_presence s op ≡ None
+  present_by : (resource : Resource) (method : Method) → first_of (rows_met config s op resource method) ≡ None → presence_rule s op ≡ None
   present_by resource Get e = (all_passed (rows_met config s op resource Get) e).1.0
   present_by resource Head e = (all_passed (rows_met config s op resource Head) e).1.0
   present_by resource Post e = (all_passed (rows_met config s op resource Post) e).1.0
@@ -361,6 +361,6 @@ module _ (config : Config) (s : State) (op : Operation) (sound : IsSound s) wher
   present_by (Upload u) Delete e = (all_passed (rows_met config s op (Upload u) Delete) e).1.0
   present_by resource Delete e = (all_passed (rows_met config s op resource Delete) e).1.0
 
-  pub told_for : refusal config s op ≡ None → TellsFor (view_of config s op) s op.content (decision config op)
-  unfolding decision_with refusal of_presence
+  pub told_for : refusal config s op ≡ None → TellsFor (true_view config s op) s op.content (decision config op)
+  unfolding decision_with refusal presence_rule
   told_for e = asked op.target.resource op.target.method refl (present_by op.target.resource op.target.method e) e

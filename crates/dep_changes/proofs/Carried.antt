@@ -14,7 +14,7 @@ use Rattle.dep_decisions.specs.Effects.{effect, effect_of}
 use Rattle.dep_decisions.specs.Rules.{refusal}
 use Rattle.dep_decisions.specs.declared.operation.Operation.{Operation}
 use Rattle.dep_decisions.specs.declared.decision.Decision.{Decision}
-use Rattle.dep_rulings.specs.Views.{view_of}
+use Rattle.dep_rulings.specs.Views.{true_view}
 use Rattle.dep_rulings.specs.declared.view.View.{View}
 use Rattle.dep_changes.specs.Told.{TellsFor, TellsNumbers}
 use Rattle.dep_changes.specs.Changed.{with_maps}
@@ -30,15 +30,15 @@ room_of_files next d count is room =
     let one = and_both (has_room next.object taken.object) (has_room next.file taken.file) two.0 in
     subst (λ (n : ℕ). IsTrue (has_room next.file n)) is one.1
 
-module _ (config : Config) (s : State) (op : Operation) (view : View) (content : List ℕ) (d : Decision) (seen : view ≡ view_of config s op) (asked : d ≡ decision config op) (same : content ≡ op.content) where
+module _ (config : Config) (s : State) (op : Operation) (view : View) (content : List ℕ) (d : Decision) (seen : view ≡ true_view config s op) (asked : d ≡ decision config op) (same : content ≡ op.content) where
   pub numbers_told : TellsNumbers view s
   numbers_told = (ap (λ (v : View). v.clock) seen, ap (λ (v : View). v.next) seen)
 
   pub told : IsSound s → refusal config s op ≡ None → TellsFor view s content d
   told sound passed =
       subst (λ (v : View). TellsFor v s content d) (sym seen)
-      (subst (λ (bytes : List ℕ). TellsFor (view_of config s op) s bytes d) (sym same)
-      (subst (TellsFor (view_of config s op) s op.content) (sym asked) (told_for config s op sound passed)))
+      (subst (λ (bytes : List ℕ). TellsFor (true_view config s op) s bytes d) (sym same)
+      (subst (TellsFor (true_view config s op) s op.content) (sym asked) (told_for config s op sound passed)))
 
   pub carried : (t : Tables) (clock : ℕ) (next : Counters) → clock ≡ s.clock → next ≡ counters_after s.next (numbers_for d) → TablesAre t (record (with_maps s content d) { clock = clock; next = next }) → TablesAre t (effect config s op)
   unfolding effect

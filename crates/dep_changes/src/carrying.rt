@@ -11,7 +11,7 @@ ghost use Rattle.dep_decisions.specs.Decisions.{numbers_for};
 ghost use Rattle.dep_decisions.specs.Effects.{effect};
 ghost use Rattle.dep_decisions.specs.declared.operation.Operation.{Operation};
 ghost use Rattle.dep_rulings.specs.Rulings.{IsRuling};
-ghost use Rattle.dep_rulings.specs.Views.{view_of};
+ghost use Rattle.dep_rulings.specs.Views.{true_view};
 ghost use Rattle.dep_rulings.specs.declared.ruling.Ruling.TheVariants.{Do};
 ghost use Rattle.dep_changes.specs.Told.{TellsNumbers, TellsFor};
 ghost use Rattle.dep_changes.specs.Changed.{with_maps};
@@ -43,7 +43,7 @@ pub fn carry_out<S: Alter>(
 ) -> Result<(), StoreFault>
     requires { IsTrue (room_for view.now.next (numbers_for decision.now)) }
     ensures map { FromMaps (state S.Store tx.old.conn.now) (state S.Store tx.new.conn.now)
-        (λ s. (config : Config) (op : Operation) → IsSound s → view.now ≡ view_of config s op
+        (λ s. (config : Config) (op : Operation) → IsSound s → view.now ≡ true_view config s op
         → IsRuling config s op (Do decision.now) → content.now ≡ op.content
         → OnOk result (SeesState (state S.Store tx.new.conn.now) (effect config s op))) }
     ensures ours { KeepsOurs (state S.Store tx.old.conn.now) (state S.Store tx.new.conn.now) result }

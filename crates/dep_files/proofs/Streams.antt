@@ -22,7 +22,7 @@ use Rattle.dep_streams.specs.declared.fault.BlockFault.TheVariants as blocks_fau
 use Rattle.dep_row_maps.specs.Owned.{placed}
 use Rattle.dep_row_maps.specs.Stored.{block_seen, block_rows, part_rows, blocks_of, file_stored, is_file_of}
 use Rattle.dep_row_maps.specs.TablesAre.{TablesAre, files_at, joined}
-use Rattle.dep_row_maps.specs.Laws.{if_passes}
+use Rattle.dep_types.specs.Names.{if_passes}
 use Rattle.dep_row_maps.proofs.Files.{free_file, number_itself}
 use Rattle.dep_row_maps.proofs.Blocks.{blocks-sorted}
 use Rattle.dep_row_maps.proofs.Whole.{file_found_at}

@@ -10,7 +10,7 @@ ghost use Rattle.dep_tables.specs.Clauses.{AtMostOne, ReadsOnly, FailsReading, F
 ghost use Rattle.dep_tables.specs.Rows.{IsFileRow};
 ghost use Rattle.dep_tables.specs.Texts.{files_of_text, find_file_text};
 ghost use Rattle.dep_row_maps.specs.TablesAre.{files_at};
-ghost use Rattle.dep_row_maps.specs.Laws.{if_passes};
+ghost use Rattle.dep_types.specs.Names.{if_passes};
 ghost use Rattle.dep_files.specs.Reading.{Tells};
 
 use dep_tables::files_of;

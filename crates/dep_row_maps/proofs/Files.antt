@@ -15,13 +15,13 @@ use Rattle.sqlite_trees.specs.Tree.{rowid, has_rowid, put_row, without_rowid, Is
 use Rattle.sqlite_trees.proofs.TreeLemmas.{later_rowids}
 use Rattle.sqlite_trees.proofs.ListLemmas.{all_weaker, all-filter}
 use Rattle.dep_types.specs.Maps.{Numbered}
+use Rattle.dep_types.specs.Names.{if_passes}
 use Rattle.dep_types.specs.State.{File}
 use Rattle.dep_statements.specs.Rows.{IsOrdered, row_at, has_number}
 use Rattle.std.proofs.lemmas.Int.{ints}
 use Rattle.dep_row_maps.specs.Keyed.{rows_of}
 use Rattle.dep_row_maps.specs.Stored.{file_stored, is_file_of}
 use Rattle.dep_row_maps.specs.TablesAre.{FilesAre}
-use Rattle.dep_row_maps.specs.Laws.{if_passes}
 use Rattle.dep_row_maps.proofs.Rows.{put_insert, without_remove, found_row_of}
 use Rattle.dep_row_maps.proofs.Owners.{filter_of_left, filter_left_none}
 

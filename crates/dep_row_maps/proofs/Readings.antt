@@ -11,6 +11,7 @@ use Rattle.sqlite.specs.declared.types.Value.TheVariants.{Int, Text, Blob}
 use Rattle.sqlite_value.specs.Order.{Row, column, value_cmp}
 use Rattle.sqlite_value.proofs.OrderLemmas.{value_cmp-Int}
 use Rattle.sqlite_trees.specs.Tree.{rowid}
+use Rattle.dep_types.specs.Names.{if_passes}
 use Rattle.dep_types.specs.State.{State, Object, File, file_at}
 use Rattle.dep_types.specs.Rows.{object_row, file_row, upload_row}
 use Rattle.dep_types.specs.declared.rows.ObjectRow.{ObjectRow}
@@ -24,7 +25,7 @@ use Rattle.dep_tables.specs.declared.segments.SegmentRow.{SegmentRow}
 use Rattle.dep_tables.specs.declared.owner.BlockOwner.TheVariants as owner
 use Rattle.dep_row_maps.specs.Stored.{state_row, state_stored, object_stored, file_stored, upload_stored, is_file_of, segment_row, pair_seen, bytes_seen}
 use Rattle.dep_row_maps.specs.TablesAre.{metadata_at, files_at, segments_at, joined}
-use Rattle.dep_row_maps.specs.Laws.{if_passes, pair_of, StateFound, StateRead, ObjectRead, NextObjectRead, TextsRead, FileRead, FilesRead, UploadRead, NextUploadRead, SegmentsRead, ContentRead, AssembledRead}
+use Rattle.dep_row_maps.specs.Laws.{pair_of, StateFound, StateRead, ObjectRead, NextObjectRead, TextsRead, FileRead, FilesRead, UploadRead, NextUploadRead, SegmentsRead, ContentRead, AssembledRead}
 use Rattle.dep_row_maps.proofs.Rows.{next_row_of}
 use Rattle.dep_row_maps.proofs.Files.{file_found, number_itself}
 use Rattle.dep_row_maps.proofs.Metadata.{metadata-sorted, metadata-pairs}

@@ -1,5 +1,5 @@
 -- What each edit of the tables makes of the state that they are, and what is read of it.
-use Rattle.std.specs.Prelude.{◌≡◌, ◌≢◌, ℕ, ◌≤◌, ◌*◌, ◌++◌, not, List, [], ◌∷◌, length, filter, fold, Option, Some, None, option_map, option_and_then, find, map as each, if◌then◌else◌, Bool, IsTrue, cond, unwrap_or, nat_eq}
+use Rattle.std.specs.Prelude.{◌≡◌, ◌≢◌, ℕ, ◌≤◌, ◌*◌, ◌++◌, not, List, [], ◌∷◌, length, filter, fold, Option, Some, None, option_map, option_and_then, find, map as each, if◌then◌else◌, Bool, IsTrue, unwrap_or, nat_eq}
 use Rattle.std.specs.List.{AllByRecursion, flat_map, slice_get}
 use Rattle.std.specs.Option.{option_to_list}
 use Rattle.std.specs.FinMap as map
@@ -7,6 +7,7 @@ use Rattle.std.specs.FinSet as set
 use Rattle.sqlite.specs.declared.types.Value.TheVariants.{Blob}
 use Rattle.sqlite_value.specs.Order.{Row}
 use Rattle.dep_types.specs.Maps.{Numbered, Numbers}
+use Rattle.dep_types.specs.Names.{if_passes}
 use Rattle.dep_types.specs.State.{State, Object, File, Upload, Texts, empty_state, expired, unexpired, file_at}
 use Rattle.dep_types.specs.Rows.{object_row, file_row, upload_row}
 use Rattle.dep_types.specs.Uploads.{assembled, is_complete, segment_numbers}
@@ -243,10 +244,6 @@ FileAssembledByParts = Always (λ t s. IsOrdered t.files → (n : ℕ) (o : Obje
     (without_upload (with_object s n (with_files o (map.insert o.files f file))) u))
 
 -- ---- reading
-
--- the row, if it passes
-abbrev pub if_passes : {X : Type 0} → (X → Bool) → X → Option X
-if_passes p r = cond (p r) (Some r) None
 
 abbrev pub StateFound : Type 0
 StateFound = Always (λ t s. row_at t.state 1 ≡ Some (state_stored s))

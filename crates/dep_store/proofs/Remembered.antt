@@ -22,7 +22,7 @@ use Rattle.dep_fields.specs.declared.kind.Kind.{Kind}
 use Rattle.dep_decisions.specs.Decisions.{references_in, references_by}
 use Rattle.dep_decisions.specs.Kinds.{kind_of, kind_by, kind_without, takes_kind, may_hold}
 use Rattle.dep_decisions.specs.declared.operation.Operation.{Operation}
-use Rattle.dep_rulings.specs.Views.{view_of, seen_at, touched_with}
+use Rattle.dep_rulings.specs.Views.{true_view, seen_at, touched_with}
 use Rattle.dep_soundness.specs.Laws.{is_read}
 use Rattle.dep_answers.specs.Subjects.{shown_at, subject_of}
 use Rattle.dep_answers.specs.declared.subject.Shown.TheVariants as shown
@@ -161,7 +161,7 @@ unfolding references_in
 references_none config op reads = ap (references_by config op) (kind_none op reads)
 
 pub service_seen : (config : Config) (s : State) (op : Operation) (m : Remembered) → ReadsService op → Recalls m s
-    → service_view m.clock m.next ≡ view_of config s op
+    → service_view m.clock m.next ≡ true_view config s op
 service_seen config s op m reads recalls =
     (λ i. service_view (recalls.clock i) (recalls.next i))
     ∙ sym (λ i. seen_at s (touched_with (reads.resource i) (references_none config op reads i)))

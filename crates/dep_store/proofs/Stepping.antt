@@ -19,7 +19,7 @@ use Rattle.dep_decisions.specs.Effects.{effect}
 use Rattle.dep_decisions.specs.Rules.{refusal}
 use Rattle.dep_decisions.specs.declared.decision.Decision.{Decision}
 use Rattle.dep_decisions.specs.declared.operation.Operation.{Operation}
-use Rattle.dep_rulings.specs.Views.{view_of}
+use Rattle.dep_rulings.specs.Views.{true_view}
 use Rattle.dep_rulings.specs.declared.view.View.{View}
 use Rattle.dep_soundness.proofs.Accepted.{effect_sound}
 use Rattle.dep_answers.specs.Performing.{IsReady, IsReply}
@@ -92,7 +92,7 @@ accepted_then config s op P d shown (Err e) fit sound accepted same carried told
 
 -- the counters that an accepted request leaves
 pub next_after : (config : Config) (s : State) (op : Operation) (view : View) (d : Decision) (next : Counters)
-    → view ≡ view_of config s op → d ≡ decision config op → next ≡ counters_after view.next (numbers_for d) → next ≡ (effect config s op).next
+    → view ≡ true_view config s op → d ≡ decision config op → next ≡ counters_after view.next (numbers_for d) → next ≡ (effect config s op).next
 unfolding effect
 next_after config s op view d next seen is e =
     e ∙ ap (λ (v : View). counters_after v.next (numbers_for d)) seen ∙ ap (λ (x : Decision). counters_after s.next (numbers_for x)) is

@@ -5,7 +5,7 @@ use Rattle.dep_types.specs.State.{State}
 use Rattle.dep_types.specs.declared.config.Config.{Config}
 use Rattle.dep_decisions.specs.declared.operation.Operation.{Operation}
 use Rattle.dep_rulings.specs.Rulings.{IsRuling}
-use Rattle.dep_rulings.specs.Views.{view_of}
+use Rattle.dep_rulings.specs.Views.{true_view}
 use Rattle.dep_answers.specs.Steps.{Stepped}
 use Rattle.dep_answers.specs.Performing.{IsReady}
 use Rattle.dep_answers.specs.declared.performed.Performed.{Performed}
@@ -19,5 +19,5 @@ pub record Performs (stepped : Stepped) (new : db.State) (p : Performed) : Type 
 
 -- the view tells the state truly, and the ruling is right there
 pub record Rules (config : Config) (s : State) (op : Operation) (ruled : Ruled) : Type 0 where
-  pub view : ruled.view ≡ view_of config s op
+  pub view : ruled.view ≡ true_view config s op
   pub ruling : IsRuling config s op ruled.ruling

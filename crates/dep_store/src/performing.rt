@@ -11,7 +11,7 @@ ghost use Rattle.dep_fields.specs.Fit.{AreFit};
 ghost use Rattle.dep_decisions.specs.Decisions.{numbers_for};
 ghost use Rattle.dep_decisions.specs.Effects.{effect};
 ghost use Rattle.dep_rulings.specs.Rulings.{IsRuling, HasRoomFor};
-ghost use Rattle.dep_rulings.specs.Views.{view_of};
+ghost use Rattle.dep_rulings.specs.Views.{true_view};
 ghost use Rattle.dep_rulings.specs.declared.ruling.Ruling.TheVariants.{Do};
 ghost use Rattle.dep_tables.specs.Clauses.{ReadsOnly, StaysWithin};
 ghost use Rattle.dep_row_maps.specs.Clauses.{FromMaps, KeepsOurs, SeesState};
@@ -121,7 +121,7 @@ fn carry<S: Alter>(
     requires { IsTrue (room_for view.now.next (numbers_for decision.now)) }
     ensures map { FromMaps (state S.Store tx.old.conn.now) (state S.Store tx.new.conn.now)
         (λ s. (config : Config) → IsSound s → AreFit operation.now.fields
-        → view.now ≡ view_of config s operation.now
+        → view.now ≡ true_view config s operation.now
         → IsRuling config s operation.now (Do decision.now)
         → IfOk result (λ shown.
         SeesState (state S.Store tx.new.conn.now) (effect config s operation.now)

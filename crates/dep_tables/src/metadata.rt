@@ -21,10 +21,13 @@ use std::alloc::Global;
 /// One text of an object's metadata.
 #[derive(Drop)]
 pub struct MetadataRow {
+    /// The number of the object.
     pub object: u64,
+    /// The name, as `dc:title`.
     pub name: Text,
     /// The place of the text among those of this name, from 0.
     pub place: u64,
+    /// The text.
     pub value: Text,
 }
 

@@ -28,7 +28,9 @@ pub struct BlockPlace {
 /// The key of a block.
 #[derive(Clone, Copy, Debug, PartialEq, Eq)]
 pub struct BlockKey {
+    /// Whose block it is.
     pub owner: BlockOwner,
+    /// Where it stands among the blocks of the owner.
     pub at: BlockPlace,
 }
 

@@ -20,6 +20,7 @@ use std::alloc::Global;
 /// A segment that was received, less its bytes.
 #[derive(Clone, Copy, Debug, PartialEq, Eq)]
 pub struct SegmentRow {
+    /// The number of the upload.
     pub upload: u64,
     /// From 1 to the count of the upload.
     pub number: u64,

@@ -20,7 +20,9 @@ use sqlite::{Alter, Error, Row, Transaction};
 /// The clock, a moment in seconds of Unix time, and the numbers to be given next.
 #[derive(Clone, Copy, Debug, PartialEq, Eq)]
 pub struct StateRow {
+    /// The greatest moment so far, in seconds of Unix time.
     pub clock: u64,
+    /// The next number of each kind.
     pub next: Counters,
 }
 

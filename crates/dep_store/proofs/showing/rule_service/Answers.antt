@@ -1,5 +1,5 @@
 use Rattle.std.proofs.Common.{◌≡◌, ◌∙◌}
-use Rattle.dep_rulings.specs.Views.{view_of}
+use Rattle.dep_rulings.specs.Views.{true_view}
 use Rattle.dep_store.proofs.Remembered.{service_seen}
 use Rattle.dep_store.proofs.showing.rule_service.Goals as goal
 
@@ -7,5 +7,5 @@ pub returns-in-Ok : goal.returns-in-Ok
 returns-in-Ok c s recalls =
     let op = c.args.operation.now in
     let config = c.args.config.now in
-    let seen : c.view_service-view.result ≡ view_of config s op = c.view_service-view.ensures ∙ service_seen config s op c.args.remembered.now c.requires recalls in
+    let seen : c.view_service-view.result ≡ true_view config s op = c.view_service-view.ensures ∙ service_seen config s op c.args.remembered.now c.requires recalls in
     c.in-Ok.ensures.ruling s seen
