@@ -7,6 +7,7 @@ pub trait Watch {
 }
 
 /// Looks at nothing.
+#[derive(Drop)]
 pub struct Unwatched;
 
 impl Watch for Unwatched {
