@@ -51,6 +51,10 @@ undone_by_commit : (inside new : db.State) (e : Error) → IsTrue inside.in_tran
 undone_by_commit inside new e within (inl fails) = fails.3
 undone_by_commit inside new e within (inr (_, ended, _)) = absurd (let it = (sym within) ∙ ended in cc)
 
+pub nothing_told : {A E : Type 0} (result : Result A E) (P : Type 0) → IsErr result → OnOk result P
+nothing_told (Ok answer) P failed = cc failed
+nothing_told (Err e) P failed = tt
+
 -- what an Ok inside has made of the tables
 abbrev pub IsMade : {S A : Type 0} (g : Ghosts S) (old inside : Held S) → (Tables → A → Tables → Type 0) → A → Type 0
 IsMade g old inside Makes answer =
@@ -125,7 +129,7 @@ module _ {S : Type 0} (g : Ghosts S) (old inside new : Held S) where
     -- the work failed, and the transaction was dropped
     pub gave_up : {E : Type 0} (result : Result A E) → IsErr result → Works → (HasCleanDisk (state g new) → IsRolledBack (state g inside) (state g new)) → Survives (state g inside) (state g new) (λ _. ⊥)
         → (last : Held S) → new ≡ last → Transacts (state g old) (state g last) result Makes
-    gave_up (Ok answer) failed it undone survives last same = cc failed
+    gave_up {E} (Ok answer) failed it undone survives last same = nothing_told {E = E} (Ok answer) _ failed
     gave_up (Err fault) failed it undone survives last same = subst (λ (h : Held S). Transacts (state g old) (state g h) (Err fault) Makes) same (record {
       ok = λ clean t stands. tt;
       err = back_at (λ _. ⊥) it survives undone;
@@ -210,10 +214,6 @@ works_within {S = S} {inside = inside} g old new stays is settled shut = record 
 pub still_inside : {S A E : Type 0} {begun inside : MutBor (Held S)} {x : A} (g : Ghosts S) (old : Held S) → StaysWithin {A = A} {E = E} g begun inside (Ok x)
     → begun.now ≡ record old { in_transaction = true } → HasCleanDisk (state g inside.now) → IsTrue (state g inside.now).in_transaction
 still_inside {S = S} g old stays is clean = stays.inside clean (subst (λ (h : Held S). IsTrue h.in_transaction) (sym is) refl)
-
-pub nothing_told : {A E : Type 0} (result : Result A E) (P : Type 0) → IsErr result → OnOk result P
-nothing_told (Ok answer) P failed = cc failed
-nothing_told (Err e) P failed = tt
 
 -- ---- what it says of states
 
