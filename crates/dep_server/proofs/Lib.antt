@@ -6,6 +6,7 @@ mod ConnectionLemmas
 pub mod HubLemmas
 mod OpeningLemmas
 pub mod TalkLemmas
+mod TurnLemmas
 mod CalmLemmas
 mod StreamLemmas
 mod SoundLemmas

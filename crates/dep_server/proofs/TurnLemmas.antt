@@ -1,0 +1,83 @@
+-- One turn of a connection.
+use Rattle.std.proofs.Common.{◌≡◌, ◌≤◌, ◌<◌, ℕ, List, ◌++◌, length, take, sym, ap, subst, ◌∙◌, arith, Option, Some, None, refl, take_at}
+use Rattle.std.specs.Io.KnownBytes.{Consumes, Keeps}
+use Rattle.sqlite_trees.specs.declared.store.Store.{Ghosts}
+use Rattle.dep_server.specs.Turns.{most_read}
+use Rattle.dep_server.specs.Standing.{ArrivesOver}
+use Rattle.dep_server.specs.Conversation.{Session, OneTurn, NoTurn}
+use Rattle.dep_server.specs.declared.arrived.Arrived.{Arrived}
+
+-- the whole buffer, as the slice of it that was read into
+read_whole : (len : ℕ) (buffer rest given whole : List ℕ) → whole ≡ take len (buffer ++ rest)
+    → length buffer ≡ length given → length given ≡ len → whole ≡ buffer
+read_whole len buffer rest given whole e b s =
+    e ∙ take_at buffer rest len (b ∙ s)
+
+-- what is read is some bytes, and no more than the buffer has
+some_read : (n : ℕ) (buffer : List ℕ) → n ≡ length (take n buffer) → (n ≡ 0 → ⊥) → 0 < length (take n buffer)
+some_read n buffer e not_none = omega arith
+
+small_read : (n : ℕ) (buffer given items : List ℕ) → n ≤ length buffer → n ≡ length (take n buffer)
+    → length buffer ≡ length given → given ≡ items → length items ≡ most_read → length (take n buffer) ≤ most_read
+small_read n buffer given items fits e b same room =
+    let known : length given ≡ most_read = ap (λ (xs : List ℕ). length xs) same ∙ room in
+    omega arith
+
+-- the buffer has room
+pub has_room : (buffer given items : List ℕ) → length buffer ≡ length given → given ≡ items → length items ≡ most_read → 0 < length buffer
+has_room buffer given items b same room =
+    let known : length buffer ≡ most_read = b ∙ (ap (λ (xs : List ℕ). length xs) same ∙ room) in
+    omega arith
+
+-- where no byte was read, the reader keeps what it had
+pub none_read : (n : ℕ) (buffer : List ℕ) (unread left : Option (List ℕ)) → n ≡ 0
+    → Consumes unread left (take n buffer) → Keeps unread left
+none_read n buffer None left none c = tt
+none_read n buffer (Some xs) None none c = absurd c
+none_read n buffer (Some xs) (Some ys) none c = sym (c ∙ ap (λ k. take k buffer ++ ys) none)
+
+keeps_itself : (o : Option (List ℕ)) → Keeps o o
+keeps_itself None = tt
+keeps_itself (Some xs) = refl
+
+module _ {S : Type 0} (g : Ghosts S) where
+  -- a piece was read, and it arrived
+  pub one_turn : {C : Type 0} (ticks : C → ℕ → C → Type 0) (number : ℕ) (before after : Session g C) (answer : Arrived)
+      (n len moment : ℕ) (buffer rest given items whole : List ℕ)
+      → whole ≡ take len (buffer ++ rest) → length buffer ≡ length given → length given ≡ len
+      → given ≡ items → length items ≡ most_read
+      → n ≤ length buffer → n ≡ length (take n buffer) → (n ≡ 0 → ⊥)
+      → Consumes before.wire.unread after.wire.unread (take n buffer)
+      → ticks before.clock moment after.clock
+      → ArrivesOver g before.wire.taken after.wire.taken before.wire.failures after.wire.failures
+      before.hub after.hub number (take n whole) moment answer
+      → OneTurn g ticks number before after answer
+  one_turn ticks number before after answer n len moment buffer rest given items whole e b s same room fits long not_none read ticked arrival =
+      let is_whole : whole ≡ buffer = read_whole len buffer rest given whole e b s in
+      let came : ArrivesOver g before.wire.taken after.wire.taken before.wire.failures after.wire.failures
+      before.hub after.hub number (take n buffer) moment answer = subst (λ (xs : List ℕ). ArrivesOver g before.wire.taken after.wire.taken before.wire.failures after.wire.failures
+      before.hub after.hub number (take n xs) moment answer) is_whole arrival in
+      record {
+        piece = take n buffer;
+        moment = moment;
+        sent = came.sent;
+        arrives = came.arrival;
+        some = some_read n buffer long not_none;
+        small = small_read n buffer given items fits long b same room;
+        transfers = record { pieces = read; replies = came.appends };
+        ticked = ticked;
+      }
+
+  -- nothing was read
+  pub no_turn : {C : Type 0} (before after : Session g C)
+      → after.hub ≡ before.hub → after.clock ≡ before.clock → after.wire.taken ≡ before.wire.taken → after.wire.failures ≡ before.wire.failures
+      → Keeps before.wire.unread after.wire.unread → NoTurn g before after
+  no_turn before after hub clock taken failures kept = record {
+    same_hub = hub;
+    rests = record {
+      pieces = kept;
+      replies = subst (λ (o : Option (List ℕ)). Keeps before.wire.taken o) (sym taken) (keeps_itself before.wire.taken);
+      failures = failures;
+    };
+    same_clock = clock;
+  }

@@ -1,0 +1,54 @@
+use Rattle.std.proofs.Common.{refl, length, drop}
+use Rattle.dep_server.specs.Conversation.{session, wire}
+use Rattle.dep_server.specs.declared.arrived.Arrived.TheVariants.{Open as StaysOpen, Closed as HasClosed, Cut}
+use Rattle.dep_server.proofs.TurnLemmas.{one_turn, no_turn, none_read, has_room}
+use Rattle.dep_server.proofs.connection.turn.Goals as goal
+use Rattle.dep_server.proofs.connection.turn.Given as given
+
+pub returns-in-Open-clause-turn : goal.returns-in-Open-clause-turn
+returns-in-Open-clause-turn g c =
+    one_turn g.S.Store (given.C-step g) c.args.incoming.now.connection
+    (session g.S.Store c.args.hub.now (wire (g.R.Read.remaining c.args.reader.now) (g.W.Outlet.taken c.args.writer.now) (g.W.Outlet.failures c.args.writer.now)) c.args.clock.now)
+    (session g.S.Store c.arrive.new.self (wire (g.R.Read.remaining c.read.new.self) (g.W.Outlet.taken c.arrive.new.out) (g.W.Outlet.failures c.arrive.new.out)) c.clock-moment.new.self)
+    StaysOpen c.in-Ok.n c.args.incoming.now.buffer.len c.clock-moment.result
+    c.read.new.buf (drop (length c.read.new.buf) c.args.incoming.now.buffer.items) c.as_mut_slice.result.now c.args.incoming.now.buffer.items c.deref.result.now
+    c.deref.ensures.value c.read.auto.buf c.as_mut_slice.ensures.len c.as_mut_slice.ensures.value c.requires.room
+    c.in-Ok.ensures.bound.0 c.in-Ok.ensures.bound.1 c.in-Ok.n-test.1 c.in-Ok.ensures.bytes.0 c.clock-moment.ensures c.in-Open.ensures.arrival
+
+pub returns-in-Closed-clause-turn : goal.returns-in-Closed-clause-turn
+returns-in-Closed-clause-turn g c =
+    one_turn g.S.Store (given.C-step g) c.args.incoming.now.connection
+    (session g.S.Store c.args.hub.now (wire (g.R.Read.remaining c.args.reader.now) (g.W.Outlet.taken c.args.writer.now) (g.W.Outlet.failures c.args.writer.now)) c.args.clock.now)
+    (session g.S.Store c.arrive.new.self (wire (g.R.Read.remaining c.read.new.self) (g.W.Outlet.taken c.arrive.new.out) (g.W.Outlet.failures c.arrive.new.out)) c.clock-moment.new.self)
+    HasClosed c.in-Ok.n c.args.incoming.now.buffer.len c.clock-moment.result
+    c.read.new.buf (drop (length c.read.new.buf) c.args.incoming.now.buffer.items) c.as_mut_slice.result.now c.args.incoming.now.buffer.items c.deref.result.now
+    c.deref.ensures.value c.read.auto.buf c.as_mut_slice.ensures.len c.as_mut_slice.ensures.value c.requires.room
+    c.in-Ok.ensures.bound.0 c.in-Ok.ensures.bound.1 c.in-Ok.n-test.1 c.in-Ok.ensures.bytes.0 c.clock-moment.ensures c.in-Closed.ensures.arrival
+
+pub returns-in-Cut-clause-turn : goal.returns-in-Cut-clause-turn
+returns-in-Cut-clause-turn g c =
+    one_turn g.S.Store (given.C-step g) c.args.incoming.now.connection
+    (session g.S.Store c.args.hub.now (wire (g.R.Read.remaining c.args.reader.now) (g.W.Outlet.taken c.args.writer.now) (g.W.Outlet.failures c.args.writer.now)) c.args.clock.now)
+    (session g.S.Store c.arrive.new.self (wire (g.R.Read.remaining c.read.new.self) (g.W.Outlet.taken c.arrive.new.out) (g.W.Outlet.failures c.arrive.new.out)) c.clock-moment.new.self)
+    Cut c.in-Ok.n c.args.incoming.now.buffer.len c.clock-moment.result
+    c.read.new.buf (drop (length c.read.new.buf) c.args.incoming.now.buffer.items) c.as_mut_slice.result.now c.args.incoming.now.buffer.items c.deref.result.now
+    c.deref.ensures.value c.read.auto.buf c.as_mut_slice.ensures.len c.as_mut_slice.ensures.value c.requires.room
+    c.in-Ok.ensures.bound.0 c.in-Ok.ensures.bound.1 c.in-Ok.n-test.1 c.in-Ok.ensures.bytes.0 c.clock-moment.ensures c.in-Cut.ensures.arrival
+
+pub returns-in-Err-clause-turn : goal.returns-in-Err-clause-turn
+returns-in-Err-clause-turn g c =
+    no_turn g.S.Store
+    (session g.S.Store c.args.hub.now (wire (g.R.Read.remaining c.args.reader.now) (g.W.Outlet.taken c.args.writer.now) (g.W.Outlet.failures c.args.writer.now)) c.args.clock.now)
+    (session g.S.Store c.args.hub.now (wire (g.R.Read.remaining c.read.new.self) (g.W.Outlet.taken c.args.writer.now) (g.W.Outlet.failures c.args.writer.now)) c.args.clock.now)
+    refl refl refl refl c.in-Err.ensures.bytes
+
+pub returns-in-Ok-eq0-clause-turn : goal.returns-in-Ok-eq0-clause-turn
+returns-in-Ok-eq0-clause-turn g c =
+    let none = c.in-Ok-eq0.field-0-test in (
+      no_turn g.S.Store
+          (session g.S.Store c.args.hub.now (wire (g.R.Read.remaining c.args.reader.now) (g.W.Outlet.taken c.args.writer.now) (g.W.Outlet.failures c.args.writer.now)) c.args.clock.now)
+          (session g.S.Store c.args.hub.now (wire (g.R.Read.remaining c.read.new.self) (g.W.Outlet.taken c.args.writer.now) (g.W.Outlet.failures c.args.writer.now)) c.args.clock.now)
+          refl refl refl refl
+          (none_read c.in-Ok-eq0.field-0 c.read.new.buf (g.R.Read.remaining c.args.reader.now) (g.R.Read.remaining c.read.new.self) none c.in-Ok-eq0.ensures.bytes.0),
+      c.in-Ok-eq0.ensures.bytes.1 none (has_room c.read.new.buf c.as_mut_slice.result.now c.args.incoming.now.buffer.items c.read.auto.buf c.as_mut_slice.ensures.value c.requires.room),
+    )
