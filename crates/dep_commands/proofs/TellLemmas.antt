@@ -15,7 +15,7 @@ use Rattle.sqlite.specs.State.{State}
 use Rattle.sqlite.specs.Tree.{Trees}
 use Rattle.dep_types.specs.State as archive
 use Rattle.dep_schema.specs.Standing.{Holds, Stands}
-use Rattle.dep_store.specs.Standing.{TablesStandFor, StandsFor, Leaves}
+use Rattle.dep_requests.specs.Standing.{TablesStandFor, StandsFor, Leaves}
 use Rattle.dep_types.specs.Sinks.{IsFront}
 use Rattle.dep_store.specs.Auditing.{IsObjectAudited}
 use Rattle.dep_commands.specs.Audits.{Audited, AreAudits, object_rows, damaged_line, damaged_lines, lines_of, count_line, audit_text, outcome_of_audit, IsWhole, IsBegun, Audits}

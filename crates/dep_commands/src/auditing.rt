@@ -7,7 +7,7 @@ ghost use Rattle.dep_types.specs.Writing.{HasRisen};
 ghost use Rattle.dep_tables.specs.Tables.{Tables};
 ghost use Rattle.dep_schema.specs.Standing.{Stands};
 ghost use Rattle.dep_types.specs.State.{State};
-ghost use Rattle.dep_store.specs.Standing.{StandsFor, Leaves};
+ghost use Rattle.dep_requests.specs.Standing.{StandsFor, Leaves};
 ghost use Rattle.dep_commands.specs.Audits.{Audits};
 ghost use Rattle.dep_commands.specs.Telling.{TellsObject, TellsObjects, IsQuiet, HasCause, outcome_of_fault};
 

@@ -3,8 +3,8 @@ use Rattle.std.proofs.Common.{◌≡◌, IsTrue}
 use Rattle.sqlite.specs.State as db
 use Rattle.sqlite.specs.Tree.{Trees}
 use Rattle.dep_types.specs.State.{State}
-use Rattle.dep_store.specs.Standing.{StandsFor, Leaves}
-use Rattle.dep_store.proofs.Transacting.{leaves_as_was}
+use Rattle.dep_requests.specs.Standing.{StandsFor, Leaves}
+use Rattle.dep_requests.proofs.Transacting.{leaves_as_was}
 
 -- while the store is open, a crash leaves the last commit and nothing else
 abbrev pub Settles : db.State → Type 0

@@ -17,8 +17,8 @@ use Rattle.dep_answers.specs.Steps.{Stepped, refused_step, operation_step}
 use Rattle.dep_answers.specs.Performing.{IsReady, IsReply}
 use Rattle.dep_answers.specs.declared.performed.Delivery.{Delivery}
 use Rattle.dep_answers.specs.declared.performed.Performed.{Performed}
-use Rattle.dep_store.specs.Standing.{StandsFor, Leaves}
-use Rattle.dep_store.specs.Performing.{Performs}
+use Rattle.dep_requests.specs.Standing.{StandsFor, Leaves}
+use Rattle.dep_requests.specs.Performing.{Performs}
 use Rattle.dep_server.specs.Machine.{operation_of, routed_step}
 use Rattle.dep_server.proofs.Leaving.{leaves_wider}
 

@@ -6,7 +6,7 @@ use Rattle.sqlite.specs.Tree.{Trees}
 use Rattle.dep_types.specs.State.{State, empty_state}
 use Rattle.dep_types.specs.declared.config.Config.{Config}
 use Rattle.dep_schema.specs.Standing.{HoldsNone}
-use Rattle.dep_store.specs.Standing.{IsLeftAs, Leaves}
+use Rattle.dep_requests.specs.Standing.{IsLeftAs, Leaves}
 use Rattle.dep_server.specs.Records.{Record, Run, first_world, stopped}
 
 -- A database with no table is left so, or as a new store. One that a stop left for some state is

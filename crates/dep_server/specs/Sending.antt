@@ -7,8 +7,8 @@ use Rattle.dep_types.specs.declared.store_fault.StoreFault.{StoreFault}
 use Rattle.dep_types.specs.declared.store_fault.StoreFault.TheVariants.{Store, Memory}
 use Rattle.dep_answers.specs.Steps.{Stepped, sent_by}
 use Rattle.dep_answers.specs.declared.performed.Performed.{Performed}
-use Rattle.dep_store.specs.Standing.{StandsFor, Leaves}
-use Rattle.dep_store.specs.Performing.{Performs}
+use Rattle.dep_requests.specs.Standing.{StandsFor, Leaves}
+use Rattle.dep_requests.specs.Performing.{Performs}
 use Rattle.dep_server.specs.Machine.{want_of_memory, store_fault}
 use Rattle.dep_server.specs.Causes.{CutsStored}
 use Rattle.dep_server.specs.declared.sending.Answered.{Answered}

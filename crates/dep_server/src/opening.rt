@@ -5,7 +5,7 @@ ghost use Rattle.sqlite.specs.State.{HasCleanDisk};
 ghost use Rattle.dep_types.specs.State.{State, empty_state};
 ghost use Rattle.dep_types.specs.Config.{IsChecked};
 ghost use Rattle.dep_schema.specs.Standing.{HoldsNone, IsOpenable, IsBack};
-ghost use Rattle.dep_store.specs.Standing.{IsLeftAs, StandsFor};
+ghost use Rattle.dep_requests.specs.Standing.{IsLeftAs, StandsFor};
 ghost use Rattle.dep_server.specs.Opening.{OpeningLeaves};
 ghost use Rattle.dep_server.specs.Records.{Record, Run, first_world};
 ghost use Rattle.dep_server.specs.Standing.{StandsAfter, IsClean, IsHonest, store_of};

@@ -17,9 +17,9 @@ use Rattle.dep_row_maps.specs.Clauses.{FromMaps}
 use Rattle.dep_files.specs.Reading.{IsKept}
 use Rattle.dep_schema.specs.Standing.{Stands}
 use Rattle.dep_schema.proofs.Transactions.{stands_left}
-use Rattle.dep_store.specs.Standing.{StandsFor}
-use Rattle.dep_store.specs.Transactions.{OnlyTells, OverStates}
-use Rattle.dep_store.proofs.Transacting.{IsMade}
+use Rattle.dep_requests.specs.Standing.{StandsFor}
+use Rattle.dep_requests.specs.Transactions.{OnlyTells, OverStates}
+use Rattle.dep_requests.proofs.Transacting.{IsMade}
 
 -- no upload of a sound state has the number 0
 pub none_at_0 : (s : State) → IsSound s → map.get s.uploads 0 ≡ None

@@ -4,7 +4,6 @@
 
 mod auditing;
 mod opening;
-mod performing;
 mod reading;
 mod remembering;
 mod showing;

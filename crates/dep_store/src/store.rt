@@ -17,8 +17,8 @@ ghost use Rattle.dep_tables.specs.Tables.{Tables};
 ghost use Rattle.dep_tables.specs.Edits.{IsObjectAfter};
 ghost use Rattle.dep_schema.specs.Standing.{Holds, HoldsNone, IsOpenable, IsBack, Stands};
 ghost use Rattle.dep_store.specs.Auditing.{IsObjectAudited};
-ghost use Rattle.dep_store.specs.Standing.{StandsFor, IsLeftAs, Leaves};
-ghost use Rattle.dep_store.specs.Performing.{Performs};
+ghost use Rattle.dep_requests.specs.Standing.{StandsFor, IsLeftAs, Leaves};
+ghost use Rattle.dep_requests.specs.Performing.{Performs};
 ghost use Rattle.dep_store.specs.Opening.{OpenLeaves};
 
 use crate::auditing::audit_object;

@@ -3,7 +3,7 @@ ghost use Rattle.std.specs.Prelude.{◌≡◌, IfOk};
 ghost use Rattle.sqlite.specs.Held.{state};
 ghost use Rattle.sqlite.specs.Steps.{over_memory};
 ghost use Rattle.dep_types.specs.State.{empty_state};
-ghost use Rattle.dep_store.specs.Standing.{StandsFor};
+ghost use Rattle.dep_requests.specs.Standing.{StandsFor};
 ghost use Rattle.dep_server.specs.Conversation.{wire};
 ghost use Rattle.swordd.specs.Replays.{Replays, outcome_of};
 

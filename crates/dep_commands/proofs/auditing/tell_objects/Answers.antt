@@ -2,7 +2,7 @@ use Rattle.std.proofs.Common.{◌++◌, [], refl, subst, ◌∙◌}
 use Rattle.std.proofs.KnownBytes.{Appends-nil, Appends-trans}
 use Rattle.dep_tables.specs.Edits.{IsObjectAfter}
 use Rattle.sqlite.specs.Held.{state}
-use Rattle.dep_store.proofs.Transacting.{leaves_as_was}
+use Rattle.dep_requests.proofs.Transacting.{leaves_as_was}
 use Rattle.dep_commands.proofs.TellLemmas.{objects_rise, told_none, told_so_far, told_more, told_all, objects_fail, sum_fails, begun_fails, stands_still}
 use Rattle.dep_commands.proofs.auditing.tell_objects.Goals as goal
 

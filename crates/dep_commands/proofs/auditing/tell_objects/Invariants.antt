@@ -5,7 +5,7 @@ use Rattle.dep_schema.specs.Standing.{Stands}
 use Rattle.std.specs.Io.KnownBytes.{Appends}
 use Rattle.dep_tables.specs.Tables.{Tables}
 use Rattle.dep_types.specs.State.{State}
-use Rattle.dep_store.specs.Standing.{StandsFor, Leaves}
+use Rattle.dep_requests.specs.Standing.{StandsFor, Leaves}
 use Rattle.dep_commands.specs.Telling.{IsToldTo}
 use Rattle.dep_commands.proofs.auditing.tell_objects.Given as goal
 

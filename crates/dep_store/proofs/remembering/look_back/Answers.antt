@@ -4,8 +4,8 @@ use Rattle.sqlite.proofs.StateLemmas.{clean_if_open}
 use Rattle.dep_tables.specs.Tables.{Tables}
 use Rattle.dep_row_maps.specs.TablesAre.{TablesAre}
 use Rattle.dep_tables.proofs.Chains.{was_clean}
-use Rattle.dep_store.specs.Standing.{StandsFor}
-use Rattle.dep_store.proofs.Transacting.{back_by_rollback, stood_before, works_within}
+use Rattle.dep_requests.specs.Standing.{StandsFor}
+use Rattle.dep_requests.proofs.Transacting.{back_by_rollback, stood_before, works_within}
 use Rattle.dep_store.proofs.remembering.look_back.Goals as goal
 
 pub returns-in_err-found-clause-back : goal.returns-in_err-found-clause-back

@@ -6,7 +6,7 @@ use Rattle.dep_answers.specs.Subjects.{shown_at, subject_of}
 use Rattle.dep_soundness.proofs.ReadAlone.{reads_keep}
 use Rattle.dep_answers.specs.declared.subject.Shown.TheVariants as shown
 use Rattle.dep_store.proofs.Remembered.{shows_nothing}
-use Rattle.dep_store.proofs.Stepping.{delivered, refused_then, accepted_then}
+use Rattle.dep_requests.proofs.Stepping.{delivered, refused_then, accepted_then}
 use Rattle.dep_store.proofs.showing.reply_service.Goals as goal
 
 pub returns-in-Refuse : goal.returns-in-Refuse

@@ -3,7 +3,7 @@ use Rattle.sqlite.specs.Held.{Held, state}
 use Rattle.sqlite.specs.State.{HasCleanDisk}
 use Rattle.dep_types.specs.State.{empty_state}
 use Rattle.dep_store.specs.Opening.{OpenLeaves}
-use Rattle.dep_store.specs.Standing.{StandsFor}
+use Rattle.dep_requests.specs.Standing.{StandsFor}
 use Rattle.dep_server.specs.Records.{first_world}
 use Rattle.dep_server.specs.Standing.{store_of}
 use Rattle.dep_server.proofs.OpeningLemmas.{opening_leaves}

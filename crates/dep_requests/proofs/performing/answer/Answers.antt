@@ -1,7 +1,7 @@
 use Rattle.sqlite.specs.Held.{state}
 use Rattle.dep_tables.proofs.Chains.{clean_before, stays_then}
-use Rattle.dep_store.proofs.Stepping.{sees_still}
-use Rattle.dep_store.proofs.performing.answer.Goals as goal
+use Rattle.dep_requests.proofs.Stepping.{sees_still}
+use Rattle.dep_requests.proofs.performing.answer.Goals as goal
 
 pub returns-clause-map : goal.returns-clause-map
 returns-clause-map g c clean within ours s are sound fit =

@@ -6,7 +6,7 @@ use Rattle.sqlite.specs.Tree.{Trees}
 use Rattle.dep_types.specs.State.{State}
 use Rattle.dep_tables.specs.Tables.{Tables}
 use Rattle.dep_schema.specs.Standing.{Holds, Stands}
-use Rattle.dep_store.specs.Standing.{TablesStandFor}
+use Rattle.dep_requests.specs.Standing.{TablesStandFor}
 
 -- this is told of the tables, which stay
 abbrev pub OnlyTells : {A : Type 0} → (Tables → A → Type 0) → Tables → A → Tables → Type 0

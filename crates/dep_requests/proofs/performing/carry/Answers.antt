@@ -3,8 +3,8 @@ use Rattle.sqlite.specs.Held.{state}
 use Rattle.dep_tables.proofs.Chains.{clean_before, stays_then}
 use Rattle.dep_decisions.specs.Effects.{effect}
 use Rattle.dep_soundness.proofs.Accepted.{effect_sound}
-use Rattle.dep_store.proofs.Stepping.{next_after, shown_after}
-use Rattle.dep_store.proofs.performing.carry.Goals as goal
+use Rattle.dep_requests.proofs.Stepping.{next_after, shown_after}
+use Rattle.dep_requests.proofs.performing.carry.Goals as goal
 
 pub returns-clause-map : goal.returns-clause-map
 returns-clause-map g c clean within ours s are config sound fit seen ruling =

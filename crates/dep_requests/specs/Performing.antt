@@ -9,8 +9,8 @@ use Rattle.dep_rulings.specs.Views.{true_view}
 use Rattle.dep_answers.specs.Steps.{Stepped}
 use Rattle.dep_answers.specs.Performing.{IsReady}
 use Rattle.dep_answers.specs.declared.performed.Performed.{Performed}
-use Rattle.dep_store.specs.declared.performing.Ruled.{Ruled}
-use Rattle.dep_store.specs.Standing.{StandsFor}
+use Rattle.dep_requests.specs.declared.performing.Ruled.{Ruled}
+use Rattle.dep_requests.specs.Standing.{StandsFor}
 
 -- the tables stand for the state that the step leaves, and what is ready is its reply
 pub record Performs (stepped : Stepped) (new : db.State) (p : Performed) : Type 0 where

@@ -1,8 +1,8 @@
 use Rattle.std.proofs.Common.{rules, ◌≡◌}
 use Rattle.sqlite.proofs.StateLemmas.{clean_if_open}
-use Rattle.dep_store.proofs.Transacting.{gave_up, committed, uncommitted, works_within, still_inside}
-use Rattle.dep_store.proofs.Stepping.{works}
-use Rattle.dep_store.proofs.performing.perform_request.Goals as goal
+use Rattle.dep_requests.proofs.Transacting.{gave_up, committed, uncommitted, works_within, still_inside}
+use Rattle.dep_requests.proofs.Stepping.{works}
+use Rattle.dep_requests.proofs.performing.perform_request.Goals as goal
 
 pub returns-in_err-performed : goal.returns-in_err-performed
 returns-in_err-performed g c =

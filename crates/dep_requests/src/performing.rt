@@ -19,8 +19,8 @@ ghost use Rattle.dep_answers.specs.Performing.{IsReady, IsReply};
 ghost use Rattle.dep_answers.specs.Replies.{answer_to, refused_answer};
 ghost use Rattle.dep_answers.specs.Steps.{operation_step, is_head};
 ghost use Rattle.dep_answers.specs.Subjects.{shown_at, subject_of};
-ghost use Rattle.dep_store.specs.Transactions.{Transacts, OverStates};
-ghost use Rattle.dep_store.specs.Performing.{Rules};
+ghost use Rattle.dep_requests.specs.Transactions.{Transacts, OverStates};
+ghost use Rattle.dep_requests.specs.Performing.{Rules};
 
 use dep_answers::{Delivery, Performed, Service, Shown, Subject, accepted, refused};
 use dep_changes::carry_out;
@@ -64,7 +64,8 @@ fn rule<S: Alter>(
     }
 }
 
-pub(crate) fn delivery_at(clock: u64, operation: &Operation<'_>) -> Delivery
+/// How the reply to a request goes out, at this clock. Where the clock lies behind the greatest moment, the reply tells that one.
+pub fn delivery_at(clock: u64, operation: &Operation<'_>) -> Delivery
     ensures clock { result.clock ≡ min clock greatest_moment }
     ensures bare { result.is_bare ≡ is_head operation.now.target.method }
     ensures closes { result.closes ≡ operation.now.closes }
@@ -76,11 +77,8 @@ pub(crate) fn delivery_at(clock: u64, operation: &Operation<'_>) -> Delivery
     }
 }
 
-pub(crate) fn refuse(
-    alloc: Global,
-    refusal: Refusal,
-    delivery: Delivery,
-) -> Result<Performed, StoreFault>
+/// The reply to a request that is refused. It fails for want of memory alone.
+pub fn refuse(alloc: Global, refusal: Refusal, delivery: Delivery) -> Result<Performed, StoreFault>
     ensures { IfOk result (λ p. (s : State) →
         IsReply s (refused_answer delivery.clock refusal None) delivery p) }
 {
@@ -90,7 +88,8 @@ pub(crate) fn refuse(
     }
 }
 
-pub(crate) fn accept(
+/// The reply to a request that is accepted, from what is shown of the archive. It fails for want of memory alone.
+pub fn accept(
     alloc: Global,
     service: &Service,
     operation: &Operation<'_>,
@@ -187,8 +186,9 @@ fn answer<S: Alter>(
     performed
 }
 
-/// Does what a request asks for. The reply is made before the commit.
-pub(crate) fn perform_request<S: Alter>(
+/// Does what a request asks for. The reply is made before the commit. A fault of the store, also of the commit, and want
+/// of memory leave the tables as they were.
+pub fn perform_request<S: Alter>(
     connection: &mut Connection<S>,
     alloc: Global,
     service: &Service,

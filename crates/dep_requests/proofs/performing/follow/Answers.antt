@@ -4,8 +4,8 @@ use Rattle.dep_rulings.specs.Rulings.{IsRuling}
 use Rattle.dep_rulings.specs.declared.ruling.Ruling.{Ruling}
 use Rattle.dep_rulings.specs.declared.view.View.{View}
 use Rattle.dep_row_maps.specs.Clauses.{SeesState}
-use Rattle.dep_store.proofs.Stepping.{delivered, refused_then, accepted_then}
-use Rattle.dep_store.proofs.performing.follow.Goals as goal
+use Rattle.dep_requests.proofs.Stepping.{delivered, refused_then, accepted_then}
+use Rattle.dep_requests.proofs.performing.follow.Goals as goal
 
 pub returns-in-Refuse-clause-map : goal.returns-in-Refuse-clause-map
 returns-in-Refuse-clause-map g c clean within ours s are sound fit rules =

@@ -1,6 +1,6 @@
 use Rattle.std.proofs.Common.{◌≡◌, ap, ◌∙◌}
 use Rattle.dep_rulings.specs.Views.{seen_at, true_view}
-use Rattle.dep_store.proofs.performing.rule.Goals as goal
+use Rattle.dep_requests.proofs.performing.rule.Goals as goal
 
 pub returns-in-Ok-decide-clause-map : goal.returns-in-Ok-decide-clause-map
 returns-in-Ok-decide-clause-map g c clean within ours s are sound =

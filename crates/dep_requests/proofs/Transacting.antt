@@ -15,8 +15,8 @@ use Rattle.dep_tables.specs.Tables.{Tables, tables_in, tables_of, AreOurs, HasOu
 use Rattle.dep_tables.specs.Clauses.{CommitsNothing, StaysInside, StaysWithin}
 use Rattle.dep_schema.specs.Standing.{Holds, Stands, EndsTransaction}
 use Rattle.dep_schema.proofs.Transactions.{begins_open, stands_left}
-use Rattle.dep_store.specs.Standing.{TablesStandFor, StandsFor, Leaves}
-use Rattle.dep_store.specs.Transactions.{Transacts, OnlyTells, OverStates, IsBackAt}
+use Rattle.dep_requests.specs.Standing.{TablesStandFor, StandsFor, Leaves}
+use Rattle.dep_requests.specs.Transactions.{Transacts, OnlyTells, OverStates, IsBackAt}
 
 -- what a crash leaves while nothing is left to be settled
 abbrev pub IsSettled : db.State → Type 0

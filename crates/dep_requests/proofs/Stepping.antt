@@ -33,10 +33,10 @@ use Rattle.dep_answers.specs.declared.subject.Subject.{Subject}
 use Rattle.dep_tables.specs.Tables.{tables_in, IsOurs}
 use Rattle.dep_row_maps.specs.TablesAre.{TablesAre}
 use Rattle.dep_row_maps.specs.Clauses.{FromMaps, SeesState}
-use Rattle.dep_store.specs.Standing.{StandsFor}
-use Rattle.dep_store.specs.Performing.{Performs}
-use Rattle.dep_store.specs.Transactions.{OverStates}
-use Rattle.dep_store.proofs.Transacting.{IsMade}
+use Rattle.dep_requests.specs.Standing.{StandsFor}
+use Rattle.dep_requests.specs.Performing.{Performs}
+use Rattle.dep_requests.specs.Transactions.{OverStates}
+use Rattle.dep_requests.proofs.Transacting.{IsMade}
 
 -- a step leaves a sound state
 pub step_sound : (config : Config) (s : State) (op : Operation) → AreFit op.fields → IsSound s → IsSound (operation_step config s op).state

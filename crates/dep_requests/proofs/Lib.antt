@@ -1,0 +1,2 @@
+pub mod Transacting
+pub mod Stepping

@@ -1,0 +1,3 @@
+pub mod Standing
+pub mod Transactions
+pub mod Performing
