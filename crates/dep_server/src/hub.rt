@@ -149,9 +149,10 @@ impl<S: Alter> Hub<S> {
             number,
             intake: Intake::new(self.config.alloc(), self.config.config().max_upload),
         };
-        let Ok(()) = self.connections.push(connection) else {
+        if let Err(refused) = self.connections.push(connection) {
+            drop(refused);
             return Err(ConnectFault::Memory);
-        };
+        }
         self.next += 1;
         Ok(ConnId::new(number))
     }

@@ -51,10 +51,17 @@ pub(crate) fn answer_message<S: Alter, O: Outlet>(
 {
     match store.tick(service.config(), moment) {
         Ok(clock) => match perform(service, store, message, clock) {
-            Ok(performed) => send_performed(store, &performed, out),
+            Ok(performed) => {
+                let answered = send_performed(store, &performed, out);
+                drop(performed);
+                answered
+            }
             Err(fault) => send_fault(fault, out),
         },
-        Err(fault) => send_fault(fault, out),
+        Err(fault) => {
+            drop(message);
+            send_fault(fault, out)
+        }
     }
 }
 
@@ -89,7 +96,11 @@ pub(crate) fn answer_fault<S: Alter, O: Outlet>(
                 closes: true,
             };
             match refused(service.alloc(), fault.refusal, None, delivery) {
-                Ok(performed) => send_performed(store, &performed, out),
+                Ok(performed) => {
+                    let answered = send_performed(store, &performed, out);
+                    drop(performed);
+                    answered
+                }
                 Err(AllocError) => send_fault(StoreFault::Memory, out),
             }
         }

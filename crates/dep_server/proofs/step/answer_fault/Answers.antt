@@ -16,7 +16,7 @@ unfolding step
 returns-in-Ok-refused g c =
     let config = c.args.service.now in
     let delivery : Delivery = record { clock = c.in-Ok.clock; is_bare = c.args.fault.is_bare; closes = true } in
-    let x = c.send_performed.ensures in
+    let x = c.send_performed-answered.ensures in
     record {
       sent = x.sent;
       passes = record {
@@ -27,8 +27,8 @@ returns-in-Ok-refused g c =
       steps = λ disk s stands.
           let t = (rw c.config.ensures at c.in-Ok.ensures.ok) (x.passes.honest disk) s stands in
           let now = tick config s c.args.moment in
-          made_from config s (Fault c.args.fault.refusal c.args.fault.is_bare) c.args.moment x.sent _ _ _ c.send_performed.result refl
-          (answers_from config s (Fault c.args.fault.refusal c.args.fault.is_bare) c.args.moment x.sent _ _ c.send_performed.result
+          made_from config s (Fault c.args.fault.refusal c.args.fault.is_bare) c.args.moment x.sent _ _ _ c.send_performed-answered.result refl
+          (answers_from config s (Fault c.args.fault.refusal c.args.fault.is_bare) c.args.moment x.sent _ _ c.send_performed-answered.result
           (x.sends disk (step config s (Fault c.args.fault.refusal c.args.fault.is_bare) c.args.moment)
           (record { state = t.1; ready = refusal_ready now delivery c.in-Ok-refused.performed c.args.fault.refusal None c.args.fault.is_bare true t.0 refl refl c.in-Ok-refused.ensures })));
     }

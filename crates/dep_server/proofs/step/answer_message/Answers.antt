@@ -14,7 +14,7 @@ unfolding step
 returns-in-Ok-perform g c =
     let config = c.args.service.now in
     let m : Message = c.args.message in
-    let x = c.send_performed.ensures in
+    let x = c.send_performed-answered.ensures in
     record {
       sent = x.sent;
       passes = record {
@@ -26,8 +26,8 @@ returns-in-Ok-perform g c =
           let between = x.passes.honest disk in
           let t = (rw c.config.ensures at c.in-Ok.ensures.ok) (c.perform.ensures.honest between) s stands in
           let p = c.in-Ok-perform.ensures.ok between (tick config s c.args.moment) t.1 t.0 in
-          made_from config s (Request m) c.args.moment x.sent _ _ _ c.send_performed.result refl
-          (answers_from config s (Request m) c.args.moment x.sent _ _ c.send_performed.result (x.sends disk (step config s (Request m) c.args.moment) p));
+          made_from config s (Request m) c.args.moment x.sent _ _ _ c.send_performed-answered.result refl
+          (answers_from config s (Request m) c.args.moment x.sent _ _ c.send_performed-answered.result (x.sends disk (step config s (Request m) c.args.moment) p));
     }
 
 pub returns-in-Err-perform : goal.returns-in-Err-perform

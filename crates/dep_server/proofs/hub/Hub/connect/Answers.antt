@@ -13,7 +13,7 @@ use Rattle.dep_server.proofs.hub.Hub.connect.Goals as goal
 pub returns-clause-moves : goal.returns-clause-moves
 returns-clause-moves g c =
     connects_moves g.S.Store c.args.self.now _ refl c.new-2.result refl c.new-2.ensures
-    (c.in-Ok.ensures.items ∙ (λ i. c.args.self.now.connections.items ++ record {
+    (c.in_default.ensures.items ∙ (λ i. c.args.self.now.connections.items ++ record {
       number = sym c.new-2.ensures i;
       intake = (c.new.ensures ∙ ap (λ (x : Config). record { limit = x.max_upload; place = Open false [] }) c.config.ensures) i;
     } ∷ []))
@@ -30,27 +30,27 @@ pub returns-clause-there : goal.returns-clause-there
 returns-clause-there g c =
     let d : Connection = record { number = c.args.self.now.next; intake = c.new.result } in
     subst (λ (n : ℕ). IsSome (intake_of c.push.new.self.items n)) (sym c.new-2.ensures)
-    (subst (λ (cs : List Connection). IsSome (intake_of cs c.args.self.now.next)) (sym c.in-Ok.ensures.items)
+    (subst (λ (cs : List Connection). IsSome (intake_of cs c.args.self.now.next)) (sym c.in_default.ensures.items)
     (pushed_there c.args.self.now.connections.items d c.args.self.now.ascends))
 
 pub invariant_of-self : goal.invariant_of-self
 invariant_of-self g c = record {
-  ascends = subst (λ (cs : List Connection). Ascends 0 cs c.args.self.now.next) (sym c.in_default.ensures.items) c.args.self.now.ascends;
+  ascends = subst (λ (cs : List Connection). Ascends 0 cs c.args.self.now.next) (sym c.in-Err.ensures.items) c.args.self.now.ascends;
 }
 
 pub invariant_of-self-2 : goal.invariant_of-self-2
 invariant_of-self-2 g c =
     let d : Connection = record { number = c.args.self.now.next; intake = c.new.result } in
     record {
-      ascends = subst (λ (cs : List Connection). Ascends 0 cs (d.number + 1)) (sym c.in-Ok.ensures.items) (ascends_push 0 c.args.self.now.connections.items d c.args.self.now.ascends);
+      ascends = subst (λ (cs : List Connection). Ascends 0 cs (d.number + 1)) (sym c.in_default.ensures.items) (ascends_push 0 c.args.self.now.connections.items d c.args.self.now.ascends);
     }
 
 pub returns-then-len-ge-MOST_CONNECTIONS-clause-rests : goal.returns-then-len-ge-MOST_CONNECTIONS-clause-rests
 returns-then-len-ge-MOST_CONNECTIONS-clause-rests g c =
     leaves_as_before g.S.Store c.args.self.now _ refl (λ is_open trees k. g.met.S.Store.settled c.args.self.now.store.store trees is_open k)
 
-pub returns-in_default-clause-rests : goal.returns-in_default-clause-rests
-returns-in_default-clause-rests g c =
+pub returns-in-Err-clause-rests : goal.returns-in-Err-clause-rests
+returns-in-Err-clause-rests g c =
     leaves_as_before g.S.Store c.args.self.now _ refl (λ is_open trees k. g.met.S.Store.settled c.args.self.now.store.store trees is_open k)
 
 pub returns-clause-rests : goal.returns-clause-rests
