@@ -3,8 +3,6 @@ use Rattle.std.specs.Prelude.{ℕ, List, length, map, All}
 use Rattle.httparse.specs.Spans.{header_bytes, span_bytes, IsWithin, IsHeaderWithin}
 use Rattle.httparse.specs.declared.spans.Span.{Span}
 use Rattle.httparse.specs.declared.spans.HeaderSpan.{HeaderSpan}
-use Rattle.http_uri.specs.Uri.{uri_path}
-use Rattle.http_uri.specs.declared.uri.Uri.{Uri}
 use Rattle.dep_head.specs.Head.{HeadParts}
 
 -- the fields that spans cover
@@ -15,11 +13,11 @@ fields_at text spans = map (header_bytes text) spans
 abbrev pub AreWithin : List ℕ → List HeaderSpan → Type 0
 AreWithin text spans = All (IsHeaderWithin (length text)) spans
 
--- what spans over a text, and the target read apart, tell
-abbrev pub spanned_parts : List ℕ → Span → Uri → ℕ → List HeaderSpan → HeadParts
-spanned_parts text method uri minor spans = record {
+-- what spans over a text, and the path of its target, tell
+abbrev pub spanned_parts : List ℕ → Span → List ℕ → ℕ → List HeaderSpan → HeadParts
+spanned_parts text method path minor spans = record {
   method = span_bytes text method;
-  path = uri_path uri;
+  path = path;
   minor = minor;
   fields = fields_at text spans;
 }

@@ -1,5 +1,7 @@
 //! Heads of requests.
 ghost use Rattle.std.specs.Prelude.{◌≡◌, ◌↔◌, length, codes, IfOk, IsTrue, IsErrOf, Err};
+ghost use Rattle.http_uri.specs.Uri.{Spells, uri_path};
+ghost use Rattle.http_uri.specs.declared.uri.Uri.{Uri};
 ghost use Rattle.dep_head.specs.Head.{HeadParts, IsHeadText, IsHostCount, values_of};
 
 use crate::end::{HEAD_LIMIT, find_end};
@@ -7,7 +9,7 @@ use crate::fields::{Values, values_in};
 use http_uri::{Uri, UriError};
 use httparse::Status;
 use httparse::spans::{EMPTY_HEADER_SPAN, HeaderSpan, Span, parse_request};
-use std::alloc::Global;
+use std::alloc::{AllocError, Global};
 use std::error::Error;
 use std::fmt;
 use std::marker::Model;
@@ -37,7 +39,7 @@ impl Error for HeadFault {}
 pub struct Head {
     text: Vec<u8>,
     method: Span,
-    uri: Uri,
+    path: Vec<u8>,
     minor: u8,
     fields: Vec<HeaderSpan>,
 }
@@ -48,7 +50,7 @@ impl Model for Head {
 
     ghost Value = { HeadParts };
 
-    ghost view = { λ h. spanned_parts h.text.items h.method h.uri h.minor h.fields.items };
+    ghost view = { λ h. spanned_parts h.text.items h.method h.path.items h.minor h.fields.items };
 
     ghost invariant = { λ h. SpansFit h.text.items h.method h.fields.items };
 }
@@ -65,7 +67,7 @@ impl Head {
     pub fn path(&self) -> &[u8]
         ensures { result.now ≡ self.now.path }
     {
-        self.uri.path().as_bytes()
+        &self.path
     }
 
     /// The second digit of the version, such as 1 for HTTP/1.1.
@@ -103,11 +105,7 @@ pub fn read_head(alloc: Global, text: &[u8]) -> Result<Head, HeadFault>
     if spans.len != text.len() {
         return Err(HeadFault::NotAHead);
     }
-    let uri = match Uri::from_bytes(alloc, spans.path.of(text)) {
-        Ok(uri) => uri,
-        Err(UriError::Invalid(_)) => return Err(HeadFault::NotAHead),
-        Err(UriError::OutOfMemory) => return Err(HeadFault::Memory),
-    };
+    let path = read_path(alloc, spans.path.of(text))?;
     let Ok(fields) = Vec::from_slice(alloc, &headers[..spans.headers]) else {
         return Err(HeadFault::Memory);
     };
@@ -117,7 +115,7 @@ pub fn read_head(alloc: Global, text: &[u8]) -> Result<Head, HeadFault>
     let head = Head {
         text,
         method: spans.method,
-        uri,
+        path,
         minor: spans.version,
         fields,
     };
@@ -125,6 +123,22 @@ pub fn read_head(alloc: Global, text: &[u8]) -> Result<Head, HeadFault>
         return Err(HeadFault::NotAHead);
     }
     Ok(head)
+}
+
+// The path of a request's target. What else a target has is of no use here.
+fn read_path(alloc: Global, target: &[u8]) -> Result<Vec<u8>, HeadFault>
+    ensures read { IfOk result (λ path. (uri : Uri) × Spells target.now uri × (path.items ≡ uri_path uri)) }
+    ensures refused { result ≡ Err HeadFault.NotAHead → (uri : Uri) → ¬ Spells target.now uri }
+{
+    let uri = match Uri::from_bytes(alloc, target) {
+        Ok(uri) => uri,
+        Err(UriError::Invalid(_)) => return Err(HeadFault::NotAHead),
+        Err(UriError::OutOfMemory) => return Err(HeadFault::Memory),
+    };
+    match Vec::from_slice(alloc, uri.path().as_bytes()) {
+        Ok(path) => Ok(path),
+        Err(AllocError) => Err(HeadFault::Memory),
+    }
 }
 
 // HTTP/1.1 has exactly one Host field, and HTTP/1.0 at most one (RFC 9112, section 3.2).

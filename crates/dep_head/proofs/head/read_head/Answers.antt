@@ -20,18 +20,18 @@ returns-clause-read c =
     let sized : length c.parse_request.new.headers ≡ 64 = search rules in
     let target : c.of.result.now ≡ head.target = c.of.ensures ∙ spanned.path in
     let ends : head_end text ≡ Some (length text) = sym c.in-Some.ensures ∙ ap (λ n. Some n) (search rules) in
-    let kept : c.in-Ok-from_slice.fields.items ≡ take c.in-Ok-Complete.spans.headers c.parse_request.new.headers = c.in-Ok-from_slice.ensures.items in
+    let kept : c.in-Ok.fields.items ≡ take c.in-Ok-Complete.spans.headers c.parse_request.new.headers = c.in-Ok.ensures.items in
     record {
       ends = ends;
       small = omega arith;
       head = head;
       reads = subst (ReadsRequest text head) none spanned.reads;
       room = omega (arith, counted, sized);
-      uri = c.in-Ok.uri;
-      spelled = subst (λ t. Spells t c.in-Ok.uri) target c.in-Ok.ensures.ok;
-      method_is = ap (λ t. span_bytes t c.in-Ok-Complete.spans.method) c.in-Ok-from_slice-2.ensures.items ∙ spanned.method;
-      path_is = refl;
+      uri = c.in_ok-path.ensures.read.0;
+      spelled = subst (λ t. Spells t c.in_ok-path.ensures.read.0) target c.in_ok-path.ensures.read.1;
+      method_is = ap (λ t. span_bytes t c.in-Ok-Complete.spans.method) c.in-Ok-from_slice.ensures.items ∙ spanned.method;
+      path_is = c.in_ok-path.ensures.read.2;
       minor_is = spanned.version;
-      fields_are = ap (λ t. map (header_bytes t) c.in-Ok-from_slice.fields.items) c.in-Ok-from_slice-2.ensures.items ∙ ap (map (header_bytes text)) kept ∙ spanned.fields;
+      fields_are = ap (λ t. map (header_bytes t) c.in-Ok.fields.items) c.in-Ok-from_slice.ensures.items ∙ ap (map (header_bytes text)) kept ∙ spanned.fields;
       hosts = c.has_good_host.ensures.0 c.if-not-has_good_host.false;
     }
