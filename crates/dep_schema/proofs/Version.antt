@@ -1,5 +1,5 @@
 -- How the version is found.
-use Rattle.std.proofs.Common.{◌≡◌, IsTrue, ◌↔◌, ◌⊎◌, inl, inr, ℕ, pos, List, [], ◌∷◌, map, filter, false, Err, codes, refl, sym, ap, subst, ◌∙◌, arith}
+use Rattle.std.proofs.Common.{◌≡◌, IsTrue, ◌↔◌, ◌⊎◌, inl, inr, ℕ, pos, List, [], ◌∷◌, map, filter, false, Result, Ok, Err, codes, refl, sym, ap, subst, ◌∙◌, arith}
 use Rattle.std.specs.List.Sorted.{IsPermutation}
 use Rattle.std.proofs.lemmas.List.Sorted.{IsPermutation-sym}
 use Rattle.sqlite_tied.specs.Compute.{everything}
@@ -119,6 +119,12 @@ missing_only old new e fault lacks h is = elim (none_asked old new e lacks h) [
 pub named_fault : (fault : StoreFault) (made : OpenFault) → made ≡ open_fault_for fault → made ≡ UnknownVersion → ⊥
 named_fault Store made is said = let met = sym is ∙ said in cc
 named_fault Memory made is said = let met = sym is ∙ said in cc
+
+pub never_named : {A : Type 0} (fault : StoreFault) (made : OpenFault) → made ≡ open_fault_for fault → ◌≡◌ {A = Result A OpenFault} (Err made) (Err UnknownVersion) → ⊥
+never_named fault made is said = let same : made ≡ UnknownVersion = cc in named_fault fault made is same
+
+pub never_refused : {A : Type 0} (given : A) (fault : OpenFault) → ◌≡◌ {A = Result A OpenFault} (Ok given) (Err fault) → ⊥
+never_refused given fault said = cc
 
 -- what is committed at the end
 commits_open : (old last : State) → (old.now.schema ≡ no_schema → Sees last first_tables) → (IsOurs old → last.now ≡ old.now) → (LacksFormat old.now.schema → GainsOurs old.now last.now) → (db : Trees) → db ≡ last.now.trees → CommitsBySchema old db

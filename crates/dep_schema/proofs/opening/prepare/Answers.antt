@@ -6,7 +6,7 @@ use Rattle.sqlite.proofs.Callers.{survives_begin}
 use Rattle.sqlite.proofs.StateLemmas.{clean_if_open}
 use Rattle.dep_schema.specs.Standing.{CommitsBySchema, WholeTransaction}
 use Rattle.dep_schema.proofs.Transactions.{begins_open}
-use Rattle.dep_schema.proofs.Version.{survives_open}
+use Rattle.dep_schema.proofs.Version.{survives_open, never_named, never_refused}
 use Rattle.dep_schema.proofs.opening.prepare.Goals as goal
 
 pub returns-in-Err-clause-crash : goal.returns-in-Err-clause-crash
@@ -76,3 +76,38 @@ returns-in-Ok-clause-free g c clean lacks =
     let sure : HasCleanDisk (state g.S.Store last) = omega (arith, there, c.commit.ensures.survives.clean) in
     let worked = rw c.transaction-tx.ensures.begun at c.in_ok-find_or_make.ensures in
     (worked.gains sure refl lacks).free
+
+-- where it worked, nothing is said of a fault, and the other way round
+pub returns-in-Ok-clause-left : goal.returns-in-Ok-clause-left
+returns-in-Ok-clause-left g c clean is_open = tt
+
+pub returns-in-Ok-clause-refused : goal.returns-in-Ok-clause-refused
+returns-in-Ok-clause-refused g c is_open = tt
+
+pub returns-in-Ok-clause-version : goal.returns-in-Ok-clause-version
+returns-in-Ok-clause-version g c clean said = absurd (never_refused _ _ said)
+
+pub returns-in-Ok-clause-lacking : goal.returns-in-Ok-clause-lacking
+returns-in-Ok-clause-lacking g c clean said lacks = never_refused _ _ said
+
+pub returns-in-Err-clause-fresh : goal.returns-in-Err-clause-fresh
+returns-in-Err-clause-fresh g c clean empty = tt
+
+pub returns-in-Err-clause-found : goal.returns-in-Err-clause-found
+returns-in-Err-clause-found g c clean ours = tt
+
+pub returns-in-Err-clause-free : goal.returns-in-Err-clause-free
+returns-in-Err-clause-free g c clean lacks = tt
+
+pub returns-in-Err-clause-beside : goal.returns-in-Err-clause-beside
+returns-in-Err-clause-beside g c clean lacks has = tt
+
+pub returns-in-Err-clause-opened : goal.returns-in-Err-clause-opened
+returns-in-Err-clause-opened g c clean = tt
+
+-- a commit that failed is told as no version
+pub returns-in-Err-clause-version : goal.returns-in-Err-clause-version
+returns-in-Err-clause-version g c clean said = absurd (never_named c.fault_of.result c.from.result c.from.ensures said)
+
+pub returns-in-Err-clause-lacking : goal.returns-in-Err-clause-lacking
+returns-in-Err-clause-lacking g c clean said lacks = never_named c.fault_of.result c.from.result c.from.ensures said
