@@ -1,5 +1,5 @@
 -- Facts on a result that is passed on.
-use Rattle.std.proofs.Common.{Result, Ok, Err, OnOk, OnErr, IfOk, IfErr, IsErrAnd}
+use Rattle.std.proofs.Common.{◌≡◌, Bool, true, false, IsTrue, sym, ◌∙◌, Result, Ok, Err, OnOk, OnErr, IfOk, IfErr, IsErrAnd}
 
 pub ok_then : {A E P Q : Type 0} (r : Result A E) → OnOk r P → (P → Q) → OnOk r Q
 ok_then (Ok x) p f = f p
@@ -20,3 +20,10 @@ if_failed (Err e) p = p
 pub err_then : {A E : Type 0} {P Q : E → Type 0} (r : Result A E) → IsErrAnd r P → ((e : E) → P e → Q e) → IfErr r Q
 err_then (Ok x) p f = tt
 err_then (Err e) p f = f e p
+
+-- what follows where a test has told otherwise
+pub not_storable : {P Q : Type 0} (told : Bool) → told ≡ false → (P → IsTrue told) → P → Q
+not_storable told is_false known storable = let never : false ≡ true = sym is_false ∙ known storable in absurd (cc)
+
+pub is_storable : {P Q : Type 0} (told : Bool) → told ≡ true → (IsTrue told → P) → (P → ⊥) → Q
+is_storable told is_true known refuses = absurd (refuses (known is_true))

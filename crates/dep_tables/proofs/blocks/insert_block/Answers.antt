@@ -1,5 +1,5 @@
 use Rattle.sqlite.specs.Held.{state}
-use Rattle.dep_tables.proofs.Results.{ok_then}
+use Rattle.dep_tables.proofs.Results.{ok_then, not_storable, is_storable}
 use Rattle.dep_tables.proofs.BlocksTable.{inserts_block}
 use Rattle.dep_tables.proofs.blocks.insert_block.Goals as goal
 
@@ -11,3 +11,21 @@ returns-clause-free g c clean inside ours = ok_then c.run.result (c.run.ensures.
 
 pub returns-clause-cause : goal.returns-clause-cause
 returns-clause-cause g c storable clean inside = rw c.block_params.ensures at (c.run.ensures.cause clean inside)
+
+pub returns-then-not-is_storable_key-clause-ok : goal.returns-then-not-is_storable_key-clause-ok
+returns-then-not-is_storable_key-clause-ok g c clean inside ours = tt
+
+pub returns-then-not-is_storable_key-clause-free : goal.returns-then-not-is_storable_key-clause-free
+returns-then-not-is_storable_key-clause-free g c clean inside ours = tt
+
+pub returns-clause-numbers : goal.returns-clause-numbers
+returns-clause-numbers g c = is_storable c.is_storable_key.result c.if-not-is_storable_key.false c.is_storable_key.ensures.0
+
+pub returns-then-not-is_storable_key-clause-cause : goal.returns-then-not-is_storable_key-clause-cause
+returns-then-not-is_storable_key-clause-cause g c = not_storable c.is_storable_key.result c.if-not-is_storable_key.true c.is_storable_key.ensures.1
+
+pub returns-clause-err : goal.returns-clause-err
+returns-clause-err g c = c.run.ensures.err
+
+pub returns-clause-stays : goal.returns-clause-stays
+returns-clause-stays g c = c.run.ensures.stays

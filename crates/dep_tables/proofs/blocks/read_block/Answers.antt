@@ -1,6 +1,6 @@
 use Rattle.sqlite.specs.Held.{state}
 use Rattle.dep_tables.specs.Texts.{read_block_text}
-use Rattle.dep_tables.proofs.Results.{if_then}
+use Rattle.dep_tables.proofs.Results.{if_then, not_storable, is_storable}
 use Rattle.dep_tables.proofs.Leading.{plain_here}
 use Rattle.dep_tables.proofs.BlocksTable.{reads_block, read_is}
 use Rattle.dep_tables.proofs.blocks.read_block.Goals as goal
@@ -16,3 +16,18 @@ returns-clause-err g c clean inside ours is_open = c.ask_one.ensures.err (plain_
 
 pub returns-clause-cause : goal.returns-clause-cause
 returns-clause-cause g c storable clean = rw c.key_params.ensures at (c.ask_one.ensures.cause clean)
+
+pub returns-then-not-is_storable_key-clause-ok : goal.returns-then-not-is_storable_key-clause-ok
+returns-then-not-is_storable_key-clause-ok g c clean ours = tt
+
+pub returns-then-not-is_storable_key-clause-same : goal.returns-then-not-is_storable_key-clause-same
+returns-then-not-is_storable_key-clause-same g c clean ours = tt
+
+pub returns-clause-numbers : goal.returns-clause-numbers
+returns-clause-numbers g c = is_storable c.is_storable_key.result c.if-not-is_storable_key.false c.is_storable_key.ensures.0
+
+pub returns-then-not-is_storable_key-clause-cause : goal.returns-then-not-is_storable_key-clause-cause
+returns-then-not-is_storable_key-clause-cause g c = not_storable c.is_storable_key.result c.if-not-is_storable_key.true c.is_storable_key.ensures.1
+
+pub returns-clause-stays : goal.returns-clause-stays
+returns-clause-stays g c = c.ask_one.ensures.stays

@@ -1,5 +1,5 @@
 use Rattle.sqlite.specs.Held.{state}
-use Rattle.dep_tables.proofs.Results.{ok_then}
+use Rattle.dep_tables.proofs.Results.{ok_then, not_storable, is_storable}
 use Rattle.dep_tables.proofs.FilesTable.{inserts_file}
 use Rattle.dep_tables.proofs.files.insert_file.Goals as goal
 
@@ -11,3 +11,21 @@ returns-clause-free g c clean inside ours = ok_then c.run.result (c.run.ensures.
 
 pub returns-clause-cause : goal.returns-clause-cause
 returns-clause-cause g c storable clean inside = rw c.file_params.ensures at (c.run.ensures.cause clean inside)
+
+pub returns-then-not-is_storable_file-clause-ok : goal.returns-then-not-is_storable_file-clause-ok
+returns-then-not-is_storable_file-clause-ok g c clean inside ours = tt
+
+pub returns-then-not-is_storable_file-clause-free : goal.returns-then-not-is_storable_file-clause-free
+returns-then-not-is_storable_file-clause-free g c clean inside ours = tt
+
+pub returns-clause-numbers : goal.returns-clause-numbers
+returns-clause-numbers g c = is_storable c.is_storable_file.result c.if-not-is_storable_file.false c.is_storable_file.ensures.0
+
+pub returns-then-not-is_storable_file-clause-cause : goal.returns-then-not-is_storable_file-clause-cause
+returns-then-not-is_storable_file-clause-cause g c = not_storable c.is_storable_file.result c.if-not-is_storable_file.true c.is_storable_file.ensures.1
+
+pub returns-clause-err : goal.returns-clause-err
+returns-clause-err g c = c.run.ensures.err
+
+pub returns-clause-stays : goal.returns-clause-stays
+returns-clause-stays g c = c.run.ensures.stays

@@ -1,5 +1,5 @@
 use Rattle.sqlite.specs.Held.{state}
-use Rattle.dep_tables.proofs.Results.{ok_then}
+use Rattle.dep_tables.proofs.Results.{ok_then, not_storable, is_storable}
 use Rattle.dep_tables.proofs.StateTable.{writes_state}
 use Rattle.dep_tables.proofs.state.write_state.Goals as goal
 
@@ -9,3 +9,18 @@ returns-clause-ok g c clean inside ours =
 
 pub returns-clause-cause : goal.returns-clause-cause
 returns-clause-cause g c storable clean inside = rw c.state_params.ensures at (c.run.ensures.cause clean inside)
+
+pub returns-then-not-is_storable_state-clause-ok : goal.returns-then-not-is_storable_state-clause-ok
+returns-then-not-is_storable_state-clause-ok g c clean inside ours = tt
+
+pub returns-clause-numbers : goal.returns-clause-numbers
+returns-clause-numbers g c = is_storable c.is_storable_state.result c.if-not-is_storable_state.false c.is_storable_state.ensures.0
+
+pub returns-then-not-is_storable_state-clause-cause : goal.returns-then-not-is_storable_state-clause-cause
+returns-then-not-is_storable_state-clause-cause g c = not_storable c.is_storable_state.result c.if-not-is_storable_state.true c.is_storable_state.ensures.1
+
+pub returns-clause-err : goal.returns-clause-err
+returns-clause-err g c = c.run.ensures.err
+
+pub returns-clause-stays : goal.returns-clause-stays
+returns-clause-stays g c = c.run.ensures.stays

@@ -1,5 +1,5 @@
 use Rattle.sqlite.specs.Held.{state}
-use Rattle.dep_tables.proofs.Results.{ok_then}
+use Rattle.dep_tables.proofs.Results.{ok_then, not_storable, is_storable}
 use Rattle.dep_tables.proofs.UploadsTable.{writes_upload}
 use Rattle.dep_tables.proofs.uploads.write_upload.Goals as goal
 
@@ -8,3 +8,18 @@ returns-clause-ok g c clean inside ours = ok_then c.run.result (c.run.ensures.ru
 
 pub returns-clause-cause : goal.returns-clause-cause
 returns-clause-cause g c storable clean inside = rw c.upload_params.ensures at (c.run.ensures.cause clean inside)
+
+pub returns-then-not-is_storable_upload-clause-ok : goal.returns-then-not-is_storable_upload-clause-ok
+returns-then-not-is_storable_upload-clause-ok g c clean inside ours = tt
+
+pub returns-clause-numbers : goal.returns-clause-numbers
+returns-clause-numbers g c = is_storable c.is_storable_upload.result c.if-not-is_storable_upload.false c.is_storable_upload.ensures.0
+
+pub returns-then-not-is_storable_upload-clause-cause : goal.returns-then-not-is_storable_upload-clause-cause
+returns-then-not-is_storable_upload-clause-cause g c = not_storable c.is_storable_upload.result c.if-not-is_storable_upload.true c.is_storable_upload.ensures.1
+
+pub returns-clause-err : goal.returns-clause-err
+returns-clause-err g c = c.run.ensures.err
+
+pub returns-clause-stays : goal.returns-clause-stays
+returns-clause-stays g c = c.run.ensures.stays
