@@ -5,8 +5,8 @@ use Rattle.std.proofs.KnownBytes.{Appends-nil, Appends-trans, Appends-kept}
 use Rattle.std.specs.Prelude.{Result}
 use Rattle.std.specs.Result.{IsErrAnd}
 use Rattle.dep_types.specs.Sinks.{IsFront, file_begun, file_given}
-use Rattle.dep_types.specs.Writing.{IsProperPrefix}
-use Rattle.dep_bag.specs.Giving.{IsGivenAt, IsGiven, Gives}
+use Rattle.dep_types.specs.Writing.{HasRisen, IsProperPrefix}
+use Rattle.dep_bag.specs.Giving.{IsGivenAt, IsGiven, Gives, HasCause}
 use Rattle.dep_bag.specs.declared.export_fault.ExportFault.{ExportFault}
 use Rattle.dep_bag.specs.declared.export_fault.ExportFault.TheVariants.{NoSuchObject, Sink, Store, Memory}
 
@@ -118,26 +118,36 @@ text_unended a b c d path text seen r is begun adds keeps err = (
 )
 
 -- a whole file was given next
-pub text_given : (a b c : Option (List ℕ)) (whole left path text want : List ℕ) → text ≡ want → Leaves a b whole (file_given (path, want) ++ left)
+pub text_given : (a b c : Option (List ℕ)) (whole left path text : List ℕ) → Leaves a b whole (file_given (path, text) ++ left)
     → (x : List ℕ) × Appends b c x × (x ≡ file_given (path, text)) → Leaves a c whole left
-text_given a b c whole left path text want is l g =
-    leaves_less a b c whole (file_given (path, want)) left l (subst (Appends b c) (g.2 ∙ ap (λ t. file_given (path, t)) is) g.1)
+text_given a b c whole left path text l g =
+    leaves_less a b c whole (file_given (path, text)) left l (subst (Appends b c) g.2 g.1)
 
 -- and a front of it, at a fault
-pub text_fails : {X : Type 0} (a b c : Option (List ℕ)) (whole left path text want : List ℕ) (r : Result X ExportFault) (e : ExportFault) → text ≡ want
-    → Leaves a b whole (file_given (path, want) ++ left) → (x : List ℕ) × Appends b c x × IsGivenAt e (file_given (path, text)) x
+pub text_fails : {X : Type 0} (a b c : Option (List ℕ)) (whole left path text : List ℕ) (r : Result X ExportFault) (e : ExportFault)
+    → Leaves a b whole (file_given (path, text) ++ left) → (x : List ℕ) × Appends b c x × IsGivenAt e (file_given (path, text)) x
     → IsErrAnd r (λ x. x ≡ e) → Gives a c whole r
-text_fails a b c whole left path text want r e is l g err =
+text_fails a b c whole left path text r e l g err =
     let f = given_front e (file_given (path, text)) g.0 g.2 in
-    breaks a b c whole (file_given (path, want)) left g.0 r e l g.1 (subst (λ t. IsFront g.0 (file_given (path, t))) is f.1) err f.0
+    breaks a b c whole (file_given (path, text)) left g.0 r e l g.1 f.1 err f.0
 
 -- the last file is given as far as it is
-pub text_last : {X : Type 0} (a b c : Option (List ℕ)) (whole path text want : List ℕ) (r : Result X ExportFault) → text ≡ want
-    → Leaves a b whole (file_given (path, want) ++ []) → Gives b c (file_given (path, text)) r → Gives a c whole r
-text_last a b c whole path text want (Ok x) is l g = ends a c whole x (text_given a b c whole [] path text want is l g)
-text_last {X} a b c whole path text want (Err e) is l g =
+pub text_last : {X : Type 0} (a b c : Option (List ℕ)) (whole path text : List ℕ) (r : Result X ExportFault)
+    → Leaves a b whole (file_given (path, text) ++ []) → Gives b c (file_given (path, text)) r → Gives a c whole r
+text_last a b c whole path text (Ok x) l g = ends a c whole x (text_given a b c whole [] path text l g)
+text_last {X} a b c whole path text (Err e) l g =
     let r : Result X ExportFault = Err e in
-    text_fails a b c whole [] path text want r e is l g refl
+    text_fails a b c whole [] path text r e l g refl
+
+-- a fault of the sink has its cause also where the count is told from before what was given
+pub cause_later : {X : Type 0} (before now after : ℕ) (r : Result X ExportFault) → now ≡ before → HasCause r now after → HasCause r before after
+cause_later before now after r same cause = λ is. subst (λ n. HasRisen n after) same (cause is)
+
+-- and so where the fault is passed on
+pub cause_passed : {X : Type 0} (before now after : ℕ) (r : Result X ExportFault) (e : ExportFault) → now ≡ before
+    → HasCause {X = X} (Err e) now after → IsErrAnd r (λ x. x ≡ e) → HasCause r before after
+cause_passed before now after (Ok x) e same cause err = absurd err
+cause_passed before now after (Err x) e same cause err = λ is. subst (λ n. HasRisen n after) same (cause (ap Err (sym err) ∙ is))
 
 -- a fault that is another than that the object isn't there
 pub there_is_ours : {X : Type 0} (e : ExportFault) → (◌≡◌ {A = Result X ExportFault} (Err e) (Err NoSuchObject) → ⊥) → IsOurs e

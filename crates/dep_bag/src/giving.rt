@@ -1,5 +1,5 @@
 //! Files that are given to a sink, one after another.
-ghost use Rattle.std.specs.Prelude.{◌≡◌, ◌≢◌, ◌++◌, ℕ, List, OnOk, Err, flat_map};
+ghost use Rattle.std.specs.Prelude.{◌≡◌, ◌≢◌, ◌++◌, ℕ, List, OnOk, IfOk, Err, flat_map};
 ghost use Rattle.std.specs.Io.KnownBytes.{Appends};
 ghost use Rattle.dep_types.specs.State.{State};
 ghost use Rattle.dep_types.specs.Sinks.{Entry, file_given};
@@ -15,7 +15,7 @@ use crate::source::BagSource;
 use crate::tag_files::{declaration, information, tag_manifest};
 use dep_docs_out::bag_metadata_doc;
 use dep_types::{BagSink, FileRow, ObjectView, StreamFault};
-use std::alloc::Global;
+use std::alloc::{AllocError, Global};
 
 /// Gives a sink the folder of the payload, and the files that are not payload.
 pub(crate) fn give_tag_files<K: BagSink>(
@@ -28,20 +28,25 @@ pub(crate) fn give_tag_files<K: BagSink>(
     ensures cause { HasCause result (K.failures sink.old) (K.failures sink.new) }
 {
     sink.folder("data")?;
-    give_text(sink, BAGIT, declaration(alloc)?)?;
-    give_text(sink, BAG_INFO, information(alloc, view)?)?;
-    give_text(sink, MANIFEST, payload_manifest(alloc, view)?)?;
-    give_text(sink, METADATA, bag_metadata_doc(alloc, &view.metadata)?)?;
-    give_text(sink, TAG_MANIFEST, tag_manifest(alloc, view)?)
+    give_text(sink, BAGIT, declaration(alloc))?;
+    give_text(sink, BAG_INFO, information(alloc, view))?;
+    give_text(sink, MANIFEST, payload_manifest(alloc, view))?;
+    give_text(sink, METADATA, bag_metadata_doc(alloc, &view.metadata))?;
+    give_text(sink, TAG_MANIFEST, tag_manifest(alloc, view))
 }
 
-// Gives a file with these bytes.
-fn give_text<K: BagSink>(sink: &mut K, path: &str, text: Vec<u8>) -> Result<(), ExportFault>
-    ensures gives { Gives (K.taken sink.old) (K.taken sink.new)
-        (file_given (path.now, text.items)) result }
+// Gives a file with these bytes. Where they could not be made, nothing of it is given.
+fn give_text<K: BagSink>(
+    sink: &mut K,
+    path: &str,
+    made: Result<Vec<u8>, AllocError>,
+) -> Result<(), ExportFault>
+    ensures gives { (bytes : List ℕ) → IfOk made (λ text. text.items ≡ bytes)
+        → Gives (K.taken sink.old) (K.taken sink.new) (file_given (path.now, bytes)) result }
     ensures count { OnOk result (K.failures sink.new ≡ K.failures sink.old) }
     ensures cause { HasCause result (K.failures sink.old) (K.failures sink.new) }
 {
+    let text = made?;
     sink.begin(path)?;
     sink.write(text.as_slice())?;
     sink.finish()?;
