@@ -1,9 +1,15 @@
 -- A file as a source streams it.
 use Rattle.std.proofs.Common.{◌≡◌, ◌⊎◌, inl, inr, ℕ, List, [], ◌++◌, Some, refl, sym, ap, subst, ◌∙◌}
+use Rattle.std.specs.Prelude.{Result, Err}
 use Rattle.dep_types.specs.State.{State, File, file_at}
 use Rattle.dep_types.specs.Sound.{IsSound}
 use Rattle.dep_types.specs.Sinks.{IsFront, file_begun, file_given}
-use Rattle.dep_types.specs.Streams.{HasContent, HasNoFile, IsPartOfContent}
+use Rattle.dep_types.specs.Streams.{HasContent, HasNoFile, IsPartOfContent, IsStreamed}
+use Rattle.dep_types.specs.declared.stream_fault.StreamFault.{StreamFault}
+use Rattle.dep_types.specs.declared.stream_fault.StreamFault.TheVariants.{Writer, Store, Memory, NoSuchFile}
+use Rattle.dep_bag.specs.Giving.{IsGivenAt, unsent_fault}
+use Rattle.dep_bag.specs.declared.export_fault.ExportFault.{ExportFault}
+use Rattle.dep_bag.specs.declared.export_fault.ExportFault.TheVariants as export
 use Rattle.dep_bag.proofs.GivenParts.{file_front, whole_front}
 
 same_file : (x y : File) → Some x ≡ Some y → x ≡ y
@@ -40,3 +46,25 @@ pub all_front : (s : State) → IsSound s → (f : ℕ) (path sent bytes : List 
     → IsFront (file_begun path ++ sent) (file_given (path, bytes))
 all_front s sound f path sent bytes has held =
     file_front path sent bytes (subst (IsFront sent) (same_content s sound f sent bytes has held) (whole_front sent))
+
+-- a front of it, where it was not sent to its end
+pub unsent_given : (s : State) → IsSound s → (f : ℕ) (path sent bytes : List ℕ) (fault : StreamFault) → IsStreamed {X = Unit {0}} s f sent (Err fault) → HasContent s f bytes
+    → IsGivenAt (unsent_fault fault) (file_given (path, bytes)) (file_begun path ++ sent)
+unsent_given s sound f path sent bytes Writer is has = part_sent s sound f path sent bytes is has
+unsent_given s sound f path sent bytes Store is has = perhaps_sent s sound f path sent bytes is has
+unsent_given s sound f path sent bytes Memory is has = perhaps_sent s sound f path sent bytes is has
+unsent_given s sound f path sent bytes NoSuchFile is has = absurd (no_content s f bytes is.1 has)
+
+-- only what the sink refused is a fault of the sink
+pub unsent_sink : {X : Type 0} (fault : StreamFault) → ◌≡◌ {A = Result X ExportFault} (Err (unsent_fault fault)) (Err export.Sink) → fault ≡ Writer
+unsent_sink Writer is = refl
+unsent_sink Store is = absurd (cc)
+unsent_sink Memory is = absurd (cc)
+unsent_sink NoSuchFile is = absurd (cc)
+
+-- and none says that the object isn't there
+pub unsent_there : {X : Type 0} (fault : StreamFault) → ◌≡◌ {A = Result X ExportFault} (Err (unsent_fault fault)) (Err export.NoSuchObject) → ⊥
+unsent_there Writer is = cc
+unsent_there Store is = cc
+unsent_there Memory is = cc
+unsent_there NoSuchFile is = cc

@@ -7,6 +7,8 @@ use Rattle.dep_types.specs.Sinks.{Entry, folder_made, file_given, IsFront}
 use Rattle.dep_types.specs.declared.rows.FileRow.{FileRow}
 use Rattle.dep_types.specs.declared.rows.ObjectView.{ObjectView}
 use Rattle.dep_types.specs.Streams.{HasContent}
+use Rattle.dep_types.specs.declared.stream_fault.StreamFault.{StreamFault}
+use Rattle.dep_types.specs.declared.stream_fault.StreamFault.TheVariants as stream
 use Rattle.dep_bag.specs.Parts.{row_path, told_tag_files}
 use Rattle.dep_bag.specs.declared.export_fault.ExportFault.{ExportFault}
 use Rattle.dep_bag.specs.declared.export_fault.ExportFault.TheVariants.{NoSuchObject, Sink, Store, Memory}
@@ -35,6 +37,13 @@ HasCause result failures failures_after = result ≡ Err Sink → HasRisen failu
 -- the folder of the payload, and the files that are not payload
 abbrev pub tag_transcript : ObjectView → List ℕ
 tag_transcript view = folder_made (codes "data") ++ flat_map file_given (told_tag_files view)
+
+-- why an export ends where a content was not sent
+abbrev pub unsent_fault : StreamFault → ExportFault
+unsent_fault stream.Writer = Sink
+unsent_fault stream.Store = Store
+unsent_fault stream.NoSuchFile = Store
+unsent_fault stream.Memory = Memory
 
 -- these are the files of the rows: their paths, and their contents in the state
 abbrev pub AreFilesOf : State → List FileRow → List Entry → Type 0

@@ -6,7 +6,7 @@ ghost use Rattle.dep_types.specs.Sinks.{Entry, file_given};
 ghost use Rattle.dep_types.specs.Streams.{HasContent};
 ghost use Rattle.dep_bag.specs.Source.{KeepsStanding};
 ghost use Rattle.dep_bag.specs.Parts.{row_path};
-ghost use Rattle.dep_bag.specs.Giving.{IsGiven, Gives, HasCause, tag_transcript, AreFilesOf};
+ghost use Rattle.dep_bag.specs.Giving.{IsGiven, Gives, HasCause, tag_transcript, unsent_fault, AreFilesOf};
 
 use crate::export_fault::ExportFault;
 use crate::manifest::payload_manifest;
@@ -98,11 +98,19 @@ fn give_stored<S: BagSource, K: BagSink>(
     drop(path);
     match source.stream(row.file, sink) {
         Ok(()) => {}
-        Err(StreamFault::Writer) => return Err(ExportFault::Sink),
-        Err(StreamFault::Store) => return Err(ExportFault::Store),
-        Err(StreamFault::NoSuchFile) => return Err(ExportFault::Store),
-        Err(StreamFault::Memory) => return Err(ExportFault::Memory),
+        Err(fault) => return Err(unsent(fault)),
     }
     sink.finish()?;
     Ok(())
+}
+
+// Why an export ends where a content was not sent.
+fn unsent(fault: StreamFault) -> ExportFault
+    ensures { result ≡ unsent_fault fault }
+{
+    match fault {
+        StreamFault::Writer => ExportFault::Sink,
+        StreamFault::Store | StreamFault::NoSuchFile => ExportFault::Store,
+        StreamFault::Memory => ExportFault::Memory,
+    }
 }

@@ -1,13 +1,14 @@
-use Rattle.std.proofs.Common.{[], ◌++◌, ◌∙◌, subst}
+use Rattle.std.proofs.Common.{[], ◌++◌, ◌∙◌, sym, ap, subst}
 use Rattle.std.specs.Io.KnownBytes.{Appends}
 use Rattle.std.proofs.KnownBytes.{Appends-nil, Appends-trans}
 use Rattle.dep_types.specs.Sinks.{file_begun, file_given}
 use Rattle.std.proofs.Common.{Err}
-use Rattle.dep_types.specs.Streams.{IsStreamed}
+use Rattle.dep_types.specs.Writing.{HasRisen}
+use Rattle.dep_bag.specs.Giving.{IsGivenAt}
 use Rattle.dep_bag.specs.Parts.{row_path}
 use Rattle.dep_bag.specs.declared.export_fault.ExportFault.TheVariants.{Sink, Memory}
 use Rattle.dep_bag.proofs.GivenParts.{faulty, kept, nothing_given, nothing_front}
-use Rattle.dep_bag.proofs.StoredFiles.{part_sent, perhaps_sent, no_content, all_sent, all_front}
+use Rattle.dep_bag.proofs.StoredFiles.{unsent_given, unsent_sink, unsent_there, all_sent, all_front}
 use Rattle.dep_bag.proofs.giving.give_stored.Goals as goal
 
 pub returns-in_err-path-clause-gives : goal.returns-in_err-path-clause-gives
@@ -24,16 +25,6 @@ returns-in_err-begin-clause-gives g c = (
   λ clean s at bytes has. faulty c.from_residual-in_err-begin.result Sink (file_given (row_path c.args.row.now, bytes)) [] c.from_residual-in_err-begin.ensures.1 tt (nothing_front _),
 )
 
-pub returns-in-Err-Writer-clause-gives : goal.returns-in-Err-Writer-clause-gives
-returns-in-Err-Writer-clause-gives g c =
-    let sends = c.in-Err-Writer.ensures.sends in
-    let path = row_path c.args.row.now in
-    let begun = subst (λ p. Appends (g.K.Outlet.taken c.args.sink.now) (g.K.Outlet.taken c.begin.new.self) (file_begun p)) (c.as_str.ensures ∙ c.in_ok-path.ensures) c.in_ok-begin.ensures.ok in (
-      file_begun path ++ sends.0,
-      Appends-trans (g.K.Outlet.taken c.args.sink.now) (g.K.Outlet.taken c.begin.new.self) (g.K.Outlet.taken c.stream.new.out) (file_begun path) sends.0 begun sends.1,
-      λ clean s at bytes has. part_sent s (g.met.S.BagSource.sound c.args.source.now s at) c.args.row.now.file path sends.0 bytes (subst (λ e. IsStreamed {X = Unit {0}} s c.args.row.now.file sends.0 (Err e)) c.in-Err-Writer.field-0-is (sends.2 clean s at)) has,
-    )
-
 pub returns-clause-gives : goal.returns-clause-gives
 returns-clause-gives g c =
     let sends = c.in-Ok.ensures.sends in
@@ -43,36 +34,6 @@ returns-clause-gives g c =
       file_begun path ++ sends.0,
       kept (g.K.Outlet.taken c.args.sink.now) (g.K.Outlet.taken c.stream.new.out) (g.K.Outlet.taken c.finish.new.self) (file_begun path ++ sends.0) all c.in_ok-finish.ensures.ok,
       λ clean s at bytes has. all_sent s (g.met.S.BagSource.sound c.args.source.now s at) c.args.row.now.file path sends.0 bytes (sends.2 clean s at) has,
-    )
-
-pub returns-in-Err-Store-clause-gives : goal.returns-in-Err-Store-clause-gives
-returns-in-Err-Store-clause-gives g c =
-    let sends = c.in-Err-Store.ensures.sends in
-    let path = row_path c.args.row.now in
-    let begun = subst (λ p. Appends (g.K.Outlet.taken c.args.sink.now) (g.K.Outlet.taken c.begin.new.self) (file_begun p)) (c.as_str.ensures ∙ c.in_ok-path.ensures) c.in_ok-begin.ensures.ok in (
-      file_begun path ++ sends.0,
-      Appends-trans (g.K.Outlet.taken c.args.sink.now) (g.K.Outlet.taken c.begin.new.self) (g.K.Outlet.taken c.stream.new.out) (file_begun path) sends.0 begun sends.1,
-      λ clean s at bytes has. perhaps_sent s (g.met.S.BagSource.sound c.args.source.now s at) c.args.row.now.file path sends.0 bytes (subst (λ e. IsStreamed {X = Unit {0}} s c.args.row.now.file sends.0 (Err e)) c.in-Err-Store.field-0-is (sends.2 clean s at)) has,
-    )
-
-pub returns-in-Err-Memory-clause-gives : goal.returns-in-Err-Memory-clause-gives
-returns-in-Err-Memory-clause-gives g c =
-    let sends = c.in-Err-Memory.ensures.sends in
-    let path = row_path c.args.row.now in
-    let begun = subst (λ p. Appends (g.K.Outlet.taken c.args.sink.now) (g.K.Outlet.taken c.begin.new.self) (file_begun p)) (c.as_str.ensures ∙ c.in_ok-path.ensures) c.in_ok-begin.ensures.ok in (
-      file_begun path ++ sends.0,
-      Appends-trans (g.K.Outlet.taken c.args.sink.now) (g.K.Outlet.taken c.begin.new.self) (g.K.Outlet.taken c.stream.new.out) (file_begun path) sends.0 begun sends.1,
-      λ clean s at bytes has. perhaps_sent s (g.met.S.BagSource.sound c.args.source.now s at) c.args.row.now.file path sends.0 bytes (subst (λ e. IsStreamed {X = Unit {0}} s c.args.row.now.file sends.0 (Err e)) c.in-Err-Memory.field-0-is (sends.2 clean s at)) has,
-    )
-
-pub returns-in-Err-NoSuchFile-clause-gives : goal.returns-in-Err-NoSuchFile-clause-gives
-returns-in-Err-NoSuchFile-clause-gives g c =
-    let sends = c.in-Err-NoSuchFile.ensures.sends in
-    let path = row_path c.args.row.now in
-    let begun = subst (λ p. Appends (g.K.Outlet.taken c.args.sink.now) (g.K.Outlet.taken c.begin.new.self) (file_begun p)) (c.as_str.ensures ∙ c.in_ok-path.ensures) c.in_ok-begin.ensures.ok in (
-      file_begun path ++ sends.0,
-      Appends-trans (g.K.Outlet.taken c.args.sink.now) (g.K.Outlet.taken c.begin.new.self) (g.K.Outlet.taken c.stream.new.out) (file_begun path) sends.0 begun sends.1,
-      λ clean s at bytes has. absurd (no_content s c.args.row.now.file bytes (subst (λ e. IsStreamed {X = Unit {0}} s c.args.row.now.file sends.0 (Err e)) c.in-Err-NoSuchFile.field-0-is (sends.2 clean s at)).1 has),
     )
 
 pub returns-in_err-finish-clause-gives : goal.returns-in_err-finish-clause-gives
@@ -86,3 +47,22 @@ returns-in_err-finish-clause-gives g c =
       λ clean s at bytes has. faulty c.from_residual-in_err-finish.result Sink (file_given (path, bytes)) (file_begun path ++ sends.0) c.from_residual-in_err-finish.ensures.1 tt
           (all_front s (g.met.S.BagSource.sound c.args.source.now s at) c.args.row.now.file path sends.0 bytes (sends.2 clean s at) has),
     )
+
+pub returns-in-Err-clause-gives : goal.returns-in-Err-clause-gives
+returns-in-Err-clause-gives g c =
+    let sends = c.in-Err.ensures.sends in
+    let path = row_path c.args.row.now in
+    let begun = subst (λ p. Appends (g.K.Outlet.taken c.args.sink.now) (g.K.Outlet.taken c.begin.new.self) (file_begun p)) (c.as_str.ensures ∙ c.in_ok-path.ensures) c.in_ok-begin.ensures.ok in (
+      file_begun path ++ sends.0,
+      Appends-trans (g.K.Outlet.taken c.args.sink.now) (g.K.Outlet.taken c.begin.new.self) (g.K.Outlet.taken c.stream.new.out) (file_begun path) sends.0 begun sends.1,
+      λ clean s at bytes has. subst (λ e. IsGivenAt e (file_given (path, bytes)) (file_begun path ++ sends.0)) (sym c.unsent.ensures)
+          (unsent_given s (g.met.S.BagSource.sound c.args.source.now s at) c.args.row.now.file path sends.0 bytes c.in-Err.fault (sends.2 clean s at) has),
+    )
+
+pub returns-in-Err-clause-cause : goal.returns-in-Err-clause-cause
+returns-in-Err-clause-cause g c = λ is.
+    subst (λ n. HasRisen n (g.K.Outlet.failures c.stream.new.out)) c.in_ok-begin.ensures.count
+    (c.in-Err.ensures.cause (ap Err (unsent_sink c.in-Err.fault (ap Err (sym c.unsent.ensures) ∙ is))))
+
+pub returns-in-Err-clause-there : goal.returns-in-Err-clause-there
+returns-in-Err-clause-there g c = λ is. unsent_there c.in-Err.fault (ap Err (sym c.unsent.ensures) ∙ is)
