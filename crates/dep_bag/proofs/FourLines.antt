@@ -10,10 +10,9 @@ line path bytes = manifest_line (record { path = path; value = sha256 bytes })
 regroup : (w x y z : List ℕ) → ((w ++ x) ++ y) ++ z ≡ w ++ (x ++ (y ++ (z ++ [])))
 regroup w x y z = simp (append_assoc, append-nil)
 
-pub four_lines : (p q r s a b c d a' b' c' d' none one two three four : List ℕ) → a' ≡ a → b' ≡ b → c' ≡ c → d' ≡ d
-    → none ≡ [] → one ≡ none ++ line p a' → two ≡ one ++ line q b' → three ≡ two ++ line r c' → four ≡ three ++ line s d'
+pub four_lines : (p q r s a b c d none one two three four : List ℕ)
+    → none ≡ [] → one ≡ none ++ line p a → two ≡ one ++ line q b → three ≡ two ++ line r c → four ≡ three ++ line s d
     → four ≡ manifest_of sha256_digest ((p, a) ∷ (q, b) ∷ (r, c) ∷ (s, d) ∷ [])
-four_lines p q r s a b c d a' b' c' d' none one two three four ea eb ec ed new e f g h =
-    h ∙ ap (λ t. t ++ line s d') (g ∙ ap (λ t. t ++ line r c') (f ∙ ap (λ t. t ++ line q b') (e ∙ ap (λ t. t ++ line p a') new)))
-    ∙ (λ i. ((line p (ea i) ++ line q (eb i)) ++ line r (ec i)) ++ line s (ed i))
+four_lines p q r s a b c d none one two three four new e f g h =
+    h ∙ ap (λ t. t ++ line s d) (g ∙ ap (λ t. t ++ line r c) (f ∙ ap (λ t. t ++ line q b) (e ∙ ap (λ t. t ++ line p a) new)))
     ∙ regroup (line p a) (line q b) (line r c) (line s d)

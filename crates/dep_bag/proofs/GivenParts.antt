@@ -117,6 +117,14 @@ text_unended a b c d path text seen r is begun adds keeps err = (
   faulty r Sink (file_given (path, text)) (file_begun path ++ seen) err tt (file_front path seen text (subst (IsFront seen) is (whole_front seen))),
 )
 
+pub text_ended : (a b c d : Option (List ℕ)) (path text seen : List ℕ) → seen ≡ text → Appends a b (file_begun path)
+    → Appends b c seen → Keeps c d → (x : List ℕ) × Appends a d x × (x ≡ file_given (path, text))
+text_ended a b c d path text seen is begun adds keeps = (
+  file_begun path ++ seen,
+  kept a c d (file_begun path ++ seen) (Appends-trans a b c (file_begun path) seen begun adds) keeps,
+  ap (λ t. file_begun path ++ t) is,
+)
+
 -- a whole file was given next
 pub text_given : (a b c : Option (List ℕ)) (whole left path text : List ℕ) → Leaves a b whole (file_given (path, text) ++ left)
     → (x : List ℕ) × Appends b c x × (x ≡ file_given (path, text)) → Leaves a c whole left

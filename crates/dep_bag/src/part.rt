@@ -28,19 +28,19 @@ pub fn bag_file(
     ensures { IfOk result (λ part. part ≡ told_part view.now path.now) }
 {
     let text = if path == BAGIT.as_bytes() {
-        declaration(alloc)?
+        declaration(alloc)
     } else if path == BAG_INFO.as_bytes() {
-        information(alloc, view)?
+        information(alloc, view)
     } else if path == MANIFEST.as_bytes() {
-        payload_manifest(alloc, view)?
+        payload_manifest(alloc, view)
     } else if path == METADATA.as_bytes() {
-        bag_metadata_doc(alloc, &view.metadata)?
+        bag_metadata_doc(alloc, &view.metadata)
     } else if path == TAG_MANIFEST.as_bytes() {
-        tag_manifest(alloc, view)?
+        tag_manifest(alloc, view)
     } else {
         return Ok(stored_file(view.files.as_slice(), path));
     };
-    Ok(Some(BagPart::Bytes(Octets::from_vec(text))))
+    Ok(Some(BagPart::Bytes(Octets::from_vec(text?))))
 }
 
 // The payload file at this path.

@@ -1,5 +1,5 @@
 //! The texts of the files of a bag that are not its payload (RFC 8493, section 2.2).
-ghost use Rattle.std.specs.Prelude.{◌≡◌, ◌++◌, OnOk, IfOk, decimal, sum_by};
+ghost use Rattle.std.specs.Prelude.{◌≡◌, ◌++◌, ℕ, List, OnOk, IfOk, decimal, sum_by};
 ghost use Rattle.sha2.specs.Sha256.{sha256};
 ghost use Rattle.dep_bag.specs.Manifest.{manifest_line};
 ghost use Rattle.dep_bag.specs.Bag.{bagit_text, info_text};
@@ -61,22 +61,23 @@ pub(crate) fn tag_manifest(alloc: Global, view: &ObjectView) -> Result<Vec<u8>, 
     ensures { IfOk result (λ text. text.items ≡ told_tag_manifest view.now) }
 {
     let mut text = Vec::new(alloc);
-    add_file(&mut text, BAGIT, declaration(alloc)?)?;
-    add_file(&mut text, BAG_INFO, information(alloc, view)?)?;
-    add_file(&mut text, MANIFEST, payload_manifest(alloc, view)?)?;
-    add_file(
-        &mut text,
-        METADATA,
-        bag_metadata_doc(alloc, &view.metadata)?,
-    )?;
+    add_file(&mut text, BAGIT, declaration(alloc))?;
+    add_file(&mut text, BAG_INFO, information(alloc, view))?;
+    add_file(&mut text, MANIFEST, payload_manifest(alloc, view))?;
+    add_file(&mut text, METADATA, bag_metadata_doc(alloc, &view.metadata))?;
     Ok(text)
 }
 
-// Adds the line of a file with these bytes.
-fn add_file(text: &mut Vec<u8>, path: &str, bytes: Vec<u8>) -> Result<(), AllocError>
-    ensures { OnOk result (text.new.items ≡
-        text.old.items ++ manifest_line (record { path = path.now; value = sha256 bytes.items })) }
+// Adds the line of a file with these bytes, where they could be made.
+fn add_file(
+    text: &mut Vec<u8>,
+    path: &str,
+    made: Result<Vec<u8>, AllocError>,
+) -> Result<(), AllocError>
+    ensures { (value : List ℕ) → IfOk made (λ bytes. bytes.items ≡ value) → OnOk result (text.new.items ≡
+        text.old.items ++ manifest_line (record { path = path.now; value = sha256 value })) }
 {
+    let bytes = made?;
     let mut hasher = Hasher::new();
     hasher.update(bytes.as_slice());
     add_line(text, path.as_bytes(), &hasher.finish().sha256)

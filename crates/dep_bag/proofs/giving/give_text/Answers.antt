@@ -1,5 +1,9 @@
-use Rattle.std.proofs.Common.{◌≡◌, IfOk, subst, ◌∙◌}
-use Rattle.dep_bag.proofs.GivenParts.{text_breaks, text_unended}
+use Rattle.std.proofs.Common.{◌≡◌, IfOk, subst, ◌∙◌, []}
+use Rattle.std.proofs.KnownBytes.{Appends-nil}
+use Rattle.dep_types.specs.Sinks.{file_given}
+use Rattle.dep_types.specs.Writing.{HasRisen}
+use Rattle.dep_bag.specs.declared.export_fault.ExportFault.TheVariants.{Sink, Memory}
+use Rattle.dep_bag.proofs.GivenParts.{text_breaks, text_unended, text_ended, faulty, nothing_given, nothing_front}
 use Rattle.dep_bag.proofs.giving.give_text.Goals as goal
 
 pub returns-in_err-write-clause-gives : goal.returns-in_err-write-clause-gives
@@ -15,3 +19,32 @@ returns-in_err-finish-clause-gives g c = λ bytes are.
     c.args.path.now bytes c.as_slice.result.now c.from_residual-in_err-finish.result
     (c.as_slice.ensures.value ∙ subst (λ made. IfOk made (λ text. text.items ≡ bytes)) c.in_ok-text.was are)
     c.in_ok-begin.ensures.ok c.in_ok-write.ensures.ok c.in_err-finish.ensures.err c.from_residual-in_err-finish.ensures.1
+
+pub returns-in_err-text-clause-gives : goal.returns-in_err-text-clause-gives
+returns-in_err-text-clause-gives g c = λ bytes are. (
+  [],
+  Appends-nil (g.K.Outlet.taken c.args.sink.now),
+  faulty c.from_residual.result Memory (file_given (c.args.path.now, bytes)) [] c.from_residual.ensures.1 tt (nothing_front _),
+)
+
+pub returns-in_err-begin-clause-gives : goal.returns-in_err-begin-clause-gives
+returns-in_err-begin-clause-gives g c = λ bytes are. (
+  [],
+  nothing_given (g.K.Outlet.taken c.args.sink.now) (g.K.Outlet.taken c.begin.new.self) c.in_err-begin.ensures.err,
+  faulty c.from_residual-in_err-begin.result Sink (file_given (c.args.path.now, bytes)) [] c.from_residual-in_err-begin.ensures.1 tt (nothing_front _),
+)
+
+pub returns-clause-gives : goal.returns-clause-gives
+returns-clause-gives g c = λ bytes are.
+    text_ended (g.K.Outlet.taken c.args.sink.now) (g.K.Outlet.taken c.begin.new.self) (g.K.Outlet.taken c.write.new.self) (g.K.Outlet.taken c.finish.new.self)
+    c.args.path.now bytes c.as_slice.result.now
+    (c.as_slice.ensures.value ∙ subst (λ made. IfOk made (λ text. text.items ≡ bytes)) c.in_ok-text.was are)
+    c.in_ok-begin.ensures.ok c.in_ok-write.ensures.ok c.in_ok-finish.ensures.ok
+
+pub returns-in_err-write-clause-cause : goal.returns-in_err-write-clause-cause
+returns-in_err-write-clause-cause g c = λ is.
+    subst (λ n. HasRisen n (g.K.Outlet.failures c.write.new.self)) c.in_ok-begin.ensures.count c.in_err-write.ensures.cause
+
+pub returns-in_err-finish-clause-cause : goal.returns-in_err-finish-clause-cause
+returns-in_err-finish-clause-cause g c = λ is.
+    subst (λ n. HasRisen n (g.K.Outlet.failures c.finish.new.self)) (c.in_ok-write.ensures.count ∙ c.in_ok-begin.ensures.count) c.in_err-finish.ensures.cause

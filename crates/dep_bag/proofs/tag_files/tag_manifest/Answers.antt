@@ -10,7 +10,6 @@ returns c =
     let view = c.args.view.now in
     four_lines (codes "bagit.txt") (codes "bag-info.txt") (codes "manifest-sha256.txt") (codes "metadata/sword.json")
     bagit_text (told_info view) (told_manifest view) (bag_metadata_document view.metadata)
-    c.in_ok-declaration.field-0.items c.in_ok-information.field-0.items c.in_ok-payload_manifest.field-0.items c.in_ok-bag_metadata_doc.field-0.items
     c.new-text.result.items c.add_file.new.text.items c.add_file-2.new.text.items c.add_file-3.new.text.items c.add_file-4.new.text.items
-    c.in_ok-declaration.ensures c.in_ok-information.ensures c.in_ok-payload_manifest.ensures c.in_ok-bag_metadata_doc.ensures
-    c.new-text.ensures.items c.in_ok-add_file.ensures c.in_ok-add_file-2.ensures c.in_ok-add_file-3.ensures c.in_ok-add_file-4.ensures
+    c.new-text.ensures.items (c.in_ok-add_file.ensures bagit_text c.declaration.ensures) (c.in_ok-add_file-2.ensures (told_info view) c.information.ensures)
+    (c.in_ok-add_file-3.ensures (told_manifest view) c.payload_manifest.ensures) (c.in_ok-add_file-4.ensures (bag_metadata_document view.metadata) c.bag_metadata_doc.ensures)
