@@ -74,7 +74,8 @@ fn add_file(
     path: &str,
     made: Result<Vec<u8>, AllocError>,
 ) -> Result<(), AllocError>
-    ensures { (value : List ℕ) → IfOk made (λ bytes. bytes.items ≡ value) → OnOk result (text.new.items ≡
+    ensures { (value : List ℕ) → IfOk made (λ bytes. bytes.items ≡ value)
+        → OnOk result (text.new.items ≡
         text.old.items ++ manifest_line (record { path = path.now; value = sha256 value })) }
 {
     let bytes = made?;
