@@ -1,12 +1,13 @@
 -- Rows that are sent one at a time.
-use Rattle.std.proofs.Common.{◌≡◌, ◌⊎◌, inl, inr, List, ℕ, [], ◌∷◌, ◌++◌, ◌<◌, length, append-nil, append_assoc, Result, Ok, Err, OnOk, OnErr, Option, IsTrue, sym, ap, subst, ◌∙◌}
+use Rattle.std.proofs.Common.{◌≡◌, ◌⊎◌, inl, inr, List, ℕ, [], ◌∷◌, ◌++◌, ◌<◌, length, append-nil, append_assoc, Result, Ok, Err, OnOk, OnErr, Option, IsTrue, sym, ap, subst, ◌∙◌, ◌+◌, ◌-◌, ◌≤◌, length-append, arith}
 use Rattle.std.specs.Io.KnownBytes.{Appends}
 use Rattle.std.proofs.KnownBytes.{Appends-trans}
 use Rattle.sqlite.specs.Order.{Row}
+use Rattle.sqlite_trees.specs.Tree.{Trees}
 use Rattle.sqlite.specs.Effect.{Database}
 use Rattle.sqlite.specs.declared.error.Error.{Error}
 use Rattle.sqlite.specs.Listing.{understood, IsSourceOf, reads_listing}
-use Rattle.sqlite.specs.State.{State, Survives, CommitsShowing, IsUnchanged, IsRolledBack, Begins, FailsToQuery, FailsToShow, IsNotRun}
+use Rattle.sqlite.specs.State.{State, Survives, CommitsShowing, IsUnchanged, IsRolledBack, Begins, FailsToQuery, FailsToShow, IsNotRun, HasCleanDisk}
 use Rattle.sqlite.specs.Clock.{timed}
 use Rattle.sqlite.proofs.StateLemmas.{survives_weaker}
 use Rattle.sqlite.proofs.Callers.{IsPlain, never_commits, unchanged_then}
@@ -34,6 +35,9 @@ pub joined_push : (given : List Row) (row : Row) → joined (given ++ row ∷ []
 joined_push [] row = append-nil (blob_of row)
 joined_push (r ∷ given) row = ap (λ more. blob_of r ++ more) (joined_push given row) ∙ sym (append_assoc (blob_of r) (joined given) (blob_of row))
 
+pub joined_more : (sent : List ℕ) (given : List Row) (row : Row) → sent ≡ joined given → sent ++ blob_of row ≡ joined (given ++ row ∷ [])
+joined_more sent given row sends = ap (λ l. l ++ blob_of row) sends ∙ sym (joined_push given row)
+
 pub rolled_then : (a b c : State) → IsUnchanged a b → IsUnchanged b c ⊎ IsRolledBack b c → IsUnchanged a c ⊎ IsRolledBack a c
 rolled_then a b c same (inl still) = inl (unchanged_then a b c same still)
 rolled_then a b c same (inr back) = inr (record {
@@ -47,6 +51,13 @@ rolled_then a b c same (inr back) = inr (record {
 pub was_open : (a b : State) → IsUnchanged a b ⊎ IsRolledBack a b → IsTrue b.is_open → IsTrue a.is_open
 was_open a b (inl same) h = same.0.was_open
 was_open a b (inr back) h = back.was_open h
+
+none_before : (before after : ℕ) → before ≤ after → after ≡ 0 → before ≡ 0
+none_before before after fewer none = omega arith
+
+-- a disk that is clean was so before
+pub clean_was : (old new : State) (Commits : Trees → Type 0) → Survives old new Commits → HasCleanDisk new → HasCleanDisk old
+clean_was old new Commits kept late = none_before _ _ kept.clean late
 
 -- a plain query that does not begin
 pub refused_left : (sql : List ℕ) (params : Row) (old new : State) (e : Error) → IsPlain (understood old.now.schema sql) → FailsToQuery sql params old new e → IsUnchanged old new ⊎ IsRolledBack old new
@@ -85,3 +96,23 @@ cut_sized sql params old size start held next sent row Clean Plain Store before 
   λ clean plain. let x = h clean plain in (record { given = x.0; begins = inr x.1; sends = x.3 }, low),
 )
 cut_sized sql params old size start held next sent row Clean Plain Memory before took low h = absurd took
+
+some_less : (left sent size : ℕ) → 0 < left → left + sent ≡ size → sent < size
+some_less left sent size some is = omega arith
+
+-- what was sent and what is left of a size
+pub some_left : (left : ℕ) (sent : List ℕ) (size : ℕ) → 0 < left → left + length sent ≡ size → length sent < size
+some_left left sent size some is = some_less left (length sent) size some is
+
+less_by : (left n before bytes more size : ℕ) → n ≤ left → n ≡ bytes → left + before ≡ size → more ≡ before + bytes → (left - n) + more ≡ size
+less_by left n before bytes more size fits is was all = omega arith
+
+pub less_left : (left n size : ℕ) (sent bytes : List ℕ) → n ≤ left → n ≡ length bytes → left + length sent ≡ size → (left - n) + length (sent ++ bytes) ≡ size
+less_left left n size sent bytes fits is was = less_by left n (length sent) (length bytes) (length (sent ++ bytes)) size fits is was (length-append sent bytes)
+
+none_less : (left more size : ℕ) → left ≡ 0 → left + more ≡ size → more ≡ size
+none_less left more size none is = omega arith
+
+pub all_sent : (left n size : ℕ) (sent bytes : List ℕ) → left - n ≡ 0 → n ≤ left → n ≡ length bytes → left + length sent ≡ size → length (sent ++ bytes) ≡ size
+all_sent left n size sent bytes none fits is was =
+    none_less (left - n) (length (sent ++ bytes)) size none (less_left left n size sent bytes fits is was)

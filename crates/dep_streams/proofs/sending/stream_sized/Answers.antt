@@ -1,11 +1,11 @@
-use Rattle.std.proofs.Common.{◌≡◌, ◌-◌, ◌<◌, length, length-append, Ok, Err, ◌≤◌, [], ◌∷◌, ◌++◌, inr, inl, refl, sym, ap, ◌∙◌, rules, arith}
+use Rattle.std.proofs.Common.{◌≡◌, ◌-◌, ◌<◌, length, Ok, Err, ◌≤◌, [], ◌∷◌, ◌++◌, inr, inl, refl, rules, arith}
 use Rattle.std.proofs.KnownBytes.{Appends-nil, Appends-trans}
 use Rattle.sqlite.specs.State.{HasCleanDisk, Survives, CommitsShowing, IsUnchanged, FailsToQuery}
 use Rattle.sqlite.specs.Held.{state}
 use Rattle.sqlite.specs.Values.{bound}
 use Rattle.sqlite.proofs.Callers.{begun_plain, unchanged_then, given_begin}
 use Rattle.dep_streams.specs.Sent.{blob_of, GivesRow, GivesSized}
-use Rattle.dep_streams.proofs.SendingLemmas.{commits_nothing, failed_then, begins_from, joined_push, refused_left, stops_sized, cut_sized}
+use Rattle.dep_streams.proofs.SendingLemmas.{commits_nothing, failed_then, begins_from, joined_more, refused_left, stops_sized, cut_sized, clean_was, some_left, less_left, all_sent}
 use Rattle.dep_streams.proofs.sending.stream_sized.Goals as goal
 
 pub returns-in-Err-clause-streams : goal.returns-in-Err-clause-streams
@@ -49,12 +49,12 @@ pub returns-in-Err-next-clause-streams : goal.returns-in-Err-next-clause-streams
 returns-in-Err-next-clause-streams g c =
     let moved = c.next.follows.holds-at-none in
     let now = c.next.follows.lender-at-none.conn.now in
-    let low : length c.rows.invariant.4 < c.args.size = omega (arith, c.rows.invariant.0, c.rows.invariant.5) in (
+    let low : length c.rows.invariant.4 < c.args.size = some_left _ _ _ c.rows.invariant.0 c.rows.invariant.5 in (
       c.rows.invariant.4,
       c.rows.invariant.6,
       λ clean plain.
           let late : HasCleanDisk (state g.S.Store now) = search rules in
-          let was = c.rows.invariant.7 (omega (arith, moved.survives.clean)) plain in
+          let was = c.rows.invariant.7 (clean_was _ _ _ moved.survives late) plain in
           let begun = begins_from c.args.sql.now (bound c.args.params.now) (state g.S.Store c.args.connection.now) (state g.S.Store c.rows.rows.conn.now) was.0 was.2 (given_begin g.S.Store _ _ c.rows.rows.conn.now was.0 was.1) in
           stops_sized _ _ _ _ _ _ c.block_fault_of-in-Err-next.ensures low (record { given = was.0; begins = inr begun; sends = was.3 }),
     )
@@ -63,12 +63,12 @@ pub returns-in_default-clause-streams : goal.returns-in_default-clause-streams
 returns-in_default-clause-streams g c =
     let moved = c.next.follows.holds-at-none in
     let now = c.next.follows.lender-at-none.conn.now in
-    let low : length c.rows.invariant.4 < c.args.size = omega (arith, c.rows.invariant.0, c.rows.invariant.5) in (
+    let low : length c.rows.invariant.4 < c.args.size = some_left _ _ _ c.rows.invariant.0 c.rows.invariant.5 in (
       c.rows.invariant.4,
       c.rows.invariant.6,
       λ clean plain.
           let late : HasCleanDisk (state g.S.Store now) = search rules in
-          let was = c.rows.invariant.7 (omega (arith, moved.survives.clean)) plain in
+          let was = c.rows.invariant.7 (clean_was _ _ _ moved.survives late) plain in
           let begun = begins_from c.args.sql.now (bound c.args.params.now) (state g.S.Store c.args.connection.now) (state g.S.Store c.rows.rows.conn.now) was.0 was.2 (given_begin g.S.Store _ _ c.rows.rows.conn.now was.0 was.1) in
           (record { given = was.0; begins = inr begun; sends = was.3 }, low),
     )
@@ -79,11 +79,11 @@ returns-in-Err-give_sized-clause-streams g c =
     let now = c.next.follows.lender-at-none.conn.now in
     let row = c.in-Some.row.now in
     let first = state g.S.Store c.args.connection.now in
-    let low : length c.rows.invariant.4 < c.args.size = omega (arith, c.rows.invariant.0, c.rows.invariant.5) in
+    let low : length c.rows.invariant.4 < c.args.size = some_left _ _ _ c.rows.invariant.0 c.rows.invariant.5 in
     let gave : GivesRow (g.O.Outlet.taken c.rows.out) (g.O.Outlet.taken c.give_sized.new.out) (blob_of row) (Err c.in-Err-give_sized.fault) = c.in-Err-give_sized.ensures.gives in
     cut_sized _ _ first _ _ _ _ c.rows.invariant.4 row _ _ c.in-Err-give_sized.fault c.rows.invariant.6 gave low (λ clean plain.
     let late : HasCleanDisk (state g.S.Store now) = search rules in
-    let was = c.rows.invariant.7 (omega (arith, moved.survives.clean)) plain in
+    let was = c.rows.invariant.7 (clean_was _ _ _ moved.survives late) plain in
     let on = (rw (c.in-Ok-next.is, c.in-Some.is) at (moved.ok late)) c.args.sql.now (bound c.args.params.now) was.0 was.1 in
     let same : IsUnchanged (state g.S.Store c.rows.rows.conn.now) (state g.S.Store now) = rw c.in-Ok-next.is at (moved.same late) in
     let begun = begins_from c.args.sql.now (bound c.args.params.now) first (state g.S.Store c.rows.rows.conn.now) was.0 was.2 (given_begin g.S.Store _ _ c.rows.rows.conn.now was.0 was.1) in
@@ -92,7 +92,7 @@ returns-in-Err-give_sized-clause-streams g c =
 
 pub returns-clause-streams : goal.returns-clause-streams
 returns-clause-streams g c =
-    let low : length c.rows.invariant.4 < c.args.size = omega (arith, c.rows.invariant.0, c.rows.invariant.5) in (
+    let low : length c.rows.invariant.4 < c.args.size = some_left _ _ _ c.rows.invariant.0 c.rows.invariant.5 in (
       c.rows.invariant.4,
       c.rows.invariant.6,
       λ clean plain.
@@ -111,16 +111,16 @@ returns-then-left-eq0-clause-streams g c =
     let gave : GivesSized (g.O.Outlet.taken c.rows.out) (g.O.Outlet.taken c.give_sized.new.out) (blob_of row) (Ok c.in-Ok-give_sized.n) = c.in-Ok-give_sized.ensures.gives in
     let none : c.rows.left - c.in-Ok-give_sized.n ≡ 0 = search rules in
     let fits : c.in-Ok-give_sized.n ≤ c.rows.left = c.in-Ok-give_sized.ensures.fits in
-    let whole : length (c.rows.invariant.4 ++ blob_of row) ≡ c.args.size = omega (arith, none, fits, gave.1, c.rows.invariant.5, length-append c.rows.invariant.4 (blob_of row)) in (
+    let whole : length (c.rows.invariant.4 ++ blob_of row) ≡ c.args.size = all_sent c.rows.left c.in-Ok-give_sized.n c.args.size c.rows.invariant.4 (blob_of row) none fits gave.1 c.rows.invariant.5 in (
       c.rows.invariant.4 ++ blob_of row,
       Appends-trans _ _ _ _ _ c.rows.invariant.6 gave.0,
       λ clean plain.
           let late : HasCleanDisk (state g.S.Store now) = search rules in
-          let was = c.rows.invariant.7 (omega (arith, moved.survives.clean)) plain in
+          let was = c.rows.invariant.7 (clean_was _ _ _ moved.survives late) plain in
           let on = (rw (c.in-Ok-next.is, c.in-Some.is) at (moved.ok late)) c.args.sql.now (bound c.args.params.now) was.0 was.1 in
           let same : IsUnchanged (state g.S.Store c.rows.rows.conn.now) (state g.S.Store now) = rw c.in-Ok-next.is at (moved.same late) in
           let more = begins_from c.args.sql.now (bound c.args.params.now) first (state g.S.Store now) (was.0 ++ row ∷ []) (unchanged_then first (state g.S.Store c.rows.rows.conn.now) (state g.S.Store now) was.2 same) (given_begin g.S.Store _ _ now (was.0 ++ row ∷ []) on) in
-          (record { given = was.0 ++ row ∷ []; begins = inr more; sends = ap (λ l. l ++ blob_of row) was.3 ∙ sym (joined_push was.0 row) }, whole),
+          (record { given = was.0 ++ row ∷ []; begins = inr more; sends = joined_more c.rows.invariant.4 was.0 row was.3 }, whole),
     )
 
 pub rows-preserved : goal.rows-preserved
@@ -135,18 +135,18 @@ rows-preserved g c =
       (λ plain. let before = c.rows.invariant.2 plain in search rules),
       search rules,
       c.rows.invariant.4 ++ blob_of row,
-      omega (arith, fits, gave.1, c.rows.invariant.5, length-append c.rows.invariant.4 (blob_of row)),
+      less_left c.rows.left c.in-Ok-give_sized.n c.args.size c.rows.invariant.4 (blob_of row) fits gave.1 c.rows.invariant.5,
       Appends-trans _ _ _ _ _ c.rows.invariant.6 gave.0,
       λ late plain.
-          let was = c.rows.invariant.7 (omega (arith, moved.survives.clean)) plain in
+          let was = c.rows.invariant.7 (clean_was _ _ _ moved.survives late) plain in
           let on = (rw (c.in-Ok-next.is, c.in-Some.is) at (moved.ok late)) c.args.sql.now (bound c.args.params.now) was.0 was.1 in
           let same : IsUnchanged (state g.S.Store c.rows.rows.conn.now) (state g.S.Store now) = rw c.in-Ok-next.is at (moved.same late) in (
             was.0 ++ row ∷ [],
             on,
             unchanged_then (state g.S.Store c.args.connection.now) (state g.S.Store c.rows.rows.conn.now) (state g.S.Store now) was.2 same,
-            ap (λ l. l ++ blob_of row) was.3 ∙ sym (joined_push was.0 row),
+            joined_more c.rows.invariant.4 was.0 row was.3,
           ),
-      λ late. c.rows.invariant.8 (omega (arith, late, moved.survives.clean)),
+      λ late. c.rows.invariant.8 (clean_was _ _ _ moved.survives late),
     )
 
 pub returns-in-Err-next-clause-err : goal.returns-in-Err-next-clause-err
@@ -154,7 +154,7 @@ returns-in-Err-next-clause-err g c clean plain =
     let moved = c.next.follows.holds-at-none in
     let now = c.next.follows.lender-at-none.conn.now in
     let late : HasCleanDisk (state g.S.Store now) = search rules in
-    let was = c.rows.invariant.7 (omega (arith, moved.survives.clean)) plain in
+    let was = c.rows.invariant.7 (clean_was _ _ _ moved.survives late) plain in
     let failed = (rw c.in-Err-next.is at (moved.err late)) c.args.sql.now (bound c.args.params.now) was.0 was.1 in
     let left = failed_then c.args.sql.now (bound c.args.params.now) (state g.S.Store c.args.connection.now) (state g.S.Store c.rows.rows.conn.now) (state g.S.Store now) _ plain was.2 failed in
     search rules
@@ -164,7 +164,7 @@ returns-in_default-clause-err g c clean plain =
     let moved = c.next.follows.holds-at-none in
     let now = c.next.follows.lender-at-none.conn.now in
     let late : HasCleanDisk (state g.S.Store now) = search rules in
-    let was = c.rows.invariant.7 (omega (arith, moved.survives.clean)) plain in
+    let was = c.rows.invariant.7 (clean_was _ _ _ moved.survives late) plain in
     let same : IsUnchanged (state g.S.Store c.rows.rows.conn.now) (state g.S.Store now) = rw c.in-Ok-next.is at (moved.same late) in
     let whole = unchanged_then (state g.S.Store c.args.connection.now) (state g.S.Store c.rows.rows.conn.now) (state g.S.Store now) was.2 same in
     search rules
@@ -174,7 +174,7 @@ returns-in-Err-give_sized-clause-err g c clean plain =
     let moved = c.next.follows.holds-at-none in
     let now = c.next.follows.lender-at-none.conn.now in
     let late : HasCleanDisk (state g.S.Store now) = search rules in
-    let was = c.rows.invariant.7 (omega (arith, moved.survives.clean)) plain in
+    let was = c.rows.invariant.7 (clean_was _ _ _ moved.survives late) plain in
     let same : IsUnchanged (state g.S.Store c.rows.rows.conn.now) (state g.S.Store now) = rw c.in-Ok-next.is at (moved.same late) in
     let whole = unchanged_then (state g.S.Store c.args.connection.now) (state g.S.Store c.rows.rows.conn.now) (state g.S.Store now) was.2 same in
     search rules
@@ -191,7 +191,7 @@ returns-then-left-eq0-clause-ok g c clean plain =
     let moved = c.next.follows.holds-at-none in
     let now = c.next.follows.lender-at-none.conn.now in
     let late : HasCleanDisk (state g.S.Store now) = search rules in
-    let was = c.rows.invariant.7 (omega (arith, moved.survives.clean)) plain in
+    let was = c.rows.invariant.7 (clean_was _ _ _ moved.survives late) plain in
     let same : IsUnchanged (state g.S.Store c.rows.rows.conn.now) (state g.S.Store now) = rw c.in-Ok-next.is at (moved.same late) in
     let whole = unchanged_then (state g.S.Store c.args.connection.now) (state g.S.Store c.rows.rows.conn.now) (state g.S.Store now) was.2 same in
     search rules
