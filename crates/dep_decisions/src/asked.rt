@@ -1,11 +1,13 @@
 //! What an accepted request asks for, as its content is read.
-ghost use Rattle.std.specs.Prelude.{◌≡◌, IfOk, IfSome, List, Option, option_and_then};
+ghost use Rattle.std.specs.Prelude.{◌≡◌, ◌∷◌, [], IfOk, IfSome, List, Option, option_map, option_and_then, unwrap_or};
 ghost use Rattle.std.specs.Option.{option_copied};
 ghost use Rattle.dep_fixity.specs.Fixity.{digests_of};
 ghost use Rattle.dep_docs_in.specs.declared.reference.Reference.{Reference as AReference};
 ghost use Rattle.dep_decisions.specs.Asked.{IsRead, asked_at, name_in, opened_by, received_by};
-ghost use Rattle.dep_decisions.specs.Decisions.{assembled_file, behalf_of, decision_with, deposit_of, ingests, posted_file, referred_files};
+ghost use Rattle.dep_decisions.specs.Decisions.{assembled_file, behalf_of, decision_with, deposit_of, files_of, ingests, posted_file, referred_files, replaced_file, texts_of};
 ghost use Rattle.dep_decisions.specs.Kinds.{kind_of};
+ghost use Rattle.dep_decisions.specs.declared.decision.Decision.TheVariants.{Append, Create, Replace, SetFiles, SetMetadata, Show};
+ghost use Rattle.dep_decisions.specs.declared.decision.Deposit.TheVariants.{Files, Metadata as MetadataOf};
 ghost use Rattle.dep_decisions.specs.declared.operation.Operation.{Operation as AnOperation};
 ghost use Rattle.dep_types.specs.declared.target.Method.TheVariants.{Post, Put, Delete};
 
@@ -59,25 +61,54 @@ fn posted(
         operation.now.target.resource Post) }
 {
     match operation.target.resource {
-        Resource::Service => match deposit(alloc, operation, references, read)? {
-            Some(deposit) => Ok(Decision::Create {
-                deposit,
-                ingests: ingests(operation),
-            }),
-            None => Ok(Decision::Show),
+        Resource::Service => {
+            let deposit = deposit(alloc, operation, references, read)?;
+            Ok(created(deposit, ingests(operation)))
+        }
+        Resource::Object(object) if is_completion(operation) => {
+            drop(read);
+            Ok(Decision::Complete { object })
+        }
+        Resource::Object(object) => {
+            let deposit = deposit(alloc, operation, references, read)?;
+            Ok(appended(object, deposit, ingests(operation)))
+        }
+        Resource::Staging => {
+            drop(read);
+            Ok(opened(content_purpose(operation)))
+        }
+        Resource::Upload(upload) => {
+            drop(read);
+            Ok(received(upload, content_purpose(operation)))
+        }
+        _ => {
+            drop(read);
+            Ok(Decision::Show)
+        }
+    }
+}
+
+// A new object with the deposit, where there is one.
+fn created(deposit: Option<Deposit>, ingests: bool) -> Decision
+    ensures { result ≡ unwrap_or (option_map (λ d. Create d ingests) deposit) Show }
+{
+    match deposit {
+        Some(deposit) => Decision::Create { deposit, ingests },
+        None => Decision::Show,
+    }
+}
+
+// The deposit is added to the object, where there is one.
+fn appended(object: u64, deposit: Option<Deposit>, ingests: bool) -> Decision
+    ensures { result ≡ unwrap_or (option_map (λ d. Append object d ingests) deposit) Show }
+{
+    match deposit {
+        Some(deposit) => Decision::Append {
+            object,
+            deposit,
+            ingests,
         },
-        Resource::Object(object) if is_completion(operation) => Ok(Decision::Complete { object }),
-        Resource::Object(object) => match deposit(alloc, operation, references, read)? {
-            Some(deposit) => Ok(Decision::Append {
-                object,
-                deposit,
-                ingests: ingests(operation),
-            }),
-            None => Ok(Decision::Show),
-        },
-        Resource::Staging => Ok(opened(content_purpose(operation))),
-        Resource::Upload(upload) => Ok(received(upload, content_purpose(operation))),
-        _ => Ok(Decision::Show),
+        None => Decision::Show,
     }
 }
 
@@ -94,31 +125,93 @@ fn put(
         operation.now.target.resource Put) }
 {
     match operation.target.resource {
-        Resource::Object(object) => match deposit(alloc, operation, references, read)? {
-            Some(deposit) => Ok(Decision::Replace {
-                object,
-                deposit,
-                ingests: ingests(operation),
-            }),
-            None => Ok(Decision::Show),
+        Resource::Object(object) => {
+            let deposit = deposit(alloc, operation, references, read)?;
+            Ok(replaced(object, deposit, ingests(operation)))
+        }
+        Resource::Metadata(object) => {
+            let deposit = deposit(alloc, operation, references, read)?;
+            Ok(metadata_set(object, deposit))
+        }
+        Resource::FileSet(object) => {
+            let deposit = deposit(alloc, operation, references, read)?;
+            Ok(files_set(object, deposit))
+        }
+        Resource::File(object, file) => {
+            let digests = read.digests;
+            drop(read);
+            file_set(alloc, operation, digests, object, file)
+        }
+        _ => {
+            drop(read);
+            Ok(Decision::Show)
+        }
+    }
+}
+
+// The deposit takes the place of what the object has, where there is one.
+fn replaced(object: u64, deposit: Option<Deposit>, ingests: bool) -> Decision
+    ensures { result ≡ unwrap_or (option_map (λ d. Replace object d ingests) deposit) Show }
+{
+    match deposit {
+        Some(deposit) => Decision::Replace {
+            object,
+            deposit,
+            ingests,
         },
-        Resource::Metadata(object) => match deposit(alloc, operation, references, read)? {
-            Some(Deposit::Metadata(metadata)) => Ok(Decision::SetMetadata { object, metadata }),
-            _ => Ok(Decision::Show),
-        },
-        Resource::FileSet(object) => match deposit(alloc, operation, references, read)? {
-            Some(Deposit::Files(files)) => Ok(Decision::SetFiles { object, files }),
-            _ => Ok(Decision::Show),
-        },
-        Resource::File(object, file) => match file_name(operation) {
-            Some(name) => Ok(Decision::SetFile {
-                object,
-                file,
-                new: posted_file(alloc, operation, name, read.digests)?,
-            }),
-            None => Ok(Decision::Show),
-        },
-        _ => Ok(Decision::Show),
+        None => Decision::Show,
+    }
+}
+
+// The object gets the metadata that was deposited, where that is what was deposited.
+fn metadata_set(object: u64, deposit: Option<Deposit>) -> Decision
+    ensures { result ≡ unwrap_or (option_map (λ texts. SetMetadata object texts)
+        (option_and_then texts_of deposit)) Show }
+{
+    match deposit {
+        Some(Deposit::Metadata(metadata)) => Decision::SetMetadata { object, metadata },
+        Some(Deposit::Files(files)) => {
+            drop(files);
+            Decision::Show
+        }
+        None => Decision::Show,
+    }
+}
+
+// The object gets the files that were deposited, where that is what was deposited.
+fn files_set(object: u64, deposit: Option<Deposit>) -> Decision
+    ensures { result ≡ unwrap_or (option_map (λ files. SetFiles object files)
+        (option_and_then files_of deposit)) Show }
+{
+    match deposit {
+        Some(Deposit::Files(files)) => Decision::SetFiles { object, files },
+        Some(Deposit::Metadata(metadata)) => {
+            drop(metadata);
+            Decision::Show
+        }
+        None => Decision::Show,
+    }
+}
+
+// The content takes the place of a file, where it is a file.
+fn file_set(
+    alloc: Global,
+    operation: &Operation<'_>,
+    digests: Option<Digests>,
+    object: u64,
+    file: u64,
+) -> Result<Decision, AllocError>
+    requires { IfSome digests (λ d. d ≡ digests_of operation.now.content) }
+    ensures { IfOk result (λ d. d ≡ unwrap_or
+        (option_and_then (replaced_file operation.now object file) (kind_of operation.now)) Show) }
+{
+    match file_name(operation) {
+        Some(name) => Ok(Decision::SetFile {
+            object,
+            file,
+            new: posted_file(alloc, operation, name, digests)?,
+        }),
+        None => Ok(Decision::Show),
     }
 }
 
@@ -162,26 +255,68 @@ fn deposit(
     ensures { IfOk result (λ d. d ≡ deposit_of (option_copied references.entry) operation.now) }
 {
     match content_purpose(operation) {
-        Some(Purpose::File) => match file_name(operation) {
-            Some(name) => {
-                let file = posted_file(alloc, operation, name, read.digests)?;
-                Ok(Some(Deposit::Files(NewFiles::one(alloc, file)?)))
-            }
-            None => Ok(None),
-        },
-        Some(Purpose::Metadata) => match read.metadata {
-            Some(metadata) => Ok(Some(Deposit::Metadata(metadata))),
-            None => Ok(None),
-        },
-        Some(Purpose::References) => match references {
-            Some(references) => Ok(Some(Deposit::Files(referred_files(
-                alloc,
-                operation,
-                references.as_slice(),
-            )?))),
-            None => Ok(None),
-        },
-        _ => Ok(None),
+        Some(Purpose::File) => {
+            let digests = read.digests;
+            drop(read);
+            file_deposit(alloc, operation, digests)
+        }
+        Some(Purpose::Metadata) => Ok(metadata_deposit(read.metadata)),
+        Some(Purpose::References) => {
+            drop(read);
+            references_deposit(alloc, operation, references)
+        }
+        _ => {
+            drop(read);
+            Ok(None)
+        }
+    }
+}
+
+// The content itself, where it has the name of a file.
+fn file_deposit(
+    alloc: Global,
+    operation: &Operation<'_>,
+    digests: Option<Digests>,
+) -> Result<Option<Deposit>, AllocError>
+    requires { IfSome digests (λ d. d ≡ digests_of operation.now.content) }
+    ensures { IfOk result (λ d. d ≡ option_map
+        (λ name. Files (posted_file operation.now name ∷ []))
+        (option_and_then name_in (kind_of operation.now))) }
+{
+    match file_name(operation) {
+        Some(name) => {
+            let file = posted_file(alloc, operation, name, digests)?;
+            Ok(Some(Deposit::Files(NewFiles::one(alloc, file)?)))
+        }
+        None => Ok(None),
+    }
+}
+
+fn metadata_deposit(metadata: Option<Metadata>) -> Option<Deposit>
+    ensures { result ≡ option_map (λ texts. MetadataOf texts) metadata }
+{
+    match metadata {
+        Some(metadata) => Some(Deposit::Metadata(metadata)),
+        None => None,
+    }
+}
+
+// The uploads that the references point at, where there are references.
+fn references_deposit(
+    alloc: Global,
+    operation: &Operation<'_>,
+    references: Option<&References>,
+) -> Result<Option<Deposit>, AllocError>
+    ensures { IfOk result (λ d. d ≡ option_map
+        (λ entries. Files (referred_files operation.now entries))
+        (option_copied references.entry)) }
+{
+    match references {
+        Some(references) => {
+            let files = referred_files(alloc, operation, references.as_slice())?;
+            Ok(Some(Deposit::Files(files)))
+        }
+        None => Ok(None),
     }
 }
 
@@ -229,10 +364,34 @@ fn posted_file(
         Some(digests) => digests,
         None => content_digests(operation.content.as_slice()),
     };
+    new_file(
+        alloc,
+        operation,
+        name.as_str(),
+        media,
+        Source::Posted(digests),
+    )
+}
+
+// A file with this name and type, on behalf of whom the request names.
+fn new_file(
+    alloc: Global,
+    operation: &Operation<'_>,
+    name: &str,
+    media: &str,
+    source: Source,
+) -> Result<NewFile, AllocError>
+    ensures { IfOk result (λ file. file ≡ record {
+      name = name.now;
+      media = media.now;
+      source = source;
+      behalf = behalf_of operation.now;
+    }) }
+{
     Ok(NewFile {
-        name: Text::copied(alloc, name.as_str())?,
+        name: Text::copied(alloc, name)?,
         media: Text::copied(alloc, media)?,
-        source: Source::Posted(digests),
+        source,
         behalf: behalf(alloc, operation)?,
     })
 }
@@ -282,12 +441,13 @@ fn assembled_file(
 ) -> Result<NewFile, AllocError>
     ensures { IfOk result (λ file. file ≡ assembled_file operation.now reference.now upload) }
 {
-    Ok(NewFile {
-        name: Text::copied(alloc, reference.name.as_str())?,
-        media: Text::copied(alloc, reference.media.as_str())?,
-        source: Source::Assembled(upload),
-        behalf: behalf(alloc, operation)?,
-    })
+    new_file(
+        alloc,
+        operation,
+        reference.name.as_str(),
+        reference.media.as_str(),
+        Source::Assembled(upload),
+    )
 }
 
 #[tactic(auto, unfolding(crate::specs::Asked::opened_by))]
