@@ -171,7 +171,11 @@ impl<'a> Example<'a> {
         skipped: usize,
     ) -> Result<usize, Wrong<'a>> {
         match Play::new(alloc, cut) {
-            Ok(mut play) => self.all_lines(words, &mut play, cut, skipped),
+            Ok(mut play) => {
+                let played = self.all_lines(words, &mut play, cut, skipped);
+                drop(play);
+                played
+            }
             Err(why) => Err(self.wrong(0, cut, why)),
         }
     }

@@ -8,9 +8,9 @@ use crate::trouble::Trouble;
 use dep_moment::Moment;
 use dep_server::{Arrived, ConnId, ConnectFault, Hub, HubFault, Served, serve_connection};
 use dep_store::Store;
-use dep_types::{Config, Through};
+use dep_types::Through;
 use sqlite::MemStore;
-use std::alloc::Global;
+use std::alloc::{AllocError, Global};
 
 /// A hub and its connections, which have the numbers 1, 2 and so on.
 #[derive(Drop)]
@@ -27,13 +27,18 @@ impl Server {
         settings: &Settings,
         store: Store<MemStore>,
     ) -> Result<Server, Trouble> {
-        let mut hub = opened(alloc, settings.config(alloc)?, store)?;
-        let current = connected(&mut hub)?;
-        Ok(Server {
-            hub,
-            connections: [current].to_vec(alloc)?,
-            current,
-        })
+        let mut hub = opened(alloc, settings, store)?;
+        match first(alloc, &mut hub) {
+            Ok((connections, current)) => Ok(Server {
+                hub,
+                connections,
+                current,
+            }),
+            Err(why) => {
+                drop(hub);
+                Err(why)
+            }
+        }
     }
 
     /// Does what a line asks of the connections.
@@ -136,11 +141,32 @@ pub fn word_of(came: Arrived) -> &'static str {
     }
 }
 
-fn opened(alloc: Global, config: Config, store: Store<MemStore>) -> Result<Hub<MemStore>, Trouble> {
-    match Hub::new(alloc, config, store) {
+// A hub over the archive, or why there is none, with the archive.
+fn hub(
+    alloc: Global,
+    settings: &Settings,
+    store: Store<MemStore>,
+) -> Result<Hub<MemStore>, (HubFault, Store<MemStore>)> {
+    match settings.config(alloc) {
+        Ok(config) => Hub::new(alloc, config, store),
+        Err(AllocError) => Err((HubFault::Memory, store)),
+    }
+}
+
+fn opened(
+    alloc: Global,
+    settings: &Settings,
+    store: Store<MemStore>,
+) -> Result<Hub<MemStore>, Trouble> {
+    match hub(alloc, settings, store) {
         Ok(hub) => Ok(hub),
-        Err((HubFault::Memory, _)) => Err(Trouble::Memory),
-        Err((HubFault::Config, _)) => Err(Trouble::Line("the configuration is refused")),
+        Err((fault, store)) => {
+            drop(store);
+            Err(match fault {
+                HubFault::Memory => Trouble::Memory,
+                HubFault::Config => Trouble::Line("the configuration is refused"),
+            })
+        }
     }
 }
 
@@ -150,11 +176,23 @@ pub fn refused(
     settings: &Settings,
     store: Store<MemStore>,
 ) -> Result<Store<MemStore>, Trouble> {
-    match Hub::new(alloc, settings.config(alloc)?, store) {
-        Ok(_) => Err(Trouble::Line("the configuration is accepted")),
-        Err((HubFault::Memory, _)) => Err(Trouble::Memory),
+    match hub(alloc, settings, store) {
+        Ok(hub) => {
+            drop(hub);
+            Err(Trouble::Line("the configuration is accepted"))
+        }
         Err((HubFault::Config, store)) => Ok(store),
+        Err((HubFault::Memory, store)) => {
+            drop(store);
+            Err(Trouble::Memory)
+        }
     }
+}
+
+// The numbers of the connections, of which there is one, and that one.
+fn first(alloc: Global, hub: &mut Hub<MemStore>) -> Result<(Vec<ConnId>, ConnId), Trouble> {
+    let current = connected(hub)?;
+    Ok(([current].to_vec(alloc)?, current))
 }
 
 fn connected(hub: &mut Hub<MemStore>) -> Result<ConnId, Trouble> {

@@ -107,7 +107,7 @@ impl Side {
 
     /// It goes on with another.
     pub fn change_to(&mut self, other: Side) {
-        *self = other;
+        drop(mem::replace(self, other));
     }
 
     /// Shuts the intake.
@@ -122,11 +122,16 @@ impl Side {
     }
 
     fn take_store(&mut self, alloc: Global) -> Result<Store<MemStore>, Trouble> {
+        if let Side::New = self {
+            return made(alloc);
+        }
         match mem::replace(self, Side::New) {
-            Side::New => made(alloc),
             Side::Archive(store) => Ok(store),
             Side::Server(server) => Ok(server.into_store()),
-            _ => Err(Trouble::Line("no archive is there")),
+            other => {
+                drop(other);
+                Err(Trouble::Line("no archive is there"))
+            }
         }
     }
 }
