@@ -23,8 +23,13 @@ pub fn changed(
     statement: &str,
 ) -> Result<Store<MemStore>, Trouble> {
     let mut connection = archive.close();
-    execute(&mut connection, statement)?;
-    opened(alloc, connection)
+    match execute(&mut connection, statement) {
+        Ok(()) => opened(alloc, connection),
+        Err(why) => {
+            drop(connection);
+            Err(why)
+        }
+    }
 }
 
 fn execute(connection: &mut Connection<MemStore>, statement: &str) -> Result<(), Trouble> {

@@ -65,8 +65,18 @@ impl Documents {
         Documents { config, call }
     }
 
-    /// Reads a document, or the rows for which one is written.
-    pub fn reads(&self, alloc: Global, text: &[u8], page: &mut Page) -> Result<(), Trouble> {
+    /// Reads a document, or the rows for which one is written, and tells in a word what it came to.
+    pub fn reads(
+        &self,
+        alloc: Global,
+        text: &[u8],
+        page: &mut Page,
+    ) -> Result<&'static str, Trouble> {
+        self.tells(alloc, text, page)?;
+        Ok("told")
+    }
+
+    fn tells(&self, alloc: Global, text: &[u8], page: &mut Page) -> Result<(), Trouble> {
         let config = &self.config;
         match self.call {
             Call::Metadata => tell_metadata(alloc, text, page),

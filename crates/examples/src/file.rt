@@ -1,6 +1,6 @@
 //! The examples of a file.
 
-use crate::example::Example;
+use crate::example::{Example, Wrong};
 use crate::verdict::Verdict;
 use crate::words::Words;
 use std::alloc::Global;
@@ -26,11 +26,10 @@ pub fn play_file(
         } else {
             example.plays(alloc, words)
         };
-        match played {
-            Ok(()) => right = right.saturating_add(1),
-            Err(wrong) => {
-                println!(rt; "{name}:{wrong}")?;
-                verdict = verdict.and(wrong.verdict());
+        match came_of(rt, name, played)? {
+            Verdict::AsWritten => right = right.saturating_add(1),
+            other => {
+                verdict = verdict.and(other);
                 if i == 0 {
                     return Ok(verdict);
                 }
@@ -41,4 +40,21 @@ pub fn play_file(
     let examples = right.saturating_sub(1);
     println!(rt; "{name}: {examples} examples")?;
     Ok(verdict)
+}
+
+// Prints what is wrong in an example, and tells what came of it.
+fn came_of(rt: &impl Print, name: &str, played: Result<(), Wrong<'_>>) -> io::Result<Verdict> {
+    match played {
+        Ok(()) => Ok(Verdict::AsWritten),
+        Err(wrong) => {
+            let told = tell_wrong(rt, name, &wrong);
+            drop(wrong);
+            told
+        }
+    }
+}
+
+fn tell_wrong(rt: &impl Print, name: &str, wrong: &Wrong<'_>) -> io::Result<Verdict> {
+    println!(rt; "{name}:{wrong}")?;
+    Ok(wrong.verdict())
 }

@@ -16,10 +16,14 @@ pub fn takes(
 ) -> Result<&'static str, Trouble> {
     let mut came = Arrived::Open;
     for piece in exchange.cut.pieces(exchange.stream.as_slice()) {
-        feed(intake, piece)?;
-        came = steps(intake, page)?;
+        came = taken(intake, piece, page)?;
     }
     Ok(word_of(came))
+}
+
+fn taken(intake: &mut Intake, piece: &[u8], page: &mut Page) -> Result<Arrived, Trouble> {
+    feed(intake, piece)?;
+    steps(intake, page)
 }
 
 // A call that fails changes nothing, so it may be made again.
@@ -48,7 +52,9 @@ fn steps(intake: &mut Intake, page: &mut Page) -> Result<Arrived, Trouble> {
 
 fn step(intake: &mut Intake, page: &mut Page) -> Result<Option<Arrived>, AllocError> {
     let step = next(intake)?;
-    tell_step(&step, page)
+    let told = tell_step(&step, page);
+    drop(step);
+    told
 }
 
 // Tells a step, or what the pieces came to where it is the last one.

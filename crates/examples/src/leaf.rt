@@ -46,8 +46,18 @@ impl Leaf {
         }
     }
 
-    /// Reads the text of an exchange.
-    pub fn reads(self, alloc: Global, exchange: &Exchange, page: &mut Page) -> Result<(), Trouble> {
+    /// Reads the text of an exchange, and tells in a word what it came to.
+    pub fn reads(
+        self,
+        alloc: Global,
+        exchange: &Exchange,
+        page: &mut Page,
+    ) -> Result<&'static str, Trouble> {
+        self.tells(alloc, exchange, page)?;
+        Ok("told")
+    }
+
+    fn tells(self, alloc: Global, exchange: &Exchange, page: &mut Page) -> Result<(), Trouble> {
         let text = exchange.stream.as_slice();
         match self {
             Leaf::Fields => tell_fields(alloc, text, page),

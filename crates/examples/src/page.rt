@@ -36,6 +36,12 @@ impl Page {
         self.tell(&[name, digits.format(number).as_bytes()])
     }
 
+    /// Adds a name and a number.
+    pub fn put_number(&mut self, name: &[u8], number: u64) -> Result<(), AllocError> {
+        let mut digits = Buffer::new();
+        self.put(&[name, digits.format(number).as_bytes()])
+    }
+
     /// Adds a line of these parts.
     pub fn tell(&mut self, parts: &[&[u8]]) -> Result<(), AllocError> {
         self.put(parts)?;

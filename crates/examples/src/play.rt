@@ -11,7 +11,7 @@ use crate::side::Side;
 use crate::trouble::Trouble;
 use crate::words::Words;
 use dep_message::Intake;
-use std::alloc::Global;
+use std::alloc::{AllocError, Global};
 
 /// An example that is played, its bytes cut in one way.
 #[derive(Drop)]
@@ -48,30 +48,20 @@ impl Play {
                 line_to(self.alloc, words, rest, &mut self.exchange.want)
             }
             "let" | "text" | "|" => names(self.alloc, words, word, rest),
-            "open"
-            | "closed"
-            | "cut"
-            | "gone"
-            | "ended"
-            | "served"
-            | "unserved"
-            | "bound"
-            | "read-fault"
-            | "write-fault"
-            | "done"
-            | "damaged"
-            | "no-such-object"
-            | "transfer-fault"
-            | "store-fault"
-            | "told" => {
+            _ if is_answer(word) => {
                 blank(rest)?;
                 self.ends(word)
             }
-            _ => {
-                let rest = fill(self.alloc, words, rest)?;
-                self.sets(word, rest.as_str())
-            }
+            _ => self.filled(words, word, rest),
         }
+    }
+
+    // Does what a line says in which named texts are filled in.
+    fn filled(&mut self, words: &Words, word: &str, rest: &str) -> Result<(), Trouble> {
+        let rest = fill(self.alloc, words, rest)?;
+        let done = self.sets(word, rest.as_str());
+        drop(rest);
+        done
     }
 
     /// No exchange may be left. It tells the longest stream of one.
@@ -118,13 +108,17 @@ impl Play {
             "next" => self.number_next(rest)?,
             "sql" => self.side.change(self.alloc, rest)?,
             "connection" | "close" | "crowd" => self.commands(word, rest)?,
-            "export" | "audit" => {
-                self.side.leave(self.alloc)?;
-                self.exchange.call = Some(ArchiveCall::named(word, rest)?);
-                self.exchange.begin();
-            }
+            "export" | "audit" => self.calls(word, rest)?,
             _ => self.turns(word, rest)?,
         }
+        Ok(())
+    }
+
+    // An exchange begins that is a call of the archive.
+    fn calls(&mut self, word: &str, rest: &str) -> Result<(), Trouble> {
+        self.side.leave(self.alloc)?;
+        self.exchange.call = Some(ArchiveCall::named(word, rest)?);
+        self.exchange.begin();
         Ok(())
     }
 
@@ -134,9 +128,10 @@ impl Play {
         if !matches!(kind, "object" | "file" | "upload" | "change") {
             return Err(Trouble::Line("no kind of numbers has that name"));
         }
-        let value = number(value)?;
-        let statement = format!(in self.alloc; "UPDATE state SET next_{kind} = {value}")?;
-        self.side.change(self.alloc, statement.as_str())
+        let statement = numbering(self.alloc, kind, number(value)?)?;
+        let changed = self.side.change(self.alloc, statement.as_str());
+        drop(statement);
+        changed
     }
 
     // Does what a line asks of the hub's connections.
@@ -152,18 +147,29 @@ impl Play {
             blank(rest)?;
         }
         match word {
-            "full" => self.side.server(self.alloc, &self.settings)?.is_full(),
+            "full" => self.is_full(),
             "restart" => self.side.leave(self.alloc),
             "reopen" => self.side.reopen(self.alloc),
             "refused" => self.side.refuse(self.alloc, &self.settings),
             "shut" => self.side.shut(),
             "intake" => {
-                let intake = Intake::new(self.alloc, self.settings.max_upload());
-                self.side.change_to(Side::Intake(intake));
+                self.takes_in();
                 Ok(())
             }
             _ => self.alone(word, rest),
         }
+    }
+
+    // There is room for no further connection.
+    fn is_full(&mut self) -> Result<(), Trouble> {
+        let server = self.side.server(self.alloc, &self.settings)?;
+        server.is_full()
+    }
+
+    // It goes on with an intake by itself.
+    fn takes_in(&mut self) {
+        let intake = Intake::new(self.alloc, self.settings.max_upload());
+        self.side.change_to(Side::Intake(intake));
     }
 
     // It goes on with a call by itself.
@@ -175,6 +181,34 @@ impl Play {
         self.side.change_to(side);
         Ok(())
     }
+}
+
+// Whether the word says what an exchange comes to.
+fn is_answer(word: &str) -> bool {
+    matches!(
+        word,
+        "open"
+            | "closed"
+            | "cut"
+            | "gone"
+            | "ended"
+            | "served"
+            | "unserved"
+            | "bound"
+            | "read-fault"
+            | "write-fault"
+            | "done"
+            | "damaged"
+            | "no-such-object"
+            | "transfer-fault"
+            | "store-fault"
+            | "told"
+    )
+}
+
+// The statement by which the archive gives this number of a kind next.
+fn numbering(alloc: Global, kind: &str, number: u64) -> Result<String, AllocError> {
+    format!(in alloc; "UPDATE state SET next_{kind} = {number}")
 }
 
 // A line's bytes with CR and LF, or without where it ends in a backslash.

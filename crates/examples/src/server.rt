@@ -94,8 +94,22 @@ impl Server {
         self.hub.into_store()
     }
 
-    /// The pieces of an exchange arrive, one after another. It tells what the last one came to.
-    pub fn arrives(&mut self, exchange: &Exchange, page: &mut Page) -> &'static str {
+    /// Plays an exchange: a connection of its own is served where the answer is a word for that.
+    pub fn plays(
+        &mut self,
+        alloc: Global,
+        exchange: &Exchange,
+        answer: &str,
+        page: &mut Page,
+    ) -> Result<&'static str, Trouble> {
+        match answer {
+            "open" | "closed" | "cut" | "gone" => Ok(self.arrives(exchange, page)),
+            _ => self.serves(alloc, exchange, answer, page),
+        }
+    }
+
+    // The pieces of an exchange arrive, one after another. It tells what the last one came to.
+    fn arrives(&mut self, exchange: &Exchange, page: &mut Page) -> &'static str {
         let mut out = Through::new(page);
         let mut came = Arrived::Open;
         for piece in exchange.cut.pieces(exchange.stream.as_slice()) {
@@ -104,8 +118,8 @@ impl Server {
         word_of(came)
     }
 
-    /// A connection of its own is served.
-    pub fn serves(
+    // A connection of its own is served.
+    fn serves(
         &mut self,
         alloc: Global,
         exchange: &Exchange,

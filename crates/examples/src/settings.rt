@@ -3,6 +3,7 @@
 use crate::trouble::Trouble;
 use dep_types::{Config, GREATEST_MAX_ASSEMBLED, GREATEST_MAX_SEGMENTS, GREATEST_MAX_UPLOAD, Text};
 use std::alloc::{AllocError, Global};
+use std::mem;
 
 /// The configuration of an example.
 #[derive(Drop)]
@@ -55,10 +56,10 @@ impl Settings {
     pub fn configure(&mut self, alloc: Global, line: &str) -> Result<(), Trouble> {
         let (name, value) = line.split_once(' ').unwrap_or((line, ""));
         match name {
-            "base" => self.config.base = Text::copied(alloc, value)?,
-            "title" => self.config.title = Text::copied(alloc, value)?,
-            "abstract" => self.config.abstract_text = Text::copied(alloc, value)?,
-            "depositor" => self.config.depositor = Text::copied(alloc, value)?,
+            "base" => put(&mut self.config.base, Text::copied(alloc, value)?),
+            "title" => put(&mut self.config.title, Text::copied(alloc, value)?),
+            "abstract" => put(&mut self.config.abstract_text, Text::copied(alloc, value)?),
+            "depositor" => put(&mut self.config.depositor, Text::copied(alloc, value)?),
             "on-behalf-of" => self.config.on_behalf_of = truth(value)?,
             "require-if-match" => self.config.require_if_match = truth(value)?,
             _ => return self.limit(name, number(value)?),
@@ -76,6 +77,11 @@ impl Settings {
         }
         Ok(())
     }
+}
+
+// Puts another text in the place of one.
+fn put(place: &mut Text, text: Text) {
+    drop(mem::replace(place, text));
 }
 
 /// A number in decimal digits.

@@ -44,18 +44,9 @@ impl Side {
                 None => Err(Trouble::Line("no hub is there")),
             },
             Side::Intake(intake) => takes(intake, exchange, page),
-            Side::Leaf(leaf) => {
-                leaf.reads(alloc, exchange, page)?;
-                Ok("told")
-            }
-            Side::Documents(documents) => {
-                documents.reads(alloc, exchange.stream.as_slice(), page)?;
-                Ok("told")
-            }
-            Side::Server(server) => match answer {
-                "open" | "closed" | "cut" | "gone" => Ok(server.arrives(exchange, page)),
-                _ => server.serves(alloc, exchange, answer, page),
-            },
+            Side::Leaf(leaf) => leaf.reads(alloc, exchange, page),
+            Side::Documents(documents) => documents.reads(alloc, exchange.stream.as_slice(), page),
+            Side::Server(server) => server.plays(alloc, exchange, answer, page),
         }
     }
 

@@ -38,17 +38,21 @@ impl fmt::Display for Trouble {
 
 /// What is written and what was sent differ. It tells both from the first byte where they part.
 pub fn differing(alloc: Global, want: &[u8], sent: &[u8]) -> Result<Trouble, AllocError> {
-    let place = want
-        .iter()
-        .zip(sent.iter())
-        .take_while(|(left, right)| left == right)
-        .count();
+    let place = parting(want, sent);
     let want = shown(alloc, want, place)?;
     let sent = shown(alloc, sent, place)?;
     let what = format!(in alloc;
         "they part at byte {place}\n  written: {want}\n  sent:    {sent}"
     )?;
     Ok(Trouble::Other(what))
+}
+
+// How many bytes they have in common at their beginning.
+fn parting(left: &[u8], right: &[u8]) -> usize {
+    left.iter()
+        .zip(right.iter())
+        .take_while(|(left, right)| left == right)
+        .count()
 }
 
 /// The step came to something else.

@@ -7,13 +7,18 @@ use std::alloc::{AllocError, Global};
 
 /// An object with its files: each begins at a line `file`.
 pub fn view(alloc: Global, rows: &str) -> Result<ObjectView, Trouble> {
-    let files = FileRows::new(files(alloc, rows)?);
-    let metadata = Metadata::new(alloc);
-    Ok(ObjectView {
-        object: object(rows)?,
-        metadata,
-        files,
-    })
+    let files = files(alloc, rows)?;
+    match object(rows) {
+        Ok(object) => Ok(ObjectView {
+            object,
+            metadata: Metadata::new(alloc),
+            files: FileRows::new(files),
+        }),
+        Err(why) => {
+            drop(files);
+            Err(why)
+        }
+    }
 }
 
 fn object(rows: &str) -> Result<ObjectRow, Trouble> {
@@ -29,18 +34,28 @@ fn object(rows: &str) -> Result<ObjectRow, Trouble> {
 
 fn files(alloc: Global, rows: &str) -> Result<Vec<FileRow>, Trouble> {
     let mut files = Vec::new(alloc);
+    match add_files(alloc, rows, &mut files) {
+        Ok(()) => Ok(files),
+        Err(why) => {
+            drop(files);
+            Err(why)
+        }
+    }
+}
+
+fn add_files(alloc: Global, rows: &str, files: &mut Vec<FileRow>) -> Result<(), Trouble> {
     for part in rows.split("\r\nfile ").skip(1) {
         files.push(file(alloc, part)?)?;
     }
-    Ok(files)
+    Ok(())
 }
 
 fn file(alloc: Global, rows: &str) -> Result<FileRow, Trouble> {
     let file = number(first_line(rows))?;
     let tag = number_of(rows, "tag")?;
     let deposited = number_of(rows, "deposited")?;
-    let name = Text::copied(alloc, "a.txt")?;
-    let media = Text::copied(alloc, value_of(rows, "media").unwrap_or("text/plain"))?;
+    let by_reference = value_of(rows, "by-reference").is_some();
+    let (name, media, behalf) = file_texts(alloc, rows)?;
     Ok(FileRow {
         file,
         object: 1,
@@ -49,10 +64,17 @@ fn file(alloc: Global, rows: &str) -> Result<FileRow, Trouble> {
         size: 3,
         tag,
         deposited,
-        behalf: behalf(alloc, rows)?,
-        by_reference: value_of(rows, "by-reference").is_some(),
+        behalf,
+        by_reference,
         sha256: [0; 32],
     })
+}
+
+// The name of a file, its media type, and on whose behalf it came.
+fn file_texts(alloc: Global, rows: &str) -> Result<(Text, Text, Option<Text>), AllocError> {
+    let name = Text::copied(alloc, "a.txt")?;
+    let media = Text::copied(alloc, value_of(rows, "media").unwrap_or("text/plain"))?;
+    Ok((name, media, behalf(alloc, rows)?))
 }
 
 fn behalf(alloc: Global, rows: &str) -> Result<Option<Text>, AllocError> {
@@ -65,11 +87,21 @@ fn behalf(alloc: Global, rows: &str) -> Result<Option<Text>, AllocError> {
 /// The metadata of an object: each name begins at a line `name`.
 pub fn metadata(alloc: Global, rows: &str) -> Result<Metadata, AllocError> {
     let mut metadata = Metadata::new(alloc);
+    match add_entries(alloc, rows, &mut metadata) {
+        Ok(()) => Ok(metadata),
+        Err(error) => {
+            drop(metadata);
+            Err(error)
+        }
+    }
+}
+
+fn add_entries(alloc: Global, rows: &str, metadata: &mut Metadata) -> Result<(), AllocError> {
     for part in rows.split("\r\nname ").skip(1) {
         let name = Text::copied(alloc, first_line(part))?;
         metadata.insert(name, texts(alloc, part)?)?;
     }
-    Ok(metadata)
+    Ok(())
 }
 
 fn texts(alloc: Global, rows: &str) -> Result<TextList, AllocError> {

@@ -18,8 +18,9 @@ pub fn tell_metadata_document(
 ) -> Result<(), Trouble> {
     let object = number_of(rows, "object")?;
     let metadata = metadata(alloc, rows)?;
-    let document = metadata_doc(alloc, config, object, &metadata)?;
-    Ok(page.tell(&[document.as_slice()])?)
+    let document = metadata_doc(alloc, config, object, &metadata);
+    drop(metadata);
+    Ok(page.tell(&[document?.as_slice()])?)
 }
 
 /// The metadata document of rows as it stands in a bag.
@@ -29,8 +30,9 @@ pub fn tell_bag_metadata_document(
     page: &mut Page,
 ) -> Result<(), AllocError> {
     let metadata = metadata(alloc, rows)?;
-    let document = bag_metadata_doc(alloc, &metadata)?;
-    page.tell(&[document.as_slice()])
+    let document = bag_metadata_doc(alloc, &metadata);
+    drop(metadata);
+    page.tell(&[document?.as_slice()])
 }
 
 /// The status document of rows.
@@ -41,8 +43,9 @@ pub fn tell_status_document(
     page: &mut Page,
 ) -> Result<(), Trouble> {
     let view = view(alloc, rows)?;
-    let document = status_doc(alloc, config, &view)?;
-    Ok(page.tell(&[document.as_slice()])?)
+    let document = status_doc(alloc, config, &view);
+    drop(view);
+    Ok(page.tell(&[document?.as_slice()])?)
 }
 
 /// The document of an upload.

@@ -22,12 +22,18 @@ const NAMES: [&[u8]; 9] = [
 pub fn tell_disposition(alloc: Global, text: &[u8], page: &mut Page) -> Result<(), Trouble> {
     match read_disposition(alloc, text) {
         Ok(disposition) => {
-            page.tell(&[disposition.form()])?;
-            tell_parameters(&disposition, page)?;
-            tell_file_name(alloc, &disposition, page)
+            let told = tell_parts(alloc, &disposition, page);
+            drop(disposition);
+            told
         }
         Err(fault) => tell_fault(fault, page),
     }
+}
+
+fn tell_parts(alloc: Global, disposition: &Disposition, page: &mut Page) -> Result<(), Trouble> {
+    page.tell(&[disposition.form()])?;
+    tell_parameters(disposition, page)?;
+    tell_file_name(alloc, disposition, page)
 }
 
 fn tell_parameters(disposition: &Disposition, page: &mut Page) -> Result<(), AllocError> {

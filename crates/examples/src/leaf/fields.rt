@@ -3,7 +3,7 @@
 use crate::leaf::digests::tell_promised;
 use crate::page::Page;
 use crate::trouble::Trouble;
-use dep_fields::{Field, IfMatch, Kind, SwordFields};
+use dep_fields::{Field, IfMatch, Kind, Opening, SwordFields};
 use dep_fixity::DigestList;
 use dep_head::{Head, HeadFault, read_head};
 use dep_types::{Octets, Text};
@@ -12,17 +12,21 @@ use std::alloc::{AllocError, Global};
 /// What the field lines of a request tell: a line for each field that is there.
 pub fn tell_fields(alloc: Global, lines: &[u8], page: &mut Page) -> Result<(), Trouble> {
     let fields = fields_of(alloc, lines)?;
-    Ok(tell_each(alloc, &fields, page)?)
+    let told = tell_each(&fields, page);
+    drop(fields);
+    Ok(told?)
 }
 
 fn fields_of(alloc: Global, lines: &[u8]) -> Result<SwordFields, Trouble> {
     let head = head_with(alloc, lines)?;
-    Ok(SwordFields::read(alloc, &head)?)
+    let fields = SwordFields::read(alloc, &head);
+    drop(head);
+    Ok(fields?)
 }
 
-fn tell_each(alloc: Global, fields: &SwordFields, page: &mut Page) -> Result<(), AllocError> {
+fn tell_each(fields: &SwordFields, page: &mut Page) -> Result<(), AllocError> {
     tell_text(b"On-Behalf-Of", &fields.on_behalf_of, page)?;
-    tell_disposition(alloc, &fields.disposition, page)?;
+    tell_disposition(&fields.disposition, page)?;
     tell_progress(&fields.in_progress, page)?;
     tell_octets(b"Packaging", &fields.packaging, page)?;
     tell_octets(b"Metadata-Format", &fields.metadata_format, page)?;
@@ -39,7 +43,9 @@ pub fn tell_if_match(
     page: &mut Page,
 ) -> Result<(), Trouble> {
     let head = head_with(alloc, lines)?;
-    Ok(page.tell(&[told_of(&head, tag)])?)
+    let told = told_of(&head, tag);
+    drop(head);
+    Ok(page.tell(&[told])?)
 }
 
 fn told_of(head: &Head, tag: u64) -> &'static [u8] {
@@ -110,28 +116,27 @@ fn tell_digest(field: &Field<DigestList>, page: &mut Page) -> Result<(), AllocEr
     }
 }
 
-fn tell_disposition(alloc: Global, field: &Field<Kind>, page: &mut Page) -> Result<(), AllocError> {
+fn tell_disposition(field: &Field<Kind>, page: &mut Page) -> Result<(), AllocError> {
     match field {
         Field::Absent => Ok(()),
         Field::Bad => tell(b"Content-Disposition", Field::Bad, page),
-        Field::Value(kind) => tell_kind(alloc, kind, page),
+        Field::Value(kind) => tell_kind(kind, page),
     }
 }
 
-fn tell_kind(alloc: Global, kind: &Kind, page: &mut Page) -> Result<(), AllocError> {
+fn tell_kind(kind: &Kind, page: &mut Page) -> Result<(), AllocError> {
     match kind {
         Kind::File(name) => page.tell(&[b"file ", octets_of(name)]),
         Kind::Metadata => page.tell(&[b"metadata"]),
         Kind::References => page.tell(&[b"references"]),
-        Kind::Segment(number) => {
-            let text = format!(in alloc; "segment {number}")?;
-            page.tell(&[text.as_bytes()])
-        }
-        Kind::Opening(opening) => {
-            let (size, count, segment) = (opening.size, opening.count, opening.segment_size);
-            let text = format!(in alloc; "opening {size} {count} {segment}")?;
-            page.tell(&[text.as_bytes()])?;
-            tell_promised(opening.digest.sha256, page)
-        }
+        Kind::Segment(number) => page.tell_number(b"segment ", *number),
+        Kind::Opening(opening) => tell_opening(opening, page),
     }
+}
+
+fn tell_opening(opening: &Opening, page: &mut Page) -> Result<(), AllocError> {
+    page.put_number(b"opening ", opening.size)?;
+    page.put_number(b" ", opening.count)?;
+    page.tell_number(b" ", opening.segment_size)?;
+    tell_promised(opening.digest.sha256, page)
 }

@@ -12,12 +12,17 @@ pub fn tell_route(alloc: Global, text: &[u8], page: &mut Page) -> Result<(), Tro
     let Some(place) = text.iter().position(|byte| *byte == b' ') else {
         return Err(Trouble::Line("a method and a path are wanted"));
     };
-    match Routes::new(alloc).route(&text[..place], &text[place + 1..])? {
-        Routed::To(target) => Ok(tell_target(&target, page)?),
-        Routed::NotFound => Ok(page.tell(&[b"not found"])?),
-        Routed::NotAllowed(allow) => {
-            Ok(page.tell(&[b"not allowed: ", allow.as_str().as_bytes()])?)
-        }
+    let routed = Routes::new(alloc).route(&text[..place], &text[place + 1..])?;
+    let told = tell_routed(&routed, page);
+    drop(routed);
+    Ok(told?)
+}
+
+fn tell_routed(routed: &Routed, page: &mut Page) -> Result<(), AllocError> {
+    match routed {
+        Routed::To(target) => tell_target(target, page),
+        Routed::NotFound => page.tell(&[b"not found"]),
+        Routed::NotAllowed(allow) => page.tell(&[b"not allowed: ", allow.as_str().as_bytes()]),
     }
 }
 
