@@ -15,6 +15,39 @@ pub enum Cut {
 }
 
 impl Cut {
+    /// The first cut of a way that the files name: `whole`, a size, `anywhere` or `pairs`.
+    pub fn first(way: &str) -> Option<Cut> {
+        match way {
+            "whole" => Some(Cut::Whole),
+            "anywhere" => Some(Cut::Once(0)),
+            "pairs" => Some(Cut::Twice(0, 0)),
+            _ => match way.parse::<usize>() {
+                Ok(0) | Err(_) => None,
+                Ok(size) => Some(Cut::Sized(size)),
+            },
+        }
+    }
+
+    /// The cut that follows in the same way, where the longest stream has so many bytes: in two pieces it is cut at
+    /// every place, and in three at every two.
+    pub fn following(self, longest: usize) -> Option<Cut> {
+        match self {
+            Cut::Whole | Cut::Sized(_) => None,
+            Cut::Once(first) if first < longest => Some(Cut::Once(first.saturating_add(1))),
+            Cut::Once(_) => None,
+            Cut::Twice(first, second) => {
+                let (next, more) = (first.saturating_add(1), second.saturating_add(1));
+                if more < longest.saturating_sub(first) {
+                    Some(Cut::Twice(first, more))
+                } else if next < longest {
+                    Some(Cut::Twice(next, 0))
+                } else {
+                    None
+                }
+            }
+        }
+    }
+
     /// The pieces, one at least.
     pub fn pieces(self, stream: &[u8]) -> Pieces<'_> {
         let count = match self {

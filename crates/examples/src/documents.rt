@@ -93,7 +93,7 @@ impl Documents {
     fn writes(&self, alloc: Global, rows: &str, page: &mut Page) -> Result<(), Trouble> {
         let config = &self.config;
         match self.call {
-            Call::BagMetadataDocument => Ok(tell_bag_metadata_document(alloc, rows, page)?),
+            Call::BagMetadataDocument => tell_bag_metadata_document(alloc, rows, page),
             Call::UploadDocument => tell_upload_document(alloc, config, rows, page),
             Call::StatusDocument => tell_status_document(alloc, config, rows, page),
             _ => tell_metadata_document(alloc, config, rows, page),

@@ -111,46 +111,19 @@ impl<'a> Example<'a> {
     }
 
     fn in_way(self, alloc: Global, words: &mut Words, way: &str) -> Result<(), Wrong<'a>> {
-        let cut = match way {
-            "anywhere" => return self.cut_anywhere(alloc, words),
-            "pairs" => return self.cut_at_pairs(alloc, words),
-            "whole" => Cut::Whole,
-            _ => match size(way) {
-                Ok(size) => Cut::Sized(size),
-                Err(why) => return Err(self.wrong(0, Cut::Whole, why)),
-            },
+        let mut cut = match Cut::first(way) {
+            Some(cut) => cut,
+            None => {
+                let why = Trouble::Line("no way to cut has that name");
+                return Err(self.wrong(0, Cut::Whole, why));
+            }
         };
-        let _ = self.played(alloc, words, cut)?;
-        Ok(())
-    }
-
-    // In two pieces, cut at every place.
-    fn cut_anywhere(self, alloc: Global, words: &mut Words) -> Result<(), Wrong<'a>> {
-        let longest = self.played(alloc, words, Cut::Once(0))?;
-        for first in 0..longest {
-            let _ = self.played(alloc, words, Cut::Once(first.saturating_add(1)))?;
-        }
-        Ok(())
-    }
-
-    // In three pieces, cut at every two places.
-    fn cut_at_pairs(self, alloc: Global, words: &mut Words) -> Result<(), Wrong<'a>> {
-        let longest = self.played(alloc, words, Cut::Twice(0, 0))?;
-        for first in 0..longest {
-            self.cut_again(alloc, words, first, longest.saturating_sub(first))?;
-        }
-        Ok(())
-    }
-
-    fn cut_again(
-        self,
-        alloc: Global,
-        words: &mut Words,
-        first: usize,
-        rest: usize,
-    ) -> Result<(), Wrong<'a>> {
-        for second in 0..rest {
-            let _ = self.played(alloc, words, Cut::Twice(first, second))?;
+        for _ in 0..u64::MAX {
+            let longest = self.played(alloc, words, cut)?;
+            match cut.following(longest) {
+                Some(next) => cut = next,
+                None => break,
+            }
         }
         Ok(())
     }
@@ -225,13 +198,6 @@ impl<'a> Example<'a> {
             cut,
             why,
         }
-    }
-}
-
-fn size(text: &str) -> Result<usize, Trouble> {
-    match text.parse::<usize>() {
-        Ok(0) | Err(_) => Err(Trouble::Line("no way to cut has that name")),
-        Ok(size) => Ok(size),
     }
 }
 

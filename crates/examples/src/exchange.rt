@@ -2,9 +2,11 @@
 
 use crate::archive_calls::ArchiveCall;
 use crate::cut::Cut;
+use crate::escapes::expand;
 use crate::page::Page;
 use crate::settings::number;
 use crate::trouble::{Trouble, came_to, differing};
+use crate::words::Words;
 use std::alloc::{AllocError, Global};
 
 /// The moment of the published replies.
@@ -56,6 +58,27 @@ impl Exchange {
         self.at_once = usize::MAX;
         self.most = usize::MAX;
         self.is_begun = false;
+    }
+
+    /// Adds a line to what comes, or to what has to be sent for it.
+    pub fn line(
+        &mut self,
+        alloc: Global,
+        words: &Words,
+        word: &str,
+        text: &str,
+    ) -> Result<(), Trouble> {
+        self.begin();
+        match word {
+            ">" => line_to(alloc, words, text, &mut self.stream),
+            _ => line_to(alloc, words, text, &mut self.want),
+        }
+    }
+
+    /// Sets the moment, for the exchanges that follow too.
+    pub fn comes_at(&mut self, moment: &str) -> Result<(), Trouble> {
+        self.moment = number(moment)?;
+        Ok(())
     }
 
     /// A line of it was read, and not its answer yet.
@@ -143,6 +166,18 @@ impl Exchange {
             self.want.as_slice()
         } else {
             WANT_OF_MEMORY
+        }
+    }
+}
+
+// A line's bytes with CR and LF, or without where it ends in a backslash.
+fn line_to(alloc: Global, words: &Words, text: &str, bytes: &mut Vec<u8>) -> Result<(), Trouble> {
+    match text.strip_suffix('\\') {
+        Some(front) => expand(alloc, words, front, bytes),
+        None => {
+            expand(alloc, words, text, bytes)?;
+            bytes.extend_from_slice(b"\r\n")?;
+            Ok(())
         }
     }
 }

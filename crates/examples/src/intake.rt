@@ -16,14 +16,10 @@ pub fn takes(
 ) -> Result<&'static str, Trouble> {
     let mut came = Arrived::Open;
     for piece in exchange.cut.pieces(exchange.stream.as_slice()) {
-        came = taken(intake, piece, page)?;
+        feed(intake, piece)?;
+        came = steps(intake, page)?;
     }
     Ok(word_of(came))
-}
-
-fn taken(intake: &mut Intake, piece: &[u8], page: &mut Page) -> Result<Arrived, Trouble> {
-    feed(intake, piece)?;
-    steps(intake, page)
 }
 
 // A call that fails changes nothing, so it may be made again.

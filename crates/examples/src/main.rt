@@ -26,7 +26,6 @@ mod words;
 use crate::file::play_file;
 use crate::verdict::Verdict;
 use crate::words::Words;
-use std::env::Args;
 use std::process::ExitCode;
 use std::{env, fs, io};
 
@@ -34,46 +33,27 @@ fn main(rt: HostRuntime) -> io::Result<ExitCode> {
     let Ok(mut names) = env::args(&rt) else {
         return Ok(Verdict::Unknown.status());
     };
-    let mut words = Words::new(rt.alloc());
-    let came = all_played(&rt, &mut words, &mut names);
-    drop(words);
-    drop(names);
-    Ok(came?.status())
-}
-
-// Plays the files that the arguments name behind the program, and tells what came of them.
-fn all_played(rt: &HostRuntime, words: &mut Words, names: &mut Args) -> io::Result<Verdict> {
-    drop(names.next());
+    let _program = names.next();
     let Some(first) = names.next() else {
         println!(rt; "usage: examples FILE..")?;
-        return Ok(Verdict::Otherwise);
+        return Ok(Verdict::Otherwise.status());
     };
-    let mut verdict = played(rt, words, first)?;
+    let mut words = Words::new(rt.alloc());
+    let mut verdict = played(&rt, &mut words, first.as_str())?;
     for name in names {
         // The texts of the next file may be missing.
         if matches!(verdict, Verdict::Unknown) {
-            drop(name);
             break;
         }
-        verdict = verdict.and(played(rt, words, name)?);
+        verdict = verdict.and(played(&rt, &mut words, name.as_str())?);
     }
-    Ok(verdict)
+    Ok(verdict.status())
 }
 
 // Plays a file, and tells what came of it.
-fn played(rt: &HostRuntime, words: &mut Words, name: String) -> io::Result<Verdict> {
-    let came = file_played(rt, words, name.as_str());
-    drop(name);
-    came
-}
-
-fn file_played(rt: &HostRuntime, words: &mut Words, name: &str) -> io::Result<Verdict> {
+fn played(rt: &HostRuntime, words: &mut Words, name: &str) -> io::Result<Verdict> {
     match fs::read_to_string(rt, name) {
-        Ok(text) => {
-            let came = play_file(rt, rt.alloc(), words, name, text.as_str());
-            drop(text);
-            came
-        }
+        Ok(text) => play_file(rt, rt.alloc(), words, name, text.as_str()),
         Err(error) => {
             println!(rt; "{name}: {error}")?;
             Ok(Verdict::of(&error))

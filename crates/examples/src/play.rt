@@ -3,7 +3,7 @@
 use crate::archive_calls::ArchiveCall;
 use crate::cut::Cut;
 use crate::documents::{Call, Documents};
-use crate::escapes::{expand, fill};
+use crate::escapes::fill;
 use crate::exchange::{Exchange, blank};
 use crate::leaf::Leaf;
 use crate::settings::{Settings, number};
@@ -39,19 +39,24 @@ impl Play {
         let (word, rest) = line.split_once(' ').unwrap_or((line, ""));
         match word {
             "" | "//" | "pieces" | "each" | "-" => Ok(()),
-            ">" => {
-                self.exchange.begin();
-                line_to(self.alloc, words, rest, &mut self.exchange.stream)
-            }
-            "<" => {
-                self.exchange.begin();
-                line_to(self.alloc, words, rest, &mut self.exchange.want)
-            }
+            ">" | "<" => self.exchange.line(self.alloc, words, word, rest),
             "let" | "text" | "|" => names(self.alloc, words, word, rest),
-            _ if is_answer(word) => {
-                blank(rest)?;
-                self.ends(word)
-            }
+            "open"
+            | "closed"
+            | "cut"
+            | "gone"
+            | "ended"
+            | "served"
+            | "unserved"
+            | "bound"
+            | "read-fault"
+            | "write-fault"
+            | "done"
+            | "damaged"
+            | "no-such-object"
+            | "transfer-fault"
+            | "store-fault"
+            | "told" => self.ends(word, rest),
             _ => self.filled(words, word, rest),
         }
     }
@@ -71,7 +76,8 @@ impl Play {
     }
 
     // An exchange ends.
-    fn ends(&mut self, answer: &str) -> Result<(), Trouble> {
+    fn ends(&mut self, answer: &str, rest: &str) -> Result<(), Trouble> {
+        blank(rest)?;
         if self.exchange.call.is_none() {
             self.side.open(self.alloc, &self.settings)?;
         }
@@ -103,15 +109,14 @@ impl Play {
     fn between(&mut self, word: &str, rest: &str) -> Result<(), Trouble> {
         self.exchange.is_answered()?;
         match word {
-            "at" => self.exchange.moment = number(rest)?,
-            "config" => self.settings.configure(self.alloc, rest)?,
-            "next" => self.number_next(rest)?,
-            "sql" => self.side.change(self.alloc, rest)?,
-            "connection" | "close" | "crowd" => self.commands(word, rest)?,
-            "export" | "audit" => self.calls(word, rest)?,
-            _ => self.turns(word, rest)?,
+            "at" => self.exchange.comes_at(rest),
+            "config" => self.settings.configure(self.alloc, rest),
+            "next" => self.number_next(rest),
+            "sql" => self.side.change(self.alloc, rest),
+            "connection" | "close" | "crowd" => self.commands(word, rest),
+            "export" | "audit" => self.calls(word, rest),
+            _ => self.turns(word, rest),
         }
-        Ok(())
     }
 
     // An exchange begins that is a call of the archive.
@@ -183,44 +188,9 @@ impl Play {
     }
 }
 
-// Whether the word says what an exchange comes to.
-fn is_answer(word: &str) -> bool {
-    matches!(
-        word,
-        "open"
-            | "closed"
-            | "cut"
-            | "gone"
-            | "ended"
-            | "served"
-            | "unserved"
-            | "bound"
-            | "read-fault"
-            | "write-fault"
-            | "done"
-            | "damaged"
-            | "no-such-object"
-            | "transfer-fault"
-            | "store-fault"
-            | "told"
-    )
-}
-
 // The statement by which the archive gives this number of a kind next.
 fn numbering(alloc: Global, kind: &str, number: u64) -> Result<String, AllocError> {
     format!(in alloc; "UPDATE state SET next_{kind} = {number}")
-}
-
-// A line's bytes with CR and LF, or without where it ends in a backslash.
-fn line_to(alloc: Global, words: &Words, text: &str, bytes: &mut Vec<u8>) -> Result<(), Trouble> {
-    match text.strip_suffix('\\') {
-        Some(front) => expand(alloc, words, front, bytes),
-        None => {
-            expand(alloc, words, text, bytes)?;
-            bytes.extend_from_slice(b"\r\n")?;
-            Ok(())
-        }
-    }
 }
 
 fn names(alloc: Global, words: &mut Words, word: &str, rest: &str) -> Result<(), Trouble> {

@@ -56,15 +56,23 @@ impl Settings {
     pub fn configure(&mut self, alloc: Global, line: &str) -> Result<(), Trouble> {
         let (name, value) = line.split_once(' ').unwrap_or((line, ""));
         match name {
-            "base" => put(&mut self.config.base, Text::copied(alloc, value)?),
-            "title" => put(&mut self.config.title, Text::copied(alloc, value)?),
-            "abstract" => put(&mut self.config.abstract_text, Text::copied(alloc, value)?),
-            "depositor" => put(&mut self.config.depositor, Text::copied(alloc, value)?),
+            "base" | "title" | "abstract" | "depositor" => {
+                self.set_text(name, Text::copied(alloc, value)?);
+            }
             "on-behalf-of" => self.config.on_behalf_of = truth(value)?,
             "require-if-match" => self.config.require_if_match = truth(value)?,
             _ => return self.limit(name, number(value)?),
         }
         Ok(())
+    }
+
+    fn set_text(&mut self, name: &str, text: Text) {
+        match name {
+            "base" => put(&mut self.config.base, text),
+            "title" => put(&mut self.config.title, text),
+            "abstract" => put(&mut self.config.abstract_text, text),
+            _ => put(&mut self.config.depositor, text),
+        }
     }
 
     fn limit(&mut self, name: &str, value: u64) -> Result<(), Trouble> {

@@ -34,20 +34,10 @@ fn object(rows: &str) -> Result<ObjectRow, Trouble> {
 
 fn files(alloc: Global, rows: &str) -> Result<Vec<FileRow>, Trouble> {
     let mut files = Vec::new(alloc);
-    match add_files(alloc, rows, &mut files) {
-        Ok(()) => Ok(files),
-        Err(why) => {
-            drop(files);
-            Err(why)
-        }
-    }
-}
-
-fn add_files(alloc: Global, rows: &str, files: &mut Vec<FileRow>) -> Result<(), Trouble> {
     for part in rows.split("\r\nfile ").skip(1) {
         files.push(file(alloc, part)?)?;
     }
-    Ok(())
+    Ok(files)
 }
 
 fn file(alloc: Global, rows: &str) -> Result<FileRow, Trouble> {
@@ -87,21 +77,15 @@ fn behalf(alloc: Global, rows: &str) -> Result<Option<Text>, AllocError> {
 /// The metadata of an object: each name begins at a line `name`.
 pub fn metadata(alloc: Global, rows: &str) -> Result<Metadata, AllocError> {
     let mut metadata = Metadata::new(alloc);
-    match add_entries(alloc, rows, &mut metadata) {
-        Ok(()) => Ok(metadata),
-        Err(error) => {
-            drop(metadata);
-            Err(error)
-        }
+    for part in rows.split("\r\nname ").skip(1) {
+        add_entry(alloc, part, &mut metadata)?;
     }
+    Ok(metadata)
 }
 
-fn add_entries(alloc: Global, rows: &str, metadata: &mut Metadata) -> Result<(), AllocError> {
-    for part in rows.split("\r\nname ").skip(1) {
-        let name = Text::copied(alloc, first_line(part))?;
-        metadata.insert(name, texts(alloc, part)?)?;
-    }
-    Ok(())
+fn add_entry(alloc: Global, rows: &str, metadata: &mut Metadata) -> Result<(), AllocError> {
+    let name = Text::copied(alloc, first_line(rows))?;
+    metadata.insert(name, texts(alloc, rows)?)
 }
 
 fn texts(alloc: Global, rows: &str) -> Result<TextList, AllocError> {

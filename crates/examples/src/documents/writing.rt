@@ -20,7 +20,7 @@ pub fn tell_metadata_document(
     let metadata = metadata(alloc, rows)?;
     let document = metadata_doc(alloc, config, object, &metadata);
     drop(metadata);
-    Ok(page.tell(&[document?.as_slice()])?)
+    tell(document, page)
 }
 
 /// The metadata document of rows as it stands in a bag.
@@ -28,11 +28,11 @@ pub fn tell_bag_metadata_document(
     alloc: Global,
     rows: &str,
     page: &mut Page,
-) -> Result<(), AllocError> {
+) -> Result<(), Trouble> {
     let metadata = metadata(alloc, rows)?;
     let document = bag_metadata_doc(alloc, &metadata);
     drop(metadata);
-    page.tell(&[document?.as_slice()])
+    tell(document, page)
 }
 
 /// The status document of rows.
@@ -45,7 +45,7 @@ pub fn tell_status_document(
     let view = view(alloc, rows)?;
     let document = status_doc(alloc, config, &view);
     drop(view);
-    Ok(page.tell(&[document?.as_slice()])?)
+    tell(document, page)
 }
 
 /// The document of an upload.
@@ -60,7 +60,13 @@ pub fn tell_upload_document(
     if !are_segments(&received) {
         return Err(Trouble::Line("segments rise from 1 on"));
     }
-    let document = upload_doc(alloc, config, &upload, &received)?;
+    let document = upload_doc(alloc, config, &upload, &received);
+    drop(received);
+    tell(document, page)
+}
+
+fn tell(document: Result<Vec<u8>, AllocError>, page: &mut Page) -> Result<(), Trouble> {
+    let document = document?;
     Ok(page.tell(&[document.as_slice()])?)
 }
 

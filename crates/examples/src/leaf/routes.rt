@@ -28,22 +28,20 @@ fn tell_routed(routed: &Routed, page: &mut Page) -> Result<(), AllocError> {
 
 fn tell_target(target: &Target, page: &mut Page) -> Result<(), AllocError> {
     let method = method_name(target.method);
+    let (name, number): (&[u8], u64) = match &target.resource {
+        Resource::Service => return tell_named(method, b" service", page),
+        Resource::Staging => return tell_named(method, b" staging", page),
+        Resource::Object(object) | Resource::File(object, _) => (b" object ", *object),
+        Resource::Metadata(object) => (b" metadata ", *object),
+        Resource::FileSet(object) => (b" files ", *object),
+        Resource::Upload(upload) => (b" upload ", *upload),
+        Resource::BagList(object) | Resource::BagFile(object, _) => (b" bag ", *object),
+    };
+    tell_numbered(method, name, number, page)?;
     match &target.resource {
-        Resource::Service => tell_named(method, b" service", page),
-        Resource::Staging => tell_named(method, b" staging", page),
-        Resource::Object(object) => tell_numbered(method, b" object ", *object, page),
-        Resource::Metadata(object) => tell_numbered(method, b" metadata ", *object, page),
-        Resource::FileSet(object) => tell_numbered(method, b" files ", *object, page),
-        Resource::Upload(upload) => tell_numbered(method, b" upload ", *upload, page),
-        Resource::BagList(object) => tell_numbered(method, b" bag ", *object, page),
-        Resource::BagFile(object, path) => {
-            tell_numbered(method, b" bag ", *object, page)?;
-            page.tell(&[b"path ", path.as_slice()])
-        }
-        Resource::File(object, file) => {
-            tell_numbered(method, b" object ", *object, page)?;
-            page.tell_number(b"file ", *file)
-        }
+        Resource::BagFile(_, path) => page.tell(&[b"path ", path.as_slice()]),
+        Resource::File(_, file) => page.tell_number(b"file ", *file),
+        _ => Ok(()),
     }
 }
 
