@@ -1,4 +1,5 @@
 pub mod Results
+mod ReadRows
 pub mod Chains
 pub mod Asking
 pub mod Leading

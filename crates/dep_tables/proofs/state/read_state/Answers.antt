@@ -1,4 +1,5 @@
 use Rattle.std.proofs.Common.{◌≡◌, inl, [], sym, subst, rules}
+use Rattle.std.proofs.lemmas.Result.{IfOk-from_err}
 use Rattle.sqlite.specs.Held.{state}
 use Rattle.dep_tables.specs.Texts.{read_state_text}
 use Rattle.dep_tables.proofs.Leading.{plain_here}
@@ -28,3 +29,21 @@ returns-in_err-found-clause-cause g c clean =
     let new = state g.S.Store c.ask_one.new.tx.conn.now in
     let failed = refused_one IsStateRow read_state_text [] old new c.in_err-found.field-0.0 (c.in_err-found.ensures.cause clean) in
     err_then c.from_residual.result c.from_residual.ensures.1 (λ e is. let same : e ≡ c.in_err-found.field-0.0 = cc in subst (FailsToRead (JustOne IsStateRow) read_state_text [] old new) (sym same) failed)
+
+pub returns-in-Some-clause-cause : goal.returns-in-Some-clause-cause
+returns-in-Some-clause-cause g c clean = tt
+
+pub returns-in-Some-clause-err : goal.returns-in-Some-clause-err
+returns-in-Some-clause-err g c clean inside ours is_open = tt
+
+pub returns-in-None-clause-ok : goal.returns-in-None-clause-ok
+returns-in-None-clause-ok g c clean ours = tt
+
+pub returns-in-None-clause-same : goal.returns-in-None-clause-same
+returns-in-None-clause-same g c clean ours = tt
+
+pub returns-in_err-found-clause-ok : goal.returns-in_err-found-clause-ok
+returns-in_err-found-clause-ok g c clean ours = IfOk-from_err c.from_residual.result _ c.from_residual.ensures.0
+
+pub returns-in_err-found-clause-same : goal.returns-in_err-found-clause-same
+returns-in_err-found-clause-same g c clean ours = IfOk-from_err c.from_residual.result _ c.from_residual.ensures.0

@@ -1,0 +1,13 @@
+-- What is told of rows that are read one after another.
+use Rattle.std.proofs.Common.{◌≡◌, ◌<◌, ◌+◌, ℕ, Bool, true, List, [], ◌∷◌, ◌++◌, map, take, get_or, length, if◌then◌else◌, ap, sym, ◌∙◌}
+use Rattle.std.proofs.lemmas.List.{map_more, map_push}
+
+-- one row more is read, and kept
+pub told_more : {A Row Told : Type 0} (told : A → Told) (columns : Row → Told) (rows : List Row) (i : ℕ) (row : Row) (before after : List A) (read : A) (is_kept : Bool)
+    → map told before ≡ map columns (take i rows) → i < length rows → row ≡ get_or rows i row → told read ≡ columns row
+    → after ≡ (if is_kept then before ++ read ∷ [] else before) → is_kept ≡ true
+    → map told after ≡ map columns (take (i + 1) rows)
+told_more told columns rows i row before after read is_kept so_far inside is same pushed kept =
+    let grown : after ≡ before ++ read ∷ [] = pushed ∙ ap (λ (b : Bool). if b then before ++ read ∷ [] else before) kept in
+    let last : told read ≡ columns (get_or rows i row) = same ∙ ap columns is in
+    ap (map told) grown ∙ (map_push told before read ∙ ((λ j. so_far j ++ last j ∷ []) ∙ sym (map_more columns rows i row inside)))
