@@ -1,16 +1,22 @@
 -- From what a decision makes of the maps to what a request makes of the state.
-use Rattle.std.proofs.Common.{◌≡◌, ℕ, ◌&&◌, true, List, None, IsTrue, nat_eq, sym, ap, subst, arith}
+use Rattle.std.proofs.Common.{◌≡◌, ℕ, ◌&&◌, true, List, None, Some, Option, IsTrue, Result, OnOk, nat_eq, sym, ap, subst, arith}
 use Rattle.std.proofs.lemmas.Bool.Decides.{nat_tests}
-use Rattle.dep_types.specs.State.{State}
+use Rattle.sqlite.specs.State as db
+use Rattle.std.specs.FinMap as finmap
+use Rattle.std.specs.Option.{option_map_or}
+use Rattle.dep_types.specs.State.{State, Object, Upload}
+use Rattle.dep_types.specs.Maps.{Numbered}
 use Rattle.dep_types.specs.Sound.{IsSound}
 use Rattle.dep_types.specs.Numbers.{counters_after, has_room, room_for}
 use Rattle.dep_types.specs.declared.config.Config.{Config}
 use Rattle.dep_types.specs.declared.counters.Counters.{Counters}
+use Rattle.dep_types.specs.declared.store_fault.StoreFault.{StoreFault}
 use Rattle.dep_tables.specs.Tables.{Tables}
 use Rattle.dep_row_maps.specs.TablesAre.{TablesAre}
+use Rattle.dep_row_maps.specs.Clauses.{FromMaps, SeesState}
 use Rattle.dep_params.proofs.Runs.{and_both}
 use Rattle.dep_decisions.specs.Decisions.{decision, numbers_for}
-use Rattle.dep_decisions.specs.Effects.{effect, effect_of}
+use Rattle.dep_decisions.specs.Effects.{at, effect, effect_of}
 use Rattle.dep_decisions.specs.Rules.{refusal}
 use Rattle.dep_decisions.specs.declared.operation.Operation.{Operation}
 use Rattle.dep_decisions.specs.declared.decision.Decision.{Decision}
@@ -62,3 +68,17 @@ same_counters a b e =
   where
     same : (x y : ℕ) → nat_eq x y ≡ true → x ≡ y
     same x y e = grind (arith, nat_tests)
+
+-- what a call makes of the maps for a decision of this form
+pub carried_as : (view : View) (content : List ℕ) (old new : db.State) (decision d : Decision) (r : Result (Unit {0}) StoreFault) → decision ≡ d
+    → FromMaps old new (λ s. TellsNumbers view s → TellsFor view s content d → OnOk r (SeesState new (with_maps s content d)))
+    → FromMaps old new (λ s. TellsNumbers view s → TellsFor view s content decision → OnOk r (SeesState new (with_maps s content decision)))
+carried_as view content old new decision d r is made =
+    subst (λ (it : Decision). FromMaps old new (λ s. TellsNumbers view s → TellsFor view s content it → OnOk r (SeesState new (with_maps s content it)))) (sym is) made
+
+-- what becomes of an object that is there
+pub at_object : (s : State) (uploads : Numbered Upload) (now : db.State) (r : Result (Unit {0}) StoreFault) (n : ℕ) (o : Object) (f : Object → Object) → finmap.get s.objects n ≡ Some o
+    → OnOk r (SeesState now (record s { objects = finmap.insert s.objects n (f o); uploads = uploads }))
+    → OnOk r (SeesState now (record s { objects = at s.objects n f; uploads = uploads }))
+at_object s uploads now r n o f there made =
+    subst (λ (found : Option Object). OnOk r (SeesState now (record s { objects = option_map_or (λ x. finmap.insert s.objects n (f x)) found s.objects; uploads = uploads }))) (sym there) made

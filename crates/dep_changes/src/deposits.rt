@@ -7,7 +7,7 @@ ghost use Rattle.dep_types.specs.State.{Object};
 ghost use Rattle.dep_types.specs.Rows.{object_row};
 ghost use Rattle.dep_types.specs.Numbers.{has_room};
 ghost use Rattle.dep_tables.specs.Clauses.{StaysWithin};
-ghost use Rattle.dep_row_maps.specs.TablesAre.{with_object};
+ghost use Rattle.dep_row_maps.specs.TablesAre.{with_metadata, with_object};
 ghost use Rattle.dep_row_maps.specs.Clauses.{FromMaps, KeepsOurs, SeesState};
 ghost use Rattle.dep_decisions.specs.Decisions.{count_of};
 ghost use Rattle.dep_decisions.specs.Effects.{blank, joined, with_files, with_texts};
@@ -23,6 +23,7 @@ use dep_objects::{append_metadata, set_metadata};
 use dep_rulings::View;
 use dep_types::{Metadata, ObjectRow, StoreFault};
 use sqlite::{Alter, Transaction};
+use std::alloc::Global;
 
 // An ingested object never goes back.
 fn ingested_by(row: ObjectRow, ingests: bool) -> ObjectRow
@@ -99,6 +100,25 @@ pub(crate) fn create<S: Alter>(
     fill(tx, change, object, deposit)
 }
 
+// The object has no metadata.
+fn clear_metadata<S: Alter>(
+    tx: &mut Transaction<'_, S>,
+    alloc: Global,
+    object: u64,
+) -> Result<(), StoreFault>
+    ensures map { FromMaps (state S.Store tx.old.conn.now) (state S.Store tx.new.conn.now)
+        (λ s. (o : Object) → map.get s.objects object ≡ Some o
+        → OnOk result (SeesState (state S.Store tx.new.conn.now)
+        (with_object s object (with_metadata o map.empty)))) }
+    ensures ours { KeepsOurs (state S.Store tx.old.conn.now) (state S.Store tx.new.conn.now) result }
+    ensures stays { StaysWithin S.Store tx.old.conn tx.new.conn result }
+{
+    let none = Metadata::new(alloc);
+    let cleared = set_metadata(tx, alloc, object, &none);
+    drop(none);
+    cleared
+}
+
 /// The deposit takes the place of all that the object has.
 pub(crate) fn replace<S: Alter>(
     tx: &mut Transaction<'_, S>,
@@ -119,7 +139,7 @@ pub(crate) fn replace<S: Alter>(
     let row = ingested_by(touched(change.view)?, ingests);
     write_row(tx, &blank_row(change.view, row.object, row.ingested))?;
     delete_files(tx, change.alloc, row.object)?;
-    set_metadata(tx, change.alloc, row.object, &Metadata::new(change.alloc))?;
+    clear_metadata(tx, change.alloc, row.object)?;
     fill(tx, change, row.object, deposit)
 }
 

@@ -1,7 +1,9 @@
-use Rattle.std.proofs.Common.{length, ap, sym, ◌∙◌}
+use Rattle.std.proofs.Common.{◌||◌, true, length, ap, sym, ◌∙◌}
 use Rattle.dep_decisions.specs.Decisions.{numbers_for}
 use Rattle.dep_decisions.specs.declared.decision.Decision.{Decision}
-use Rattle.dep_changes.proofs.Carried.{room_of_files}
+use Rattle.sqlite.specs.Held.{state}
+use Rattle.dep_decisions.specs.Effects.{appended, changed, filled, ingested_by, uploads_in, with_texts, without}
+use Rattle.dep_changes.proofs.Carried.{room_of_files, carried_as, at_object}
 use Rattle.dep_changes.proofs.carrying.change_maps.Goals as goal
 
 pub create-requires : goal.create-requires
@@ -15,3 +17,108 @@ replace-requires g c = room_of_files c.args.change.now.view.now.next c.args.deci
 
 pub set_files-requires : goal.set_files-requires
 set_files-requires g c = room_of_files c.args.change.now.view.now.next c.args.decision.now _ (ap (λ (d : Decision). (numbers_for d).file) c.in-SetFiles.is ∙ ap length (sym c.as_slice.ensures)) c.requires
+
+pub returns-in-Create-clause-ours : goal.returns-in-Create-clause-ours
+returns-in-Create-clause-ours g c = c.create.ensures.ours
+
+pub returns-in-Create-clause-stays : goal.returns-in-Create-clause-stays
+returns-in-Create-clause-stays g c = c.create.ensures.stays
+
+pub returns-in-Create-clause-map : goal.returns-in-Create-clause-map
+returns-in-Create-clause-map g c =
+    carried_as c.args.change.now.view.now c.args.change.now.content.now (state g.S.Store c.args.tx.now.conn.now) (state g.S.Store c.create.new.tx.conn.now) c.args.decision.now _ c.create.result c.in-Create.is
+    (λ clean inside ours s are numbers told. c.create.ensures.map clean inside ours s are numbers told.0 told.1)
+
+pub returns-in-Append-clause-ours : goal.returns-in-Append-clause-ours
+returns-in-Append-clause-ours g c = c.append.ensures.ours
+
+pub returns-in-Append-clause-stays : goal.returns-in-Append-clause-stays
+returns-in-Append-clause-stays g c = c.append.ensures.stays
+
+pub returns-in-Append-clause-map : goal.returns-in-Append-clause-map
+returns-in-Append-clause-map g c =
+    carried_as c.args.change.now.view.now c.args.change.now.content.now (state g.S.Store c.args.tx.now.conn.now) (state g.S.Store c.append.new.tx.conn.now) c.args.decision.now _ c.append.result c.in-Append.is
+    (λ clean inside ours s are numbers told.
+    at_object s (without s.uploads (uploads_in c.in-Append.deposit)) (state g.S.Store c.append.new.tx.conn.now) c.append.result c.in-Append.object told.0 (λ o. ingested_by c.in-Append.ingests (appended s c.args.change.now.content.now c.in-Append.deposit o)) told.1.1
+    (c.append.ensures.map clean inside ours s are _ told.0 numbers told.1 told.2))
+
+pub returns-in-Replace-clause-ours : goal.returns-in-Replace-clause-ours
+returns-in-Replace-clause-ours g c = c.replace.ensures.ours
+
+pub returns-in-Replace-clause-stays : goal.returns-in-Replace-clause-stays
+returns-in-Replace-clause-stays g c = c.replace.ensures.stays
+
+pub returns-in-Replace-clause-map : goal.returns-in-Replace-clause-map
+returns-in-Replace-clause-map g c =
+    carried_as c.args.change.now.view.now c.args.change.now.content.now (state g.S.Store c.args.tx.now.conn.now) (state g.S.Store c.replace.new.tx.conn.now) c.args.decision.now _ c.replace.result c.in-Replace.is
+    (λ clean inside ours s are numbers told.
+    at_object s (without s.uploads (uploads_in c.in-Replace.deposit)) (state g.S.Store c.replace.new.tx.conn.now) c.replace.result c.in-Replace.object told.0 (λ o. filled s c.args.change.now.content.now c.in-Replace.deposit (o.ingested || c.in-Replace.ingests)) told.1.1
+    (c.replace.ensures.map clean inside ours s are _ told.0 numbers told.1 told.2))
+
+pub returns-in-Complete-clause-ours : goal.returns-in-Complete-clause-ours
+returns-in-Complete-clause-ours g c = c.complete.ensures.ours
+
+pub returns-in-Complete-clause-stays : goal.returns-in-Complete-clause-stays
+returns-in-Complete-clause-stays g c = c.complete.ensures.stays
+
+pub returns-in-Complete-clause-map : goal.returns-in-Complete-clause-map
+returns-in-Complete-clause-map g c =
+    carried_as c.args.change.now.view.now c.args.change.now.content.now (state g.S.Store c.args.tx.now.conn.now) (state g.S.Store c.complete.new.tx.conn.now) c.args.decision.now _ c.complete.result c.in-Complete.is
+    (λ clean inside ours s are numbers told.
+    at_object s s.uploads (state g.S.Store c.complete.new.tx.conn.now) c.complete.result c.in-Complete.object told.0 (λ o. ingested_by true (changed s o)) told.1.1
+    (c.complete.ensures.map clean inside ours s are _ told.0 numbers told.1))
+
+pub returns-in-SetMetadata-clause-ours : goal.returns-in-SetMetadata-clause-ours
+returns-in-SetMetadata-clause-ours g c = c.set_texts.ensures.ours
+
+pub returns-in-SetMetadata-clause-stays : goal.returns-in-SetMetadata-clause-stays
+returns-in-SetMetadata-clause-stays g c = c.set_texts.ensures.stays
+
+pub returns-in-SetMetadata-clause-map : goal.returns-in-SetMetadata-clause-map
+returns-in-SetMetadata-clause-map g c =
+    carried_as c.args.change.now.view.now c.args.change.now.content.now (state g.S.Store c.args.tx.now.conn.now) (state g.S.Store c.set_texts.new.tx.conn.now) c.args.decision.now _ c.set_texts.result c.in-SetMetadata.is
+    (λ clean inside ours s are numbers told.
+    at_object s s.uploads (state g.S.Store c.set_texts.new.tx.conn.now) c.set_texts.result c.in-SetMetadata.object told.0 (with_texts s c.in-SetMetadata.metadata) told.1.1
+    (c.set_texts.ensures.map clean inside ours s are _ told.0 numbers told.1))
+
+pub returns-in-SetFiles-clause-ours : goal.returns-in-SetFiles-clause-ours
+returns-in-SetFiles-clause-ours g c = c.set_files.ensures.ours
+
+pub returns-in-SetFiles-clause-stays : goal.returns-in-SetFiles-clause-stays
+returns-in-SetFiles-clause-stays g c = c.set_files.ensures.stays
+
+pub returns-in-SetFile-clause-ours : goal.returns-in-SetFile-clause-ours
+returns-in-SetFile-clause-ours g c = c.set_file.ensures.ours
+
+pub returns-in-SetFile-clause-stays : goal.returns-in-SetFile-clause-stays
+returns-in-SetFile-clause-stays g c = c.set_file.ensures.stays
+
+pub returns-in-DropFile-clause-ours : goal.returns-in-DropFile-clause-ours
+returns-in-DropFile-clause-ours g c = c.drop_file.ensures.ours
+
+pub returns-in-DropFile-clause-stays : goal.returns-in-DropFile-clause-stays
+returns-in-DropFile-clause-stays g c = c.drop_file.ensures.stays
+
+pub returns-in-DropObject-clause-ours : goal.returns-in-DropObject-clause-ours
+returns-in-DropObject-clause-ours g c = c.drop_object.ensures.ours
+
+pub returns-in-DropObject-clause-stays : goal.returns-in-DropObject-clause-stays
+returns-in-DropObject-clause-stays g c = c.drop_object.ensures.stays
+
+pub returns-in-Open-clause-ours : goal.returns-in-Open-clause-ours
+returns-in-Open-clause-ours g c = c.open.ensures.ours
+
+pub returns-in-Open-clause-stays : goal.returns-in-Open-clause-stays
+returns-in-Open-clause-stays g c = c.open.ensures.stays
+
+pub returns-in-Receive-clause-ours : goal.returns-in-Receive-clause-ours
+returns-in-Receive-clause-ours g c = c.receive.ensures.ours
+
+pub returns-in-Receive-clause-stays : goal.returns-in-Receive-clause-stays
+returns-in-Receive-clause-stays g c = c.receive.ensures.stays
+
+pub returns-in-DropUpload-clause-ours : goal.returns-in-DropUpload-clause-ours
+returns-in-DropUpload-clause-ours g c = c.drop_upload.ensures.ours
+
+pub returns-in-DropUpload-clause-stays : goal.returns-in-DropUpload-clause-stays
+returns-in-DropUpload-clause-stays g c = c.drop_upload.ensures.stays

@@ -1,11 +1,11 @@
-use Rattle.std.proofs.Common.{◌||◌, Ok, refl, subst}
+use Rattle.std.proofs.Common.{◌||◌, Ok, refl}
 use Rattle.std.specs.FinMap as finmap
 use Rattle.sqlite.specs.Held.{state}
-use Rattle.dep_types.specs.State.{State, Object, Texts}
+use Rattle.dep_types.specs.State.{State, Object}
 use Rattle.dep_tables.proofs.Chains.{clean_before, stays_err, stays_then}
 use Rattle.dep_tables.specs.Tables.{tables_of}
 use Rattle.dep_tables.proofs.Results.{ok_then}
-use Rattle.dep_row_maps.specs.TablesAre.{TablesAre, with_object, with_metadata}
+use Rattle.dep_row_maps.specs.TablesAre.{with_object}
 use Rattle.dep_row_maps.proofs.Lens.{get_here}
 use Rattle.dep_decisions.specs.Effects.{blank, ingested_by}
 use Rattle.dep_changes.proofs.Chains.{ours_then}
@@ -19,10 +19,10 @@ returns-clause-map g c clean inside ours s are n o numbers told sources =
     let content = c.args.change.now.content.now in
     let one = state g.S.Store c.write_row.new.tx.conn.now in
     let two = state g.S.Store c.delete_files.new.tx.conn.now in
-    let three = state g.S.Store c.set_metadata-2.new.tx.conn.now in
+    let three = state g.S.Store c.clear_metadata.new.tx.conn.now in
     let new = state g.S.Store c.fill.new.tx.conn.now in
     let clean_three = clean_before c.fill.ensures.stays clean in
-    let clean_two = clean_before c.set_metadata-2.ensures.stays clean_three in
+    let clean_two = clean_before c.clear_metadata.ensures.stays clean_three in
     let clean_one = clean_before c.delete_files.ensures.stays clean_two in
     let inside_one = c.in_ok-write_row.ensures.stays.inside clean_one inside in
     let ours_one = c.in_ok-write_row.ensures.ours clean_one inside ours in
@@ -46,27 +46,26 @@ returns-clause-map g c clean inside ours s are n o numbers told sources =
     let second : State = with_object s n bare in
     let clear : Object = blank s ingested in
     let cleared = written_again (tables_of three) s n bare clear (at_number (tables_of three) second row.object n clear number
-    (subst (λ (texts : Texts). TablesAre (tables_of three) (with_object second row.object (with_metadata bare texts))) c.new.ensures
-    (c.in_ok-set_metadata.ensures.map clean_three inside_two ours_two second gone bare (there_at second.objects row.object n bare number (get_here s.objects n bare))))) in
+    (c.in_ok-clear_metadata.ensures.map clean_three inside_two ours_two second gone bare (there_at second.objects row.object n bare number (get_here s.objects n bare)))) in
     let third : State = with_object s n clear in
     ok_then c.fill.result
-    (c.fill.ensures.map clean (c.in_ok-set_metadata.ensures.stays.inside clean_three inside_two) (c.in_ok-set_metadata.ensures.ours clean_three inside_two ours_two) third cleared ingested numbers
+    (c.fill.ensures.map clean (c.in_ok-clear_metadata.ensures.stays.inside clean_three inside_two) (c.in_ok-clear_metadata.ensures.ours clean_three inside_two ours_two) third cleared ingested numbers
     (there_at third.objects row.object n clear number (get_here s.objects n clear)) (still_have third.objects s content view.uploads c.args.deposit.now sources))
     (λ done. deposit_again (tables_of new) s content row.object n clear c.args.deposit.now ingested number done)
 
 pub returns-in_err-delete_files-clause-stays : goal.returns-in_err-delete_files-clause-stays
 returns-in_err-delete_files-clause-stays g c = stays_err c.from_residual-in_err-delete_files.ensures.0 (stays_then c.in_ok-write_row.ensures.stays c.delete_files.ensures.stays)
 
-pub returns-in_err-set_metadata-clause-stays : goal.returns-in_err-set_metadata-clause-stays
-returns-in_err-set_metadata-clause-stays g c = stays_err c.from_residual-in_err-set_metadata.ensures.0 (stays_then (stays_then c.in_ok-write_row.ensures.stays c.in_ok-delete_files.ensures.stays) c.set_metadata-2.ensures.stays)
+pub returns-in_err-clear_metadata-clause-stays : goal.returns-in_err-clear_metadata-clause-stays
+returns-in_err-clear_metadata-clause-stays g c = stays_err c.from_residual-in_err-clear_metadata.ensures.0 (stays_then (stays_then c.in_ok-write_row.ensures.stays c.in_ok-delete_files.ensures.stays) c.clear_metadata.ensures.stays)
 
 pub returns-clause-stays : goal.returns-clause-stays
-returns-clause-stays g c = stays_then (stays_then (stays_then c.in_ok-write_row.ensures.stays c.in_ok-delete_files.ensures.stays) c.in_ok-set_metadata.ensures.stays) c.fill.ensures.stays
+returns-clause-stays g c = stays_then (stays_then (stays_then c.in_ok-write_row.ensures.stays c.in_ok-delete_files.ensures.stays) c.in_ok-clear_metadata.ensures.stays) c.fill.ensures.stays
 
 pub returns-clause-ours : goal.returns-clause-ours
 returns-clause-ours g c =
     let two = stays_then c.in_ok-write_row.ensures.stays c.in_ok-delete_files.ensures.stays in
-    let three = stays_then two c.in_ok-set_metadata.ensures.stays in
+    let three = stays_then two c.in_ok-clear_metadata.ensures.stays in
     let ours_two = ours_then {r = Ok tt} c.in_ok-write_row.ensures.stays c.in_ok-delete_files.ensures.stays c.in_ok-write_row.ensures.ours c.in_ok-delete_files.ensures.ours in
-    let ours_three = ours_then {r = Ok tt} two c.in_ok-set_metadata.ensures.stays ours_two c.in_ok-set_metadata.ensures.ours in
+    let ours_three = ours_then {r = Ok tt} two c.in_ok-clear_metadata.ensures.stays ours_two c.in_ok-clear_metadata.ensures.ours in
     ours_then three c.fill.ensures.stays ours_three c.fill.ensures.ours
