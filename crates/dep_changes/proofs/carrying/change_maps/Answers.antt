@@ -1,8 +1,9 @@
 use Rattle.std.proofs.Common.{◌||◌, true, length, ap, sym, ◌∙◌}
 use Rattle.dep_decisions.specs.Decisions.{numbers_for}
 use Rattle.dep_decisions.specs.declared.decision.Decision.{Decision}
+use Rattle.std.specs.FinMap as finmap
 use Rattle.sqlite.specs.Held.{state}
-use Rattle.dep_decisions.specs.Effects.{appended, changed, filled, ingested_by, uploads_in, with_texts, without}
+use Rattle.dep_decisions.specs.Effects.{appended, changed, filled, ingested_by, uploads_in, with_files, with_texts, without}
 use Rattle.dep_changes.proofs.Carried.{room_of_files, carried_as, at_object}
 use Rattle.dep_changes.proofs.carrying.change_maps.Goals as goal
 
@@ -122,3 +123,25 @@ returns-in-DropUpload-clause-ours g c = c.drop_upload.ensures.ours
 
 pub returns-in-DropUpload-clause-stays : goal.returns-in-DropUpload-clause-stays
 returns-in-DropUpload-clause-stays g c = c.drop_upload.ensures.stays
+
+pub returns-in-DropFile-clause-map : goal.returns-in-DropFile-clause-map
+returns-in-DropFile-clause-map g c =
+    carried_as c.args.change.now.view.now c.args.change.now.content.now (state g.S.Store c.args.tx.now.conn.now) (state g.S.Store c.drop_file.new.tx.conn.now) c.args.decision.now _ c.drop_file.result c.in-DropFile.is
+    (λ clean inside ours s are numbers told.
+    at_object s s.uploads (state g.S.Store c.drop_file.new.tx.conn.now) c.drop_file.result c.in-DropFile.object told.0 (λ o. with_files s (finmap.remove o.files c.in-DropFile.file) o) told.2.0.1
+    (c.drop_file.ensures.map clean inside ours s are _ told.0 told.1 numbers told.2))
+
+pub returns-in-DropObject-clause-map : goal.returns-in-DropObject-clause-map
+returns-in-DropObject-clause-map g c =
+    carried_as c.args.change.now.view.now c.args.change.now.content.now (state g.S.Store c.args.tx.now.conn.now) (state g.S.Store c.drop_object.new.tx.conn.now) c.args.decision.now _ c.drop_object.result c.in-DropObject.is
+    (λ clean inside ours s are numbers told. c.drop_object.ensures.map clean inside ours s are told.0 told.1.1)
+
+pub returns-in-Open-clause-map : goal.returns-in-Open-clause-map
+returns-in-Open-clause-map g c =
+    carried_as c.args.change.now.view.now c.args.change.now.content.now (state g.S.Store c.args.tx.now.conn.now) (state g.S.Store c.open.new.tx.conn.now) c.args.decision.now _ c.open.result c.in-Open.is
+    (λ clean inside ours s are numbers told. c.open.ensures.map clean inside ours s are numbers)
+
+pub returns-in-DropUpload-clause-map : goal.returns-in-DropUpload-clause-map
+returns-in-DropUpload-clause-map g c =
+    carried_as c.args.change.now.view.now c.args.change.now.content.now (state g.S.Store c.args.tx.now.conn.now) (state g.S.Store c.drop_upload.new.tx.conn.now) c.args.decision.now _ c.drop_upload.result c.in-DropUpload.is
+    (λ clean inside ours s are numbers told. c.drop_upload.ensures.map clean inside ours s are)
