@@ -13,6 +13,26 @@ use crate::words::Words;
 use dep_message::Intake;
 use std::alloc::{AllocError, Global};
 
+/// The words that say what an exchange comes to.
+const ANSWERS: [&str; 16] = [
+    "open",
+    "closed",
+    "cut",
+    "gone",
+    "ended",
+    "served",
+    "unserved",
+    "bound",
+    "read-fault",
+    "write-fault",
+    "done",
+    "damaged",
+    "no-such-object",
+    "transfer-fault",
+    "store-fault",
+    "told",
+];
+
 /// An example that is played, its bytes cut in one way.
 #[derive(Drop)]
 pub struct Play {
@@ -41,22 +61,7 @@ impl Play {
             "" | "//" | "pieces" | "each" | "-" => Ok(()),
             ">" | "<" => self.exchange.line(self.alloc, words, word, rest),
             "let" | "text" | "|" => names(self.alloc, words, word, rest),
-            "open"
-            | "closed"
-            | "cut"
-            | "gone"
-            | "ended"
-            | "served"
-            | "unserved"
-            | "bound"
-            | "read-fault"
-            | "write-fault"
-            | "done"
-            | "damaged"
-            | "no-such-object"
-            | "transfer-fault"
-            | "store-fault"
-            | "told" => self.ends(word, rest),
+            _ if is_answer(word) => self.ends(word, rest),
             _ => self.filled(words, word, rest),
         }
     }
@@ -186,6 +191,16 @@ impl Play {
         self.side.change_to(side);
         Ok(())
     }
+}
+
+// Whether the word says what an exchange comes to.
+fn is_answer(word: &str) -> bool {
+    for answer in ANSWERS {
+        if answer == word {
+            return true;
+        }
+    }
+    false
 }
 
 // The statement by which the archive gives this number of a kind next.
