@@ -127,7 +127,8 @@ pub fn read_head(alloc: Global, text: &[u8]) -> Result<Head, HeadFault>
 
 // The path of a request's target. What else a target has is of no use here.
 fn read_path(alloc: Global, target: &[u8]) -> Result<Vec<u8>, HeadFault>
-    ensures read { IfOk result (λ path. (uri : Uri) × Spells target.now uri × (path.items ≡ uri_path uri)) }
+    ensures read { IfOk result (λ path. (uri : Uri) × Spells target.now uri
+        × (path.items ≡ uri_path uri)) }
     ensures refused { result ≡ Err HeadFault.NotAHead → (uri : Uri) → ¬ Spells target.now uri }
 {
     let uri = match Uri::from_bytes(alloc, target) {
