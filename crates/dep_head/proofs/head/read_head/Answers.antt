@@ -1,4 +1,4 @@
-use Rattle.std.proofs.Common.{◌≡◌, [], Some, length, take, drop, map, arith, refl, sym, ap, subst, ◌∙◌, length-take, rules}
+use Rattle.std.proofs.Common.{◌≡◌, [], Some, length, take, drop, map, arith, sym, ap, subst, ◌∙◌, length-take, rules}
 use Rattle.std.proofs.lemmas.List.{length-map}
 use Rattle.std.proofs.Math.Seq.{drop-length}
 use Rattle.httparse.specs.Grammar.{ReadsRequest}
