@@ -1,5 +1,5 @@
 //! Published texts, as the definitions compute them.
-ghost use Rattle.std.specs.Prelude.{◌≡◌, List, [], ◌∷◌, Some, None, codes};
+ghost use Rattle.std.specs.Prelude.{◌≡◌, ◌++◌, List, [], ◌∷◌, Some, None, codes};
 ghost use Rattle.base64.specs.GeneralPurpose.{encode_of};
 ghost use Rattle.base64.specs.Engines.{standard};
 ghost use Rattle.hex.specs.Hex.{encode_lower, encode_upper};
@@ -50,5 +50,7 @@ pub fn digest_field_of_abc()
         Some (record { sha256 = Some (sha256 (codes "abc")) }) }
     ensures other { digest_field (codes "MD5=x, SHA-512=y") ≡ Some (record { sha256 = None }) }
     ensures unpadded { digest_field (codes "SHA-256=ungWv48Bz+pBQUDeXa4iI7ADYaOWF3qctBD/YfIAFa0") ≡ None }
-    ensures different { digest_field (codes "SHA-256=ungWv48Bz+pBQUDeXa4iI7ADYaOWF3qctBD/YfIAFa0=, SHA-256=47DEQpj8HBSa+/TImW+5JCeuQeRkm5NMpJWZG3hSuFU=") ≡ None }
+    ensures different { digest_field
+        (codes "SHA-256=ungWv48Bz+pBQUDeXa4iI7ADYaOWF3qctBD/YfIAFa0=, "
+        ++ codes "SHA-256=47DEQpj8HBSa+/TImW+5JCeuQeRkm5NMpJWZG3hSuFU=") ≡ None }
 {}
