@@ -5,7 +5,7 @@ use Rattle.sha2.specs.Sha256.{sha256}
 use Rattle.sqlite.specs.Order.{Row}
 use Rattle.sqlite.specs.State.{State, Shown}
 use Rattle.dep_statements.specs.Rows.{InOrder}
-use Rattle.dep_streams.specs.Sent.{joined}
+use Rattle.dep_files.specs.Sent.{joined}
 use Rattle.dep_tables.specs.Rows.{shown_block, is_block_of, by_part_and_place}
 use Rattle.dep_tables.specs.Tables.{Tables}
 use Rattle.dep_tables.specs.declared.owner.BlockOwner.{BlockOwner}

@@ -15,10 +15,10 @@ use Rattle.dep_statements.specs.Rows.{IsOrdered, row_at}
 use Rattle.dep_tables.specs.Rows.{is_block_of}
 use Rattle.dep_tables.specs.Tables.{Tables}
 use Rattle.dep_tables.specs.declared.owner.BlockOwner.TheVariants as owner
-use Rattle.dep_streams.specs.Sent as sent
-use Rattle.dep_streams.specs.Sent.{blob_of, BeginsBlocks, SendsBlocks}
-use Rattle.dep_streams.specs.declared.fault.BlockFault.{BlockFault}
-use Rattle.dep_streams.specs.declared.fault.BlockFault.TheVariants as blocks_fault
+use Rattle.dep_files.specs.Sent as sent
+use Rattle.dep_files.specs.Sent.{blob_of, BeginsBlocks, SendsBlocks}
+use Rattle.dep_files.specs.declared.fault.BlockFault.{BlockFault}
+use Rattle.dep_files.specs.declared.fault.BlockFault.TheVariants as blocks_fault
 use Rattle.dep_row_maps.specs.Owned.{placed}
 use Rattle.dep_row_maps.specs.Stored.{block_seen, block_rows, part_rows, blocks_of, file_stored, is_file_of}
 use Rattle.dep_row_maps.specs.TablesAre.{TablesAre, files_at, joined}

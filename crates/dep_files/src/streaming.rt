@@ -9,12 +9,12 @@ ghost use Rattle.dep_types.specs.Streams.{IsStreamed};
 ghost use Rattle.dep_types.specs.Writing.{HasRisen};
 ghost use Rattle.dep_tables.specs.Tables.{tables_of, IsOurs};
 ghost use Rattle.dep_row_maps.specs.TablesAre.{TablesAre};
-ghost use Rattle.dep_files.specs.Reading.{Tells, IsKept};
-ghost use Rattle.dep_files.specs.Sent.{IsLoaded};
+ghost use Rattle.dep_files.specs.Reading.{Tells, IsKept, IsLoaded};
 ghost use Rattle.dep_files.specs.Faults.{fault_of_store, fault_of_blocks, load_fault};
 
+use crate::blocks::stream_blocks;
+use crate::fault::BlockFault;
 use crate::sizes::find_size;
-use dep_streams::{BlockFault, stream_blocks};
 use dep_tables::BlockOwner;
 use dep_types::{Octets, Outlet, StoreFault, StreamFault, Through};
 use sqlite::{Alter, Connection};

@@ -12,7 +12,7 @@ use Rattle.dep_tables.specs.Rows.{is_block_of, by_part_and_place, owner_values}
 use Rattle.dep_tables.proofs.Leading.{plain_here, blocks_at}
 use Rattle.dep_tables.proofs.BlocksTable.{of_owner, tests_owner, order, by_place_total}
 use Rattle.dep_tables.proofs.Results.{if_then}
-use Rattle.dep_streams.proofs.OrderedBlocks.{owner_is}
+use Rattle.dep_files.proofs.OrderedBlocks.{owner_is}
 use Rattle.dep_audit.proofs.hashing.hash_blocks.Goals as goal
 
 abbrev values : List Term

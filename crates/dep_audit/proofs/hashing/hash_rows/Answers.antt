@@ -4,7 +4,7 @@ use Rattle.sqlite.specs.State.{HasCleanDisk, Survives, CommitsShowing, IsUnchang
 use Rattle.sqlite.specs.Held.{state}
 use Rattle.sqlite.specs.Values.{bound}
 use Rattle.sqlite.proofs.Callers.{begun_plain, unchanged_then}
-use Rattle.dep_streams.proofs.SendingLemmas.{commits_nothing, joined_push, refused_left}
+use Rattle.dep_files.proofs.SendingLemmas.{commits_nothing, joined_push, refused_left}
 use Rattle.dep_audit.proofs.ShownFrom.{shown_from}
 use Rattle.dep_audit.proofs.hashing.hash_rows.Goals as goal
 

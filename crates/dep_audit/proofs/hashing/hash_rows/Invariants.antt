@@ -6,7 +6,7 @@ use Rattle.sqlite.specs.Held.{state}
 use Rattle.sqlite.specs.Values.{bound}
 use Rattle.sqlite.specs.Given.{HasGiven, IsPlain}
 use Rattle.sqlite.specs.Listing.{understood}
-use Rattle.dep_streams.specs.Sent.{joined}
+use Rattle.dep_files.specs.Sent.{joined}
 use Rattle.dep_audit.proofs.hashing.hash_rows.Given as goal
 
 -- the hasher holds the rows so far

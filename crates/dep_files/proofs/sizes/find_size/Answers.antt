@@ -4,7 +4,7 @@ use Rattle.sqlite.specs.Held.{state}
 use Rattle.dep_statements.proofs.Asked.{shown_unchanged, asks_leave}
 use Rattle.dep_tables.proofs.Results.{if_ok, if_failed, if_then}
 use Rattle.dep_tables.proofs.Leading.{plain_here}
-use Rattle.dep_streams.proofs.SendingLemmas.{commits_nothing}
+use Rattle.dep_files.proofs.SendingLemmas.{commits_nothing}
 use Rattle.dep_files.specs.Sizes.{find_size_text}
 use Rattle.dep_files.proofs.SizeFound.{find_is, finds_size}
 use Rattle.dep_files.proofs.Streams.{shown_open, left_open}

@@ -5,7 +5,7 @@ use Rattle.sqlite.proofs.StateLemmas.{survives_then}
 use Rattle.dep_tables.specs.Tables.{Tables, tables_of}
 use Rattle.dep_tables.specs.Rows.{is_block_of}
 use Rattle.dep_tables.specs.declared.owner.BlockOwner.TheVariants as owner
-use Rattle.dep_streams.specs.Sent.{SendsBlocks}
+use Rattle.dep_files.specs.Sent.{SendsBlocks}
 use Rattle.dep_files.specs.Reading.{IsKept}
 use Rattle.dep_types.specs.Streams.{IsStreamed}
 use Rattle.dep_files.proofs.Results.{still_ours, same_tables}

@@ -4,9 +4,9 @@ use Rattle.sqlite.specs.State.{HasCleanDisk, Survives, CommitsShowing, IsUnchang
 use Rattle.sqlite.specs.Held.{state}
 use Rattle.sqlite.specs.Values.{bound}
 use Rattle.sqlite.proofs.Callers.{begun_plain, unchanged_then, given_begin}
-use Rattle.dep_streams.specs.Sent.{blob_of, GivesRow, GivesSized}
-use Rattle.dep_streams.proofs.SendingLemmas.{commits_nothing, failed_then, begins_from, joined_more, refused_left, stops_sized, cut_sized, clean_was, some_left, less_left, all_sent}
-use Rattle.dep_streams.proofs.sending.stream_sized.Goals as goal
+use Rattle.dep_files.specs.Sent.{blob_of, GivesRow, GivesSized}
+use Rattle.dep_files.proofs.SendingLemmas.{commits_nothing, failed_then, begins_from, joined_more, refused_left, stops_sized, cut_sized, clean_was, some_left, less_left, all_sent}
+use Rattle.dep_files.proofs.sending.stream_sized.Goals as goal
 
 pub returns-in-Err-clause-streams : goal.returns-in-Err-clause-streams
 returns-in-Err-clause-streams g c =

@@ -1,6 +1,6 @@
 //! Why blocks were not all sent.
 
-ghost use Rattle.dep_streams.specs.Sent.{IsOfStore};
+ghost use Rattle.dep_files.specs.Sent.{IsOfStore};
 
 use sqlite::{Error, ErrorCode};
 use std::fmt;

@@ -11,9 +11,9 @@ use Rattle.sqlite.specs.State.{State, Survives, CommitsShowing, IsUnchanged, IsR
 use Rattle.sqlite.specs.Clock.{timed}
 use Rattle.sqlite.proofs.StateLemmas.{survives_weaker}
 use Rattle.sqlite.proofs.Callers.{IsPlain, never_commits, unchanged_then}
-use Rattle.dep_streams.specs.declared.fault.BlockFault.{BlockFault}
-use Rattle.dep_streams.specs.declared.fault.BlockFault.TheVariants.{Writer, Store, Memory}
-use Rattle.dep_streams.specs.Sent.{blob_of, joined, IsOfStore, GivesRow, StopsBetween, SendsSized}
+use Rattle.dep_files.specs.declared.fault.BlockFault.{BlockFault}
+use Rattle.dep_files.specs.declared.fault.BlockFault.TheVariants.{Writer, Store, Memory}
+use Rattle.dep_files.specs.Sent.{blob_of, joined, IsOfStore, GivesRow, StopsBetween, SendsSized}
 
 pub commits_nothing : (sql : List ℕ) (params : Row) (old new : State) → IsPlain (understood old.now.schema sql) → Survives old new (CommitsShowing sql params old) → Survives old new (λ _. ⊥)
 commits_nothing sql params old new plain = survives_weaker old new _ _ (λ _ db. never_commits sql params old db plain)

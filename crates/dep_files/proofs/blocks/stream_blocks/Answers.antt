@@ -3,8 +3,8 @@ use Rattle.std.proofs.KnownBytes.{Appends-nil}
 use Rattle.sqlite.specs.Held.{state}
 use Rattle.dep_tables.specs.Texts.{blocks_of_text}
 use Rattle.dep_tables.proofs.Leading.{plain_here}
-use Rattle.dep_streams.proofs.OrderedBlocks.{sends_owner, owner_is}
-use Rattle.dep_streams.proofs.blocks.stream_blocks.Goals as goal
+use Rattle.dep_files.proofs.OrderedBlocks.{sends_owner, owner_is}
+use Rattle.dep_files.proofs.blocks.stream_blocks.Goals as goal
 
 pub returns-clause-streams : goal.returns-clause-streams
 returns-clause-streams g c =

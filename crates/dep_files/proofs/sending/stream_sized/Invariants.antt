@@ -6,8 +6,8 @@ use Rattle.sqlite.specs.Held.{state}
 use Rattle.sqlite.specs.Values.{bound}
 use Rattle.sqlite.specs.Given.{HasGiven, IsPlain}
 use Rattle.sqlite.specs.Listing.{understood}
-use Rattle.dep_streams.specs.Sent.{joined}
-use Rattle.dep_streams.proofs.sending.stream_sized.Given as goal
+use Rattle.dep_files.specs.Sent.{joined}
+use Rattle.dep_files.proofs.sending.stream_sized.Given as goal
 
 abbrev pub invariant-rows : goal.invariant-rows
 invariant-rows g l =

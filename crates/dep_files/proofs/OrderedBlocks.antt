@@ -1,4 +1,4 @@
--- The blocks of an owner, or of one of its parts, in the order of part and place.
+-- The blocks of an owner, in the order of part and place.
 use Rattle.std.proofs.Common.{◌≡◌, ◌≢◌, ◌⊎◌, inl, inr, ℕ, List, [], ◌∷◌, ◌++◌, map, filter, Result, Ok, Err, refl, sym, ap, ◌∙◌, append-nil, append_assoc}
 use Rattle.std.specs.Ordering.{ordering_then}
 use Rattle.sqlite_tied.specs.Compute.{everything}
@@ -8,20 +8,19 @@ use Rattle.sqlite.specs.Listing.{understood}
 use Rattle.sqlite.specs.State.{State, Begins}
 use Rattle.sqlite_value.specs.Order.{value_cmp}
 use Rattle.sqlite_value.proofs.OrderLemmas.{then-Equal}
-use Rattle.dep_statements.specs.Query.{equals, no_limit, passes}
+use Rattle.dep_statements.specs.Query.{no_limit}
 use Rattle.dep_statements.specs.Rows.{InOrder}
-use Rattle.dep_statements.proofs.Tests.{holds_number, passes_three}
 use Rattle.dep_statements.proofs.Selected.{Asks, begins_sorted}
 use Rattle.dep_tables.specs.Schema.{our_schema}
-use Rattle.dep_tables.specs.Texts.{blocks_of_text, part_of_text}
+use Rattle.dep_tables.specs.Texts.{blocks_of_text}
 use Rattle.dep_tables.specs.declared.owner.BlockOwner.{BlockOwner}
-use Rattle.dep_tables.specs.Rows.{kind_of, number_of, owner_values, part_values, shown_block, is_block_of, is_part_of, by_part_and_place}
+use Rattle.dep_tables.specs.Rows.{owner_values, shown_block, is_block_of, by_part_and_place}
 use Rattle.dep_tables.specs.Tables.{tables_of, IsOurs}
 use Rattle.dep_tables.proofs.Leading.{blocks_at}
 use Rattle.dep_tables.proofs.BlocksTable.{of_owner, tests_owner, order, by_place_total}
-use Rattle.dep_streams.specs.declared.fault.BlockFault.{BlockFault}
-use Rattle.dep_streams.specs.declared.fault.BlockFault.TheVariants.{Writer, Store, Memory}
-use Rattle.dep_streams.specs.Sent.{blob_of, joined, StopsBetween, StopsWithin, SendsSized, BeginsBlocks, SendsBlocks}
+use Rattle.dep_files.specs.declared.fault.BlockFault.{BlockFault}
+use Rattle.dep_files.specs.declared.fault.BlockFault.TheVariants.{Writer, Store, Memory}
+use Rattle.dep_files.specs.Sent.{blob_of, joined, StopsBetween, StopsWithin, SendsSized, BeginsBlocks, SendsBlocks}
 
 joined_both : (xs ys : List Row) → joined (xs ++ ys) ≡ joined xs ++ joined ys
 joined_both [] ys = refl
@@ -69,23 +68,3 @@ sends_owner old o size sent r ours h =
     sends blocks_of_text (owner_values o) old (filter (is_block_of o) (tables_of old).blocks)
     (λ given begun. begins_sorted our_schema blocks_of_text (owner_values o) old ours.schema 10 blocks_at.own of_owner values (is_block_of o) (tests_owner o) order by_part_and_place by_place_total
     (λ a b. ap (ordering_then (value_cmp (column a 3) (column b 3))) (then-Equal (value_cmp (column a 4) (column b 4)))) owner_is given begun) size sent r h
-
-abbrev of_part : List Term
-of_part = equals (col 1 1) (col 0 0) ∷ equals (col 1 2) (col 0 1) ∷ equals (col 1 3) (col 0 2) ∷ []
-
-tests_part : (o : BlockOwner) (part : ℕ) (row : Row) → passes (part_values o part) of_part row ≡ is_part_of o part row
-tests_part o part row =
-    let params = part_values o part in
-    passes_three params row (equals (col 1 1) (col 0 0)) (equals (col 1 2) (col 0 1)) (equals (col 1 3) (col 0 2)) _ _ _ (holds_number params 0 (kind_of o) 1 row refl)
-    (holds_number params 1 (number_of o) 2 row refl) (holds_number params 2 part 3 row refl)
-
-pub part_is : Asks our_schema part_of_text 10 of_part values order no_limit
-unfolding understood everything
-part_is = record { names = _; is = refl; unlisted = refl; plain = (refl, refl) }
-
-pub sends_part : (old : State) (o : BlockOwner) (part size : ℕ) (sent : List ℕ) (r : Result (Unit {0}) BlockFault) → IsOurs old → SendsSized part_of_text (part_values o part) old size sent r
-    → SendsBlocks (filter (is_part_of o part) (tables_of old).blocks) size sent r
-sends_part old o part size sent r ours h =
-    sends part_of_text (part_values o part) old (filter (is_part_of o part) (tables_of old).blocks)
-    (λ given begun. begins_sorted our_schema part_of_text (part_values o part) old ours.schema 10 blocks_at.own of_part values (is_part_of o part) (tests_part o part) order by_part_and_place by_place_total
-    (λ a b. ap (ordering_then (value_cmp (column a 3) (column b 3))) (then-Equal (value_cmp (column a 4) (column b 4)))) part_is given begun) size sent r h

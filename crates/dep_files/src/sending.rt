@@ -8,8 +8,8 @@ ghost use Rattle.sqlite.specs.Given.{IsPlain};
 ghost use Rattle.sqlite.specs.Listing.{understood};
 ghost use Rattle.sqlite.specs.Values.{bound};
 ghost use Rattle.dep_tables.specs.Clauses.{CommitsNothing};
-ghost use Rattle.dep_streams.specs.Clauses.{GivesBytes};
-ghost use Rattle.dep_streams.specs.Sent.{blob_of, GivesSized, SendsSized};
+ghost use Rattle.dep_files.specs.Clauses.{GivesBytes};
+ghost use Rattle.dep_files.specs.Sent.{blob_of, GivesSized, SendsSized};
 
 use crate::fault::{BlockFault, block_fault_of};
 use dep_types::Outlet;

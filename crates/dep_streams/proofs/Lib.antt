@@ -1,2 +1,0 @@
-pub mod SendingLemmas
-pub mod OrderedBlocks
