@@ -1,3 +1,4 @@
 pub mod Stills
 pub mod Digests
 pub mod ShownFrom
+pub mod RowByRow

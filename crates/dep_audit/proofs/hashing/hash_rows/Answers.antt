@@ -1,11 +1,10 @@
-use Rattle.std.proofs.Common.{[], ◌∷◌, ◌++◌, refl, sym, subst, rules, arith}
-use Rattle.sha2.specs.Hashers.{Holds256}
-use Rattle.sqlite.specs.State.{HasCleanDisk, Survives, CommitsShowing, IsUnchanged, FailsToQuery}
+use Rattle.std.proofs.Common.{[], refl, rules, Ok, Some, None, ◌≡◌}
+use Rattle.sqlite.specs.State.{HasCleanDisk, Survives, CommitsShowing, FailsToQuery}
 use Rattle.sqlite.specs.Held.{state}
 use Rattle.sqlite.specs.Values.{bound}
-use Rattle.sqlite.proofs.Callers.{begun_plain, unchanged_then}
-use Rattle.dep_files.proofs.SendingLemmas.{commits_nothing, joined_push, refused_left}
-use Rattle.dep_audit.proofs.ShownFrom.{shown_from}
+use Rattle.sqlite.proofs.Callers.{begun_plain}
+use Rattle.dep_files.proofs.SendingLemmas.{commits_nothing, clean_was, refused_left}
+use Rattle.dep_audit.proofs.RowByRow.{clean_before, survives_on, unchanged_on, hashed_all, hashed_more, failed_on}
 use Rattle.dep_audit.proofs.hashing.hash_rows.Goals as goal
 
 pub returns-in-Err-clause-err : goal.returns-in-Err-clause-err
@@ -26,40 +25,102 @@ returns-in-Err-clause-survives g c plain =
 
 pub rows-init : goal.rows-init
 rows-init g c =
-    let made = c.in-Ok.ensures in (
+    let made = c.in-Ok.ensures in
+    let first = state g.S.Store c.args.connection.now in
+    let begun = state g.S.Store c.in-Ok.rows.conn.now in (
       refl,
-      λ plain. commits_nothing _ _ _ _ plain made.survives,
+      λ plain. commits_nothing c.args.sql.now (bound c.args.params.now) first begun plain made.survives,
       λ clean plain.
-          let begun = begun_plain g.S.Store c.args.sql.now _ c.args.connection.now _ plain (made.begun clean) in
-          ([], begun.0, begun.1, c.new-hasher.ensures),
-      λ clean. omega (arith, clean, made.survives.clean),
+          let none = begun_plain g.S.Store c.args.sql.now (bound c.args.params.now) c.args.connection.now c.in-Ok.rows.conn.now plain (made.begun clean) in
+          ([], none.0, none.1, c.new-hasher.ensures),
+      clean_was first begun (CommitsShowing c.args.sql.now (bound c.args.params.now) first) made.survives,
     )
 
 pub returns-in_default-clause-hashes : goal.returns-in_default-clause-hashes
 returns-in_default-clause-hashes g c clean plain =
     let moved = c.next.follows.holds-at-none in
-    let now = c.next.follows.lender-at-none.conn.now in
-    let late : HasCleanDisk (state g.S.Store now) = search rules in
-    let was = c.rows.invariant.2 (omega (arith, moved.survives.clean)) plain in
-    let shown = (rw (c.in-Ok-next.is, c.in_default.is) at (moved.ok late)) c.args.sql.now (bound c.args.params.now) was.0 was.1 in
-    let mid = state g.S.Store c.rows.rows.conn.now in
-    record { rows = was.0; shown = shown_from c.args.sql.now _ (state g.S.Store c.args.connection.now) mid (state g.S.Store now) was.0 was.2 plain shown; is = c.finalize.ensures _ was.3 }
+    let now = c.next.follows.lender-at-none in
+    let first = state g.S.Store c.args.connection.now in
+    let late : HasCleanDisk (state g.S.Store now.conn.now) = search rules in
+    let was = c.rows.invariant.2 (clean_before g.S.Store c.rows.rows now c.next.result moved late) plain in
+    let none : c.next.result ≡ Ok None = search rules in
+    hashed_all g.S.Store c.rows.rows now c.next.result moved c.args.sql.now (bound c.args.params.now) first c.rows.hasher was late
+    none plain c.finalize.result c.finalize.ensures
 
 pub rows-preserved : goal.rows-preserved
 rows-preserved g c =
     let moved = c.next.follows.holds-at-none in
-    let now = c.next.follows.lender-at-none.conn.now in
-    let row = c.in-Some.row.now in (
+    let now = c.next.follows.lender-at-none in
+    let first = state g.S.Store c.args.connection.now in
+    let some : c.next.result ≡ Ok (Some c.in-Some.row) = search rules in
+    let earlier = clean_before g.S.Store c.rows.rows now c.next.result moved in (
       search rules,
-      (λ plain. let before = c.rows.invariant.1 plain in search rules),
+      λ plain. survives_on g.S.Store c.rows.rows now c.next.result moved first (c.rows.invariant.1 plain),
       λ late plain.
-          let was = c.rows.invariant.2 (omega (arith, moved.survives.clean)) plain in
-          let on = (rw (c.in-Ok-next.is, c.in-Some.is) at (moved.ok late)) c.args.sql.now (bound c.args.params.now) was.0 was.1 in
-          let same : IsUnchanged (state g.S.Store c.rows.rows.conn.now) (state g.S.Store now) = search rules in (
-            was.0 ++ row ∷ [],
-            on,
-            unchanged_then (state g.S.Store c.args.connection.now) (state g.S.Store c.rows.rows.conn.now) (state g.S.Store now) was.2 same,
-            subst (Holds256 c.hash_row.new.hasher) (sym (joined_push was.0 row)) (c.in-Ok-hash_row.ensures _ was.3),
-          ),
-      λ late. c.rows.invariant.3 (omega (arith, late, moved.survives.clean)),
+          hashed_more g.S.Store c.rows.rows now c.next.result moved c.args.sql.now (bound c.args.params.now) first c.rows.hasher
+          (c.rows.invariant.2 (earlier late) plain) late c.in-Some.row c.hash_row.new.hasher some c.in-Ok-hash_row.ensures,
+      λ late. c.rows.invariant.3 (earlier late),
     )
+
+pub returns-in-Err-next-clause-err : goal.returns-in-Err-next-clause-err
+returns-in-Err-next-clause-err g c clean plain =
+    let moved = c.next.follows.holds-at-none in
+    let now = c.next.follows.lender-at-none in
+    let first = state g.S.Store c.args.connection.now in
+    let late : HasCleanDisk (state g.S.Store now.conn.now) = search rules in
+    let was = c.rows.invariant.2 (clean_before g.S.Store c.rows.rows now c.next.result moved late) plain in
+    let left = failed_on g.S.Store c.rows.rows now c.next.result moved c.args.sql.now (bound c.args.params.now) first c.rows.hasher was late c.in-Err-next.error c.in-Err-next.is plain in
+    search rules
+
+pub returns-in-Err-next-clause-survives : goal.returns-in-Err-next-clause-survives
+returns-in-Err-next-clause-survives g c plain =
+    let kept = survives_on g.S.Store c.rows.rows c.next.follows.lender-at-none c.next.result c.next.follows.holds-at-none
+    (state g.S.Store c.args.connection.now) (c.rows.invariant.1 plain) in
+    search rules
+
+pub returns-in_default-clause-survives : goal.returns-in_default-clause-survives
+returns-in_default-clause-survives g c plain =
+    let kept = survives_on g.S.Store c.rows.rows c.next.follows.lender-at-none c.next.result c.next.follows.holds-at-none
+    (state g.S.Store c.args.connection.now) (c.rows.invariant.1 plain) in
+    search rules
+
+pub returns-in-Err-hash_row-clause-survives : goal.returns-in-Err-hash_row-clause-survives
+returns-in-Err-hash_row-clause-survives g c plain =
+    let kept = survives_on g.S.Store c.rows.rows c.next.follows.lender-at-none c.next.result c.next.follows.holds-at-none
+    (state g.S.Store c.args.connection.now) (c.rows.invariant.1 plain) in
+    search rules
+
+pub returns-in-Err-next-clause-clean : goal.returns-in-Err-next-clause-clean
+returns-in-Err-next-clause-clean g c clean =
+    let late : HasCleanDisk (state g.S.Store c.next.follows.lender-at-none.conn.now) = search rules in
+    c.rows.invariant.3 (clean_before g.S.Store c.rows.rows c.next.follows.lender-at-none c.next.result c.next.follows.holds-at-none late)
+
+pub returns-in_default-clause-same : goal.returns-in_default-clause-same
+returns-in_default-clause-same g c clean plain =
+    let moved = c.next.follows.holds-at-none in
+    let now = c.next.follows.lender-at-none in
+    let late : HasCleanDisk (state g.S.Store now.conn.now) = search rules in
+    let is : c.next.result ≡ Ok None = search rules in
+    let was = c.rows.invariant.2 (clean_before g.S.Store c.rows.rows now c.next.result moved late) plain in
+    let same = unchanged_on g.S.Store c.rows.rows now c.next.result moved (state g.S.Store c.args.connection.now) None is late was.2 in
+    search rules
+
+pub returns-in_default-clause-clean : goal.returns-in_default-clause-clean
+returns-in_default-clause-clean g c clean =
+    let late : HasCleanDisk (state g.S.Store c.next.follows.lender-at-none.conn.now) = search rules in
+    c.rows.invariant.3 (clean_before g.S.Store c.rows.rows c.next.follows.lender-at-none c.next.result c.next.follows.holds-at-none late)
+
+pub returns-in-Err-hash_row-clause-err : goal.returns-in-Err-hash_row-clause-err
+returns-in-Err-hash_row-clause-err g c clean plain =
+    let moved = c.next.follows.holds-at-none in
+    let now = c.next.follows.lender-at-none in
+    let late : HasCleanDisk (state g.S.Store now.conn.now) = search rules in
+    let is : c.next.result ≡ Ok (Some c.in-Some.row) = search rules in
+    let was = c.rows.invariant.2 (clean_before g.S.Store c.rows.rows now c.next.result moved late) plain in
+    let same = unchanged_on g.S.Store c.rows.rows now c.next.result moved (state g.S.Store c.args.connection.now) (Some c.in-Some.row) is late was.2 in
+    search rules
+
+pub returns-in-Err-hash_row-clause-clean : goal.returns-in-Err-hash_row-clause-clean
+returns-in-Err-hash_row-clause-clean g c clean =
+    let late : HasCleanDisk (state g.S.Store c.next.follows.lender-at-none.conn.now) = search rules in
+    c.rows.invariant.3 (clean_before g.S.Store c.rows.rows c.next.follows.lender-at-none c.next.result c.next.follows.holds-at-none late)

@@ -1,0 +1,64 @@
+-- Rows that are read one at a time, by a query that only shows, whose bytes are hashed.
+use Rattle.std.proofs.Common.{◌≡◌, ◌⊎◌, ◌++◌, ℕ, List, [], ◌∷◌, Option, Some, None, Result, Ok, Err, subst, sym}
+use Rattle.std.specs.Borrow.{Bor}
+use Rattle.sha2.specs.Hashers.{Holds256}
+use Rattle.sha2.specs.Sha256.{sha256}
+use Rattle.sha2.specs.declared.Sha256.{Sha256}
+use Rattle.sqlite.specs.Order.{Row}
+use Rattle.sqlite.specs.State.{State, HasCleanDisk, Survives, IsUnchanged, IsRolledBack}
+use Rattle.sqlite.specs.Held.{Held, state}
+use Rattle.sqlite.specs.Given.{HasGiven, IsPlain}
+use Rattle.sqlite.specs.Listing.{understood}
+use Rattle.sqlite.specs.Next.{HasMoved}
+use Rattle.sqlite.specs.declared.error.Error.{Error}
+use Rattle.sqlite.specs.declared.rows.stream.Rows.{Rows}
+use Rattle.sqlite.proofs.Callers.{unchanged_then}
+use Rattle.sqlite.proofs.StateLemmas.{survives_then}
+use Rattle.sqlite_trees.specs.declared.store.Store.{Ghosts}
+use Rattle.dep_files.specs.Sent.{blob_of, joined}
+use Rattle.dep_files.proofs.SendingLemmas.{clean_was, failed_then, joined_push}
+use Rattle.dep_audit.specs.Fixity.{HashesShown}
+use Rattle.dep_audit.proofs.ShownFrom.{shown_from}
+
+-- the hasher holds the rows that were given so far
+abbrev pub Hashed : {S : Type 0} → Ghosts S → List ℕ → Row → State → Held S → Sha256 → Type 0
+Hashed g sql params first now hasher =
+    (given : List Row) × HasGiven g sql params now given × IsUnchanged first (state g now) × Holds256 hasher (joined given)
+
+module _ {S : Type 0} (g : Ghosts S) (old new : Rows S g) (result : Result (Option (Bor Row)) Error) (moved : HasMoved g old result new) where
+  pub clean_before : HasCleanDisk (state g new.conn.now) → HasCleanDisk (state g old.conn.now)
+  clean_before = clean_was (state g old.conn.now) (state g new.conn.now) _ moved.survives
+
+  pub survives_on : (first : State) → Survives first (state g old.conn.now) (λ _. ⊥) → Survives first (state g new.conn.now) (λ _. ⊥)
+  survives_on first before =
+      survives_then first (state g old.conn.now) (state g new.conn.now) _ _ (λ _. ⊥) (λ _ db none. none) (λ _ db none. none) before moved.survives
+
+  pub unchanged_on : (first : State) (next : Option (Bor Row)) → result ≡ Ok next → HasCleanDisk (state g new.conn.now)
+      → IsUnchanged first (state g old.conn.now) → IsUnchanged first (state g new.conn.now)
+  unchanged_on first next is late same =
+      unchanged_then first (state g old.conn.now) (state g new.conn.now) same (rw is at (moved.same late))
+
+  module _ (sql : List ℕ) (params : Row) (first : State) (hasher : Sha256) (was : Hashed g sql params first old.conn.now hasher) (late : HasCleanDisk (state g new.conn.now)) where
+    pub hashed_all : result ≡ Ok None → IsPlain (understood first.now.schema sql) → (digest : List ℕ)
+        → ((message : List ℕ) → Holds256 hasher message → digest ≡ sha256 message) → HashesShown sql params first digest
+    hashed_all is plain digest made =
+        let shown = (rw is at (moved.ok late)) sql params was.0 was.1 in record {
+          rows = was.0;
+          shown = shown_from sql params first (state g old.conn.now) (state g new.conn.now) was.0 was.2 plain shown;
+          is = made (joined was.0) was.3;
+        }
+
+    pub hashed_more : (row : Bor Row) (after : Sha256) → result ≡ Ok (Some row)
+        → ((message : List ℕ) → Holds256 hasher message → Holds256 after (message ++ blob_of row.now)) → Hashed g sql params first new.conn.now after
+    hashed_more row after is more = (
+      was.0 ++ row.now ∷ [],
+      (rw is at (moved.ok late)) sql params was.0 was.1,
+      unchanged_on first (Some row) is late was.2,
+      subst (Holds256 after) (sym (joined_push was.0 row.now)) (more (joined was.0) was.3),
+    )
+
+    pub failed_on : (error : Error) → result ≡ Err error → IsPlain (understood first.now.schema sql)
+        → IsUnchanged first (state g new.conn.now) ⊎ IsRolledBack first (state g new.conn.now)
+    failed_on error is plain =
+        let failed = (rw is at (moved.err late)) sql params was.0 was.1 in
+        failed_then sql params first (state g old.conn.now) (state g new.conn.now) error plain was.2 failed
