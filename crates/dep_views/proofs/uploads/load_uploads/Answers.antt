@@ -1,4 +1,4 @@
-use Rattle.std.proofs.Common.{inl, ◌≡◌, ◌∙◌, ◌++◌, [], ◌∷◌, map, take, get_or, sym, ap}
+use Rattle.std.proofs.Common.{Ok, inl, ◌≡◌, ◌∙◌, ◌++◌, [], ◌∷◌, map, take, get_or, sym, ap}
 use Rattle.std.proofs.lemmas.List.{map_more, take_all}
 use Rattle.sqlite.specs.Held.{state}
 use Rattle.sqlite.proofs.Callers.{unchanged_then}
@@ -19,7 +19,7 @@ uploads-preserved g c =
     let new = state g.S.Store c.load_state.new.tx.conn.now in
     let inv = c.uploads.invariant in
     let earlier = clean_before c.load_state.ensures.stays in (
-      stays_ok (stays_then inv.0 c.in_ok-state.ensures.stays),
+      stays_ok (stays_then {r = Ok c.in_ok-state.state} inv.0 c.in_ok-state.ensures.stays),
       λ is_open clean ours.
           let same = inv.1 is_open (earlier clean) ours in
           unchanged_then old mid new same (c.in_ok-state.ensures.same same.0.is_open clean (still_ours old mid same ours)),
