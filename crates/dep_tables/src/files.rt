@@ -123,17 +123,18 @@ impl FromRow for FileRow {
     ghost is_ours = { IsFileRow };
 
     fn from_row(row: &Row) -> Result<FileRow, Error> {
+        // The texts are read last, so that few are held, and let go, where another column is refused.
         Ok(FileRow {
             file: number_at(row, 0)?,
             object: number_at(row, 1)?,
-            name: text_at(row, 2)?,
-            media: text_at(row, 3)?,
             size: number_at(row, 4)?,
             tag: number_at(row, 5)?,
             deposited: number_at(row, 6)?,
-            behalf: text_or_null_at(row, 7)?,
             by_reference: flag_at(row, 8)?,
             sha256: digest_at(row, 9)?,
+            name: text_at(row, 2)?,
+            media: text_at(row, 3)?,
+            behalf: text_or_null_at(row, 7)?,
         })
     }
 }

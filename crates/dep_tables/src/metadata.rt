@@ -112,8 +112,8 @@ impl FromRow for MetadataRow {
     fn from_row(row: &Row) -> Result<MetadataRow, Error> {
         Ok(MetadataRow {
             object: number_at(row, 0)?,
-            name: text_at(row, 1)?,
             place: number_at(row, 2)?,
+            name: text_at(row, 1)?,
             value: text_at(row, 3)?,
         })
     }
