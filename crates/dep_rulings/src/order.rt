@@ -196,6 +196,7 @@ fn rule_by_room(
     if view.next.has_room(&numbers_for(&decision)) {
         Ok(Ruling::Do(decision))
     } else {
+        drop(decision);
         Ok(Ruling::Refuse(Refusal::StoreFull))
     }
 }

@@ -1,5 +1,5 @@
 use Rattle.std.proofs.Common.{◌∙◌, ◌++◌, [], ◌∷◌, ℕ, List, Vec, Global, take, sym, ap}
-use Rattle.std.proofs.lemmas.List.{append-nil}
+use Rattle.std.proofs.lemmas.List.{append-nil, take_all}
 use Rattle.std.specs.List.{cons_option}
 use Rattle.dep_docs_in.specs.declared.reference.Pointed.{Pointed}
 use Rattle.dep_decisions.specs.Decisions.{upload_number}
@@ -22,3 +22,8 @@ loop-reference-preserved c =
       | in_default w ↦
           ap items w.uploads-is ∙ c.loop-reference.invariant ∙ sym (more ∙ ap pointed w.in_default.is ∙ append-nil before)
     ]
+
+pub returns : goal.returns
+returns c =
+    c.from_vec.ensures ∙ c.loop-reference.invariant
+    ∙ ap uploads_named (take_all c.loop-reference.reference-index c.args.references.now c.loop-reference-test.false)
