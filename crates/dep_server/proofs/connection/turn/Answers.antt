@@ -1,7 +1,8 @@
 use Rattle.std.proofs.Common.{refl, length, drop}
+use denote.Param.Always.{mut_next}
 use Rattle.dep_server.specs.Conversation.{session, wire}
 use Rattle.dep_server.specs.declared.arrived.Arrived.TheVariants.{Open as StaysOpen, Closed as HasClosed, Cut}
-use Rattle.dep_server.proofs.TurnLemmas.{one_turn, no_turn, none_read, has_room}
+use Rattle.dep_server.proofs.TurnLemmas.{one_turn, no_turn, none_read, has_room, kept_room}
 use Rattle.dep_server.proofs.connection.turn.Goals as goal
 use Rattle.dep_server.proofs.connection.turn.Given as given
 
@@ -52,3 +53,43 @@ returns-in-Ok-eq0-clause-turn g c =
           (none_read c.in-Ok-eq0.field-0 c.read.new.buf (g.R.Read.remaining c.args.reader.now) (g.R.Read.remaining c.read.new.self) none c.in-Ok-eq0.ensures.bytes.0),
       c.in-Ok-eq0.ensures.bytes.1 none (has_room c.read.new.buf c.as_mut_slice.result.now c.args.incoming.now.buffer.items c.read.auto.buf c.as_mut_slice.ensures.value c.requires.room),
     )
+
+pub returns-in-Err-clause-room : goal.returns-in-Err-clause-room
+returns-in-Err-clause-room g c =
+    kept_room c.args.incoming.now.buffer.len c.read.new.buf c.as_mut_slice.result.now c.args.incoming.now.buffer.items
+    c.read.auto.buf c.as_mut_slice.ensures.value c.as_mut_slice.ensures.len c.requires.room
+
+pub returns-in-Ok-eq0-clause-room : goal.returns-in-Ok-eq0-clause-room
+returns-in-Ok-eq0-clause-room g c =
+    kept_room c.args.incoming.now.buffer.len c.read.new.buf c.as_mut_slice.result.now c.args.incoming.now.buffer.items
+    c.read.auto.buf c.as_mut_slice.ensures.value c.as_mut_slice.ensures.len c.requires.room
+
+pub returns-in-Open-clause-room : goal.returns-in-Open-clause-room
+returns-in-Open-clause-room g c =
+    kept_room c.args.incoming.now.buffer.len c.read.new.buf c.as_mut_slice.result.now c.args.incoming.now.buffer.items
+    c.read.auto.buf c.as_mut_slice.ensures.value c.as_mut_slice.ensures.len c.requires.room
+
+pub returns-in-Closed-clause-room : goal.returns-in-Closed-clause-room
+returns-in-Closed-clause-room g c =
+    kept_room c.args.incoming.now.buffer.len c.read.new.buf c.as_mut_slice.result.now c.args.incoming.now.buffer.items
+    c.read.auto.buf c.as_mut_slice.ensures.value c.as_mut_slice.ensures.len c.requires.room
+
+pub returns-in-Cut-clause-room : goal.returns-in-Cut-clause-room
+returns-in-Cut-clause-room g c =
+    kept_room c.args.incoming.now.buffer.len c.read.new.buf c.as_mut_slice.result.now c.args.incoming.now.buffer.items
+    c.read.auto.buf c.as_mut_slice.ensures.value c.as_mut_slice.ensures.len c.requires.room
+
+pub returns-in-Open-clause-call : goal.returns-in-Open-clause-call
+returns-in-Open-clause-call g c =
+    mut_next g.C.FnMut c.args.clock.now tt c.clock-moment.result c.clock-moment.new.self c.clock-moment.new.self c.clock-moment.ensures refl
+    c.requires.call
+
+pub returns-in-Closed-clause-call : goal.returns-in-Closed-clause-call
+returns-in-Closed-clause-call g c =
+    mut_next g.C.FnMut c.args.clock.now tt c.clock-moment.result c.clock-moment.new.self c.clock-moment.new.self c.clock-moment.ensures refl
+    c.requires.call
+
+pub returns-in-Cut-clause-call : goal.returns-in-Cut-clause-call
+returns-in-Cut-clause-call g c =
+    mut_next g.C.FnMut c.args.clock.now tt c.clock-moment.result c.clock-moment.new.self c.clock-moment.new.self c.clock-moment.ensures refl
+    c.requires.call
