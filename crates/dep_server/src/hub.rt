@@ -99,9 +99,14 @@ impl<S: Alter> Hub<S> {
     {
         match config.check(alloc) {
             Ok(()) => {}
-            Err(ConfigFault::Memory) => return Err((HubFault::Memory, store)),
-            Err(ConfigFault::Base) => return Err((HubFault::Config, store)),
-            Err(ConfigFault::Limit) => return Err((HubFault::Config, store)),
+            Err(ConfigFault::Memory) => {
+                drop(config);
+                return Err((HubFault::Memory, store));
+            }
+            Err(ConfigFault::Base | ConfigFault::Limit) => {
+                drop(config);
+                return Err((HubFault::Config, store));
+            }
         }
         let Ok(config) = Service::new(alloc, config) else {
             return Err((HubFault::Memory, store));

@@ -93,7 +93,10 @@ impl<S: Alter> Hub<S> {
                 Ok(hub) => Ok(hub),
                 Err((fault, store)) => Err((StartFault::Hub(fault), store.close())),
             },
-            Err((fault, connection)) => Err((StartFault::Open(fault), connection)),
+            Err((fault, connection)) => {
+                drop(config);
+                Err((StartFault::Open(fault), connection))
+            }
         }
     }
 }
