@@ -4,7 +4,6 @@ use Rattle.dep_types.specs.State.{State, tick}
 use Rattle.dep_types.specs.declared.config.Config.{Config}
 use Rattle.dep_types.specs.declared.refusal.Refusal.{Refusal}
 use Rattle.dep_types.specs.declared.refusal.Refusal.TheVariants as why
-use Rattle.dep_decisions.specs.Rules.{refusal}
 use Rattle.dep_decisions.specs.declared.operation.Operation.{Operation}
 use Rattle.dep_answers.specs.Steps.{Stepped, refused_step, is_head}
 use Rattle.dep_answers.proofs.RefusedSteps.{nothing_stored, step_refused}
