@@ -88,9 +88,6 @@ next_block_text = codes "SELECT part, place FROM blocks WHERE kind = ?1 AND owne
 abbrev pub blocks_of_text : List ℕ
 blocks_of_text = codes "SELECT part, place, bytes FROM blocks WHERE kind = ?1 AND owner = ?2 ORDER BY part, place"
 
-abbrev pub part_of_text : List ℕ
-part_of_text = codes "SELECT part, place, bytes FROM blocks WHERE kind = ?1 AND owner = ?2 AND part = ?3 ORDER BY part, place"
-
 abbrev pub delete_blocks_text : List ℕ
 delete_blocks_text = codes "DELETE FROM blocks WHERE kind = ?1 AND owner = ?2"
 
