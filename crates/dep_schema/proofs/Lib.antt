@@ -4,3 +4,4 @@ pub mod BesideRows
 pub mod Version
 pub mod Again
 pub mod Transactions
+pub mod Prepared

@@ -1,5 +1,5 @@
 -- How the version is found.
-use Rattle.std.proofs.Common.{◌≡◌, IsTrue, ◌↔◌, ◌⊎◌, inl, inr, ℕ, pos, List, [], ◌∷◌, map, filter, false, Result, Ok, Err, codes, refl, sym, ap, subst, ◌∙◌, arith}
+use Rattle.std.proofs.Common.{◌≡◌, IsTrue, ◌↔◌, ◌⊎◌, inl, inr, ℕ, pos, List, [], ◌∷◌, map, filter, false, Result, Ok, Err, IsErrAnd, codes, refl, sym, ap, subst, ◌∙◌, arith}
 use Rattle.std.specs.List.Sorted.{IsPermutation}
 use Rattle.std.proofs.lemmas.List.Sorted.{IsPermutation-sym}
 use Rattle.sqlite_tied.specs.Compute.{everything}
@@ -125,6 +125,11 @@ never_named fault made is said = let same : made ≡ UnknownVersion = cc in name
 
 pub never_refused : {A : Type 0} (given : A) (fault : OpenFault) → ◌≡◌ {A = Result A OpenFault} (Ok given) (Err fault) → ⊥
 never_refused given fault said = cc
+
+-- a fault that is passed on is the one that was told
+pub told_as : {A : Type 0} (r : Result A OpenFault) (fault e : OpenFault) → IsErrAnd r (λ x. x ≡ fault) → r ≡ Err e → fault ≡ e
+told_as (Ok x) fault e is said = absurd is
+told_as (Err x) fault e is said = let same : x ≡ e = cc in sym is ∙ same
 
 -- what is committed at the end
 commits_open : (old last : State) → (old.now.schema ≡ no_schema → Sees last first_tables) → (IsOurs old → last.now ≡ old.now) → (LacksFormat old.now.schema → GainsOurs old.now last.now) → (db : Trees) → db ≡ last.now.trees → CommitsBySchema old db

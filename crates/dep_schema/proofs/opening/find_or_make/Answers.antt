@@ -1,42 +1,70 @@
+use Rattle.std.proofs.Common.{Err, inl, inr, ap, refl, subst, ◌∙◌}
+use Rattle.std.proofs.lemmas.Bool.{both_ways}
 use Rattle.std.proofs.lemmas.Result.{IfOk-from_err}
-use Rattle.dep_schema.proofs.Version.{never_named, never_refused}
+use Rattle.sqlite.specs.Effect.{Database}
+use Rattle.sqlite.specs.Held.{state}
+use Rattle.dep_tables.proofs.Chains.{clean_before, stays_then, stays_ok, stays_err}
+use Rattle.dep_schema.specs.Standing.{GainsOurs}
+use Rattle.dep_schema.proofs.Version.{never_named, never_refused, told_as}
 use Rattle.dep_schema.proofs.opening.find_or_make.Goals as goal
 
 -- where the tables were not looked for, nothing is said of an Ok
-pub returns-in_err-find_format-clause-empty : goal.returns-in_err-find_format-clause-empty
-returns-in_err-find_format-clause-empty g c clean inside empty = IfOk-from_err c.from_residual.result _ c.from_residual.ensures.0
+pub returns-in_err-find_format : goal.returns-in_err-find_format
+returns-in_err-find_format g c =
+    let told = c.in_err-find_format.ensures in
+    let fault = c.in_err-find_format.field-0.0 in
+    let result = c.from_residual.result in
+    let is_err = c.from_residual.ensures.0 in
+    let is = told_as result fault _ c.from_residual.ensures.1 in
+    record {
+      empty = λ clean inside empty. IfOk-from_err result _ is_err;
+      ours = λ clean ours. IfOk-from_err result _ is_err;
+      version = λ clean said. (λ empty. told.empty clean empty (is said), λ ours. told.ours clean ours (is said));
+      gains = λ clean inside lacks. IfOk-from_err result _ is_err;
+      lacking = λ clean said lacks. told.lacking clean lacks (is said);
+      stays = stays_err {r = Err fault} is_err told.stays;
+    }
 
-pub returns-in_err-find_format-clause-ours : goal.returns-in_err-find_format-clause-ours
-returns-in_err-find_format-clause-ours g c clean ours = IfOk-from_err c.from_residual.result _ c.from_residual.ensures.0
+-- where they were found, they are ours
+pub returns-then-branch : goal.returns-then-branch
+returns-then-branch g c =
+    let told = c.in_ok-find_format.ensures in
+    let there = c.in_ok-find_format.field-0 in
+    record {
+      empty = λ clean inside empty. absurd (both_ways there (told.empty clean empty) c.if-branch.true);
+      ours = λ clean ours. ((told.ours clean ours).1, (told.same clean (inl ours)).0.now_is);
+      version = λ clean said. absurd (never_refused _ _ said);
+      gains = λ clean inside lacks. absurd (both_ways there (told.lacking clean lacks) c.if-branch.true);
+      lacking = λ clean said lacks. never_refused _ _ said;
+      stays = stays_ok told.stays;
+    }
 
-pub returns-in_err-find_format-clause-gains : goal.returns-in_err-find_format-clause-gains
-returns-in_err-find_format-clause-gains g c clean inside lacks = IfOk-from_err c.from_residual.result _ c.from_residual.ensures.0
+-- where they were made, they were not there
+pub returns-in-Ok : goal.returns-in-Ok
+returns-in-Ok g c =
+    let told = c.in_ok-find_format.ensures in
+    let made = c.in-Ok.ensures in
+    let new = state g.S.Store c.make_tables.new.tx.conn.now in
+    record {
+      empty = λ clean inside empty.
+          let before = clean_before made.stays clean in
+          made.ok clean (told.stays.inside before inside) (ap (λ (d : Database). d.schema) (told.same before (inr empty)).0.now_is ∙ empty);
+      ours = λ clean ours. absurd (both_ways c.in_ok-find_format.field-0 c.if-branch.false (told.ours (clean_before made.stays clean) ours).0);
+      version = λ clean said. absurd (never_refused _ _ said);
+      gains = λ clean inside lacks.
+          let before = clean_before made.stays clean in
+          subst (λ (d : Database). GainsOurs d new.now) (told.left before lacks).0.now_is (made.gains clean (told.stays.inside before inside));
+      lacking = λ clean said lacks. never_refused _ _ said;
+      stays = stays_ok (stays_then told.stays made.stays);
+    }
 
--- where they were not made, neither, and the fault tells no version
-pub returns-in-Err-clause-empty : goal.returns-in-Err-clause-empty
-returns-in-Err-clause-empty g c clean inside empty = tt
-
-pub returns-in-Err-clause-ours : goal.returns-in-Err-clause-ours
-returns-in-Err-clause-ours g c clean ours = tt
-
-pub returns-in-Err-clause-gains : goal.returns-in-Err-clause-gains
-returns-in-Err-clause-gains g c clean inside lacks = tt
-
-pub returns-in-Err-clause-version : goal.returns-in-Err-clause-version
-returns-in-Err-clause-version g c clean said = absurd (never_named c.in-Err.fault c.from.result c.from.ensures said)
-
-pub returns-in-Err-clause-lacking : goal.returns-in-Err-clause-lacking
-returns-in-Err-clause-lacking g c clean said lacks = never_named c.in-Err.fault c.from.result c.from.ensures said
-
--- where it worked, nothing is said of a fault
-pub returns-then-branch-clause-version : goal.returns-then-branch-clause-version
-returns-then-branch-clause-version g c clean said = absurd (never_refused _ _ said)
-
-pub returns-then-branch-clause-lacking : goal.returns-then-branch-clause-lacking
-returns-then-branch-clause-lacking g c clean said lacks = never_refused _ _ said
-
-pub returns-in-Ok-clause-version : goal.returns-in-Ok-clause-version
-returns-in-Ok-clause-version g c clean said = absurd (never_refused _ _ said)
-
-pub returns-in-Ok-clause-lacking : goal.returns-in-Ok-clause-lacking
-returns-in-Ok-clause-lacking g c clean said lacks = never_refused _ _ said
+-- where they were not made, nothing is said of an Ok, and the fault tells no version
+pub returns-in-Err : goal.returns-in-Err
+returns-in-Err g c = record {
+  empty = λ clean inside empty. tt;
+  ours = λ clean ours. tt;
+  version = λ clean said. absurd (never_named c.in-Err.fault c.from.result c.from.ensures said);
+  gains = λ clean inside lacks. tt;
+  lacking = λ clean said lacks. never_named c.in-Err.fault c.from.result c.from.ensures said;
+  stays = stays_err refl (stays_then {r = Err c.in-Err.fault} c.in_ok-find_format.ensures.stays c.in-Err.ensures.stays);
+}

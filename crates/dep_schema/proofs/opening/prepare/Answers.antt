@@ -1,113 +1,100 @@
-use Rattle.std.proofs.Common.{◌≡◌, sym, subst, rules, inl, inr, IsTrue, refl, arith}
-use Rattle.sqlite.specs.Held.{state}
+use Rattle.std.proofs.Common.{◌≡◌, sym, subst, rules, inl, inr, IsTrue, refl, arith, ap, Err}
 use Rattle.std.proofs.lemmas.Result.{IfOk-from_err}
-use Rattle.sqlite.specs.State.{HasCleanDisk, Survives}
-use Rattle.sqlite.proofs.Callers.{survives_begin}
+use Rattle.sqlite.specs.Held.{state}
 use Rattle.sqlite.proofs.StateLemmas.{clean_if_open}
-use Rattle.dep_schema.specs.Standing.{CommitsBySchema, WholeTransaction}
-use Rattle.dep_schema.proofs.Transactions.{begins_open}
-use Rattle.dep_schema.proofs.Version.{survives_open, never_named, never_refused}
+use Rattle.dep_tables.proofs.Chains.{was_clean}
+use Rattle.dep_schema.proofs.Prepared.{AreMade, AreMissed, IsCommitted, IsUncommitted, IsGivenUp, on_err_by}
+use Rattle.dep_schema.proofs.Prepared.{fresh, found, free, beside, opened, crash, fell_back, left, refused, crash_missed}
+use Rattle.dep_schema.proofs.Version.{never_named, never_refused, told_as}
 use Rattle.dep_schema.proofs.opening.prepare.Goals as goal
 
-pub returns-in-Err-clause-crash : goal.returns-in-Err-clause-crash
-returns-in-Err-clause-crash g c =
-    let old = c.args.connection.now in
-    let last = c.find_or_make.new.tx.conn.now in
-    let begun = c.transaction-tx.ensures.begun in
-    let whole = survives_open (state g.S.Store old) (state g.S.Store last) (state g.S.Store c.commit.new.self.0) (survives_begin g.S.Store old (state g.S.Store last) _ (rw begun at c.find_or_make.ensures.stays.survives)) c.commit.ensures.survives
-    (λ clean. search rules) (λ clean. search rules) (λ clean. search rules) in
-    let same : c.commit.new.self.0 ≡ c.connection-2-1.given.0 = search rules in
-    subst (λ h. Survives (state g.S.Store old) (state g.S.Store h) (CommitsBySchema (state g.S.Store old))) same whole
-
-pub returns-in-Ok-clause-crash : goal.returns-in-Ok-clause-crash
-returns-in-Ok-clause-crash g c =
-    let old = c.args.connection.now in
-    let last = c.find_or_make.new.tx.conn.now in
-    let begun = c.transaction-tx.ensures.begun in
-    let whole = survives_open (state g.S.Store old) (state g.S.Store last) (state g.S.Store c.commit.new.self.0) (survives_begin g.S.Store old (state g.S.Store last) _ (rw begun at c.find_or_make.ensures.stays.survives)) c.commit.ensures.survives
-    (λ clean. search rules) (λ clean. search rules) (λ clean. search rules) in
-    let same : c.commit.new.self.0 ≡ c.connection-2-1.given.0 = search rules in
-    subst (λ h. Survives (state g.S.Store old) (state g.S.Store h) (CommitsBySchema (state g.S.Store old))) same whole
-
-pub returns-in_err-find_or_make-clause-refused : goal.returns-in_err-find_or_make-clause-refused
-returns-in_err-find_or_make-clause-refused g c =
-    let old = c.args.connection.now in
-    let inside = c.find_or_make.new.tx.conn.now in
-    let new = c.drop-tx.new.self.0 in
-    let kept = rw c.transaction-tx.ensures.begun at c.in_err-find_or_make.ensures.stays.kept in
-    let known = λ (is_open : IsTrue (state g.S.Store new).is_open).
-    let clean = clean_if_open (g.S.Store.view new.store) (g.met.S.Store.shut_if_dirty new.store) is_open in
-    (kept (omega (arith, clean, c.drop-tx.ensures.survives.clean)) refl).was_open ((c.drop-tx.ensures.undone clean).was_open is_open) in
-    search rules
-
-pub returns-in-Err-clause-refused : goal.returns-in-Err-clause-refused
-returns-in-Err-clause-refused g c =
-    let old = c.args.connection.now in
-    let inside = c.find_or_make.new.tx.conn.now in
-    let new = c.commit.new.self.0 in
-    let kept = rw c.transaction-tx.ensures.begun at c.in_ok-find_or_make.ensures.stays.kept in
-    let known = λ (is_open : IsTrue (state g.S.Store new).is_open).
-    let clean = clean_if_open (g.S.Store.view new.store) (g.met.S.Store.shut_if_dirty new.store) is_open in
-    let whole : WholeTransaction g.S.Store old inside new = record { kept = kept; survives = c.commit.ensures.survives; ends = λ h. inr (inl (c.in-Err.error, c.in-Err.ensures.err h)) } in
-    begins_open g.S.Store old inside new whole clean is_open in
-    search rules
-
 -- where the tables were not found, nothing is said of an Ok
-pub returns-in_err-find_or_make-clause-fresh : goal.returns-in_err-find_or_make-clause-fresh
-returns-in_err-find_or_make-clause-fresh g c clean empty = IfOk-from_err c.from_residual.result _ c.from_residual.ensures.0
-
-pub returns-in_err-find_or_make-clause-found : goal.returns-in_err-find_or_make-clause-found
-returns-in_err-find_or_make-clause-found g c clean ours = IfOk-from_err c.from_residual.result _ c.from_residual.ensures.0
-
-pub returns-in_err-find_or_make-clause-free : goal.returns-in_err-find_or_make-clause-free
-returns-in_err-find_or_make-clause-free g c clean lacks = IfOk-from_err c.from_residual.result _ c.from_residual.ensures.0
-
-pub returns-in_err-find_or_make-clause-beside : goal.returns-in_err-find_or_make-clause-beside
-returns-in_err-find_or_make-clause-beside g c clean lacks has = IfOk-from_err c.from_residual.result _ c.from_residual.ensures.0
-
-pub returns-in_err-find_or_make-clause-opened : goal.returns-in_err-find_or_make-clause-opened
-returns-in_err-find_or_make-clause-opened g c clean = IfOk-from_err c.from_residual.result _ c.from_residual.ensures.0
-
-pub returns-in-Ok-clause-free : goal.returns-in-Ok-clause-free
-returns-in-Ok-clause-free g c clean lacks =
+pub returns-in_err-find_or_make : goal.returns-in_err-find_or_make
+returns-in_err-find_or_make g c =
+    let old = c.args.connection.now in
     let last = c.find_or_make.new.tx.conn.now in
-    let same : c.commit.new.self.0 ≡ c.connection-2-1.given.0 = search rules in
-    let there : HasCleanDisk (state g.S.Store c.commit.new.self.0) = subst (λ h. HasCleanDisk (state g.S.Store h)) (sym same) clean in
-    let sure : HasCleanDisk (state g.S.Store last) = omega (arith, there, c.commit.ensures.survives.clean) in
-    let worked = rw c.transaction-tx.ensures.begun at c.in_ok-find_or_make.ensures in
-    (worked.gains sure refl lacks).free
+    let new = c.connection-1.given.0 in
+    let same : c.drop-tx.new.self.0 ≡ new = search rules in
+    let fault = c.in_err-find_or_make.field-0.0 in
+    let told = c.in_err-find_or_make.ensures in
+    let missed = subst (λ h. AreMissed (state g.S.Store h) (state g.S.Store last) fault) c.transaction-tx.ensures.begun
+    (record {
+      version = λ clean is. told.version clean (ap Err is);
+      lacking = λ clean is. told.lacking clean (ap Err is);
+      kept = told.stays.kept;
+      survives = told.stays.survives;
+    }) in
+    let ended = subst (λ h. IsGivenUp (state g.S.Store last) (state g.S.Store h)) same
+    (record { ended = c.drop-tx.ensures.ended; undone = c.drop-tx.ensures.undone; survives = c.drop-tx.ensures.survives }) in
+    let result = c.from_residual.result in
+    let is_err = c.from_residual.ensures.0 in
+    let before = was_clean (state g.S.Store last) (state g.S.Store new) ended.survives in
+    let sure = clean_if_open (g.S.Store.view new.store) (g.met.S.Store.shut_if_dirty new.store) in
+    record {
+      fresh = λ clean empty. IfOk-from_err result _ is_err;
+      found = λ clean ours. IfOk-from_err result _ is_err;
+      version = λ clean said. missed.version (before clean) (told_as result fault _ c.from_residual.ensures.1 said);
+      lacking = λ clean said. missed.lacking (before clean) (told_as result fault _ c.from_residual.ensures.1 said);
+      free = λ clean lacks. IfOk-from_err result _ is_err;
+      beside = λ clean lacks has. IfOk-from_err result _ is_err;
+      left = λ clean is_open. on_err_by result (left g.S.Store old last new missed.kept ended.survives.clean ended.undone clean is_open);
+      opened = λ clean. IfOk-from_err result _ is_err;
+      refused = λ is_open. on_err_by result (refused g.S.Store old last new missed.kept ended.survives.clean ended.undone sure is_open);
+      mode = ended.ended;
+      crash = crash_missed g.S.Store old last new missed.survives ended.survives;
+    }
 
--- where it worked, nothing is said of a fault, and the other way round
-pub returns-in-Ok-clause-left : goal.returns-in-Ok-clause-left
-returns-in-Ok-clause-left g c clean is_open = tt
-
-pub returns-in-Ok-clause-refused : goal.returns-in-Ok-clause-refused
-returns-in-Ok-clause-refused g c is_open = tt
-
-pub returns-in-Ok-clause-version : goal.returns-in-Ok-clause-version
-returns-in-Ok-clause-version g c clean said = absurd (never_refused _ _ said)
-
-pub returns-in-Ok-clause-lacking : goal.returns-in-Ok-clause-lacking
-returns-in-Ok-clause-lacking g c clean said lacks = never_refused _ _ said
-
-pub returns-in-Err-clause-fresh : goal.returns-in-Err-clause-fresh
-returns-in-Err-clause-fresh g c clean empty = tt
-
-pub returns-in-Err-clause-found : goal.returns-in-Err-clause-found
-returns-in-Err-clause-found g c clean ours = tt
-
-pub returns-in-Err-clause-free : goal.returns-in-Err-clause-free
-returns-in-Err-clause-free g c clean lacks = tt
-
-pub returns-in-Err-clause-beside : goal.returns-in-Err-clause-beside
-returns-in-Err-clause-beside g c clean lacks has = tt
-
-pub returns-in-Err-clause-opened : goal.returns-in-Err-clause-opened
-returns-in-Err-clause-opened g c clean = tt
+-- where it worked, nothing is said of a fault
+pub returns-in-Ok : goal.returns-in-Ok
+returns-in-Ok g c =
+    let old = c.args.connection.now in
+    let last = c.find_or_make.new.tx.conn.now in
+    let new = c.connection-2-1.given.0 in
+    let same : c.commit.new.self.0 ≡ new = search rules in
+    let told = c.in_ok-find_or_make.ensures in
+    let stays = told.stays in
+    let made = subst (λ h. AreMade (state g.S.Store h) (state g.S.Store last)) c.transaction-tx.ensures.begun
+    (record { empty = told.empty; ours = told.ours; gains = told.gains; inside = stays.inside; kept = stays.kept; survives = stays.survives }) in
+    let ended = subst (λ h. IsCommitted (state g.S.Store last) (state g.S.Store h)) same
+    (record { ended = c.commit.ensures.ended; shows = λ clean. (c.in-Ok.ensures.ok clean).1; survives = c.commit.ensures.survives }) in
+    record {
+      fresh = fresh g.S.Store old last new made ended;
+      found = found g.S.Store old last new made ended;
+      version = λ clean said. absurd (never_refused _ _ said);
+      lacking = λ clean said lacks. never_refused _ _ said;
+      free = free g.S.Store old last new made ended;
+      beside = beside g.S.Store old last new made ended;
+      left = λ clean is_open. tt;
+      opened = opened g.S.Store old last new made ended;
+      refused = λ is_open. tt;
+      mode = ended.ended;
+      crash = crash g.S.Store old last new made ended.survives;
+    }
 
 -- a commit that failed is told as no version
-pub returns-in-Err-clause-version : goal.returns-in-Err-clause-version
-returns-in-Err-clause-version g c clean said = absurd (never_named c.fault_of.result c.from.result c.from.ensures said)
-
-pub returns-in-Err-clause-lacking : goal.returns-in-Err-clause-lacking
-returns-in-Err-clause-lacking g c clean said lacks = never_named c.fault_of.result c.from.result c.from.ensures said
+pub returns-in-Err : goal.returns-in-Err
+returns-in-Err g c =
+    let old = c.args.connection.now in
+    let last = c.find_or_make.new.tx.conn.now in
+    let new = c.connection-2-1.given.0 in
+    let same : c.commit.new.self.0 ≡ new = search rules in
+    let told = c.in_ok-find_or_make.ensures in
+    let stays = told.stays in
+    let made = subst (λ h. AreMade (state g.S.Store h) (state g.S.Store last)) c.transaction-tx.ensures.begun
+    (record { empty = told.empty; ours = told.ours; gains = told.gains; inside = stays.inside; kept = stays.kept; survives = stays.survives }) in
+    let ended = subst (λ h. IsUncommitted (state g.S.Store last) (state g.S.Store h) c.in-Err.error) same
+    (record { ended = c.commit.ensures.ended; failed = λ clean. c.in-Err.ensures.err clean; survives = c.commit.ensures.survives }) in
+    let undone = fell_back g.S.Store old last new made c.in-Err.error ended in
+    record {
+      fresh = λ clean empty. tt;
+      found = λ clean ours. tt;
+      version = λ clean said. absurd (never_named c.fault_of.result c.from.result c.from.ensures said);
+      lacking = λ clean said lacks. never_named c.fault_of.result c.from.result c.from.ensures said;
+      free = λ clean lacks. tt;
+      beside = λ clean lacks has. tt;
+      left = left g.S.Store old last new made.kept ended.survives.clean undone;
+      opened = λ clean. tt;
+      refused = refused g.S.Store old last new made.kept ended.survives.clean undone (clean_if_open (g.S.Store.view new.store) (g.met.S.Store.shut_if_dirty new.store));
+      mode = ended.ended;
+      crash = crash g.S.Store old last new made ended.survives;
+    }
