@@ -1,5 +1,5 @@
 -- How the texts that make the tables are understood where there are tables of others.
-use Rattle.std.proofs.Common.{◌≡◌, ℕ, Bool, true, false, List, [], if◌then◌else◌, Option, None, Some, Ok, Err, codes, refl, sym, subst, ◌∙◌}
+use Rattle.std.proofs.Common.{◌≡◌, ℕ, Bool, true, false, List, [], ◌∷◌, if◌then◌else◌, Option, None, Some, Result, Ok, Err, OnOk, codes, refl, sym, subst, ◌∙◌}
 use Rattle.std.specs.Option.{option_or}
 use Rattle.std.specs.Prelude.{is_some}
 use Rattle.sqlite_tied.specs.Compute.{everything}
@@ -8,6 +8,7 @@ use Rattle.sqlite.specs.Table.{Table}
 use Rattle.sqlite.specs.Listing.{understood, listing_schema, misses_table, if_select}
 use Rattle.sqlite.specs.Command.{Command}
 use Rattle.sqlite.specs.Command.TheVariants.{CreateTable, Nothing}
+use Rattle.sqlite.specs.Effect.{Database}
 use Rattle.sqlite.specs.State.{State, ExecutesInside}
 use Rattle.sqlite.proofs.Callers.{IsPlain, command_of, statement_of}
 use Rattle.sqlite_schema.specs.Names.{table_named, index_named, view_named}
@@ -16,8 +17,9 @@ use Rattle.sqlite_resolve.specs.declared.compiled.Compiled.{Compiled}
 use Rattle.sqlite_syntax.specs.declared.statement.Parsed.{Parsed}
 use Rattle.sqlite_resolve.specs.Lowering.{Checked, and_then}
 use Rattle.sqlite_resolve.specs.Compile.{compiled, first, is_attached, with_command, table_defined_by}
-use Rattle.dep_statements.specs.Adding.{Adds}
+use Rattle.dep_statements.specs.Adding.{Adds, AddsAll}
 use Rattle.dep_statements.proofs.Adding.{IsMaking, adds}
+use Rattle.dep_tables.proofs.Results.{ok_then}
 use Rattle.dep_tables.specs.Schema.{format_table, state_table, objects_table, metadata_table, files_table, uploads_table, segments_table, timed_out_table, blocks_table}
 use Rattle.dep_schema.specs.Texts.{create_format_text, create_state_text, create_objects_text, create_metadata_text, create_files_text, create_uploads_text, create_segments_text, create_timed_out_text, create_blocks_text}
 
@@ -213,3 +215,8 @@ blocks_defined = refl
 
 pub adds_blocks : (old new : State) (count : ℕ) → ExecutesInside 0 create_blocks_text [] old new (Ok count) → Adds blocks_table old.now new.now
 adds_blocks old new count h = adds_table (codes "blocks") create_blocks_text blocks_table blocks_by blocks_makes blocks_defined refl old new count h
+
+-- three tables, one after another
+pub three_added : {A E : Type 0} (r : Result A E) (first second third : Table) (a b c d : Database) → Adds first a b → Adds second b c → OnOk r (Adds third c d)
+    → OnOk r (AddsAll (first ∷ second ∷ third ∷ []) a d)
+three_added r first second third a b c d one two three = ok_then r three (λ last. (b, one, (c, two, (d, last, refl))))

@@ -1,9 +1,10 @@
-use Rattle.std.proofs.Common.{inl, inr, refl}
+use Rattle.std.proofs.Common.{inl, inr, refl, subst, sym}
+use Rattle.std.proofs.lemmas.Bool.{both_ways}
 use Rattle.sqlite.specs.Held.{state}
 use Rattle.dep_statements.proofs.Asked.{asks_on}
 use Rattle.dep_tables.proofs.Asking.{same_stays, shown_stays, asks_stay}
 use Rattle.dep_schema.specs.Texts.{find_format_text}
-use Rattle.dep_schema.proofs.Version.{found_version, find_stays, none_shown, ours_asked, missing_only, named_fault, empty_lacks}
+use Rattle.dep_schema.proofs.Version.{IsKnown, found_version, find_stays, none_shown, ours_asked, missing_only, named_fault, empty_lacks}
 use Rattle.dep_schema.proofs.opening.find_format.Goals as goal
 
 pub returns-then-are_known-clause-empty : goal.returns-then-are_known-clause-empty
@@ -11,7 +12,7 @@ returns-then-are_known-clause-empty g c clean empty = absurd (none_shown (state 
 
 pub returns-then-are_known-clause-ours : goal.returns-then-are_known-clause-ours
 returns-then-are_known-clause-ours g c clean ours =
-    (refl, (found_version (state g.S.Store c.args.tx.now.conn.now) (state g.S.Store c.query_all.new.self.conn.now) _ ours (c.in-Ok.ensures.ok clean)).0 (rw c.as_slice.ensures.value at (c.are_known.ensures.0 c.if-are_known.true)))
+    (refl, (found_version (state g.S.Store c.args.tx.now.conn.now) (state g.S.Store c.query_all.new.self.conn.now) _ ours (c.in-Ok.ensures.ok clean)).0 (subst IsKnown c.as_slice.ensures.value (c.are_known.ensures.0 c.if-are_known.true)))
 
 pub returns-then-are_known-clause-same : goal.returns-then-are_known-clause-same
 returns-then-are_known-clause-same g c clean either = elim either [
@@ -28,9 +29,7 @@ returns-in-Ok-clause-empty g c clean empty said = none_shown (state g.S.Store c.
 pub returns-in-Ok-clause-ours : goal.returns-in-Ok-clause-ours
 returns-in-Ok-clause-ours g c clean ours said version =
     let known = (found_version (state g.S.Store c.args.tx.now.conn.now) (state g.S.Store c.query_all.new.self.conn.now) _ ours (c.in-Ok.ensures.ok clean)).1 version in
-    let met = c.are_known.ensures.1 (rw c.as_slice.ensures.value known) in
-    let not = c.if-are_known.false in
-    cc
+    both_ways c.are_known.result c.if-are_known.false (c.are_known.ensures.1 (subst IsKnown (sym c.as_slice.ensures.value) known))
 
 pub returns-in-Ok-clause-stays : goal.returns-in-Ok-clause-stays
 returns-in-Ok-clause-stays g c = shown_stays g.S.Store c.args.tx.now.conn c.query_all.new.self.conn c.query_all.ensures.same_reference c.query_all.ensures.survives find_format_text _ _ c.in-Ok.ensures.ok
@@ -51,8 +50,7 @@ returns-then-is_missing-clause-stays g c =
 pub returns-in-Err-SqlInputError-clause-empty : goal.returns-in-Err-SqlInputError-clause-empty
 returns-in-Err-SqlInputError-clause-empty g c clean empty said =
     let missing = c.is_missing.ensures.1 (missing_only (state g.S.Store c.args.tx.now.conn.now) (state g.S.Store c.query_all.new.self.conn.now) _ _ (empty_lacks _ empty) (c.in-Err-SqlInputError.ensures.err clean) c.in-Err-SqlInputError.field-0-is) in
-    let not = c.if-is_missing.false in
-    cc
+    both_ways c.is_missing.result c.if-is_missing.false missing
 
 pub returns-in-Err-SqlInputError-clause-ours : goal.returns-in-Err-SqlInputError-clause-ours
 returns-in-Err-SqlInputError-clause-ours g c clean ours said version =
@@ -79,8 +77,7 @@ returns-then-is_missing-clause-left g c clean lacks =
 pub returns-in-Err-SqlInputError-clause-lacking : goal.returns-in-Err-SqlInputError-clause-lacking
 returns-in-Err-SqlInputError-clause-lacking g c clean lacks said =
     let missing = c.is_missing.ensures.1 (missing_only (state g.S.Store c.args.tx.now.conn.now) (state g.S.Store c.query_all.new.self.conn.now) _ _ lacks (c.in-Err-SqlInputError.ensures.err clean) c.in-Err-SqlInputError.field-0-is) in
-    let not = c.if-is_missing.false in
-    cc
+    both_ways c.is_missing.result c.if-is_missing.false missing
 
 pub returns : goal.returns
 returns g c = record {
