@@ -39,4 +39,10 @@ returns-in-Ok-push g c =
 pub returns-in-Err-push : goal.returns-in-Err-push
 returns-in-Err-push g c =
     let told = c.in-Ok.ensures in
-    record { notes = λ clean ours. tt; same = λ clean ours. tt; err = λ clean ours is_open. inl (told.same clean ours); clean = told.clean; survives = told.survives }
+    record {
+      notes = λ clean ours. tt;
+      same = λ clean ours. tt;
+      err = λ clean ours is_open. inl (told.same clean ours);
+      clean = told.clean;
+      survives = told.survives;
+    }
