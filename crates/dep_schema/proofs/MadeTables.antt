@@ -217,6 +217,6 @@ pub adds_blocks : (old new : State) (count : ℕ) → ExecutesInside 0 create_bl
 adds_blocks old new count h = adds_table (codes "blocks") create_blocks_text blocks_table blocks_by blocks_makes blocks_defined refl old new count h
 
 -- three tables, one after another
-pub three_added : {A E : Type 0} (r : Result A E) (first second third : Table) (a b c d : Database) → Adds first a b → Adds second b c → OnOk r (Adds third c d)
-    → OnOk r (AddsAll (first ∷ second ∷ third ∷ []) a d)
+pub three_added : {A E : Type 0} (r : Result A E) (first second third : Table) (a b c d : Database) → Adds first a b → Adds second b c
+    → OnOk r (Adds third c d) → OnOk r (AddsAll (first ∷ second ∷ third ∷ []) a d)
 three_added r first second third a b c d one two three = ok_then r three (λ last. (b, one, (c, two, (d, last, refl))))

@@ -15,7 +15,8 @@ returns g c =
           let after_one = clean_before second.stays after_two in
           let inside_one = first.stays.inside after_one inside in
           let inside_two = second.stays.inside after_two inside_one in
-          three_added c.create_objects.result _ _ _ _ _ _ _ (first.adds after_one inside) (second.adds after_two inside_one) (third.adds clean inside_two);
+          three_added c.create_objects.result _ _ _ _ _ _ _
+          (first.adds after_one inside) (second.adds after_two inside_one) (third.adds clean inside_two);
       stays = stays_then first.stays (stays_then second.stays third.stays);
     }
 
@@ -23,12 +24,16 @@ returns g c =
 pub returns-in_err-create_format : goal.returns-in_err-create_format
 returns-in_err-create_format g c =
     let is_err = c.from_residual.ensures.0 in
-    record { adds = λ clean inside. IfOk-from_err c.from_residual.result _ is_err; stays = stays_err {r = Err c.in_err-create_format.field-0.0} is_err c.in_err-create_format.ensures.stays }
+    record {
+      adds = λ clean inside. IfOk-from_err c.from_residual.result _ is_err;
+      stays = stays_err {r = Err c.in_err-create_format.field-0.0} is_err c.in_err-create_format.ensures.stays;
+    }
 
 pub returns-in_err-create_state : goal.returns-in_err-create_state
 returns-in_err-create_state g c =
     let is_err = c.from_residual-in_err-create_state.ensures.0 in
     record {
       adds = λ clean inside. IfOk-from_err c.from_residual-in_err-create_state.result _ is_err;
-      stays = stays_err is_err (stays_then {r = Err c.in_err-create_state.field-0.0} c.in_ok-create_format.ensures.stays c.in_err-create_state.ensures.stays);
+      stays = stays_err is_err
+          (stays_then {r = Err c.in_err-create_state.field-0.0} c.in_ok-create_format.ensures.stays c.in_err-create_state.ensures.stays);
     }

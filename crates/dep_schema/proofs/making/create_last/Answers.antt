@@ -15,7 +15,8 @@ returns g c =
           let after_one = clean_before second.stays after_two in
           let inside_one = first.stays.inside after_one inside in
           let inside_two = second.stays.inside after_two inside_one in
-          three_added c.create_blocks.result _ _ _ _ _ _ _ (first.adds after_one inside) (second.adds after_two inside_one) (third.adds clean inside_two);
+          three_added c.create_blocks.result _ _ _ _ _ _ _
+          (first.adds after_one inside) (second.adds after_two inside_one) (third.adds clean inside_two);
       stays = stays_then first.stays (stays_then second.stays third.stays);
     }
 
@@ -23,12 +24,16 @@ returns g c =
 pub returns-in_err-create_segments : goal.returns-in_err-create_segments
 returns-in_err-create_segments g c =
     let is_err = c.from_residual.ensures.0 in
-    record { adds = λ clean inside. IfOk-from_err c.from_residual.result _ is_err; stays = stays_err {r = Err c.in_err-create_segments.field-0.0} is_err c.in_err-create_segments.ensures.stays }
+    record {
+      adds = λ clean inside. IfOk-from_err c.from_residual.result _ is_err;
+      stays = stays_err {r = Err c.in_err-create_segments.field-0.0} is_err c.in_err-create_segments.ensures.stays;
+    }
 
 pub returns-in_err-create_timed_out : goal.returns-in_err-create_timed_out
 returns-in_err-create_timed_out g c =
     let is_err = c.from_residual-in_err-create_timed_out.ensures.0 in
     record {
       adds = λ clean inside. IfOk-from_err c.from_residual-in_err-create_timed_out.result _ is_err;
-      stays = stays_err is_err (stays_then {r = Err c.in_err-create_timed_out.field-0.0} c.in_ok-create_segments.ensures.stays c.in_err-create_timed_out.ensures.stays);
+      stays = stays_err is_err
+          (stays_then {r = Err c.in_err-create_timed_out.field-0.0} c.in_ok-create_segments.ensures.stays c.in_err-create_timed_out.ensures.stays);
     }

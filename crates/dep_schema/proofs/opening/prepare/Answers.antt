@@ -94,7 +94,8 @@ returns-in-Err g c =
       beside = λ clean lacks has. tt;
       left = left g.S.Store old last new made.kept ended.survives.clean undone;
       opened = λ clean. tt;
-      refused = refused g.S.Store old last new made.kept ended.survives.clean undone (clean_if_open (g.S.Store.view new.store) (g.met.S.Store.shut_if_dirty new.store));
+      refused = refused g.S.Store old last new made.kept ended.survives.clean undone
+          (clean_if_open (g.S.Store.view new.store) (g.met.S.Store.shut_if_dirty new.store));
       mode = ended.ended;
       crash = crash g.S.Store old last new made ended.survives;
     }
