@@ -27,6 +27,10 @@ pub if_err_is : {A : Type 0} (P : StoreFault → Type 0) (r : Result A StoreFaul
 if_err_is P (Ok x) fault is p = tt
 if_err_is P (Err e) fault is p = subst P (sym is) p
 
+-- what was Ok has no fault
+pub never_failed : {A E P : Type 0} (x : A) (e : E) → ◌≡◌ {A = Result A E} (Ok x) (Err e) → P
+never_failed x e same = absurd (cc)
+
 module _ {S : Type 0} (g : Ghosts S) (old mid new : Held S) (since : Survives (state g old) (state g mid) (λ _. ⊥)) where
   -- a statement fails at once
   pub fails_then : (fails : db.State → db.State → StoreFault → Type 0) (fault : StoreFault) → fails (state g mid) (state g new) fault → FailsSince g fails old new fault

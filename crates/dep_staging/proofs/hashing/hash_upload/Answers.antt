@@ -18,7 +18,7 @@ use Rattle.dep_files.proofs.Results.{still_ours, same_tables}
 use Rattle.dep_staging.proofs.Chains.{fails_reading}
 use Rattle.dep_staging.specs.Causes.{FailsToHash}
 use Rattle.dep_staging.specs.Causes.FailsToHash.{segments}
-use Rattle.dep_staging.proofs.Causes.{fails_then, fails_later, survives_itself}
+use Rattle.dep_staging.proofs.Causes.{fails_then, fails_later, survives_itself, if_err_is}
 use Rattle.dep_staging.proofs.Hashed.{of_entry, entry_of, segment_is, storable_segment}
 use Rattle.dep_staging.proofs.hashing.hash_upload.Goals as goal
 
@@ -81,9 +81,9 @@ returns-in_err-hash_segment-clause-err g c clean inside ours is_open =
 pub returns-in_err-rows-clause-cause : goal.returns-in_err-rows-clause-cause
 returns-in_err-rows-clause-cause g c clean ours s are storable =
     let old = c.args.tx.now.conn.now in
-    let known = fails_then g.S.Store old old c.segments_of.new.tx.conn.now (survives_itself (state g.S.Store old)) (FailsToHash c.args.upload) _
-    (segments (c.in_err-rows.ensures.cause storable.upload clean)) in
-    search rules
+    if_err_is _ c.from_residual.result c.in_err-rows.field-0.0 c.from_residual.ensures.1
+    (fails_then g.S.Store old old c.segments_of.new.tx.conn.now (survives_itself (state g.S.Store old)) (FailsToHash c.args.upload) _
+    (segments (c.in_err-rows.ensures.cause storable.upload clean)))
 
 pub returns-in_err-hash_segment-clause-cause : goal.returns-in_err-hash_segment-clause-cause
 returns-in_err-hash_segment-clause-cause g c clean ours s are storable =
@@ -103,9 +103,11 @@ returns-in_err-hash_segment-clause-cause g c clean ours s are storable =
     (c.as_slice-row-items.ensures.value ∙ listed) c.rows-test.true in
     let its = segment_is s u c.rows.row-index _ e in
     let stays = stays_then c.in_ok-rows.ensures.stays inv.0 in
-    let known = fails_later g.S.Store old mid new stays.survives _ (FailsToHash u) (λ at now fault failed. subst (λ k. FailsToHash k at now fault) (ap (λ (r : SegmentRow). r.upload) e.is) failed) _
-    (c.in_err-hash_segment.ensures.cause clean (still_ours (state g.S.Store old) (state g.S.Store mid) same ours) same.0.is_open s are_mid e.bytes its (storable_segment s u c.rows.row-index _ storable e)) in
-    search rules
+    if_err_is _ c.from_residual-in_err-hash_segment.result c.in_err-hash_segment.field-0.0 c.from_residual-in_err-hash_segment.ensures.1
+    (fails_later g.S.Store old mid new stays.survives _ (FailsToHash u)
+    (λ at now fault failed. subst (λ k. FailsToHash k at now fault) (ap (λ (r : SegmentRow). r.upload) e.is) failed) _
+    (c.in_err-hash_segment.ensures.cause clean (still_ours (state g.S.Store old) (state g.S.Store mid) same ours) same.0.is_open
+    s are_mid e.bytes its (storable_segment s u c.rows.row-index _ storable e)))
 
 pub returns-clause-stays : goal.returns-clause-stays
 returns-clause-stays g c = stays_ok (stays_then c.in_ok-rows.ensures.stays c.rows.invariant.0)

@@ -6,7 +6,7 @@ use Rattle.dep_files.proofs.Results.{fails_behind}
 use Rattle.dep_staging.proofs.UploadCalls.{dropped}
 use Rattle.dep_staging.specs.Causes.{FailsToDrop}
 use Rattle.dep_staging.specs.Causes.FailsToDrop.{blocks, segments, row}
-use Rattle.dep_staging.proofs.Causes.{fails_then, if_err_then, survives_itself, if_err_is}
+use Rattle.dep_staging.proofs.Causes.{fails_then, if_err_then, survives_itself, if_err_is, never_failed}
 use Rattle.dep_staging.proofs.uploads.drop_upload.Goals as goal
 
 pub returns-clause-map : goal.returns-clause-map
@@ -48,10 +48,10 @@ returns-clause-cause g c storable clean inside =
     (λ fault failed. fails_then g.S.Store old two new stays.survives (FailsToDrop c.args.upload) fault (row failed))
 
 pub returns-in_err-delete_segments-clause-numbers : goal.returns-in_err-delete_segments-clause-numbers
-returns-in_err-delete_segments-clause-numbers g c great = absurd (let never = (c.in_ok-delete_blocks.ensures.numbers great).0 in cc)
+returns-in_err-delete_segments-clause-numbers g c great = never_failed _ _ (c.in_ok-delete_blocks.ensures.numbers great).0
 
 pub returns-clause-numbers : goal.returns-clause-numbers
-returns-clause-numbers g c great = absurd (let never = (c.in_ok-delete_blocks.ensures.numbers great).0 in cc)
+returns-clause-numbers g c great = never_failed _ _ (c.in_ok-delete_blocks.ensures.numbers great).0
 
 pub returns-in_err-delete_segments-clause-stays : goal.returns-in_err-delete_segments-clause-stays
 returns-in_err-delete_segments-clause-stays g c =
