@@ -1,4 +1,4 @@
-use Rattle.std.proofs.Common.{◌≡◌, sym, subst, rules, inl, inr, IsTrue, refl, arith, ap, Err}
+use Rattle.std.proofs.Common.{◌≡◌, subst, rules, ap, Err}
 use Rattle.std.proofs.lemmas.Result.{IfOk-from_err}
 use Rattle.sqlite.specs.Held.{state}
 use Rattle.sqlite.proofs.StateLemmas.{clean_if_open}
