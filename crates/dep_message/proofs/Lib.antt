@@ -5,3 +5,4 @@ pub mod Bodies
 pub mod SearchOn
 pub mod Keeping
 pub mod Chunks
+pub mod Taking
