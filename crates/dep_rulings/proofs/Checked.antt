@@ -4,7 +4,9 @@ use Rattle.std.proofs.lemmas.List.{take_more}
 use Rattle.std.proofs.lemmas.List.Elements.{filter_map-append}
 use Rattle.std.specs.Prelude.{IfSome}
 use Rattle.std.specs.List.{cons_option}
+use Rattle.dep_types.specs.Maps.{first_of}
 use Rattle.dep_types.specs.declared.config.Config.{Config}
+use Rattle.dep_types.specs.declared.refusal.Refusal.{Refusal}
 use Rattle.dep_fixity.specs.Fixity.{digests_of}
 use Rattle.dep_fixity.specs.declared.field.DigestList.{DigestList}
 use Rattle.dep_fields.specs.declared.field.Field.{Field}
@@ -15,10 +17,12 @@ use Rattle.dep_docs_in.specs.declared.reference.Reference.{Reference}
 use Rattle.dep_decisions.specs.Decisions.{references_by, references_in, upload_number}
 use Rattle.dep_decisions.specs.Kinds.{kind_of}
 use Rattle.dep_decisions.specs.Purposes.{purpose_of}
+use Rattle.dep_decisions.specs.Rules.{digest_rule}
 use Rattle.dep_decisions.specs.declared.operation.Operation.{Operation}
+use Rattle.dep_decisions.specs.declared.purpose.Purpose.{Purpose}
 use Rattle.dep_rulings.specs.Checks.{IsChecked, IsCheckedBy}
-use Rattle.dep_decisions.specs.ContentRows.{digests_if_promised, purpose_in}
-use Rattle.dep_rulings.specs.Rows.{content_by, content_refusal, has_content, references_for}
+use Rattle.dep_decisions.specs.ContentRows.{digests_if_promised, fields_refusal, purpose_in}
+use Rattle.dep_rulings.specs.Rows.{content_by, content_refusal, document_by, has_content, references_for, size_by}
 use Rattle.dep_rulings.specs.Views.{uploads_named}
 use Rattle.dep_rulings.specs.declared.order.Checked.{Checked}
 use Rattle.dep_rulings.specs.declared.order.Checked.TheVariants.{Refused, Passed}
@@ -47,6 +51,14 @@ read_for_is config op (Some (of.Segment k)) = refl
 pub references_read_for : (config : Config) (op : Operation) → references_for config op (purpose_in op) ≡ references_in config op
 unfolding references_in
 references_read_for config op = read_for_is config op (kind_of op)
+
+-- the rules on a content, by what each comes to at its purpose
+pub content_told : (config : Config) (view : View) (op : Operation) (purpose : Option Purpose) (fields digest document size : Option Refusal) → purpose ≡ purpose_in op
+    → fields ≡ fields_refusal op → digest ≡ digest_rule op → document ≡ document_by view op purpose → size ≡ size_by config view op purpose
+    → content_by config view op (purpose_in op) ≡ first_of (fields ∷ digest ∷ document ∷ size ∷ [])
+unfolding content_by
+content_told config view op purpose fields digest document size at a b c d =
+    ap (content_by config view op) (sym at) ∙ (λ i. first_of (sym a i ∷ sym b i ∷ sym c i ∷ sym d i ∷ []))
 
 -- a method with a content is checked by its rules
 pub checked_by : (config : Config) (view : View) (op : Operation) (checked : Checked) → has_content op.target.method ≡ true → IsCheckedBy config view op checked → IsChecked config view op checked

@@ -112,14 +112,17 @@ fn check_rows(
         return Ok(Checked::Refused(refusal));
     }
     let digests = digests_if_promised(operation);
-    if let Some(refusal) = digest_row(operation, digests) {
+    let mismatch = digest_row(operation, digests);
+    if let Some(refusal) = mismatch {
         return Ok(Checked::Refused(refusal));
     }
     let metadata = metadata_of(alloc, operation, purpose)?;
     if let Some(refusal) = document_row(alloc, view, operation, purpose, metadata.is_some())? {
+        drop(metadata);
         return Ok(Checked::Refused(refusal));
     }
     if let Some(refusal) = size_row(config, view, operation, purpose) {
+        drop(metadata);
         return Ok(Checked::Refused(refusal));
     }
     Ok(Checked::Passed(ReadContent { metadata, digests }))

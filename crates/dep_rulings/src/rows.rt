@@ -159,7 +159,9 @@ fn live_row(upload: &LiveUpload, segment: u64, content: &Octets) -> Option<Refus
     if segment < 1 || segment > row.count || is_received(upload, segment) {
         return Some(Refusal::UnexpectedSegment);
     }
-    if content.as_slice().len() as u64 != row_length(row, segment) {
+    let length = content.as_slice().len() as u64;
+    let expected = row_length(row, segment);
+    if length != expected {
         return Some(Refusal::InvalidSegmentSize);
     }
     None
