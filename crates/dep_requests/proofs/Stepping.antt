@@ -1,5 +1,6 @@
 -- What a request's step is, by the ruling on it.
 use Rattle.std.proofs.Common.{◌≡◌, ℕ, Option, Some, None, Result, Ok, Err, IfOk, OnOk, IsTrue, true, min, refl, sym, ap, subst, ◌∙◌, arith}
+use Rattle.std.specs.Borrow.{MutBor}
 use Rattle.sqlite.specs.Effect.{Database}
 use Rattle.sqlite.specs.State as db
 use Rattle.sqlite.specs.State.{HasCleanDisk, IsUnchanged}
@@ -30,9 +31,12 @@ use Rattle.dep_answers.specs.declared.performed.Delivery.{Delivery}
 use Rattle.dep_answers.specs.declared.performed.Performed.{Performed}
 use Rattle.dep_answers.specs.declared.subject.Shown.{Shown}
 use Rattle.dep_answers.specs.declared.subject.Subject.{Subject}
+use Rattle.dep_tables.specs.Clauses.{StaysWithin}
 use Rattle.dep_tables.specs.Tables.{tables_in, IsOurs}
+use Rattle.dep_tables.proofs.Results.{if_ok}
 use Rattle.dep_row_maps.specs.TablesAre.{TablesAre}
 use Rattle.dep_row_maps.specs.Clauses.{FromMaps, SeesState}
+use Rattle.dep_staging.proofs.Causes.{survives_itself}
 use Rattle.dep_requests.specs.Standing.{StandsFor}
 use Rattle.dep_requests.specs.Performing.{Performs}
 use Rattle.dep_requests.specs.Transactions.{OverStates}
@@ -46,6 +50,15 @@ step_sound config s op fit sound = either (refusal config s op) refl
     either : (found : Option Refusal) → refusal config s op ≡ found → IsSound (step_by config s op found).state
     either None e = effect_sound config s op fit e sound
     either (Some r) e = sound
+
+-- nothing was done in the transaction
+pub stays_put : {S A E : Type 0} (g : Ghosts S) (conn : MutBor (Held S)) (r : Result A E) → StaysWithin g conn conn r
+stays_put g conn r = record {
+  same_reference = refl;
+  survives = survives_itself (state g conn.now);
+  inside = λ clean inside. if_ok r inside;
+  kept = λ clean inside. record { was_open = λ is_open. is_open; committed = λ is_open. refl };
+}
 
 -- the same tables are of the same state
 pub sees_still : (old new : db.State) (s : State) → new.now ≡ old.now → SeesState old s → SeesState new s

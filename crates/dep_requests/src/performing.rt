@@ -58,10 +58,14 @@ fn rule<S: Alter>(
         Err(AllocError) => return Err(StoreFault::Memory),
     };
     let view = load_view(tx, alloc, touched)?;
-    match decide(alloc, config, &view, operation) {
-        Ok(ruling) => Ok(Ruled { view, ruling }),
-        Err(AllocError) => Err(StoreFault::Memory),
-    }
+    let ruling = match decide(alloc, config, &view, operation) {
+        Ok(ruling) => ruling,
+        Err(AllocError) => {
+            drop(view);
+            return Err(StoreFault::Memory);
+        }
+    };
+    Ok(Ruled { view, ruling })
 }
 
 /// How the reply to a request goes out, at this clock. Where the clock lies behind the greatest moment, the reply tells that one.

@@ -1,5 +1,6 @@
 use Rattle.sqlite.specs.Held.{state}
 use Rattle.dep_tables.proofs.Chains.{clean_before, stays_then}
+use Rattle.dep_changes.proofs.Chains.{ours_then}
 use Rattle.dep_requests.proofs.Stepping.{sees_still}
 use Rattle.dep_requests.proofs.performing.answer.Goals as goal
 
@@ -14,3 +15,7 @@ returns-clause-map g c clean within ours s are sound fit =
 
 pub returns-clause-stays : goal.returns-clause-stays
 returns-clause-stays g c = stays_then c.in_ok-ruled.ensures.stays c.follow-performed.ensures.stays
+
+pub returns-clause-ours : goal.returns-clause-ours
+returns-clause-ours g c =
+    ours_then c.in_ok-ruled.ensures.stays c.follow-performed.ensures.stays c.in_ok-ruled.ensures.ours c.follow-performed.ensures.ours

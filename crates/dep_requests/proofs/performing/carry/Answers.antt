@@ -2,6 +2,7 @@ use Rattle.std.proofs.Common.{refl}
 use Rattle.sqlite.specs.Held.{state}
 use Rattle.dep_tables.proofs.Chains.{clean_before, stays_then}
 use Rattle.dep_decisions.specs.Effects.{effect}
+use Rattle.dep_changes.proofs.Chains.{ours_then}
 use Rattle.dep_soundness.proofs.Accepted.{effect_sound}
 use Rattle.dep_requests.proofs.Stepping.{next_after, shown_after}
 use Rattle.dep_requests.proofs.performing.carry.Goals as goal
@@ -20,3 +21,7 @@ returns-clause-map g c clean within ours s are config sound fit seen ruling =
 
 pub returns-clause-stays : goal.returns-clause-stays
 returns-clause-stays g c = stays_then c.in_ok-carry_out.ensures.stays c.load_shown.ensures.stays
+
+pub returns-clause-ours : goal.returns-clause-ours
+returns-clause-ours g c =
+    ours_then c.in_ok-carry_out.ensures.stays c.load_shown.ensures.stays c.in_ok-carry_out.ensures.ours c.load_shown.ensures.ours

@@ -3,8 +3,10 @@ use Rattle.sqlite.specs.Held.{state}
 use Rattle.dep_rulings.specs.Rulings.{IsRuling}
 use Rattle.dep_rulings.specs.declared.ruling.Ruling.{Ruling}
 use Rattle.dep_rulings.specs.declared.view.View.{View}
+use Rattle.dep_tables.proofs.Chains.{stays_err, stays_ok}
+use Rattle.dep_tables.proofs.Results.{if_ok}
 use Rattle.dep_row_maps.specs.Clauses.{SeesState}
-use Rattle.dep_requests.proofs.Stepping.{delivered, refused_then, accepted_then}
+use Rattle.dep_requests.proofs.Stepping.{stays_put, delivered, refused_then, accepted_then}
 use Rattle.dep_requests.proofs.performing.follow.Goals as goal
 
 pub returns-in-Refuse-clause-map : goal.returns-in-Refuse-clause-map
@@ -25,3 +27,18 @@ returns-in_ok-shown-in-Do-clause-map g c clean within ours s are sound fit rules
     let ruling = subst (λ (r : Ruling). IsRuling config s op r) c.in-Do.is rules.ruling in
     let carried = c.in_ok-shown-in-Do.ensures.map clean within ours s are config sound fit rules.view ruling in
     accepted_then config s op (SeesState (state g.S.Store c.carry.new.tx.conn.now)) c.delivery_at-delivery.result _ c.accept-performed.result fit sound ruling.0 way carried c.accept-performed.ensures
+
+pub returns-in-Refuse-clause-ours : goal.returns-in-Refuse-clause-ours
+returns-in-Refuse-clause-ours g c clean within ours = if_ok c.refuse.result ours
+
+pub returns-in-Refuse-clause-stays : goal.returns-in-Refuse-clause-stays
+returns-in-Refuse-clause-stays g c = stays_put g.S.Store c.args.tx.now.conn c.refuse.result
+
+pub returns-in_ok-shown-in-Do-clause-ours : goal.returns-in_ok-shown-in-Do-clause-ours
+returns-in_ok-shown-in-Do-clause-ours g c clean within ours = if_ok c.accept-performed.result (c.in_ok-shown-in-Do.ensures.ours clean within ours)
+
+pub returns-in_ok-shown-in-Do-clause-stays : goal.returns-in_ok-shown-in-Do-clause-stays
+returns-in_ok-shown-in-Do-clause-stays g c = stays_ok c.in_ok-shown-in-Do.ensures.stays
+
+pub returns-in_err-shown-in-Do-clause-stays : goal.returns-in_err-shown-in-Do-clause-stays
+returns-in_err-shown-in-Do-clause-stays g c = stays_err c.from_residual.ensures.0 c.in_err-shown-in-Do.ensures.stays
