@@ -20,7 +20,8 @@ loop-count-preserved g c = record {
 }
 
 pub returns-in-Some-clause-talks : goal.returns-in-Some-clause-talks
-returns-in-Some-clause-talks g c = talk_last g.S.Store _ _ _ _ _ c.in-Some.end _ c.loop-count-test.true c.loop-count.invariant.config c.loop-count.invariant.talk
+returns-in-Some-clause-talks g c = talk_last g.S.Store _ _ _ _ _ c.in-Some.end _ (omega (arith, c.loop-count-test.true))
+    c.loop-count.invariant.config c.loop-count.invariant.talk
     (turn_at g.S.Store _ _ _ _ _ (Some c.in-Some.end) c.loop-count.invariant.same c.in-Some.ensures.turn)
 
 pub returns-clause-talks : goal.returns-clause-talks
