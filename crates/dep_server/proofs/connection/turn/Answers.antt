@@ -93,3 +93,12 @@ pub returns-in-Cut-clause-call : goal.returns-in-Cut-clause-call
 returns-in-Cut-clause-call g c =
     mut_next g.C.FnMut c.args.clock.now tt c.clock-moment.result c.clock-moment.new.self c.clock-moment.new.self c.clock-moment.ensures refl
     c.requires.call
+
+pub returns-in-Open-clause-there : goal.returns-in-Open-clause-there
+returns-in-Open-clause-there g c = (c.arrive.ensures.there c.requires.there).1
+
+pub returns-in-Closed-clause-there : goal.returns-in-Closed-clause-there
+returns-in-Closed-clause-there g c = (c.arrive.ensures.there c.requires.there).1
+
+pub returns-in-Cut-clause-there : goal.returns-in-Cut-clause-there
+returns-in-Cut-clause-there g c = (c.arrive.ensures.there c.requires.there).1
