@@ -92,13 +92,11 @@ impl<'a> Case<'a> {
     }
 
     fn set(&mut self, setting: &'a str) -> Result<(), Trouble> {
-        for (key, value) in KEYS.iter().zip(self.values.iter_mut()) {
-            if is_about(setting, key) {
-                *value = value_of(setting, key);
-                return Ok(());
-            }
-        }
-        Err(Trouble::Setting("nothing has that name"))
+        let Some(place) = KEYS.iter().position(|key| is_about(setting, key)) else {
+            return Err(Trouble::Setting("nothing has that name"));
+        };
+        self.values[place] = value_of(setting, KEYS[place]);
+        Ok(())
     }
 }
 

@@ -2,7 +2,7 @@
 
 use crate::case::Case;
 use crate::request::{content_of, head_of, target_of};
-use crate::told::tell;
+use crate::told::{Told, tell};
 use crate::trouble::Trouble;
 use crate::view::view_of;
 use dep_decisions::Operation;
@@ -13,29 +13,24 @@ use dep_types::{Config, Octets, Target, Text};
 use std::alloc::{AllocError, Global};
 
 /// Whether this is the ruling of the case. The ruling is told too.
-pub fn check(alloc: Global, case: &Case, want: &str, told: &mut String) -> Result<(), Trouble> {
+pub fn check(alloc: Global, case: &Case, want: &str, told: &mut Told) -> Result<(), Trouble> {
     told.clear();
     rule(alloc, case, told)?;
-    if told.as_str() == want {
+    if told.text()? == want {
         Ok(())
     } else {
         Err(Trouble::Other)
     }
 }
 
-fn rule(alloc: Global, case: &Case, told: &mut String) -> Result<(), Trouble> {
+fn rule(alloc: Global, case: &Case, told: &mut Told) -> Result<(), Trouble> {
     let config = config_of(alloc, case)?;
     let ruled = rule_under(alloc, case, &config, told);
     drop(config);
     ruled
 }
 
-fn rule_under(
-    alloc: Global,
-    case: &Case,
-    config: &Config,
-    told: &mut String,
-) -> Result<(), Trouble> {
+fn rule_under(alloc: Global, case: &Case, config: &Config, told: &mut Told) -> Result<(), Trouble> {
     let head = head_of(alloc, case)?;
     let ruled = rule_by_head(alloc, case, config, &head, told);
     drop(head);
@@ -47,7 +42,7 @@ fn rule_by_head(
     case: &Case,
     config: &Config,
     head: &Head,
-    told: &mut String,
+    told: &mut Told,
 ) -> Result<(), Trouble> {
     let operation = operation_of(alloc, case, head)?;
     let ruled = rule_on(alloc, case, config, &operation, told);
@@ -93,7 +88,7 @@ fn rule_on(
     case: &Case,
     config: &Config,
     operation: &Operation,
-    told: &mut String,
+    told: &mut Told,
 ) -> Result<(), Trouble> {
     let view = view_of(alloc, case, touches(alloc, config, operation)?)?;
     let ruled = rule_by_view(alloc, config, &view, operation, told);
@@ -106,12 +101,12 @@ fn rule_by_view(
     config: &Config,
     view: &View,
     operation: &Operation,
-    told: &mut String,
+    told: &mut Told,
 ) -> Result<(), AllocError> {
     let ruling = decide(alloc, config, view, operation)?;
-    let done = tell(told, &ruling);
+    tell(told, &ruling);
     drop(ruling);
-    done
+    Ok(())
 }
 
 fn config_of(alloc: Global, case: &Case) -> Result<Config, AllocError> {

@@ -3,6 +3,7 @@
 use crate::case::Case;
 use crate::row::Row;
 use crate::ruled::check;
+use crate::told::Told;
 use crate::trouble::Trouble;
 use std::alloc::Global;
 
@@ -27,7 +28,7 @@ impl<'a> Section<'a> {
 
     /// Sets what a line sets, or plays it: by itself, and where it is refused with each refusal above it. It tells
     /// how many rulings were played; the ruling is told too.
-    pub fn play(&mut self, place: usize, line: &'a str, told: &mut String) -> Result<u64, Trouble> {
+    pub fn play(&mut self, place: usize, line: &'a str, told: &mut Told) -> Result<u64, Trouble> {
         // The first line is the title.
         if place == 0 || line.is_empty() || line.starts_with("//") {
             return Ok(0);
@@ -51,7 +52,7 @@ impl<'a> Section<'a> {
         alone: &Case<'a>,
         row: Row<'a>,
         place: usize,
-        told: &mut String,
+        told: &mut Told,
     ) -> Result<u64, Trouble> {
         let mut count = 1u64;
         for line in self.lines.split('\n').take(place) {
@@ -64,7 +65,7 @@ impl<'a> Section<'a> {
     }
 }
 
-fn check_pair(alloc: Global, alone: &Case, earlier: Row, told: &mut String) -> Result<(), Trouble> {
+fn check_pair(alloc: Global, alone: &Case, earlier: Row, told: &mut Told) -> Result<(), Trouble> {
     let both = alone.with(earlier.settings)?;
     check(alloc, &both, earlier.ruling, told)
 }

@@ -2,6 +2,7 @@
 
 use crate::case::Case;
 use crate::section::Section;
+use crate::told::Told;
 use std::alloc::Global;
 use std::io;
 
@@ -13,7 +14,7 @@ pub struct Tally {
     /// How many lines have another ruling.
     pub others: u64,
     lines: usize,
-    told: String,
+    told: Told,
 }
 
 impl Tally {
@@ -23,7 +24,7 @@ impl Tally {
             rulings: 0,
             others: 0,
             lines: 0,
-            told: String::new(alloc),
+            told: Told::new(alloc),
         }
     }
 }
@@ -67,7 +68,7 @@ fn play_line<'a>(
     match section.play(place, line, &mut tally.told) {
         Ok(count) => tally.rulings = tally.rulings.saturating_add(count),
         Err(trouble) => {
-            let (number, told) = (tally.lines, &tally.told);
+            let (number, told) = (tally.lines, tally.told.as_str());
             println!(rt; "{number}: {line}: {trouble}: {told}")?;
             tally.others = tally.others.saturating_add(1);
         }

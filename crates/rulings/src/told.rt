@@ -5,156 +5,193 @@ use dep_fields::Opening;
 use dep_fixity::to_hex;
 use dep_rulings::Ruling;
 use dep_types::{Metadata, MetadataEntry};
-use std::alloc::AllocError;
+use std::alloc::{AllocError, Global};
 
-/// Adds the ruling to a text.
-pub fn tell(text: &mut String, ruling: &Ruling) -> Result<(), AllocError> {
-    match ruling {
-        Ruling::Refuse(refusal) => text.push_str(refusal.name()),
-        Ruling::Do(decision) => tell_decision(text, decision),
+/// What is told of a ruling.
+#[derive(Drop)]
+pub struct Told {
+    text: String,
+    is_whole: bool,
+}
+
+impl Told {
+    /// Nothing yet.
+    pub fn new(alloc: Global) -> Told {
+        Told {
+            text: String::new(alloc),
+            is_whole: true,
+        }
+    }
+
+    /// Forgets what was told.
+    pub fn clear(&mut self) {
+        self.text.clear();
+        self.is_whole = true;
+    }
+
+    /// The text, unless there was no memory for all of it.
+    pub fn text(&self) -> Result<&str, AllocError> {
+        if self.is_whole {
+            Ok(self.text.as_str())
+        } else {
+            Err(AllocError)
+        }
+    }
+
+    /// The text, or the part for which there was memory.
+    pub fn as_str(&self) -> &str {
+        self.text.as_str()
+    }
+
+    fn add(&mut self, part: &str) {
+        if self.text.push_str(part).is_err() {
+            self.is_whole = false;
+        }
+    }
+
+    fn add_number(&mut self, before: &str, number: u64) {
+        let text = &mut self.text;
+        if write!(text, "{before}{number}").is_err() {
+            self.is_whole = false;
+        }
     }
 }
 
-fn tell_decision(text: &mut String, decision: &Decision) -> Result<(), AllocError> {
+/// Tells the ruling.
+pub fn tell(told: &mut Told, ruling: &Ruling) {
+    match ruling {
+        Ruling::Refuse(refusal) => told.add(refusal.name()),
+        Ruling::Do(decision) => tell_decision(told, decision),
+    }
+}
+
+fn tell_decision(told: &mut Told, decision: &Decision) {
     match decision {
         Decision::Create { deposit, ingests } => {
-            text.push_str("new object")?;
-            tell_deposit(text, deposit, *ingests)
+            told.add("new object");
+            tell_deposit(told, deposit, *ingests)
         }
         Decision::Append {
             object,
             deposit,
             ingests,
         } => {
-            add_number(text, "add to ", *object)?;
-            tell_deposit(text, deposit, *ingests)
+            told.add_number("add to ", *object);
+            tell_deposit(told, deposit, *ingests)
         }
         Decision::Replace {
             object,
             deposit,
             ingests,
         } => {
-            add_number(text, "replace ", *object)?;
-            tell_deposit(text, deposit, *ingests)
+            told.add_number("replace ", *object);
+            tell_deposit(told, deposit, *ingests)
         }
-        _ => tell_part(text, decision),
+        _ => tell_part(told, decision),
     }
 }
 
-fn tell_part(text: &mut String, decision: &Decision) -> Result<(), AllocError> {
+fn tell_part(told: &mut Told, decision: &Decision) {
     match decision {
         Decision::SetMetadata { object, metadata } => {
-            add_number(text, "metadata of ", *object)?;
-            text.push(':')?;
-            tell_metadata(text, metadata)
+            told.add_number("metadata of ", *object);
+            told.add(":");
+            tell_metadata(told, metadata)
         }
         Decision::SetFiles { object, files } => {
-            add_number(text, "files of ", *object)?;
-            text.push(':')?;
-            tell_files(text, files)
+            told.add_number("files of ", *object);
+            told.add(":");
+            tell_files(told, files)
         }
         Decision::SetFile { object, file, new } => {
-            tell_pair(text, "file ", *file, *object)?;
-            text.push(':')?;
-            tell_file(text, new)
+            tell_pair(told, "file ", *file, *object);
+            told.add(":");
+            tell_file(told, new)
         }
-        Decision::Open(opening) => tell_opening(text, opening),
-        _ => tell_numbers(text, decision),
+        Decision::Open(opening) => tell_opening(told, opening),
+        _ => tell_numbers(told, decision),
     }
 }
 
-fn tell_numbers(text: &mut String, decision: &Decision) -> Result<(), AllocError> {
+fn tell_numbers(told: &mut Told, decision: &Decision) {
     match decision {
-        Decision::Complete { object } => add_number(text, "complete ", *object),
-        Decision::DropFile { object, file } => tell_pair(text, "drop file ", *file, *object),
-        Decision::DropObject { object } => add_number(text, "drop object ", *object),
-        Decision::Receive { upload, segment } => tell_pair(text, "segment ", *segment, *upload),
-        Decision::DropUpload { upload } => add_number(text, "drop upload ", *upload),
-        _ => text.push_str("nothing"),
+        Decision::Complete { object } => told.add_number("complete ", *object),
+        Decision::DropFile { object, file } => tell_pair(told, "drop file ", *file, *object),
+        Decision::DropObject { object } => told.add_number("drop object ", *object),
+        Decision::Receive { upload, segment } => tell_pair(told, "segment ", *segment, *upload),
+        Decision::DropUpload { upload } => told.add_number("drop upload ", *upload),
+        _ => told.add("nothing"),
     }
-}
-
-fn add_number(text: &mut String, before: &str, number: u64) -> Result<(), AllocError> {
-    write!(text, "{before}{number}")
 }
 
 // A part, and what it is a part of.
-fn tell_pair(text: &mut String, before: &str, part: u64, whole: u64) -> Result<(), AllocError> {
-    write!(text, "{before}{part} of {whole}")
+fn tell_pair(told: &mut Told, before: &str, part: u64, whole: u64) {
+    told.add_number(before, part);
+    told.add_number(" of ", whole);
 }
 
-fn tell_opening(text: &mut String, opening: &Opening) -> Result<(), AllocError> {
-    let (size, count, segment_size) = (opening.size, opening.count, opening.segment_size);
-    write!(text, "open {size} in {count} of {segment_size}")?;
-    match &opening.digest.sha256 {
-        Some(digest) => tell_promised(text, digest),
-        None => Ok(()),
+fn tell_opening(told: &mut Told, opening: &Opening) {
+    told.add_number("open ", opening.size);
+    told.add_number(" in ", opening.count);
+    told.add_number(" of ", opening.segment_size);
+    if let Some(digest) = &opening.digest.sha256 {
+        told.add(" promised SHA-256=");
+        let digits = to_hex(digest);
+        told.add(str::from_utf8(digits.as_slice()).unwrap_or(""));
     }
 }
 
-fn tell_promised(text: &mut String, digest: &[u8; 32]) -> Result<(), AllocError> {
-    text.push_str(" promised SHA-256=")?;
-    for letter in to_hex(digest).iter() {
-        text.push(char::from(*letter))?;
-    }
-    Ok(())
-}
-
-fn tell_deposit(text: &mut String, deposit: &Deposit, ingests: bool) -> Result<(), AllocError> {
-    text.push_str(if ingests {
+fn tell_deposit(told: &mut Told, deposit: &Deposit, ingests: bool) {
+    told.add(if ingests {
         ", ingested:"
     } else {
         ", in progress:"
-    })?;
+    });
     match deposit {
-        Deposit::Files(files) => tell_files(text, files),
-        Deposit::Metadata(metadata) => tell_metadata(text, metadata),
+        Deposit::Files(files) => tell_files(told, files),
+        Deposit::Metadata(metadata) => tell_metadata(told, metadata),
     }
 }
 
-fn tell_files(text: &mut String, files: &NewFiles) -> Result<(), AllocError> {
+fn tell_files(told: &mut Told, files: &NewFiles) {
     let mut is_first = true;
     for file in files.as_slice() {
         if !is_first {
-            text.push_str(" +")?;
+            told.add(" +");
         }
         is_first = false;
-        tell_file(text, file)?;
+        tell_file(told, file);
     }
-    Ok(())
 }
 
-fn tell_file(text: &mut String, file: &NewFile) -> Result<(), AllocError> {
-    text.push(' ')?;
-    text.push_str(file.name.as_str())?;
-    text.push(' ')?;
-    text.push_str(file.media.as_str())?;
+fn tell_file(told: &mut Told, file: &NewFile) {
+    told.add(" ");
+    told.add(file.name.as_str());
+    told.add(" ");
+    told.add(file.media.as_str());
     match file.source {
-        Source::Posted(_) => text.push_str(" posted")?,
-        Source::Assembled(upload) => add_number(text, " upload ", upload)?,
+        Source::Posted(_) => told.add(" posted"),
+        Source::Assembled(upload) => told.add_number(" upload ", upload),
     }
     if let Some(behalf) = &file.behalf {
-        text.push_str(" for ")?;
-        text.push_str(behalf.as_str())?;
+        told.add(" for ");
+        told.add(behalf.as_str());
     }
-    Ok(())
 }
 
-fn tell_metadata(text: &mut String, metadata: &Metadata) -> Result<(), AllocError> {
+fn tell_metadata(told: &mut Told, metadata: &Metadata) {
     for entry in metadata.entries() {
-        tell_entry(text, entry)?;
+        tell_entry(told, entry);
     }
-    Ok(())
 }
 
-fn tell_entry(text: &mut String, entry: &MetadataEntry) -> Result<(), AllocError> {
-    text.push(' ')?;
-    text.push_str(entry.name.as_str())?;
-    let mut sign = '=';
+fn tell_entry(told: &mut Told, entry: &MetadataEntry) {
+    told.add(" ");
+    told.add(entry.name.as_str());
+    let mut sign = "=";
     for value in entry.texts.as_slice() {
-        text.push(sign)?;
-        text.push_str(value.as_str())?;
-        sign = ',';
+        told.add(sign);
+        told.add(value.as_str());
+        sign = ",";
     }
-    Ok(())
 }
