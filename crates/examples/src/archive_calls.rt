@@ -4,6 +4,7 @@ use crate::page::Page;
 use crate::settings::number;
 use crate::shelf::{Call, Shelf};
 use crate::trouble::Trouble;
+use crate::words::first_word;
 use dep_commands::{Outcome, Unwatched, audit_all, export_object};
 use dep_store::Store;
 use dep_types::{StoreFault, Through};
@@ -27,7 +28,7 @@ impl ArchiveCall {
         if (word, rest) == ("audit", "all") {
             return Ok(ArchiveCall::AuditAll);
         }
-        let (object, failing) = rest.split_once(' ').unwrap_or((rest, ""));
+        let (object, failing) = first_word(rest);
         let object = number(object)?;
         match (word, failing) {
             ("audit", "") => Ok(ArchiveCall::Audit(object)),
@@ -48,12 +49,12 @@ impl ArchiveCall {
             ArchiveCall::Export(object, failing) => {
                 let mut shelf = Shelf::new(page, failing);
                 let outcome = export_object(alloc, store, object, &mut shelf);
-                word_of(outcome, shelf.has_memory())
+                Ok(word_of(outcome))
             }
             ArchiveCall::Audit(object) => audited(store, object, page),
             ArchiveCall::AuditAll => {
                 let outcome = audit_all(alloc, store, &mut Through::new(page), &mut Unwatched);
-                word_of(outcome, true)
+                Ok(word_of(outcome))
             }
         }
     }
@@ -70,9 +71,9 @@ fn audited(
         Err(StoreFault::Store) => return Ok("store-fault"),
         Err(StoreFault::Memory) => return Err(Trouble::Memory),
     };
-    page.tell_number(b"checked ", audit.checked)?;
+    page.tell_number(b"checked ", audit.checked);
     for file in &audit.damaged {
-        page.tell_number(b"damaged ", *file)?;
+        page.tell_number(b"damaged ", *file);
     }
     Ok("done")
 }
@@ -91,13 +92,13 @@ fn failure(text: &str) -> Result<(Call, u64), Trouble> {
 }
 
 // What a command came to, in the word of the files.
-fn word_of(outcome: Outcome, has_memory: bool) -> Result<&'static str, Trouble> {
+fn word_of(outcome: Outcome) -> &'static str {
     match outcome {
-        Outcome::Done => Ok("done"),
-        Outcome::NoSuchObject => Ok("no-such-object"),
-        Outcome::Damaged => Ok("damaged"),
-        Outcome::TransferFault if has_memory => Ok("transfer-fault"),
-        Outcome::StoreFault => Ok("store-fault"),
-        Outcome::TransferFault | Outcome::Usage => Err(Trouble::Memory),
+        Outcome::Done => "done",
+        Outcome::NoSuchObject => "no-such-object",
+        Outcome::Damaged => "damaged",
+        Outcome::TransferFault => "transfer-fault",
+        Outcome::StoreFault => "store-fault",
+        Outcome::Usage => "usage",
     }
 }

@@ -72,26 +72,22 @@ impl Documents {
         text: &[u8],
         page: &mut Page,
     ) -> Result<&'static str, Trouble> {
-        self.tells(alloc, text, page)?;
-        Ok("told")
-    }
-
-    fn tells(&self, alloc: Global, text: &[u8], page: &mut Page) -> Result<(), Trouble> {
         let config = &self.config;
         match self.call {
             Call::Metadata => tell_metadata(alloc, text, page),
             Call::MetadataPrefixes => tell_metadata_prefixes(alloc, text, page),
             Call::References => tell_references(alloc, config, text, page),
             Call::ReferencePrefixes => tell_reference_prefixes(alloc, config, text, page),
-            _ => match str::from_utf8(text) {
-                Ok(rows) => self.writes(alloc, rows, page),
-                Err(_) => Err(Trouble::Line("rows are UTF-8")),
-            },
+            _ => self.writes(alloc, text, page)?,
         }
+        Ok("told")
     }
 
-    fn writes(&self, alloc: Global, rows: &str, page: &mut Page) -> Result<(), Trouble> {
+    fn writes(&self, alloc: Global, text: &[u8], page: &mut Page) -> Result<(), Trouble> {
         let config = &self.config;
+        let Ok(rows) = str::from_utf8(text) else {
+            return Err(Trouble::Line("rows are UTF-8"));
+        };
         match self.call {
             Call::BagMetadataDocument => tell_bag_metadata_document(alloc, rows, page),
             Call::UploadDocument => tell_upload_document(alloc, config, rows, page),

@@ -48,27 +48,27 @@ fn steps(intake: &mut Intake, page: &mut Page) -> Result<Arrived, Trouble> {
 
 fn step(intake: &mut Intake, page: &mut Page) -> Result<Option<Arrived>, AllocError> {
     let step = next(intake)?;
-    let told = tell_step(&step, page);
+    let came = tell_step(&step, page);
     drop(step);
-    told
+    Ok(came)
 }
 
 // Tells a step, or what the pieces came to where it is the last one.
-fn tell_step(step: &Step, page: &mut Page) -> Result<Option<Arrived>, AllocError> {
+fn tell_step(step: &Step, page: &mut Page) -> Option<Arrived> {
     match step {
-        Step::NeedMore => return Ok(Some(Arrived::Open)),
-        Step::Dead => return Ok(Some(Arrived::Closed)),
-        Step::Continue100 => page.tell(&[b"continue"])?,
-        Step::Message(message) => tell_message(message, page)?,
+        Step::NeedMore => return Some(Arrived::Open),
+        Step::Dead => return Some(Arrived::Closed),
+        Step::Continue100 => page.tell(&[b"continue"]),
+        Step::Message(message) => tell_message(message, page),
         Step::Refused(refusal, bare) => {
             let bare = if *bare { " without-body" } else { "" };
-            page.tell(&[b"refused ", refusal.name().as_bytes(), bare.as_bytes()])?;
+            page.tell(&[b"refused ", refusal.name().as_bytes(), bare.as_bytes()]);
         }
     }
-    Ok(None)
+    None
 }
 
-fn tell_message(message: &Message, page: &mut Page) -> Result<(), AllocError> {
+fn tell_message(message: &Message, page: &mut Page) {
     let head = &message.head;
     let closing = if closes(head) { " closing" } else { "" };
     let bare = if is_without_body(head) {
@@ -84,5 +84,5 @@ fn tell_message(message: &Message, page: &mut Page) -> Result<(), AllocError> {
         bare.as_bytes(),
         b": ",
         message.content.as_slice(),
-    ])
+    ]);
 }

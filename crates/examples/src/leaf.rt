@@ -53,19 +53,15 @@ impl Leaf {
         exchange: &Exchange,
         page: &mut Page,
     ) -> Result<&'static str, Trouble> {
-        self.tells(alloc, exchange, page)?;
-        Ok("told")
-    }
-
-    fn tells(self, alloc: Global, exchange: &Exchange, page: &mut Page) -> Result<(), Trouble> {
         let text = exchange.stream.as_slice();
         match self {
-            Leaf::Fields => tell_fields(alloc, text, page),
-            Leaf::IfMatch(tag) => tell_if_match(alloc, text, tag, page),
+            Leaf::Fields => tell_fields(alloc, text, page)?,
+            Leaf::IfMatch(tag) => tell_if_match(alloc, text, tag, page)?,
             Leaf::Disposition => tell_disposition(alloc, text, page),
-            Leaf::Digest => Ok(tell_digest(text, page)?),
-            Leaf::Hash => Ok(tell_hash(exchange, page)?),
-            Leaf::Route => tell_route(alloc, text, page),
+            Leaf::Digest => tell_digest(text, page),
+            Leaf::Hash => tell_hash(exchange, page),
+            Leaf::Route => tell_route(alloc, text, page)?,
         }
+        Ok("told")
     }
 }

@@ -1,4 +1,4 @@
-//! A writer in memory.
+//! A writer in memory, and what is told there.
 
 use itoa::Buffer;
 use std::alloc::{AllocError, Global};
@@ -7,12 +7,14 @@ use std::io::Write;
 
 const ROOM: usize = 8_192;
 
-/// Keeps the bytes that it takes. It takes at most `at_once` bytes a write, and no byte once it has `most`.
+/// Keeps the bytes that it takes. It takes at most `at_once` bytes a write, and no byte once it has `most`. What is told
+/// goes there too, whatever a write may take.
 #[derive(Drop)]
 pub struct Page {
     bytes: Vec<u8>,
     at_once: usize,
     most: usize,
+    is_whole: bool,
 }
 
 impl Page {
@@ -22,38 +24,54 @@ impl Page {
             bytes: Vec::with_capacity(alloc, ROOM)?,
             at_once,
             most,
+            is_whole: true,
         })
     }
 
-    /// What it took.
-    pub fn as_slice(&self) -> &[u8] {
-        self.bytes.as_slice()
+    /// What it took, unless there was no memory for all that was told.
+    pub fn bytes(&self) -> Result<&[u8], AllocError> {
+        if self.is_whole {
+            Ok(self.bytes.as_slice())
+        } else {
+            Err(AllocError)
+        }
+    }
+
+    /// There is no memory for something that is to be told.
+    pub fn lack_memory(&mut self) {
+        self.is_whole = false;
     }
 
     /// Adds a line of a name and a number.
-    pub fn tell_number(&mut self, name: &[u8], number: u64) -> Result<(), AllocError> {
-        let mut digits = Buffer::new();
-        self.tell(&[name, digits.format(number).as_bytes()])
+    pub fn tell_number(&mut self, name: &[u8], number: u64) {
+        self.put_number(name, number);
+        self.add(b"\r\n");
     }
 
     /// Adds a name and a number.
-    pub fn put_number(&mut self, name: &[u8], number: u64) -> Result<(), AllocError> {
+    pub fn put_number(&mut self, name: &[u8], number: u64) {
         let mut digits = Buffer::new();
-        self.put(&[name, digits.format(number).as_bytes()])
+        self.add(name);
+        self.add(digits.format(number).as_bytes());
     }
 
     /// Adds a line of these parts.
-    pub fn tell(&mut self, parts: &[&[u8]]) -> Result<(), AllocError> {
-        self.put(parts)?;
-        self.bytes.extend_from_slice(b"\r\n")
+    pub fn tell(&mut self, parts: &[&[u8]]) {
+        self.put(parts);
+        self.add(b"\r\n");
     }
 
     /// Adds these parts.
-    pub fn put(&mut self, parts: &[&[u8]]) -> Result<(), AllocError> {
+    pub fn put(&mut self, parts: &[&[u8]]) {
         for part in parts {
-            self.bytes.extend_from_slice(part)?;
+            self.add(part);
         }
-        Ok(())
+    }
+
+    fn add(&mut self, part: &[u8]) {
+        if self.bytes.extend_from_slice(part).is_err() {
+            self.lack_memory();
+        }
     }
 }
 

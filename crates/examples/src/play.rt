@@ -9,7 +9,7 @@ use crate::leaf::Leaf;
 use crate::settings::{Settings, number};
 use crate::side::Side;
 use crate::trouble::Trouble;
-use crate::words::Words;
+use crate::words::{Words, first_word};
 use dep_message::Intake;
 use std::alloc::{AllocError, Global};
 
@@ -56,7 +56,7 @@ impl Play {
 
     /// Does what a line says.
     pub fn line(&mut self, words: &mut Words, line: &str) -> Result<(), Trouble> {
-        let (word, rest) = line.split_once(' ').unwrap_or((line, ""));
+        let (word, rest) = first_word(line);
         match word {
             "" | "//" | "pieces" | "each" | "-" => Ok(()),
             ">" | "<" => self.exchange.line(self.alloc, words, word, rest),
@@ -98,7 +98,7 @@ impl Play {
             .side
             .plays(self.alloc, &self.exchange, answer, &mut page)?;
         self.exchange
-            .has_come(self.alloc, page.as_slice(), came, answer)
+            .has_come(self.alloc, page.bytes()?, came, answer)
     }
 
     fn sets(&mut self, word: &str, rest: &str) -> Result<(), Trouble> {
@@ -134,7 +134,7 @@ impl Play {
 
     // The archive gives this number of a kind next, by a line `KIND NUMBER`.
     fn number_next(&mut self, rest: &str) -> Result<(), Trouble> {
-        let (kind, value) = rest.split_once(' ').unwrap_or((rest, ""));
+        let (kind, value) = first_word(rest);
         if !matches!(kind, "object" | "file" | "upload" | "change") {
             return Err(Trouble::Line("no kind of numbers has that name"));
         }
@@ -214,7 +214,7 @@ fn names(alloc: Global, words: &mut Words, word: &str, rest: &str) -> Result<(),
         ("|", Some(front)) => words.extend(front, "")?,
         ("|", None) => words.extend(rest, "\\r\\n")?,
         _ => {
-            let (name, text) = rest.split_once(' ').unwrap_or((rest, ""));
+            let (name, text) = first_word(rest);
             words.add(alloc, name, text)?;
         }
     }

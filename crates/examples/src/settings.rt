@@ -1,6 +1,7 @@
 //! The configuration of an example.
 
 use crate::trouble::Trouble;
+use crate::words::first_word;
 use dep_types::{Config, GREATEST_MAX_ASSEMBLED, GREATEST_MAX_SEGMENTS, GREATEST_MAX_UPLOAD, Text};
 use std::alloc::{AllocError, Global};
 use std::mem;
@@ -54,7 +55,7 @@ impl Settings {
 
     /// Sets a part of the configuration, by a line `NAME VALUE`.
     pub fn configure(&mut self, alloc: Global, line: &str) -> Result<(), Trouble> {
-        let (name, value) = line.split_once(' ').unwrap_or((line, ""));
+        let (name, value) = first_word(line);
         match name {
             "base" | "title" | "abstract" | "depositor" => {
                 self.set_text(name, Text::copied(alloc, value)?);

@@ -4,7 +4,6 @@ ghost use Rattle.dep_types.specs.Writing.{HasRisen};
 
 use crate::page::Page;
 use dep_types::{BagSink, Outlet, SinkFailed, WriteFailed};
-use std::alloc::AllocError;
 
 /// A call of a sink.
 #[derive(Clone, Copy, PartialEq, Eq)]
@@ -22,7 +21,6 @@ pub struct Shelf<'a> {
     /// The call that fails, and how many of them come before.
     failing: Option<(Call, u64)>,
     failures: u64,
-    has_memory: bool,
 }
 
 impl<'a> Shelf<'a> {
@@ -31,13 +29,7 @@ impl<'a> Shelf<'a> {
             page,
             failing,
             failures: 0,
-            has_memory: true,
         }
-    }
-
-    /// No growth of the page was refused.
-    pub fn has_memory(&self) -> bool {
-        self.has_memory
     }
 
     fn put(&mut self, call: Call, parts: &[&[u8]]) -> Result<(), SinkFailed>
@@ -47,13 +39,8 @@ impl<'a> Shelf<'a> {
         if self.fails(call) {
             return Err(self.failed());
         }
-        match self.page.put(parts) {
-            Ok(()) => Ok(()),
-            Err(AllocError) => {
-                self.has_memory = false;
-                Err(self.failed())
-            }
-        }
+        self.page.put(parts);
+        Ok(())
     }
 
     fn fails(&mut self, call: Call) -> bool

@@ -1,124 +1,96 @@
 //! What is read of a document.
 
 use crate::page::Page;
-use crate::trouble::Trouble;
 use dep_docs_in::{DocFault, Pointed, Reference, read_metadata, read_references};
 use dep_fixity::to_hex;
 use dep_types::{Config, MetadataEntry};
-use std::alloc::{AllocError, Global};
+use std::alloc::Global;
 
 /// What a metadata document says: a line for each text, behind its name.
-pub fn tell_metadata(alloc: Global, content: &[u8], page: &mut Page) -> Result<(), Trouble> {
+pub fn tell_metadata(alloc: Global, content: &[u8], page: &mut Page) {
     match read_metadata(alloc, content) {
-        Ok(metadata) => Ok(tell_entries(metadata.entries(), page)?),
+        Ok(metadata) => tell_entries(metadata.entries(), page),
         Err(fault) => tell_fault(fault, page),
     }
 }
 
 /// Each proper prefix that is a document too, and then what the whole says.
-pub fn tell_metadata_prefixes(
-    alloc: Global,
-    content: &[u8],
-    page: &mut Page,
-) -> Result<(), Trouble> {
+pub fn tell_metadata_prefixes(alloc: Global, content: &[u8], page: &mut Page) {
     for length in 0..content.len() {
         match read_metadata(alloc, &content[..length]) {
-            Ok(_) => tell_prefix(length, page)?,
+            Ok(_) => tell_prefix(length, page),
             Err(DocFault::Malformed) => {}
-            Err(DocFault::Memory) => return Err(Trouble::Memory),
+            Err(DocFault::Memory) => page.lack_memory(),
         }
     }
-    tell_metadata(alloc, content, page)
+    tell_metadata(alloc, content, page);
 }
 
-fn tell_entries(entries: &[MetadataEntry], page: &mut Page) -> Result<(), AllocError> {
+fn tell_entries(entries: &[MetadataEntry], page: &mut Page) {
     if entries.is_empty() {
         return page.tell(&[b"nothing"]);
     }
     for entry in entries {
-        tell_texts(entry, page)?;
+        tell_texts(entry, page);
     }
-    Ok(())
 }
 
-fn tell_texts(entry: &MetadataEntry, page: &mut Page) -> Result<(), AllocError> {
+fn tell_texts(entry: &MetadataEntry, page: &mut Page) {
     let name = entry.name.as_str().as_bytes();
     for text in entry.texts.as_slice() {
-        page.tell(&[name, b": ", text.as_str().as_bytes()])?;
+        page.tell(&[name, b": ", text.as_str().as_bytes()]);
     }
-    Ok(())
 }
 
 /// What a document of references says: some lines for each entry.
-pub fn tell_references(
-    alloc: Global,
-    config: &Config,
-    content: &[u8],
-    page: &mut Page,
-) -> Result<(), Trouble> {
+pub fn tell_references(alloc: Global, config: &Config, content: &[u8], page: &mut Page) {
     match read_references(alloc, config, content) {
         Ok(references) => {
             for reference in references.as_slice() {
-                tell_reference(reference, page)?;
+                tell_reference(reference, page);
             }
-            Ok(())
         }
         Err(fault) => tell_fault(fault, page),
     }
 }
 
 /// Each proper prefix that is a document too, and then what the whole says.
-pub fn tell_reference_prefixes(
-    alloc: Global,
-    config: &Config,
-    content: &[u8],
-    page: &mut Page,
-) -> Result<(), Trouble> {
+pub fn tell_reference_prefixes(alloc: Global, config: &Config, content: &[u8], page: &mut Page) {
     for length in 0..content.len() {
         match read_references(alloc, config, &content[..length]) {
-            Ok(_) => tell_prefix(length, page)?,
+            Ok(_) => tell_prefix(length, page),
             Err(DocFault::Malformed) => {}
-            Err(DocFault::Memory) => return Err(Trouble::Memory),
+            Err(DocFault::Memory) => page.lack_memory(),
         }
     }
-    tell_references(alloc, config, content, page)
+    tell_references(alloc, config, content, page);
 }
 
-fn tell_reference(reference: &Reference, page: &mut Page) -> Result<(), AllocError> {
+fn tell_reference(reference: &Reference, page: &mut Page) {
     match reference.target {
-        Pointed::Upload(number) => page.tell_number(b"upload ", number)?,
-        Pointed::Elsewhere => page.tell(&[b"elsewhere"])?,
+        Pointed::Upload(number) => page.tell_number(b"upload ", number),
+        Pointed::Elsewhere => page.tell(&[b"elsewhere"]),
     }
-    page.tell(&[b"file ", reference.name.as_str().as_bytes()])?;
-    page.tell(&[b"media ", reference.media.as_str().as_bytes()])?;
-    tell_length(reference.length, page)?;
+    page.tell(&[b"file ", reference.name.as_str().as_bytes()]);
+    page.tell(&[b"media ", reference.media.as_str().as_bytes()]);
+    if let Some(length) = reference.length {
+        page.tell_number(b"length ", length);
+    }
     if let Some(packaging) = &reference.packaging {
-        page.tell(&[b"packaging ", packaging.as_str().as_bytes()])?;
+        page.tell(&[b"packaging ", packaging.as_str().as_bytes()]);
     }
-    tell_digest(reference.digest.sha256, page)
-}
-
-fn tell_length(length: Option<u64>, page: &mut Page) -> Result<(), AllocError> {
-    match length {
-        Some(length) => page.tell_number(b"length ", length),
-        None => Ok(()),
+    if let Some(digest) = &reference.digest.sha256 {
+        page.tell(&[b"SHA-256 ", to_hex(digest).as_slice()]);
     }
 }
 
-fn tell_digest(sha256: Option<[u8; 32]>, page: &mut Page) -> Result<(), AllocError> {
-    match sha256 {
-        Some(digest) => page.tell(&[b"SHA-256 ", to_hex(&digest).as_slice()]),
-        None => Ok(()),
-    }
+fn tell_prefix(length: usize, page: &mut Page) {
+    page.tell_number(b"a document of bytes: ", length as u64);
 }
 
-fn tell_prefix(length: usize, page: &mut Page) -> Result<(), AllocError> {
-    page.tell_number(b"a document of bytes: ", length as u64)
-}
-
-fn tell_fault(fault: DocFault, page: &mut Page) -> Result<(), Trouble> {
+fn tell_fault(fault: DocFault, page: &mut Page) {
     match fault {
-        DocFault::Malformed => Ok(page.tell(&[b"malformed"])?),
-        DocFault::Memory => Err(Trouble::Memory),
+        DocFault::Malformed => page.tell(&[b"malformed"]),
+        DocFault::Memory => page.lack_memory(),
     }
 }

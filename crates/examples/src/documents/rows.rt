@@ -2,6 +2,7 @@
 
 use crate::settings::number;
 use crate::trouble::Trouble;
+use crate::words::first_word;
 use dep_types::{FileRow, FileRows, Metadata, ObjectRow, ObjectView, Text, TextList, UploadRow};
 use std::alloc::{AllocError, Global};
 
@@ -132,7 +133,7 @@ pub fn number_of(rows: &str, name: &str) -> Result<u64, Trouble> {
 // What stands behind a name, in the first line that begins with it.
 fn value_of<'a>(rows: &'a str, name: &str) -> Option<&'a str> {
     for line in rows.lines() {
-        let (first, value) = line.split_once(' ').unwrap_or((line, ""));
+        let (first, value) = first_word(line);
         if first == name {
             return Some(value);
         }

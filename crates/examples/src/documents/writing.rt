@@ -20,7 +20,8 @@ pub fn tell_metadata_document(
     let metadata = metadata(alloc, rows)?;
     let document = metadata_doc(alloc, config, object, &metadata);
     drop(metadata);
-    tell(document, page)
+    tell(document, page);
+    Ok(())
 }
 
 /// The metadata document of rows as it stands in a bag.
@@ -32,7 +33,8 @@ pub fn tell_bag_metadata_document(
     let metadata = metadata(alloc, rows)?;
     let document = bag_metadata_doc(alloc, &metadata);
     drop(metadata);
-    tell(document, page)
+    tell(document, page);
+    Ok(())
 }
 
 /// The status document of rows.
@@ -45,7 +47,8 @@ pub fn tell_status_document(
     let view = view(alloc, rows)?;
     let document = status_doc(alloc, config, &view);
     drop(view);
-    tell(document, page)
+    tell(document, page);
+    Ok(())
 }
 
 /// The document of an upload.
@@ -62,12 +65,15 @@ pub fn tell_upload_document(
     }
     let document = upload_doc(alloc, config, &upload, &received);
     drop(received);
-    tell(document, page)
+    tell(document, page);
+    Ok(())
 }
 
-fn tell(document: Result<Vec<u8>, AllocError>, page: &mut Page) -> Result<(), Trouble> {
-    let document = document?;
-    Ok(page.tell(&[document.as_slice()])?)
+fn tell(document: Result<Vec<u8>, AllocError>, page: &mut Page) {
+    match document {
+        Ok(document) => page.tell(&[document.as_slice()]),
+        Err(AllocError) => page.lack_memory(),
+    }
 }
 
 // Whether the numbers may be those of segments: each at least 1, and above the one before it.

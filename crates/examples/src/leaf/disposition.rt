@@ -1,9 +1,8 @@
 //! Content-Disposition.
 
 use crate::page::Page;
-use crate::trouble::Trouble;
 use dep_params::{Disposition, ParamFault, read_disposition};
-use std::alloc::{AllocError, Global};
+use std::alloc::Global;
 
 /// The parameters that may be told.
 const NAMES: [&[u8]; 9] = [
@@ -19,49 +18,43 @@ const NAMES: [&[u8]; 9] = [
 ];
 
 /// The type of a disposition, its parameters and the file name that they give.
-pub fn tell_disposition(alloc: Global, text: &[u8], page: &mut Page) -> Result<(), Trouble> {
+pub fn tell_disposition(alloc: Global, text: &[u8], page: &mut Page) {
     match read_disposition(alloc, text) {
         Ok(disposition) => {
-            let told = tell_parts(alloc, &disposition, page);
+            tell_parts(alloc, &disposition, page);
             drop(disposition);
-            told
         }
         Err(fault) => tell_fault(fault, page),
     }
 }
 
-fn tell_parts(alloc: Global, disposition: &Disposition, page: &mut Page) -> Result<(), Trouble> {
-    page.tell(&[disposition.form()])?;
-    tell_parameters(disposition, page)?;
-    tell_file_name(alloc, disposition, page)
+fn tell_parts(alloc: Global, disposition: &Disposition, page: &mut Page) {
+    page.tell(&[disposition.form()]);
+    tell_parameters(disposition, page);
+    tell_file_name(alloc, disposition, page);
 }
 
-fn tell_parameters(disposition: &Disposition, page: &mut Page) -> Result<(), AllocError> {
+fn tell_parameters(disposition: &Disposition, page: &mut Page) {
     for name in NAMES {
         if let Some(value) = disposition.parameter(name) {
-            page.tell(&[name, b"=", value])?;
+            page.tell(&[name, b"=", value]);
         }
     }
-    Ok(())
 }
 
-fn tell_file_name(
-    alloc: Global,
-    disposition: &Disposition,
-    page: &mut Page,
-) -> Result<(), Trouble> {
+fn tell_file_name(alloc: Global, disposition: &Disposition, page: &mut Page) {
     match disposition.file_name(alloc) {
-        Ok(name) => Ok(page.tell(&[b"file ", name.as_bytes()])?),
+        Ok(name) => page.tell(&[b"file ", name.as_bytes()]),
         Err(fault) => tell_fault(fault, page),
     }
 }
 
-fn tell_fault(fault: ParamFault, page: &mut Page) -> Result<(), Trouble> {
+fn tell_fault(fault: ParamFault, page: &mut Page) {
     let what: &[u8] = match fault {
         ParamFault::Malformed => b"malformed",
         ParamFault::Repeated => b"repeated",
         ParamFault::NoName => b"no file name",
-        ParamFault::Memory => return Err(Trouble::Memory),
+        ParamFault::Memory => return page.lack_memory(),
     };
-    Ok(page.tell(&[what])?)
+    page.tell(&[what]);
 }

@@ -7,14 +7,14 @@ use dep_fields::{Field, IfMatch, Kind, Opening, SwordFields};
 use dep_fixity::DigestList;
 use dep_head::{Head, HeadFault, read_head};
 use dep_types::{Octets, Text};
-use std::alloc::{AllocError, Global};
+use std::alloc::Global;
 
 /// What the field lines of a request tell: a line for each field that is there.
 pub fn tell_fields(alloc: Global, lines: &[u8], page: &mut Page) -> Result<(), Trouble> {
     let fields = fields_of(alloc, lines)?;
-    let told = tell_each(&fields, page);
+    tell_each(&fields, page);
     drop(fields);
-    Ok(told?)
+    Ok(())
 }
 
 fn fields_of(alloc: Global, lines: &[u8]) -> Result<SwordFields, Trouble> {
@@ -24,15 +24,15 @@ fn fields_of(alloc: Global, lines: &[u8]) -> Result<SwordFields, Trouble> {
     Ok(fields?)
 }
 
-fn tell_each(fields: &SwordFields, page: &mut Page) -> Result<(), AllocError> {
-    tell_text(b"On-Behalf-Of", &fields.on_behalf_of, page)?;
-    tell_disposition(&fields.disposition, page)?;
-    tell_progress(&fields.in_progress, page)?;
-    tell_octets(b"Packaging", &fields.packaging, page)?;
-    tell_octets(b"Metadata-Format", &fields.metadata_format, page)?;
-    tell_text(b"Content-Type", &fields.content_type, page)?;
-    tell_octets(b"Content-Encoding", &fields.content_encoding, page)?;
-    tell_digest(&fields.digest, page)
+fn tell_each(fields: &SwordFields, page: &mut Page) {
+    tell_text(b"On-Behalf-Of", &fields.on_behalf_of, page);
+    tell_disposition(&fields.disposition, page);
+    tell_progress(&fields.in_progress, page);
+    tell_octets(b"Packaging", &fields.packaging, page);
+    tell_octets(b"Metadata-Format", &fields.metadata_format, page);
+    tell_text(b"Content-Type", &fields.content_type, page);
+    tell_octets(b"Content-Encoding", &fields.content_encoding, page);
+    tell_digest(&fields.digest, page);
 }
 
 /// Whether the If-Match lines of a request hold of this tag.
@@ -45,7 +45,8 @@ pub fn tell_if_match(
     let head = head_with(alloc, lines)?;
     let told = told_of(&head, tag);
     drop(head);
-    Ok(page.tell(&[told])?)
+    page.tell(&[told]);
+    Ok(())
 }
 
 fn told_of(head: &Head, tag: u64) -> &'static [u8] {
@@ -67,17 +68,17 @@ fn head_with(alloc: Global, lines: &[u8]) -> Result<Head, Trouble> {
     }
 }
 
-fn tell(name: &[u8], field: Field<&[u8]>, page: &mut Page) -> Result<(), AllocError> {
+fn tell(name: &[u8], field: Field<&[u8]>, page: &mut Page) {
     match field {
-        Field::Absent => Ok(()),
+        Field::Absent => {}
         Field::Bad => page.tell(&[name, b" bad"]),
         Field::Value(value) => page.tell(&[name, b": ", value]),
     }
 }
 
-fn tell_text(name: &[u8], field: &Field<Text>, page: &mut Page) -> Result<(), AllocError> {
+fn tell_text(name: &[u8], field: &Field<Text>, page: &mut Page) {
     match field {
-        Field::Absent => Ok(()),
+        Field::Absent => {}
         Field::Bad => tell(name, Field::Bad, page),
         Field::Value(text) => tell(name, Field::Value(octets_of(text)), page),
     }
@@ -87,44 +88,44 @@ fn octets_of(text: &Text) -> &[u8] {
     text.as_str().as_bytes()
 }
 
-fn tell_octets(name: &[u8], field: &Field<Octets>, page: &mut Page) -> Result<(), AllocError> {
+fn tell_octets(name: &[u8], field: &Field<Octets>, page: &mut Page) {
     match field {
-        Field::Absent => Ok(()),
+        Field::Absent => {}
         Field::Bad => tell(name, Field::Bad, page),
         Field::Value(octets) => tell(name, Field::Value(octets.as_slice()), page),
     }
 }
 
-fn tell_progress(field: &Field<bool>, page: &mut Page) -> Result<(), AllocError> {
+fn tell_progress(field: &Field<bool>, page: &mut Page) {
     let told: Field<&[u8]> = match field {
         Field::Absent => Field::Absent,
         Field::Bad => Field::Bad,
         Field::Value(true) => Field::Value(b"true"),
         Field::Value(false) => Field::Value(b"false"),
     };
-    tell(b"In-Progress", told, page)
+    tell(b"In-Progress", told, page);
 }
 
-fn tell_digest(field: &Field<DigestList>, page: &mut Page) -> Result<(), AllocError> {
+fn tell_digest(field: &Field<DigestList>, page: &mut Page) {
     match field {
-        Field::Absent => Ok(()),
+        Field::Absent => {}
         Field::Bad => tell(b"Digest", Field::Bad, page),
         Field::Value(promised) => {
-            page.tell(&[b"Digest:"])?;
-            tell_promised(promised.sha256, page)
+            page.tell(&[b"Digest:"]);
+            tell_promised(promised.sha256, page);
         }
     }
 }
 
-fn tell_disposition(field: &Field<Kind>, page: &mut Page) -> Result<(), AllocError> {
+fn tell_disposition(field: &Field<Kind>, page: &mut Page) {
     match field {
-        Field::Absent => Ok(()),
+        Field::Absent => {}
         Field::Bad => tell(b"Content-Disposition", Field::Bad, page),
         Field::Value(kind) => tell_kind(kind, page),
     }
 }
 
-fn tell_kind(kind: &Kind, page: &mut Page) -> Result<(), AllocError> {
+fn tell_kind(kind: &Kind, page: &mut Page) {
     match kind {
         Kind::File(name) => page.tell(&[b"file ", octets_of(name)]),
         Kind::Metadata => page.tell(&[b"metadata"]),
@@ -134,9 +135,9 @@ fn tell_kind(kind: &Kind, page: &mut Page) -> Result<(), AllocError> {
     }
 }
 
-fn tell_opening(opening: &Opening, page: &mut Page) -> Result<(), AllocError> {
-    page.put_number(b"opening ", opening.size)?;
-    page.put_number(b" ", opening.count)?;
-    page.tell_number(b" ", opening.segment_size)?;
-    tell_promised(opening.digest.sha256, page)
+fn tell_opening(opening: &Opening, page: &mut Page) {
+    page.put_number(b"opening ", opening.size);
+    page.put_number(b" ", opening.count);
+    page.tell_number(b" ", opening.segment_size);
+    tell_promised(opening.digest.sha256, page);
 }

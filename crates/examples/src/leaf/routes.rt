@@ -4,8 +4,7 @@ use crate::page::Page;
 use crate::trouble::Trouble;
 use dep_router::{Routed, Routes};
 use dep_types::{Method, Resource, Target};
-use itoa::Buffer;
-use std::alloc::{AllocError, Global};
+use std::alloc::Global;
 
 /// What a method and a path name: `METHOD PATH`.
 pub fn tell_route(alloc: Global, text: &[u8], page: &mut Page) -> Result<(), Trouble> {
@@ -13,12 +12,12 @@ pub fn tell_route(alloc: Global, text: &[u8], page: &mut Page) -> Result<(), Tro
         return Err(Trouble::Line("a method and a path are wanted"));
     };
     let routed = Routes::new(alloc).route(&text[..place], &text[place + 1..])?;
-    let told = tell_routed(&routed, page);
+    tell_routed(&routed, page);
     drop(routed);
-    Ok(told?)
+    Ok(())
 }
 
-fn tell_routed(routed: &Routed, page: &mut Page) -> Result<(), AllocError> {
+fn tell_routed(routed: &Routed, page: &mut Page) {
     match routed {
         Routed::To(target) => tell_target(target, page),
         Routed::NotFound => page.tell(&[b"not found"]),
@@ -26,37 +25,28 @@ fn tell_routed(routed: &Routed, page: &mut Page) -> Result<(), AllocError> {
     }
 }
 
-fn tell_target(target: &Target, page: &mut Page) -> Result<(), AllocError> {
+fn tell_target(target: &Target, page: &mut Page) {
     let method = method_name(target.method);
     let (name, number): (&[u8], u64) = match &target.resource {
-        Resource::Service => return tell_named(method, b" service", page),
-        Resource::Staging => return tell_named(method, b" staging", page),
+        Resource::Service => return page.tell(&[method.as_bytes(), b" service"]),
+        Resource::Staging => return page.tell(&[method.as_bytes(), b" staging"]),
         Resource::Object(object) | Resource::File(object, _) => (b" object ", *object),
         Resource::Metadata(object) => (b" metadata ", *object),
         Resource::FileSet(object) => (b" files ", *object),
         Resource::Upload(upload) => (b" upload ", *upload),
         Resource::BagList(object) | Resource::BagFile(object, _) => (b" bag ", *object),
     };
-    tell_numbered(method, name, number, page)?;
+    tell_numbered(method, name, number, page);
     match &target.resource {
         Resource::BagFile(_, path) => page.tell(&[b"path ", path.as_slice()]),
         Resource::File(_, file) => page.tell_number(b"file ", *file),
-        _ => Ok(()),
+        _ => {}
     }
 }
 
-fn tell_named(method: &str, name: &[u8], page: &mut Page) -> Result<(), AllocError> {
-    page.tell(&[method.as_bytes(), name])
-}
-
-fn tell_numbered(
-    method: &str,
-    name: &[u8],
-    number: u64,
-    page: &mut Page,
-) -> Result<(), AllocError> {
-    let mut digits = Buffer::new();
-    page.tell(&[method.as_bytes(), name, digits.format(number).as_bytes()])
+fn tell_numbered(method: &str, name: &[u8], number: u64, page: &mut Page) {
+    page.put(&[method.as_bytes()]);
+    page.tell_number(name, number);
 }
 
 fn method_name(method: Method) -> &'static str {
