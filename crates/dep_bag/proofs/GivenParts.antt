@@ -6,7 +6,7 @@ use Rattle.std.specs.Prelude.{Result}
 use Rattle.std.specs.Result.{IsErrAnd}
 use Rattle.dep_types.specs.Sinks.{IsFront, file_begun, file_given}
 use Rattle.dep_types.specs.Writing.{HasRisen, IsProperPrefix}
-use Rattle.dep_bag.specs.Giving.{IsGivenAt, IsGiven, Gives, HasCause}
+use Rattle.dep_bag.specs.Giving.{IsGivenAt, IsGiven, Gives, IsCausedBy, HasCause}
 use Rattle.dep_bag.specs.declared.export_fault.ExportFault.{ExportFault}
 use Rattle.dep_bag.specs.declared.export_fault.ExportFault.TheVariants.{NoSuchObject, Sink, Store, Memory}
 
@@ -147,15 +147,22 @@ text_last {X} a b c whole path text (Err e) l g =
     let r : Result X ExportFault = Err e in
     text_fails a b c whole [] path text r e l g refl
 
--- a fault of the sink has its cause also where the count is told from before what was given
+pub caused_later : (before now after : ℕ) (fault : ExportFault) → now ≡ before → IsCausedBy fault now after → IsCausedBy fault before after
+caused_later before now after Sink same cause = subst (λ n. HasRisen n after) same cause
+caused_later before now after NoSuchObject same cause = cause ∙ same
+caused_later before now after Store same cause = cause ∙ same
+caused_later before now after Memory same cause = cause ∙ same
+
+-- a result has its cause also where the count is told from before what was given
 pub cause_later : {X : Type 0} (before now after : ℕ) (r : Result X ExportFault) → now ≡ before → HasCause r now after → HasCause r before after
-cause_later before now after r same cause = λ is. subst (λ n. HasRisen n after) same (cause is)
+cause_later before now after (Ok x) same cause = cause ∙ same
+cause_later before now after (Err fault) same cause = caused_later before now after fault same cause
 
 -- and so where the fault is passed on
 pub cause_passed : {X : Type 0} (before now after : ℕ) (r : Result X ExportFault) (e : ExportFault) → now ≡ before
     → HasCause {X = X} (Err e) now after → IsErrAnd r (λ x. x ≡ e) → HasCause r before after
 cause_passed before now after (Ok x) e same cause err = absurd err
-cause_passed before now after (Err x) e same cause err = λ is. subst (λ n. HasRisen n after) same (cause (ap Err (sym err) ∙ is))
+cause_passed before now after (Err x) e same cause err = subst (λ f. IsCausedBy f before after) (sym err) (caused_later before now after e same cause)
 
 -- a fault that is another than that the object isn't there
 pub there_is_ours : {X : Type 0} (e : ExportFault) → (◌≡◌ {A = Result X ExportFault} (Err e) (Err NoSuchObject) → ⊥) → IsOurs e

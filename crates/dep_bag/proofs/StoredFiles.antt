@@ -7,7 +7,8 @@ use Rattle.dep_types.specs.Sinks.{IsFront, file_begun, file_given}
 use Rattle.dep_types.specs.Streams.{HasContent, HasNoFile, IsPartOfContent, IsStreamed}
 use Rattle.dep_types.specs.declared.stream_fault.StreamFault.{StreamFault}
 use Rattle.dep_types.specs.declared.stream_fault.StreamFault.TheVariants.{Writer, Store, Memory, NoSuchFile}
-use Rattle.dep_bag.specs.Giving.{IsGivenAt, unsent_fault}
+use Rattle.dep_types.specs.Writing.{HasRisen}
+use Rattle.dep_bag.specs.Giving.{IsGivenAt, IsCausedBy, unsent_fault}
 use Rattle.dep_bag.specs.declared.export_fault.ExportFault.{ExportFault}
 use Rattle.dep_bag.specs.declared.export_fault.ExportFault.TheVariants as export
 use Rattle.dep_bag.proofs.GivenParts.{file_front, whole_front}
@@ -56,11 +57,14 @@ unsent_given s sound f path sent bytes Memory is has = perhaps_sent s sound f pa
 unsent_given s sound f path sent bytes NoSuchFile is has = absurd (no_content s f bytes is.1 has)
 
 -- only what the sink refused is a fault of the sink
-pub unsent_sink : {X : Type 0} (fault : StreamFault) → ◌≡◌ {A = Result X ExportFault} (Err (unsent_fault fault)) (Err export.Sink) → fault ≡ Writer
-unsent_sink Writer is = refl
-unsent_sink Store is = absurd (cc)
-unsent_sink Memory is = absurd (cc)
-unsent_sink NoSuchFile is = absurd (cc)
+pub unsent_cause : (before after : ℕ) (fault : StreamFault)
+    → (◌≡◌ {A = Result (Unit {0}) StreamFault} (Err fault) (Err Writer) → HasRisen before after)
+    → ((◌≡◌ {A = Result (Unit {0}) StreamFault} (Err fault) (Err Writer) → ⊥) → after ≡ before)
+    → IsCausedBy (unsent_fault fault) before after
+unsent_cause before after Writer cause others = cause refl
+unsent_cause before after Store cause others = others (λ is. cc)
+unsent_cause before after Memory cause others = others (λ is. cc)
+unsent_cause before after NoSuchFile cause others = others (λ is. cc)
 
 -- and none says that the object isn't there
 pub unsent_there : {X : Type 0} (fault : StreamFault) → ◌≡◌ {A = Result X ExportFault} (Err (unsent_fault fault)) (Err export.NoSuchObject) → ⊥

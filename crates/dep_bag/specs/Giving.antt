@@ -30,9 +30,17 @@ abbrev pub Gives : {X : Type 0} → Option (List ℕ) → Option (List ℕ) → 
 Gives before after whole result =
     (given : List ℕ) × Appends before after given × IsGiven whole given result
 
--- a fault of the sink comes only where its count of failures rose
+-- the sink's count of failures rose where the fault is the sink's, and stayed at any other
+abbrev pub IsCausedBy : ExportFault → (failures failures_after : ℕ) → Type 0
+IsCausedBy Sink failures failures_after = HasRisen failures failures_after
+IsCausedBy NoSuchObject failures failures_after = failures_after ≡ failures
+IsCausedBy Store failures failures_after = failures_after ≡ failures
+IsCausedBy Memory failures failures_after = failures_after ≡ failures
+
+-- and it stayed where there is no fault
 abbrev pub HasCause : {X : Type 0} → Result X ExportFault → (failures failures_after : ℕ) → Type 0
-HasCause result failures failures_after = result ≡ Err Sink → HasRisen failures failures_after
+HasCause (Ok x) failures failures_after = failures_after ≡ failures
+HasCause (Err fault) failures failures_after = IsCausedBy fault failures failures_after
 
 -- the folder of the payload, and the files that are not payload
 abbrev pub tag_transcript : ObjectView → List ℕ

@@ -1,5 +1,5 @@
 //! The export of a bag.
-ghost use Rattle.std.specs.Prelude.{◌≡◌, ℕ, List, OnOk, Err};
+ghost use Rattle.std.specs.Prelude.{◌≡◌, ℕ, List, Err};
 ghost use Rattle.std.specs.Io.KnownBytes.{Appends, Keeps};
 ghost use Rattle.dep_types.specs.State.{State};
 ghost use Rattle.dep_bag.specs.Source.{KeepsStanding};
@@ -26,7 +26,6 @@ pub fn export<S: BagSource, K: BagSink>(
         → IsExported s object given result) }
     ensures absent { result ≡ Err ExportFault.NoSuchObject →
         Keeps (K.taken sink.old) (K.taken sink.new) }
-    ensures count { OnOk result (K.failures sink.new ≡ K.failures sink.old) }
     ensures cause { HasCause result (K.failures sink.old) (K.failures sink.new) }
     ensures kept { KeepsStanding S.is_clean S.stands source.old source.new result }
     ensures clean { S.is_clean source.new → S.is_clean source.old }

@@ -1,5 +1,5 @@
 //! Files that are given to a sink, one after another.
-ghost use Rattle.std.specs.Prelude.{◌≡◌, ◌≢◌, ◌++◌, ℕ, List, OnOk, IfOk, Err, flat_map};
+ghost use Rattle.std.specs.Prelude.{◌≡◌, ◌≢◌, ◌++◌, ℕ, List, IfOk, Err, flat_map};
 ghost use Rattle.std.specs.Io.KnownBytes.{Appends};
 ghost use Rattle.dep_types.specs.State.{State};
 ghost use Rattle.dep_types.specs.Sinks.{Entry, file_given};
@@ -24,7 +24,6 @@ pub(crate) fn give_tag_files<K: BagSink>(
     sink: &mut K,
 ) -> Result<(), ExportFault>
     ensures gives { Gives (K.taken sink.old) (K.taken sink.new) (tag_transcript view.now) result }
-    ensures count { OnOk result (K.failures sink.new ≡ K.failures sink.old) }
     ensures cause { HasCause result (K.failures sink.old) (K.failures sink.new) }
 {
     sink.folder("data")?;
@@ -43,7 +42,6 @@ fn give_text<K: BagSink>(
 ) -> Result<(), ExportFault>
     ensures gives { (bytes : List ℕ) → IfOk made (λ text. text.items ≡ bytes)
         → Gives (K.taken sink.old) (K.taken sink.new) (file_given (path.now, bytes)) result }
-    ensures count { OnOk result (K.failures sink.new ≡ K.failures sink.old) }
     ensures cause { HasCause result (K.failures sink.old) (K.failures sink.new) }
 {
     let text = made?;
@@ -64,7 +62,6 @@ pub(crate) fn give_payload<S: BagSource, K: BagSink>(
         × (S.is_clean source.new → (s : State) → S.stands source.old s
         → (files : List Entry) → AreFilesOf s rows.now files
         → IsGiven (flat_map file_given files) given result) }
-    ensures count { OnOk result (K.failures sink.new ≡ K.failures sink.old) }
     ensures cause { HasCause result (K.failures sink.old) (K.failures sink.new) }
     ensures kept { KeepsStanding S.is_clean S.stands source.old source.new result }
     ensures clean { S.is_clean source.new → S.is_clean source.old }
@@ -87,7 +84,6 @@ fn give_stored<S: BagSource, K: BagSink>(
         × (S.is_clean source.new → (s : State) → S.stands source.old s
         → (bytes : List ℕ) → HasContent s row.now.file bytes
         → IsGiven (file_given (row_path row.now, bytes)) given result) }
-    ensures count { OnOk result (K.failures sink.new ≡ K.failures sink.old) }
     ensures cause { HasCause result (K.failures sink.old) (K.failures sink.new) }
     ensures kept { KeepsStanding S.is_clean S.stands source.old source.new result }
     ensures clean { S.is_clean source.new → S.is_clean source.old }

@@ -1,5 +1,5 @@
 //! What bags are made from.
-ghost use Rattle.std.specs.Prelude.{◌≡◌, ℕ, List, OnOk, IfOk, Err};
+ghost use Rattle.std.specs.Prelude.{◌≡◌, ◌≢◌, ℕ, List, OnOk, IfOk, Err};
 ghost use Rattle.std.specs.Io.KnownBytes.{Appends};
 ghost use Rattle.dep_types.specs.State.{State};
 ghost use Rattle.dep_types.specs.Sound.{IsSound};
@@ -34,7 +34,9 @@ pub trait BagSource {
         ensures clean { is_clean self.new → is_clean self.old }
         ensures count { OnOk result (O.failures out.new ≡ O.failures out.old) }
         ensures cause { result ≡ Err StreamFault.Writer →
-            HasRisen (O.failures out.old) (O.failures out.new) };
+            HasRisen (O.failures out.old) (O.failures out.new) }
+        ensures others { result ≢ Err StreamFault.Writer →
+            O.failures out.new ≡ O.failures out.old };
 
     /// Each state for which it stands is sound.
     ghost sound: { (x : Self) (s : State) → stands x s → IsSound s };

@@ -1,5 +1,5 @@
 //! The export of an object's bag.
-ghost use Rattle.std.specs.Prelude.{◌≡◌, ℕ, List};
+ghost use Rattle.std.specs.Prelude.{◌≡◌, ◌≢◌, ℕ, List};
 ghost use Rattle.std.specs.Io.KnownBytes.{Appends, Keeps};
 ghost use Rattle.dep_types.specs.State.{State};
 ghost use Rattle.dep_types.specs.Writing.{HasRisen};
@@ -22,7 +22,7 @@ pub fn export_object<S: BagSource, K: BagSink>(
         × (S.is_clean source.new → (s : State) → S.stands source.old s
         → Exports s object given result) }
     ensures absent { result ≡ Outcome.NoSuchObject → Keeps (K.taken sink.old) (K.taken sink.new) }
-    ensures count { result ≡ Outcome.Done → K.failures sink.new ≡ K.failures sink.old }
+    ensures count { result ≢ Outcome.TransferFault → K.failures sink.new ≡ K.failures sink.old }
     ensures cause { result ≡ Outcome.TransferFault →
         HasRisen (K.failures sink.old) (K.failures sink.new) }
     ensures kept { result ≡ Outcome.Done → S.is_clean source.new

@@ -1,6 +1,6 @@
 //! The blocks of a content, written and sent one at a time.
 
-ghost use Rattle.std.specs.Prelude.{◌≡◌, OnOk, Err, filter};
+ghost use Rattle.std.specs.Prelude.{◌≡◌, ◌≢◌, OnOk, Err, filter};
 ghost use Rattle.dep_types.specs.Writing.{HasRisen};
 ghost use Rattle.sqlite.specs.State.{HasCleanDisk};
 ghost use Rattle.sqlite.specs.Held.{state};
@@ -66,6 +66,7 @@ pub fn stream_blocks<S: Alter, O: Outlet>(
     ensures kept { OnOk result (O.failures out.new ≡ O.failures out.old) }
     ensures cause { result ≡ Err BlockFault.Writer
         → HasRisen (O.failures out.old) (O.failures out.new) }
+    ensures others { result ≢ Err BlockFault.Writer → O.failures out.new ≡ O.failures out.old }
 {
     if size == 0 {
         return Ok(());

@@ -1,6 +1,6 @@
 //! The rows of a query of blocks, sent one at a time.
 
-ghost use Rattle.std.specs.Prelude.{◌≡◌, ◌⊎◌, ◌≤◌, ◌<◌, OnOk, IfOk, OnErr, Err};
+ghost use Rattle.std.specs.Prelude.{◌≡◌, ◌≢◌, ◌⊎◌, ◌≤◌, ◌<◌, OnOk, IfOk, OnErr, Err};
 ghost use Rattle.dep_types.specs.Writing.{HasRisen};
 ghost use Rattle.sqlite.specs.State.{HasCleanDisk, IsUnchanged, IsRolledBack};
 ghost use Rattle.sqlite.specs.Held.{state};
@@ -23,6 +23,7 @@ fn give_sized<O: Outlet>(row: &Row, most: u64, out: &mut O) -> Result<u64, Block
     ensures kept { OnOk result (O.failures out.new ≡ O.failures out.old) }
     ensures cause { result ≡ Err BlockFault.Writer
         → HasRisen (O.failures out.old) (O.failures out.new) }
+    ensures others { result ≢ Err BlockFault.Writer → O.failures out.new ≡ O.failures out.old }
 {
     match row.get_ref(2) {
         Ok(ValueRef::Blob(bytes)) => {
@@ -65,6 +66,7 @@ pub(crate) fn stream_sized<S: Alter, O: Outlet>(
     ensures kept { OnOk result (O.failures out.new ≡ O.failures out.old) }
     ensures cause { result ≡ Err BlockFault.Writer
         → HasRisen (O.failures out.old) (O.failures out.new) }
+    ensures others { result ≢ Err BlockFault.Writer → O.failures out.new ≡ O.failures out.old }
 {
     let mut left = size;
     let mut rows = match connection.query(sql, params) {

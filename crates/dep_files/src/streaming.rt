@@ -1,6 +1,6 @@
 //! The content of a file, sent one block at a time, outside a transaction.
 
-ghost use Rattle.std.specs.Prelude.{◌≡◌, ◌⊎◌, ℕ, List, IsTrue, IfOk, OnOk, OnErr, Err};
+ghost use Rattle.std.specs.Prelude.{◌≡◌, ◌≢◌, ◌⊎◌, ℕ, List, IsTrue, IfOk, OnOk, OnErr, Err};
 ghost use Rattle.std.specs.Io.KnownBytes.{Appends};
 ghost use Rattle.sqlite.specs.State.{HasCleanDisk, IsUnchanged, Survives};
 ghost use Rattle.sqlite.specs.Held.{state};
@@ -66,6 +66,7 @@ pub fn stream_content<S: Alter, O: Outlet>(
     ensures kept { OnOk result (O.failures out.new ≡ O.failures out.old) }
     ensures cause { result ≡ Err StreamFault.Writer
         → HasRisen (O.failures out.old) (O.failures out.new) }
+    ensures others { result ≢ Err StreamFault.Writer → O.failures out.new ≡ O.failures out.old }
 {
     let found = match find_size(connection, file) {
         Ok(found) => found,

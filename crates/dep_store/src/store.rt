@@ -1,6 +1,6 @@
 //! The store.
 
-ghost use Rattle.std.specs.Prelude.{◌≡◌, ◌⊎◌, ℕ, List, IsTrue, OnOk, IfOk, IfErr, OnErr, MatchResult, option_map, Err, false};
+ghost use Rattle.std.specs.Prelude.{◌≡◌, ◌≢◌, ◌⊎◌, ℕ, List, IsTrue, OnOk, IfOk, IfErr, OnErr, MatchResult, option_map, Err, false};
 ghost use Rattle.std.specs.FinMap as finmap;
 ghost use Rattle.std.specs.Io.KnownBytes.{Appends};
 ghost use Rattle.sqlite.specs.State.{HasCleanDisk};
@@ -192,6 +192,7 @@ impl<S: Alter> Store<S> {
         ensures kept { OnOk result (O.failures out.new ≡ O.failures out.old) }
         ensures cause { result ≡ Err StreamFault.Writer
             → HasRisen (O.failures out.old) (O.failures out.new) }
+        ensures others { result ≢ Err StreamFault.Writer → O.failures out.new ≡ O.failures out.old }
     {
         if !self.connection.is_autocommit() {
             return Err(StreamFault::Store);

@@ -1,7 +1,8 @@
-use Rattle.std.proofs.Common.{◌++◌, sym, subst, ◌∙◌}
+use Rattle.std.proofs.Common.{◌++◌, refl, sym, subst, ◌∙◌}
 use Rattle.std.proofs.KnownBytes.{Appends-trans}
 use Rattle.dep_bag.specs.Bag.{payload}
 use Rattle.dep_bag.specs.Giving.{AreFilesOf}
+use Rattle.dep_bag.proofs.GivenParts.{cause_later, cause_passed}
 use Rattle.dep_bag.proofs.Exported.{found_view, are_payload, tags_exported, all_exported}
 use Rattle.dep_bag.proofs.exporting.export.Goals as goal
 
@@ -28,3 +29,13 @@ returns-clause-gives g c =
           (more.2 clean s (c.in-Ok-Some.ensures.kept before s at) (payload v.object)
           (subst (λ rows. AreFilesOf s rows (payload v.object)) (sym c.as_slice.ensures) (are_payload s n c.in-Ok-Some.view v))),
     )
+
+pub returns-in_err-give_tag_files-clause-cause : goal.returns-in_err-give_tag_files-clause-cause
+returns-in_err-give_tag_files-clause-cause g c =
+    cause_passed (g.K.Outlet.failures c.args.sink.now) (g.K.Outlet.failures c.args.sink.now) (g.K.Outlet.failures c.give_tag_files.new.sink) c.from_residual.result c.in_err-give_tag_files.field-0.0
+    refl c.in_err-give_tag_files.ensures.cause c.from_residual.ensures.1
+
+pub returns-clause-cause : goal.returns-clause-cause
+returns-clause-cause g c =
+    cause_later (g.K.Outlet.failures c.args.sink.now) (g.K.Outlet.failures c.give_tag_files.new.sink) (g.K.Outlet.failures c.give_payload.new.sink) c.give_payload.result
+    c.in_ok-give_tag_files.ensures.cause c.give_payload.ensures.cause

@@ -13,7 +13,7 @@ loop-row-preserved g c =
       one_more g.S.BagSource.stands g.S.BagSource.is_clean c.args.source.now c.loop-row.source c.give_stored.new.source
           (g.K.Outlet.taken c.args.sink.now) (g.K.Outlet.taken c.loop-row.sink) (g.K.Outlet.taken c.give_stored.new.sink)
           c.args.rows.now c.loop-row.row-index c.row-item.result c.loop-row-test.true c.row-item.is c.loop-row.invariant.0 gave.gives gave.clean gave.kept,
-      gave.count ∙ c.loop-row.invariant.1,
+      gave.cause ∙ c.loop-row.invariant.1,
     )
 
 pub returns-in_err-give_stored-clause-gives : goal.returns-in_err-give_stored-clause-gives

@@ -1,14 +1,12 @@
-use Rattle.std.proofs.Common.{[], ◌++◌, ◌∙◌, sym, ap, subst}
+use Rattle.std.proofs.Common.{[], ◌++◌, ◌∙◌, Err, refl, sym, ap, subst}
 use Rattle.std.specs.Io.KnownBytes.{Appends}
 use Rattle.std.proofs.KnownBytes.{Appends-nil, Appends-trans}
 use Rattle.dep_types.specs.Sinks.{file_begun, file_given}
-use Rattle.std.proofs.Common.{Err}
-use Rattle.dep_types.specs.Writing.{HasRisen}
-use Rattle.dep_bag.specs.Giving.{IsGivenAt}
+use Rattle.dep_bag.specs.Giving.{IsGivenAt, IsCausedBy, unsent_fault}
 use Rattle.dep_bag.specs.Parts.{row_path}
 use Rattle.dep_bag.specs.declared.export_fault.ExportFault.TheVariants.{Sink, Memory}
-use Rattle.dep_bag.proofs.GivenParts.{faulty, kept, nothing_given, nothing_front}
-use Rattle.dep_bag.proofs.StoredFiles.{unsent_given, unsent_sink, unsent_there, all_sent, all_front}
+use Rattle.dep_bag.proofs.GivenParts.{faulty, kept, nothing_given, nothing_front, caused_later, cause_passed}
+use Rattle.dep_bag.proofs.StoredFiles.{unsent_given, unsent_cause, unsent_there, all_sent, all_front}
 use Rattle.dep_bag.proofs.giving.give_stored.Goals as goal
 
 pub returns-in_err-path-clause-gives : goal.returns-in_err-path-clause-gives
@@ -60,9 +58,24 @@ returns-in-Err-clause-gives g c =
     )
 
 pub returns-in-Err-clause-cause : goal.returns-in-Err-clause-cause
-returns-in-Err-clause-cause g c = λ is.
-    subst (λ n. HasRisen n (g.K.Outlet.failures c.stream.new.out)) c.in_ok-begin.ensures.count
-    (c.in-Err.ensures.cause (ap Err (unsent_sink c.in-Err.fault (ap Err (sym c.unsent.ensures) ∙ is))))
+returns-in-Err-clause-cause g c =
+    subst (λ e. IsCausedBy e (g.K.Outlet.failures c.args.sink.now) (g.K.Outlet.failures c.stream.new.out)) (sym c.unsent.ensures)
+    (caused_later (g.K.Outlet.failures c.args.sink.now) (g.K.Outlet.failures c.begin.new.self) (g.K.Outlet.failures c.stream.new.out) (unsent_fault c.in-Err.fault)
+    c.in_ok-begin.ensures.count (unsent_cause (g.K.Outlet.failures c.begin.new.self) (g.K.Outlet.failures c.stream.new.out) c.in-Err.fault c.in-Err.ensures.cause c.in-Err.ensures.others))
+
+pub returns-in_err-path-clause-cause : goal.returns-in_err-path-clause-cause
+returns-in_err-path-clause-cause g c =
+    cause_passed (g.K.Outlet.failures c.args.sink.now) (g.K.Outlet.failures c.args.sink.now) (g.K.Outlet.failures c.args.sink.now) c.from_residual.result Memory refl refl c.from_residual.ensures.1
+
+pub returns-in_err-begin-clause-cause : goal.returns-in_err-begin-clause-cause
+returns-in_err-begin-clause-cause g c =
+    cause_passed (g.K.Outlet.failures c.args.sink.now) (g.K.Outlet.failures c.args.sink.now) (g.K.Outlet.failures c.begin.new.self) c.from_residual-in_err-begin.result Sink
+    refl c.in_err-begin.ensures.cause c.from_residual-in_err-begin.ensures.1
+
+pub returns-in_err-finish-clause-cause : goal.returns-in_err-finish-clause-cause
+returns-in_err-finish-clause-cause g c =
+    cause_passed (g.K.Outlet.failures c.args.sink.now) (g.K.Outlet.failures c.stream.new.out) (g.K.Outlet.failures c.finish.new.self) c.from_residual-in_err-finish.result Sink
+    (c.in-Ok.ensures.count ∙ c.in_ok-begin.ensures.count) c.in_err-finish.ensures.cause c.from_residual-in_err-finish.ensures.1
 
 pub returns-in-Err-clause-there : goal.returns-in-Err-clause-there
 returns-in-Err-clause-there g c = λ is. unsent_there c.in-Err.fault (ap Err (sym c.unsent.ensures) ∙ is)

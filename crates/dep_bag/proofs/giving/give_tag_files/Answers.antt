@@ -1,4 +1,4 @@
-use Rattle.std.proofs.Common.{List, ℕ, [], ◌∷◌, codes, ◌∙◌}
+use Rattle.std.proofs.Common.{List, ℕ, [], ◌∷◌, codes, refl, ◌∙◌}
 use Rattle.std.specs.Prelude.{flat_map}
 use Rattle.dep_types.specs.Sinks.{folder_made, file_given}
 use Rattle.dep_types.specs.declared.rows.ObjectView.{ObjectView}
@@ -6,6 +6,7 @@ use Rattle.dep_bag.specs.Bag.{bagit_text}
 use Rattle.dep_docs_out.specs.Documents.{bag_metadata_document}
 use Rattle.dep_bag.specs.Parts.{told_info, told_manifest, told_tag_manifest, told_tag_files}
 use Rattle.dep_bag.specs.Giving.{tag_transcript}
+use Rattle.dep_bag.specs.declared.export_fault.ExportFault.TheVariants.{Sink}
 use Rattle.dep_bag.proofs.GivenParts.{leaves_all, leaves_less, text_given, text_fails, text_last, cause_later, cause_passed}
 use Rattle.dep_bag.proofs.giving.give_tag_files.Goals as goal
 
@@ -40,7 +41,7 @@ returns-in_err-give_text-2-clause-gives g c =
 
 pub returns-in_err-give_text-2-clause-cause : goal.returns-in_err-give_text-2-clause-cause
 returns-in_err-give_text-2-clause-cause g c =
-    cause_passed (g.K.Outlet.failures c.args.sink.now) (g.K.Outlet.failures c.give_text.new.sink) (g.K.Outlet.failures c.give_text-2.new.sink) c.from_residual-in_err-give_text-2.result c.in_err-give_text-2.field-0.0 (c.in_ok-give_text.ensures.count ∙ c.in_ok-folder.ensures.count) c.in_err-give_text-2.ensures.cause c.from_residual-in_err-give_text-2.ensures.1
+    cause_passed (g.K.Outlet.failures c.args.sink.now) (g.K.Outlet.failures c.give_text.new.sink) (g.K.Outlet.failures c.give_text-2.new.sink) c.from_residual-in_err-give_text-2.result c.in_err-give_text-2.field-0.0 (c.in_ok-give_text.ensures.cause ∙ c.in_ok-folder.ensures.count) c.in_err-give_text-2.ensures.cause c.from_residual-in_err-give_text-2.ensures.1
 
 pub returns-in_err-give_text-3-clause-gives : goal.returns-in_err-give_text-3-clause-gives
 returns-in_err-give_text-3-clause-gives g c =
@@ -52,7 +53,7 @@ returns-in_err-give_text-3-clause-gives g c =
 
 pub returns-in_err-give_text-3-clause-cause : goal.returns-in_err-give_text-3-clause-cause
 returns-in_err-give_text-3-clause-cause g c =
-    cause_passed (g.K.Outlet.failures c.args.sink.now) (g.K.Outlet.failures c.give_text-2.new.sink) (g.K.Outlet.failures c.give_text-3.new.sink) c.from_residual-in_err-give_text-3.result c.in_err-give_text-3.field-0.0 (c.in_ok-give_text-2.ensures.count ∙ c.in_ok-give_text.ensures.count ∙ c.in_ok-folder.ensures.count) c.in_err-give_text-3.ensures.cause c.from_residual-in_err-give_text-3.ensures.1
+    cause_passed (g.K.Outlet.failures c.args.sink.now) (g.K.Outlet.failures c.give_text-2.new.sink) (g.K.Outlet.failures c.give_text-3.new.sink) c.from_residual-in_err-give_text-3.result c.in_err-give_text-3.field-0.0 (c.in_ok-give_text-2.ensures.cause ∙ c.in_ok-give_text.ensures.cause ∙ c.in_ok-folder.ensures.count) c.in_err-give_text-3.ensures.cause c.from_residual-in_err-give_text-3.ensures.1
 
 pub returns-in_err-give_text-4-clause-gives : goal.returns-in_err-give_text-4-clause-gives
 returns-in_err-give_text-4-clause-gives g c =
@@ -65,7 +66,7 @@ returns-in_err-give_text-4-clause-gives g c =
 
 pub returns-in_err-give_text-4-clause-cause : goal.returns-in_err-give_text-4-clause-cause
 returns-in_err-give_text-4-clause-cause g c =
-    cause_passed (g.K.Outlet.failures c.args.sink.now) (g.K.Outlet.failures c.give_text-3.new.sink) (g.K.Outlet.failures c.give_text-4.new.sink) c.from_residual-in_err-give_text-4.result c.in_err-give_text-4.field-0.0 (c.in_ok-give_text-3.ensures.count ∙ c.in_ok-give_text-2.ensures.count ∙ c.in_ok-give_text.ensures.count ∙ c.in_ok-folder.ensures.count) c.in_err-give_text-4.ensures.cause c.from_residual-in_err-give_text-4.ensures.1
+    cause_passed (g.K.Outlet.failures c.args.sink.now) (g.K.Outlet.failures c.give_text-3.new.sink) (g.K.Outlet.failures c.give_text-4.new.sink) c.from_residual-in_err-give_text-4.result c.in_err-give_text-4.field-0.0 (c.in_ok-give_text-3.ensures.cause ∙ c.in_ok-give_text-2.ensures.cause ∙ c.in_ok-give_text.ensures.cause ∙ c.in_ok-folder.ensures.count) c.in_err-give_text-4.ensures.cause c.from_residual-in_err-give_text-4.ensures.1
 
 pub returns-clause-gives : goal.returns-clause-gives
 returns-clause-gives g c =
@@ -78,4 +79,8 @@ returns-clause-gives g c =
     text_last (g.K.Outlet.taken c.args.sink.now) (g.K.Outlet.taken c.give_text-4.new.sink) (g.K.Outlet.taken c.give_text-5.new.sink) (tag_transcript view) (codes "tagmanifest-sha256.txt") (told_tag_manifest view) c.give_text-5.result l4 (c.give_text-5.ensures.gives (told_tag_manifest view) c.tag_manifest.ensures)
 
 pub returns-clause-cause : goal.returns-clause-cause
-returns-clause-cause g c = cause_later (g.K.Outlet.failures c.args.sink.now) (g.K.Outlet.failures c.give_text-4.new.sink) (g.K.Outlet.failures c.give_text-5.new.sink) c.give_text-5.result (c.in_ok-give_text-4.ensures.count ∙ c.in_ok-give_text-3.ensures.count ∙ c.in_ok-give_text-2.ensures.count ∙ c.in_ok-give_text.ensures.count ∙ c.in_ok-folder.ensures.count) c.give_text-5.ensures.cause
+returns-clause-cause g c = cause_later (g.K.Outlet.failures c.args.sink.now) (g.K.Outlet.failures c.give_text-4.new.sink) (g.K.Outlet.failures c.give_text-5.new.sink) c.give_text-5.result (c.in_ok-give_text-4.ensures.cause ∙ c.in_ok-give_text-3.ensures.cause ∙ c.in_ok-give_text-2.ensures.cause ∙ c.in_ok-give_text.ensures.cause ∙ c.in_ok-folder.ensures.count) c.give_text-5.ensures.cause
+
+pub returns-in_err-folder-clause-cause : goal.returns-in_err-folder-clause-cause
+returns-in_err-folder-clause-cause g c =
+    cause_passed (g.K.Outlet.failures c.args.sink.now) (g.K.Outlet.failures c.args.sink.now) (g.K.Outlet.failures c.folder.new.self) c.from_residual.result Sink refl c.in_err-folder.ensures.cause c.from_residual.ensures.1

@@ -1,9 +1,8 @@
-use Rattle.std.proofs.Common.{◌≡◌, IfOk, subst, ◌∙◌, []}
+use Rattle.std.proofs.Common.{◌≡◌, IfOk, refl, subst, ◌∙◌, []}
 use Rattle.std.proofs.KnownBytes.{Appends-nil}
 use Rattle.dep_types.specs.Sinks.{file_given}
-use Rattle.dep_types.specs.Writing.{HasRisen}
 use Rattle.dep_bag.specs.declared.export_fault.ExportFault.TheVariants.{Sink, Memory}
-use Rattle.dep_bag.proofs.GivenParts.{text_breaks, text_unended, text_ended, faulty, nothing_given, nothing_front}
+use Rattle.dep_bag.proofs.GivenParts.{text_breaks, text_unended, text_ended, faulty, nothing_given, nothing_front, cause_passed}
 use Rattle.dep_bag.proofs.giving.give_text.Goals as goal
 
 pub returns-in_err-write-clause-gives : goal.returns-in_err-write-clause-gives
@@ -42,9 +41,20 @@ returns-clause-gives g c = λ bytes are.
     c.in_ok-begin.ensures.ok c.in_ok-write.ensures.ok c.in_ok-finish.ensures.ok
 
 pub returns-in_err-write-clause-cause : goal.returns-in_err-write-clause-cause
-returns-in_err-write-clause-cause g c = λ is.
-    subst (λ n. HasRisen n (g.K.Outlet.failures c.write.new.self)) c.in_ok-begin.ensures.count c.in_err-write.ensures.cause
+returns-in_err-write-clause-cause g c =
+    cause_passed (g.K.Outlet.failures c.args.sink.now) (g.K.Outlet.failures c.begin.new.self) (g.K.Outlet.failures c.write.new.self) c.from_residual-in_err-write.result Sink
+    c.in_ok-begin.ensures.count c.in_err-write.ensures.cause c.from_residual-in_err-write.ensures.1
 
 pub returns-in_err-finish-clause-cause : goal.returns-in_err-finish-clause-cause
-returns-in_err-finish-clause-cause g c = λ is.
-    subst (λ n. HasRisen n (g.K.Outlet.failures c.finish.new.self)) (c.in_ok-write.ensures.count ∙ c.in_ok-begin.ensures.count) c.in_err-finish.ensures.cause
+returns-in_err-finish-clause-cause g c =
+    cause_passed (g.K.Outlet.failures c.args.sink.now) (g.K.Outlet.failures c.write.new.self) (g.K.Outlet.failures c.finish.new.self) c.from_residual-in_err-finish.result Sink
+    (c.in_ok-write.ensures.count ∙ c.in_ok-begin.ensures.count) c.in_err-finish.ensures.cause c.from_residual-in_err-finish.ensures.1
+
+pub returns-in_err-text-clause-cause : goal.returns-in_err-text-clause-cause
+returns-in_err-text-clause-cause g c =
+    cause_passed (g.K.Outlet.failures c.args.sink.now) (g.K.Outlet.failures c.args.sink.now) (g.K.Outlet.failures c.args.sink.now) c.from_residual.result Memory refl refl c.from_residual.ensures.1
+
+pub returns-in_err-begin-clause-cause : goal.returns-in_err-begin-clause-cause
+returns-in_err-begin-clause-cause g c =
+    cause_passed (g.K.Outlet.failures c.args.sink.now) (g.K.Outlet.failures c.args.sink.now) (g.K.Outlet.failures c.begin.new.self) c.from_residual-in_err-begin.result Sink
+    refl c.in_err-begin.ensures.cause c.from_residual-in_err-begin.ensures.1
