@@ -13,7 +13,7 @@ use Rattle.dep_types.specs.Rows.{file_row, object_view}
 use Rattle.dep_types.specs.declared.rows.FileRow.{FileRow}
 use Rattle.dep_types.specs.declared.rows.ObjectView.{ObjectView}
 use Rattle.dep_types.specs.Sinks.{Entry}
-use Rattle.dep_bag.specs.Manifest.{sha256_digest, manifest_of}
+use Rattle.dep_manifest.specs.Manifest.{sha256_digest, manifest_of}
 use Rattle.dep_bag.specs.Parts.{told_parts, told_part, text_part, stored_part}
 use Rattle.dep_bag.specs.declared.part.BagPart.{BagPart}
 use Rattle.dep_bag.specs.declared.part.BagPart.TheVariants.{Bytes, Stored}

@@ -5,7 +5,7 @@ use Rattle.dep_types.specs.BagPaths.{payload_path}
 use Rattle.dep_types.specs.State.{Object, File}
 use Rattle.dep_docs_out.specs.Documents.{bag_metadata_document}
 use Rattle.dep_bag.specs.Bag.{bagit_text, info_text, oxum, payload, listed_files}
-use Rattle.dep_bag.specs.Manifest.{sha256_digest, manifest_of}
+use Rattle.dep_manifest.specs.Manifest.{sha256_digest, manifest_of}
 use Rattle.dep_answers.specs.Answers.{ReplyContent, Document, PlainText, StoredContent}
 
 -- a path, and what is shown there

@@ -11,7 +11,7 @@ use Rattle.dep_types.specs.State.{State, Object, File}
 use Rattle.dep_types.specs.Rows.{file_row, object_view}
 use Rattle.dep_types.specs.Sinks.{Entry, IsFront, folder_made, file_given}
 use Rattle.dep_types.specs.declared.rows.ObjectView.{ObjectView}
-use Rattle.dep_bag.specs.Manifest.{sha256_digest, manifest_of}
+use Rattle.dep_manifest.specs.Manifest.{sha256_digest, manifest_of}
 use Rattle.dep_bag.specs.Bag.{payload, bag_files}
 use Rattle.dep_bag.specs.Parts.{told_listed, told_tag_files}
 use Rattle.dep_bag.specs.Source.{view_at}

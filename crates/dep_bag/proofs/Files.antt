@@ -12,7 +12,7 @@ use Rattle.dep_types.specs.State.{Object, File}
 use Rattle.dep_types.specs.BagPaths.{payload_path}
 use Rattle.dep_docs_out.specs.Documents.{bag_metadata_document}
 use Rattle.dep_types.specs.Sinks.{Entry}
-use Rattle.dep_bag.specs.Manifest.{sha256_digest, encoded_path, manifest_of}
+use Rattle.dep_manifest.specs.Manifest.{sha256_digest, encoded_path, manifest_of}
 use Rattle.dep_bag.specs.Bag.{payload, oxum, listed_files, bag_files, bagit_text, info_text}
 use Rattle.dep_bag.specs.Valid.{is_payload}
 use Rattle.dep_bag.proofs.Lines.{BeginsPlain}

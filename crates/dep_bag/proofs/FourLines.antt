@@ -1,7 +1,7 @@
 -- The lines of four files, added one after another.
 use Rattle.std.proofs.Common.{◌≡◌, ℕ, List, [], ◌∷◌, ◌++◌, ap, ◌∙◌, append_assoc, append-nil}
 use Rattle.sha2.specs.Sha256.{sha256}
-use Rattle.dep_bag.specs.Manifest.{sha256_digest, manifest_line, manifest_of}
+use Rattle.dep_manifest.specs.Manifest.{sha256_digest, manifest_line, manifest_of}
 
 -- the line of these bytes
 abbrev pub line : (path bytes : List ℕ) → List ℕ

@@ -1,6 +1,4 @@
 pub mod Lines
-pub mod Encoding
-pub mod Written
 pub mod Fronts
 pub mod FourLines
 pub mod FoundFiles

@@ -12,7 +12,7 @@ use Rattle.hex.specs.Hex.{encode_lower, is_hex_digit, decode_sized}
 use Rattle.sha2.specs.Sha256.{sha256, digest_bytes}
 use Rattle.sha2.proofs.Facts256.{length-sha256}
 use Rattle.dep_types.specs.Sinks.{Entry}
-use Rattle.dep_bag.specs.Manifest.{Digest, IsDigest, sha256_digest, encoded_byte, encoded_path, manifest_of}
+use Rattle.dep_manifest.specs.Manifest.{Digest, IsDigest, sha256_digest, encoded_byte, encoded_path, manifest_of}
 use Rattle.dep_bag.specs.Valid.{Line, lines_of, parts_read, line_read, lines_read, manifest_read, digits_len, blanks_len}
 
 pub or-parts : (a b : Bool) → (a || b) ≡ false → (a ≡ false) × (b ≡ false)

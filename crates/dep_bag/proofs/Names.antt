@@ -11,7 +11,7 @@ use Rattle.dep_types.specs.State.{State, Object, File}
 use Rattle.dep_types.specs.Sound.{IsSound}
 use Rattle.dep_types.specs.Names.{is_name_byte, is_good_name, is_short}
 use Rattle.dep_types.specs.BagPaths.{payload_path, payload_paths, tag_paths, bag_paths}
-use Rattle.dep_bag.specs.Manifest.{encoded_byte, encoded_path}
+use Rattle.dep_manifest.specs.Manifest.{encoded_byte, encoded_path}
 use Rattle.dep_bag.specs.Named.{percent_byte, percent_encoded}
 use Rattle.dep_bag.specs.Bag.{list_text}
 use Rattle.dep_bag.specs.Valid.{lines_of}

@@ -10,10 +10,10 @@ use Rattle.std.proofs.lemmas.List.Sorted.{Contains-permutation}
 use Rattle.sha2.specs.Sha256.{sha256}
 use Rattle.hex.specs.Hex.{decode_sized}
 use Rattle.dep_types.specs.Sinks.{Entry}
-use Rattle.dep_bag.specs.Manifest.{sha256_digest, encoded_path}
+use Rattle.dep_manifest.specs.Manifest.{sha256_digest, encoded_path}
 use Rattle.dep_bag.specs.Bag.{Bag}
 use Rattle.dep_bag.specs.Valid.{Line, IsValidBag, IsChecked, is_payload, payload_in}
-use Rattle.dep_bag.proofs.Encoding.{encoding_injective}
+use Rattle.dep_manifest.proofs.Encoding.{encoding_injective}
 use Rattle.dep_bag.proofs.Files.{order}
 
 first-in : {X : Type 0} (x : X) (xs : List X) → Contains (x ∷ xs) x

@@ -8,10 +8,10 @@ use Rattle.std.proofs.lemmas.List.Sums.{sum_by-cons}
 use Rattle.std.proofs.lemmas.List.Elements.{All-head, All-tail}
 use Rattle.dep_types.specs.State.{Object, File}
 use Rattle.dep_types.specs.Rows.{file_row, object_view}
-use Rattle.dep_bag.specs.Manifest.{sha256_digest, checksum_of}
+use Rattle.dep_manifest.specs.Manifest.{sha256_digest, checksum_of}
 use Rattle.dep_bag.specs.Bag.{payload, oxum, oxum_text, listed_files, bag_files, info_text, bagit_text}
 use Rattle.dep_types.specs.Sinks.{Entry}
-use Rattle.dep_bag.specs.Manifest.{manifest, manifest_of}
+use Rattle.dep_manifest.specs.Manifest.{manifest, manifest_of}
 use Rattle.dep_docs_out.specs.Documents.{bag_metadata_document}
 use Rattle.dep_bag.specs.Parts.{row_checksum, told_oxum, told_listed, told_tag_manifest, told_parts, text_part, stored_part, told_bytes, held_bytes}
 use Rattle.dep_bag.proofs.Files.{payload_entry}

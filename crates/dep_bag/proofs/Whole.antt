@@ -17,7 +17,7 @@ use Rattle.dep_types.specs.BagPaths.{payload_path, tag_paths, bag_paths}
 use Rattle.dep_moment.specs.Civil.{day_text, civil_of}
 use Rattle.dep_docs_out.specs.Documents.{bag_metadata_document}
 use Rattle.dep_types.specs.Sinks.{Entry}
-use Rattle.dep_bag.specs.Manifest.{Digest, IsDigest, sha256_digest, encoded_path, manifest_of}
+use Rattle.dep_manifest.specs.Manifest.{Digest, IsDigest, sha256_digest, encoded_path, manifest_of}
 use Rattle.dep_bag.specs.Bag.{Bag, payload, listed_files, bag_files, bag_of, bag_at, bagit_text, oxum, info_text}
 use Rattle.dep_bag.specs.Valid.{IsValidBag, IsChecked, IsPayloadManifest, IsTagManifest, is_payload, payload_in, lines_of, manifest_read}
 use Rattle.dep_bag.proofs.Lines.{line_of, sha256-digest, manifest_read_back, digest_read_back, split_first, none-append}

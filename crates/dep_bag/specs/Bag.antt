@@ -8,7 +8,7 @@ use Rattle.dep_types.specs.BagPaths.{payload_path}
 use Rattle.dep_moment.specs.Civil.{day_text}
 use Rattle.dep_docs_out.specs.Documents.{bag_metadata_document}
 use Rattle.dep_types.specs.Sinks.{Entry}
-use Rattle.dep_bag.specs.Manifest.{sha256_digest, manifest_of}
+use Rattle.dep_manifest.specs.Manifest.{sha256_digest, manifest_of}
 
 -- a list of folders, and bytes by path
 pub record Bag : Type 0 where

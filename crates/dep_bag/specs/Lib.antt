@@ -1,4 +1,3 @@
-pub mod Manifest
 pub mod Bag
 pub mod Valid
 pub mod Named

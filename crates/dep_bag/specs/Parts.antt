@@ -7,7 +7,7 @@ use Rattle.dep_types.specs.declared.rows.FileRow.{FileRow}
 use Rattle.dep_types.specs.declared.rows.ObjectView.{ObjectView}
 use Rattle.dep_docs_out.specs.Documents.{bag_metadata_document}
 use Rattle.dep_types.specs.Sinks.{Entry}
-use Rattle.dep_bag.specs.Manifest.{Checksum, sha256_digest, manifest, manifest_of}
+use Rattle.dep_manifest.specs.Manifest.{Checksum, sha256_digest, manifest, manifest_of}
 use Rattle.dep_bag.specs.Bag.{bagit_text, oxum_text, info_text}
 use Rattle.dep_bag.specs.declared.part.BagPart.{BagPart}
 use Rattle.dep_bag.specs.declared.part.BagPart.TheVariants.{Bytes, Stored}

@@ -5,7 +5,7 @@ use Rattle.std.specs.FinMap as finmap
 use Rattle.hex.specs.Hex.{decode_sized, is_hex_digit}
 use Rattle.dep_types.specs.Maps.{◌>>=◌}
 use Rattle.dep_types.specs.Sinks.{Entry}
-use Rattle.dep_bag.specs.Manifest.{Digest, sha256_digest, encoded_path}
+use Rattle.dep_manifest.specs.Manifest.{Digest, sha256_digest, encoded_path}
 use Rattle.dep_bag.specs.Bag.{Bag, bagit_text, oxum}
 
 -- whether a path stands below the folder `data`

@@ -7,17 +7,12 @@ ghost use Rattle.dep_types.specs.State.{State, Object};
 ghost use Rattle.dep_types.specs.Sound.{IsSound};
 ghost use Rattle.dep_types.specs.Names.{is_good_name};
 ghost use Rattle.dep_types.specs.BagPaths.{bag_paths, payload_path};
-ghost use Rattle.dep_bag.specs.Manifest.{encoded_path, sha256_digest, manifest_of};
+ghost use Rattle.dep_manifest.specs.Manifest.{encoded_path};
 ghost use Rattle.dep_bag.specs.Bag.{Bag, oxum, list_text, bag_of, bag_at, bag_files};
 ghost use Rattle.dep_bag.specs.Valid.{IsValidBag, Line, is_payload, lines_of};
 ghost use Rattle.dep_types.specs.Rows.{object_view};
 ghost use Rattle.dep_bag.specs.Parts.{told_parts, told_bytes, held_bytes};
 ghost use Rattle.dep_bag.specs.Named.{percent_encoded};
-
-/// Paths that differ are written differently.
-pub fn encoding_keeps_apart()
-    ensures { (a b : List ℕ) → encoded_path a ≡ encoded_path b → a ≡ b }
-{}
 
 /// The bag of each object of a sound state is valid (RFC 8493, section 3).
 pub fn bag_is_valid()
@@ -41,11 +36,6 @@ pub fn view_tells_bag()
         → each (told_bytes o) (told_parts (object_view n o)) ≡ each held_bytes (bag_files o) }
 {}
 
-/// A percent sign is written `%25`.
-pub fn percent_is_encoded()
-    ensures { encoded_path (codes "data/7/50%25 off%.txt") ≡ codes "data/7/50%2525 off%25.txt" }
-{}
-
 /// A valid bag tells the SHA-256 of each of its payload files.
 pub fn valid_bag_tells_each_file()
     ensures { (b : Bag) (valid : IsValidBag b) (path bytes : List ℕ)
@@ -64,12 +54,6 @@ pub fn good_path_is_encoded()
 pub fn list_reads_back()
     ensures { (s : State) (n : ℕ) (o : Object) → IsSound s → map.get s.objects n ≡ Some o
         → lines_of (list_text (bag_paths o)) ≡ bag_paths o ++ [] ∷ [] }
-{}
-
-/// The line of a file of three bytes.
-pub fn manifest_of_example()
-    ensures { manifest_of sha256_digest ((codes "data/1/50%.txt", codes "abc") ∷ [])
-        ≡ codes "ba7816bf8f01cfea414140de5dae2223b00361a396177a9cb410ff61f20015ad  data/1/50%25.txt\n" }
 {}
 
 /// Five bytes in two files.

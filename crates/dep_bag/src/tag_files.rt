@@ -1,14 +1,15 @@
 //! The texts of the files of a bag that are not its payload (RFC 8493, section 2.2).
 ghost use Rattle.std.specs.Prelude.{◌≡◌, ◌++◌, ℕ, List, OnOk, IfOk, decimal, sum_by};
 ghost use Rattle.sha2.specs.Sha256.{sha256};
-ghost use Rattle.dep_bag.specs.Manifest.{manifest_line};
+ghost use Rattle.dep_manifest.specs.Manifest.{manifest_line};
 ghost use Rattle.dep_bag.specs.Bag.{bagit_text, info_text};
 ghost use Rattle.dep_bag.specs.Parts.{told_oxum, told_info, told_tag_manifest};
 
-use crate::manifest::{add_line, payload_manifest};
+use crate::manifest::payload_manifest;
 use crate::paths::{BAG_INFO, BAGIT, MANIFEST, METADATA};
 use dep_docs_out::bag_metadata_doc;
 use dep_fixity::Hasher;
+use dep_manifest::add_line;
 use dep_moment::Moment;
 use dep_types::{FileRow, ObjectView};
 use itoa::Buffer;

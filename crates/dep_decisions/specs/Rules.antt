@@ -23,7 +23,7 @@ use Rattle.dep_types.specs.declared.target.Method.TheVariants.{Get, Head, Post, 
 use Rattle.dep_octets.specs.Octets.{trimmed}
 use Rattle.dep_fixity.specs.Fixity.{keeps, is_kept, digests_of}
 use Rattle.dep_fixity.specs.declared.field.DigestList.{DigestList}
-use Rattle.dep_fields.specs.Tags.{holds}
+use Rattle.dep_tags.specs.Tags.{holds}
 use Rattle.dep_fields.specs.declared.kind.Opening.{Opening}
 use Rattle.dep_fields.specs.declared.field.Field.{Field}
 use Rattle.dep_fields.specs.declared.field.Field.TheVariants.{Absent, Bad, Value}

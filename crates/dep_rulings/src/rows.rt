@@ -9,7 +9,8 @@ ghost use Rattle.dep_rulings.specs.Seen.{is_received, live_refusal, presence_see
 use crate::references::state_row;
 use crate::view::{LiveUpload, UploadState, UploadViews, View};
 use dep_decisions::{Operation, Purpose};
-use dep_fields::{Field, IfMatch, Opening};
+use dep_fields::{Field, Opening};
+use dep_tags::IfMatch;
 use dep_types::{Config, Octets, Refusal, Resource, UploadRow};
 
 /// Rule 5: On-Behalf-Of.

@@ -1,14 +1,6 @@
 pub mod Machine
-pub mod Bare
-pub mod ReplyHeads
 pub mod Stops
 pub mod Records
-pub mod Calm
-pub mod Streams
-pub mod Moves
-pub mod Refused
-pub mod Deposited
-pub mod Acknowledged
 pub mod Opening
 pub mod Causes
 pub mod Sending

@@ -5,7 +5,6 @@ mod arrived;
 mod connection;
 mod connections;
 mod hub;
-pub mod laws;
 mod opening;
 mod sending;
 mod serving;

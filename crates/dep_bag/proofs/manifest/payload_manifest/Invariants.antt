@@ -1,5 +1,5 @@
 use Rattle.std.proofs.Common.{◌≡◌, map, take}
-use Rattle.dep_bag.specs.Manifest.{manifest}
+use Rattle.dep_manifest.specs.Manifest.{manifest}
 use Rattle.dep_bag.specs.Parts.{row_checksum}
 use Rattle.dep_bag.proofs.manifest.payload_manifest.Given as goal
 
