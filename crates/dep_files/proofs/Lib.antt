@@ -4,5 +4,7 @@ pub mod FileCalls
 pub mod Results
 pub mod SizeFound
 pub mod SendingLemmas
+pub mod NextRow
+pub mod RowsSent
 pub mod OrderedBlocks
 pub mod Streams
