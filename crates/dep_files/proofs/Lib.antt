@@ -6,5 +6,6 @@ pub mod SizeFound
 pub mod SendingLemmas
 pub mod NextRow
 pub mod RowsSent
+pub mod FaultsTold
 pub mod OrderedBlocks
 pub mod Streams

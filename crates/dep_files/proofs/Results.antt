@@ -1,10 +1,11 @@
 -- Facts on a result that is passed on, and on a transaction that goes on unchanged.
-use Rattle.std.proofs.Common.{◌≡◌, ◌⊎◌, inl, inr, IsTrue, Result, Ok, Err, OnOk, ap, sym, subst, ◌∙◌}
+use Rattle.std.proofs.Common.{◌≡◌, ◌⊎◌, inl, inr, IsTrue, Result, Ok, Err, OnOk, ap, sym, subst, ◌∙◌, ◌≢◌, ℕ, ◌≤◌, ◌<◌, refl, arith}
 use Rattle.std.proofs.lemmas.Result.{on_err_weaker}
 use Rattle.std.specs.Borrow.{MutBor}
 use Rattle.sqlite_trees.specs.declared.store.Store.{Ghosts}
-use Rattle.sqlite.specs.State.{State, KeepsCommit, IsUnchanged, IsRolledBack}
+use Rattle.sqlite.specs.State.{State, Survives, KeepsCommit, IsUnchanged, IsRolledBack}
 use Rattle.sqlite.specs.Effect.{Database}
+use Rattle.sqlite_trees.specs.View.{doubt}
 use Rattle.sqlite.specs.Held.{Held, state}
 use Rattle.dep_tables.specs.Tables.{IsOurs, HasOurTables, tables_of, tables_in}
 use Rattle.dep_tables.specs.Clauses.{FailsWhole, StaysWithin}
@@ -53,3 +54,21 @@ module _ {S : Type 0} {g : Ghosts S} {old mid new : MutBor (Held S)} {A E B F : 
       let within = first.inside before inside in
       let was_open = (second.kept clean within).was_open is_open in
       on_err_weaker r (uncommitted_more (state g old.now) (state g mid.now) (state g new.now) (first.kept before inside) was_open) (fails clean within is_open)
+
+-- ---- nothing was asked
+
+as_many : (n : ℕ) → n ≤ n
+as_many n = omega arith
+
+pub some_where : (n : ℕ) → n ≢ 0 → 0 < n
+some_where n some = omega arith
+
+pub survives_itself : (now : State) → Survives now now (λ _. ⊥)
+survives_itself now = record {
+  clean = as_many (doubt now.is_clean);
+  shield = λ h. h;
+  counts = as_many now.faults;
+  limit = refl;
+  closes = λ _ is_open. inl is_open;
+  crash = λ _ db may. inl may;
+}

@@ -7,6 +7,9 @@ use Rattle.sqlite.specs.State.{IsUnchanged, IsRolledBack, Shown, ShowsRows}
 use Rattle.sqlite.specs.Clock.{timed}
 use Rattle.sqlite_schema.specs.declared.command.Returning.{Returning}
 use Rattle.sqlite.specs.State as db
+use Rattle.sqlite.specs.Held.{Held, state}
+use Rattle.sqlite.proofs.Callers.{unchanged_then}
+use Rattle.sqlite_trees.specs.declared.store.Store.{Ghosts}
 use Rattle.sqlite.specs.declared.types.Value.TheVariants.{Int}
 use Rattle.sqlite_value.specs.Order.{Row, column, value_cmp}
 use Rattle.dep_types.specs.Maps.{Numbered}
@@ -154,6 +157,14 @@ kept_failed old new (inr back) = kept_back old new back
 
 pub kept_itself : (now : db.State) → IsKept now now
 kept_itself now is_open = ((is_open, refl), inl (refl, refl))
+
+pub kept_asked : {S : Type 0} (g : Ghosts S) (old new : Held S) → (new ≡ old) ⊎ (IsUnchanged (state g old) (state g new) ⊎ IsRolledBack (state g old) (state g new)) → IsKept (state g old) (state g new)
+kept_asked {S = S} g old new (inl none) = subst (λ (h : Held S). IsKept (state g old) (state g h)) (sym none) (kept_itself (state g old))
+kept_asked g old new (inr left) = kept_failed (state g old) (state g new) left
+
+pub still_on : {S : Type 0} (g : Ghosts S) (old : db.State) (mid new : Held S) → IsUnchanged old (state g mid) → (new ≡ mid) ⊎ IsUnchanged (state g mid) (state g new) → IsUnchanged old (state g new)
+still_on {S = S} g old mid new same (inl none) = subst (λ (h : Held S). IsUnchanged old (state g h)) (sym none) same
+still_on g old mid new same (inr still) = unchanged_then old (state g mid) (state g new) same still
 
 -- what shows rows was open
 pub shown_open : (sql : List ℕ) (params : Row) (old new : db.State) (rows : List Row) → Shown sql params old new rows → IsTrue old.is_open
