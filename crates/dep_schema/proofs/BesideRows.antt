@@ -34,7 +34,7 @@ use Rattle.sqlite_catalog.specs.Change.{created, next_tree}
 use Rattle.sqlite_catalog.proofs.StepLemmas.{no_table, table_below}
 use Rattle.dep_statements.specs.Adding.{HasCounters, AddsAll, Puts}
 use Rattle.dep_statements.specs.Rows.{IsOrdered}
-use Rattle.dep_statements.proofs.Adding.{AllMade, made_all, free_all, adds_append, placed_after, got_after, next_created}
+use Rattle.dep_statements.proofs.Adding.{AllMade, made_all, free_all, placed_after, got_after, next_created}
 use Rattle.dep_statements.proofs.Values.{cast_int, cast_null}
 use Rattle.dep_statements.proofs.Statements.{inserted}
 use Rattle.dep_tables.proofs.Results.{ok_then}
@@ -288,14 +288,11 @@ gains_if : {A E : Type 0} (r : Result A E) (old new : Database) → AreFree old.
 gains_if (Ok x) old new free after = record { free = free; made = after }
 gains_if (Err e) old new free after = tt
 
-pub gains : {A E : Type 0} (r : Result A E) (old first second mid new : Database) → AddsAll (format_table ∷ state_table ∷ objects_table ∷ []) old first → AddsAll (metadata_table ∷ files_table ∷ uploads_table ∷ []) first second
-    → AddsAll (segments_table ∷ timed_out_table ∷ blocks_table ∷ []) second mid
+pub gains : {A E : Type 0} (r : Result A E) (old mid new : Database) → AddsAll our_tables old mid
     → ((others : Schema) → AreFree others → mid.schema ≡ with_ours others
     → OnOk r ((next : Database) × Puts (next_tree others) (stored_format our_version) mid next × Puts (next_tree (created others format_table)) (stored_state first_state) next new))
     → OnOk r (GainsOurs old new)
-gains r old first second mid new begun goes ended rows =
-    let more = adds_append (metadata_table ∷ files_table ∷ uploads_table ∷ []) (segments_table ∷ timed_out_table ∷ blocks_table ∷ []) first second mid goes ended in
-    let added : AddsAll our_tables old mid = adds_append (format_table ∷ state_table ∷ objects_table ∷ []) (metadata_table ∷ files_table ∷ uploads_table ∷ segments_table ∷ timed_out_table ∷ blocks_table ∷ []) old first mid begun more in
+gains r old mid new added rows =
     let free = (free_all our_tables old mid added).0 in
     gains_if r old new free (λ has.
     ok_then r (rows old.schema free (made_all our_tables old mid (refl, (refl, (refl, (refl, (refl, (refl, (refl, (refl, (refl, tt))))))))) has added).schema) (λ put. stands_beside old mid put.0 new added has put.1 put.2))

@@ -1,5 +1,6 @@
 -- How the texts that make the tables are understood where there are tables of others.
-use Rattle.std.proofs.Common.{◌≡◌, ℕ, Bool, true, false, List, [], ◌∷◌, if◌then◌else◌, Option, None, Some, Result, Ok, Err, OnOk, codes, refl, sym, subst, ◌∙◌}
+use Rattle.std.proofs.Common.{◌≡◌, ℕ, Bool, true, false, ◌+◌, ◌<◌, ◌≤◌, zero, suc, List, [], ◌∷◌, length, map, take, get_or, IsTrue, inl, arith, if◌then◌else◌, Option, None, Some, Ok, Err, codes, refl, sym, ap, subst, ◌∙◌}
+use Rattle.std.proofs.lemmas.List.{take_more, get_or-map, length-map}
 use Rattle.std.specs.Option.{option_or}
 use Rattle.std.specs.Prelude.{is_some}
 use Rattle.sqlite_tied.specs.Compute.{everything}
@@ -8,8 +9,10 @@ use Rattle.sqlite.specs.Table.{Table}
 use Rattle.sqlite.specs.Listing.{understood, listing_schema, misses_table, if_select}
 use Rattle.sqlite.specs.Command.{Command}
 use Rattle.sqlite.specs.Command.TheVariants.{CreateTable, Nothing}
-use Rattle.sqlite.specs.Effect.{Database}
-use Rattle.sqlite.specs.State.{State, ExecutesInside}
+use Rattle.sqlite.specs.State.{State, HasCleanDisk, ExecutesInside}
+use Rattle.sqlite.specs.Held.{Held, state}
+use Rattle.std.specs.Borrow.{Bor, MutBor}
+use Rattle.sqlite_trees.specs.declared.store.Store.{Ghosts}
 use Rattle.sqlite.proofs.Callers.{IsPlain, command_of, statement_of}
 use Rattle.sqlite_schema.specs.Names.{table_named, index_named, view_named}
 use Rattle.sqlite_resolve.specs.declared.error.CompileError.TheVariants.{Unsupported, Exists}
@@ -18,9 +21,10 @@ use Rattle.sqlite_syntax.specs.declared.statement.Parsed.{Parsed}
 use Rattle.sqlite_resolve.specs.Lowering.{Checked, and_then}
 use Rattle.sqlite_resolve.specs.Compile.{compiled, first, is_attached, with_command, table_defined_by}
 use Rattle.dep_statements.specs.Adding.{Adds, AddsAll}
-use Rattle.dep_statements.proofs.Adding.{IsMaking, adds}
-use Rattle.dep_tables.proofs.Results.{ok_then}
-use Rattle.dep_tables.specs.Schema.{format_table, state_table, objects_table, metadata_table, files_table, uploads_table, segments_table, timed_out_table, blocks_table}
+use Rattle.dep_statements.proofs.Adding.{IsMaking, adds, adds_append}
+use Rattle.dep_tables.proofs.Chains.{Stays, clean_before, stays_then, stays_ok}
+use Rattle.dep_tables.specs.Clauses.{StaysWithin}
+use Rattle.dep_tables.specs.Schema.{our_tables, format_table, state_table, objects_table, metadata_table, files_table, uploads_table, segments_table, timed_out_table, blocks_table}
 use Rattle.dep_schema.specs.Texts.{create_format_text, create_state_text, create_objects_text, create_metadata_text, create_files_text, create_uploads_text, create_segments_text, create_timed_out_text, create_blocks_text}
 
 -- what a schema has of a name: an object that is kept as it is, a table, a view, an index
@@ -93,7 +97,7 @@ format_defined : table_defined_by create_format_text ≡ Ok (record format_table
 unfolding everything
 format_defined = refl
 
-pub adds_format : (old new : State) (count : ℕ) → ExecutesInside 0 create_format_text [] old new (Ok count) → Adds format_table old.now new.now
+adds_format : (old new : State) (count : ℕ) → ExecutesInside 0 create_format_text [] old new (Ok count) → Adds format_table old.now new.now
 adds_format old new count h = adds_table (codes "format") create_format_text format_table format_by format_makes format_defined refl old new count h
 
 state_by : MakesAnywhere (codes "state") create_state_text
@@ -108,7 +112,7 @@ state_defined : table_defined_by create_state_text ≡ Ok (record state_table { 
 unfolding everything
 state_defined = refl
 
-pub adds_state : (old new : State) (count : ℕ) → ExecutesInside 0 create_state_text [] old new (Ok count) → Adds state_table old.now new.now
+adds_state : (old new : State) (count : ℕ) → ExecutesInside 0 create_state_text [] old new (Ok count) → Adds state_table old.now new.now
 adds_state old new count h = adds_table (codes "state") create_state_text state_table state_by state_makes state_defined refl old new count h
 
 objects_by : MakesAnywhere (codes "objects") create_objects_text
@@ -123,7 +127,7 @@ objects_defined : table_defined_by create_objects_text ≡ Ok (record objects_ta
 unfolding everything
 objects_defined = refl
 
-pub adds_objects : (old new : State) (count : ℕ) → ExecutesInside 0 create_objects_text [] old new (Ok count) → Adds objects_table old.now new.now
+adds_objects : (old new : State) (count : ℕ) → ExecutesInside 0 create_objects_text [] old new (Ok count) → Adds objects_table old.now new.now
 adds_objects old new count h = adds_table (codes "objects") create_objects_text objects_table objects_by objects_makes objects_defined refl old new count h
 
 metadata_by : MakesAnywhere (codes "metadata") create_metadata_text
@@ -138,7 +142,7 @@ metadata_defined : table_defined_by create_metadata_text ≡ Ok (record metadata
 unfolding everything
 metadata_defined = refl
 
-pub adds_metadata : (old new : State) (count : ℕ) → ExecutesInside 0 create_metadata_text [] old new (Ok count) → Adds metadata_table old.now new.now
+adds_metadata : (old new : State) (count : ℕ) → ExecutesInside 0 create_metadata_text [] old new (Ok count) → Adds metadata_table old.now new.now
 adds_metadata old new count h = adds_table (codes "metadata") create_metadata_text metadata_table metadata_by metadata_makes metadata_defined refl old new count h
 
 files_by : MakesAnywhere (codes "files") create_files_text
@@ -153,7 +157,7 @@ files_defined : table_defined_by create_files_text ≡ Ok (record files_table { 
 unfolding everything
 files_defined = refl
 
-pub adds_files : (old new : State) (count : ℕ) → ExecutesInside 0 create_files_text [] old new (Ok count) → Adds files_table old.now new.now
+adds_files : (old new : State) (count : ℕ) → ExecutesInside 0 create_files_text [] old new (Ok count) → Adds files_table old.now new.now
 adds_files old new count h = adds_table (codes "files") create_files_text files_table files_by files_makes files_defined refl old new count h
 
 uploads_by : MakesAnywhere (codes "uploads") create_uploads_text
@@ -168,7 +172,7 @@ uploads_defined : table_defined_by create_uploads_text ≡ Ok (record uploads_ta
 unfolding everything
 uploads_defined = refl
 
-pub adds_uploads : (old new : State) (count : ℕ) → ExecutesInside 0 create_uploads_text [] old new (Ok count) → Adds uploads_table old.now new.now
+adds_uploads : (old new : State) (count : ℕ) → ExecutesInside 0 create_uploads_text [] old new (Ok count) → Adds uploads_table old.now new.now
 adds_uploads old new count h = adds_table (codes "uploads") create_uploads_text uploads_table uploads_by uploads_makes uploads_defined refl old new count h
 
 segments_by : MakesAnywhere (codes "segments") create_segments_text
@@ -183,7 +187,7 @@ segments_defined : table_defined_by create_segments_text ≡ Ok (record segments
 unfolding everything
 segments_defined = refl
 
-pub adds_segments : (old new : State) (count : ℕ) → ExecutesInside 0 create_segments_text [] old new (Ok count) → Adds segments_table old.now new.now
+adds_segments : (old new : State) (count : ℕ) → ExecutesInside 0 create_segments_text [] old new (Ok count) → Adds segments_table old.now new.now
 adds_segments old new count h = adds_table (codes "segments") create_segments_text segments_table segments_by segments_makes segments_defined refl old new count h
 
 timed_out_by : MakesAnywhere (codes "timed_out") create_timed_out_text
@@ -198,7 +202,7 @@ timed_out_defined : table_defined_by create_timed_out_text ≡ Ok (record timed_
 unfolding everything
 timed_out_defined = refl
 
-pub adds_timed_out : (old new : State) (count : ℕ) → ExecutesInside 0 create_timed_out_text [] old new (Ok count) → Adds timed_out_table old.now new.now
+adds_timed_out : (old new : State) (count : ℕ) → ExecutesInside 0 create_timed_out_text [] old new (Ok count) → Adds timed_out_table old.now new.now
 adds_timed_out old new count h = adds_table (codes "timed_out") create_timed_out_text timed_out_table timed_out_by timed_out_makes timed_out_defined refl old new count h
 
 blocks_by : MakesAnywhere (codes "blocks") create_blocks_text
@@ -213,10 +217,87 @@ blocks_defined : table_defined_by create_blocks_text ≡ Ok (record blocks_table
 unfolding everything
 blocks_defined = refl
 
-pub adds_blocks : (old new : State) (count : ℕ) → ExecutesInside 0 create_blocks_text [] old new (Ok count) → Adds blocks_table old.now new.now
+adds_blocks : (old new : State) (count : ℕ) → ExecutesInside 0 create_blocks_text [] old new (Ok count) → Adds blocks_table old.now new.now
 adds_blocks old new count h = adds_table (codes "blocks") create_blocks_text blocks_table blocks_by blocks_makes blocks_defined refl old new count h
 
--- three tables, one after another
-pub three_added : {A E : Type 0} (r : Result A E) (first second third : Table) (a b c d : Database) → Adds first a b → Adds second b c
-    → OnOk r (Adds third c d) → OnOk r (AddsAll (first ∷ second ∷ third ∷ []) a d)
-three_added r first second third a b c d one two three = ok_then r three (λ last. (b, one, (c, two, (d, last, refl))))
+-- ---- all of them, one after another
+
+abbrev Making : Type 0
+Making = List ℕ × Table
+
+abbrev all_makings : List Making
+all_makings =
+    (create_format_text, format_table) ∷ (create_state_text, state_table) ∷ (create_objects_text, objects_table) ∷ (create_metadata_text, metadata_table) ∷ (create_files_text, files_table)
+    ∷ (create_uploads_text, uploads_table) ∷ (create_segments_text, segments_table) ∷ (create_timed_out_text, timed_out_table) ∷ (create_blocks_text, blocks_table) ∷ []
+
+abbrev create_texts : List (List ℕ)
+create_texts = map (λ (m : Making). m.0) all_makings
+
+abbrev AddsBy : List ℕ → Table → Type 1
+AddsBy text table = (old new : State) (count : ℕ) → ExecutesInside 0 text [] old new (Ok count) → Adds table old.now new.now
+
+-- each text adds its table
+abbrev AddEach : List Making → Type 1
+AddEach [] = Unit
+AddEach (m ∷ makings) = AddsBy m.0 m.1 × AddEach makings
+
+each_adds : AddEach all_makings
+each_adds =
+    (adds_format, (adds_state, (adds_objects, (adds_metadata, (adds_files, (adds_uploads, (adds_segments, (adds_timed_out, (adds_blocks, tt)))))))))
+
+adds_at : (makings : List Making) → AddEach makings → (n : ℕ) (text : List ℕ) (table : Table) → n < length makings
+    → AddsBy (get_or (map (λ (m : Making). m.0) makings) n text) (get_or (map (λ (m : Making). m.1) makings) n table)
+adds_at [] each n text table below = absurd (omega arith)
+adds_at (m ∷ makings) each zero _ _ below = each.0
+adds_at (m ∷ makings) each (suc n) text table below = adds_at makings each.1 n text table (omega arith)
+
+-- the tables of the first of these texts are made, in a transaction that goes on
+pub record AreMadeTo {S : Type 0} (g : Ghosts S) (texts : List (Bor (List ℕ))) (n : ℕ) (old new : MutBor (Held S)) : Type 0 where
+  pub texts_are : map (λ t. t.now) texts ≡ create_texts
+  pub adds : HasCleanDisk (state g new.now) → IsTrue (state g old.now).in_transaction → AddsAll (take n our_tables) (state g old.now).now (state g new.now).now
+  pub stays : Stays g old new
+
+module _ {S : Type 0} (g : Ghosts S) (texts : List (Bor (List ℕ))) where
+  pub none_made : (old : MutBor (Held S)) → map (λ t. t.now) texts ≡ create_texts → AreMadeTo g texts 0 old old
+  none_made old are = record {
+    texts_are = are;
+    adds = λ clean inside. refl;
+    stays = record {
+      same_reference = refl;
+      survives = record {
+        clean = omega arith;
+        shield = λ shielded. shielded;
+        counts = omega arith;
+        limit = refl;
+        closes = λ clean is_open. inl is_open;
+        crash = λ clean db left. inl left;
+      };
+      inside = λ clean inside. inside;
+      kept = λ clean inside. record { was_open = λ is_open. is_open; committed = λ is_open. refl };
+    };
+  }
+
+  module _ (n : ℕ) (old new : MutBor (Held S)) where
+    -- one more, by its text
+    pub one_made : (mid : MutBor (Held S)) (text : Bor (List ℕ)) → n < 9 → AreMadeTo g texts n old mid → {A E : Type 0} {x : A} → StaysWithin {A = A} {E = E} g mid new (Ok x)
+        → (HasCleanDisk (state g new.now) → IsTrue (state g mid.now).in_transaction → (count : ℕ) × ExecutesInside 0 (get_or texts n text).now [] (state g mid.now) (state g new.now) (Ok count))
+        → AreMadeTo g texts (n + 1) old new
+    one_made mid text below made stays runs =
+        let count = simp length-map at (ap length made.texts_are) in
+        let is : (get_or texts n text).now ≡ get_or create_texts n [] = sym (get_or-map (λ t. t.now) texts n text [] (omega arith)) ∙ ap (λ ts. get_or ts n []) made.texts_are in
+        record {
+          texts_are = made.texts_are;
+          adds = λ clean inside.
+              let before = clean_before stays clean in
+              let ran = runs clean (made.stays.inside before inside) in
+              let added = adds_at all_makings each_adds n [] format_table below (state g mid.now) (state g new.now) ran.0
+              (subst (λ t. ExecutesInside 0 t [] (state g mid.now) (state g new.now) (Ok ran.0)) is ran.1) in
+              subst (λ tables. AddsAll tables (state g old.now).now (state g new.now).now) (sym (take_more our_tables n format_table below))
+              (adds_append (take n our_tables) (get_or our_tables n format_table ∷ []) (state g old.now).now (state g mid.now).now (state g new.now).now (made.adds before inside)
+              ((state g new.now).now, added, refl));
+          stays = stays_ok (stays_then made.stays stays);
+        }
+
+    -- no text is behind the ninth
+    pub all_made : n ≤ 9 → 9 ≤ n → AreMadeTo g texts n old new → AreMadeTo g texts 9 old new
+    all_made within ended made = let is : n ≡ 9 = omega arith in subst (λ k. AreMadeTo g texts k old new) is made

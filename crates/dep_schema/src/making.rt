@@ -6,8 +6,8 @@ ghost use Rattle.sqlite.specs.Held.{state};
 ghost use Rattle.sqlite.specs.Schema.{Schema};
 ghost use Rattle.sqlite.specs.Effect.{Database};
 ghost use Rattle.sqlite_catalog.specs.Change.{created, next_tree};
-ghost use Rattle.dep_statements.specs.Adding.{Adds, AddsAll, Puts};
-ghost use Rattle.dep_tables.specs.Schema.{format_table, state_table, objects_table, metadata_table, files_table, uploads_table, segments_table, timed_out_table, blocks_table};
+ghost use Rattle.dep_statements.specs.Adding.{AddsAll, Puts};
+ghost use Rattle.dep_tables.specs.Schema.{our_tables, format_table};
 ghost use Rattle.dep_tables.specs.Rows.{stored_format, stored_state};
 ghost use Rattle.dep_tables.specs.Clauses.{StaysWithin};
 ghost use Rattle.dep_schema.specs.Beside.{AreFree, with_ours};
@@ -18,122 +18,27 @@ use dep_tables::run;
 use dep_types::StoreFault;
 use sqlite::{Alter, Transaction};
 
-/// The version of the tables.
-fn create_format<S: Alter>(tx: &mut Transaction<'_, S>) -> Result<(), StoreFault>
-    ensures adds { Turns (state S.Store tx.old.conn.now) (state S.Store tx.new.conn.now) result
-        (Adds format_table) }
-    ensures stays { StaysWithin S.Store tx.old.conn tx.new.conn result }
-{
-    run(
-        tx,
-        "CREATE TABLE format (id INTEGER PRIMARY KEY, version INTEGER NOT NULL) STRICT",
-        &[],
-    )
-}
-
-/// The clock and the counters.
-fn create_state<S: Alter>(tx: &mut Transaction<'_, S>) -> Result<(), StoreFault>
-    ensures adds { Turns (state S.Store tx.old.conn.now) (state S.Store tx.new.conn.now) result
-        (Adds state_table) }
-    ensures stays { StaysWithin S.Store tx.old.conn tx.new.conn result }
-{
-    run(
-        tx,
-        "CREATE TABLE state (id INTEGER PRIMARY KEY, clock INTEGER NOT NULL, next_object INTEGER NOT NULL, next_file INTEGER NOT NULL, next_upload INTEGER NOT NULL, next_change INTEGER NOT NULL) STRICT",
-        &[],
-    )
-}
-
-/// One row for each object.
-fn create_objects<S: Alter>(tx: &mut Transaction<'_, S>) -> Result<(), StoreFault>
-    ensures adds { Turns (state S.Store tx.old.conn.now) (state S.Store tx.new.conn.now) result
-        (Adds objects_table) }
-    ensures stays { StaysWithin S.Store tx.old.conn tx.new.conn result }
-{
-    run(
-        tx,
-        "CREATE TABLE objects (object INTEGER PRIMARY KEY, ingested INTEGER NOT NULL, object_tag INTEGER NOT NULL, metadata_tag INTEGER NOT NULL, files_tag INTEGER NOT NULL, changed INTEGER NOT NULL) STRICT",
-        &[],
-    )
-}
-
-/// One row for each text of an object's metadata.
-fn create_metadata<S: Alter>(tx: &mut Transaction<'_, S>) -> Result<(), StoreFault>
-    ensures adds { Turns (state S.Store tx.old.conn.now) (state S.Store tx.new.conn.now) result
-        (Adds metadata_table) }
-    ensures stays { StaysWithin S.Store tx.old.conn tx.new.conn result }
-{
-    run(
-        tx,
-        "CREATE TABLE metadata (object INTEGER NOT NULL, name TEXT NOT NULL, place INTEGER NOT NULL, value TEXT NOT NULL, PRIMARY KEY (object, name, place)) STRICT",
-        &[],
-    )
-}
-
-/// One row for each file.
-fn create_files<S: Alter>(tx: &mut Transaction<'_, S>) -> Result<(), StoreFault>
-    ensures adds { Turns (state S.Store tx.old.conn.now) (state S.Store tx.new.conn.now) result
-        (Adds files_table) }
-    ensures stays { StaysWithin S.Store tx.old.conn tx.new.conn result }
-{
-    run(
-        tx,
-        "CREATE TABLE files (file INTEGER PRIMARY KEY, object INTEGER NOT NULL, name TEXT NOT NULL, media TEXT NOT NULL, size INTEGER NOT NULL, tag INTEGER NOT NULL, deposited INTEGER NOT NULL, behalf TEXT, by_reference INTEGER NOT NULL, sha256 BLOB NOT NULL) STRICT",
-        &[],
-    )
-}
-
-/// One row for each staged upload.
-fn create_uploads<S: Alter>(tx: &mut Transaction<'_, S>) -> Result<(), StoreFault>
-    ensures adds { Turns (state S.Store tx.old.conn.now) (state S.Store tx.new.conn.now) result
-        (Adds uploads_table) }
-    ensures stays { StaysWithin S.Store tx.old.conn tx.new.conn result }
-{
-    run(
-        tx,
-        "CREATE TABLE uploads (upload INTEGER PRIMARY KEY, size INTEGER NOT NULL, count INTEGER NOT NULL, segment_size INTEGER NOT NULL, sha256 BLOB, last INTEGER NOT NULL) STRICT",
-        &[],
-    )
-}
-
-/// One row for each segment that was received.
-fn create_segments<S: Alter>(tx: &mut Transaction<'_, S>) -> Result<(), StoreFault>
-    ensures adds { Turns (state S.Store tx.old.conn.now) (state S.Store tx.new.conn.now) result
-        (Adds segments_table) }
-    ensures stays { StaysWithin S.Store tx.old.conn tx.new.conn result }
-{
-    run(
-        tx,
-        "CREATE TABLE segments (upload INTEGER NOT NULL, number INTEGER NOT NULL, size INTEGER NOT NULL, PRIMARY KEY (upload, number)) STRICT",
-        &[],
-    )
-}
-
-/// One row for each upload that timed out.
-fn create_timed_out<S: Alter>(tx: &mut Transaction<'_, S>) -> Result<(), StoreFault>
-    ensures adds { Turns (state S.Store tx.old.conn.now) (state S.Store tx.new.conn.now) result
-        (Adds timed_out_table) }
-    ensures stays { StaysWithin S.Store tx.old.conn tx.new.conn result }
-{
-    run(
-        tx,
-        "CREATE TABLE timed_out (upload INTEGER PRIMARY KEY) STRICT",
-        &[],
-    )
-}
-
-/// The bytes of contents, in blocks.
-fn create_blocks<S: Alter>(tx: &mut Transaction<'_, S>) -> Result<(), StoreFault>
-    ensures adds { Turns (state S.Store tx.old.conn.now) (state S.Store tx.new.conn.now) result
-        (Adds blocks_table) }
-    ensures stays { StaysWithin S.Store tx.old.conn tx.new.conn result }
-{
-    run(
-        tx,
-        "CREATE TABLE blocks (kind INTEGER NOT NULL, owner INTEGER NOT NULL, part INTEGER NOT NULL, place INTEGER NOT NULL, bytes BLOB NOT NULL, PRIMARY KEY (kind, owner, part, place)) STRICT",
-        &[],
-    )
-}
+/// The texts that make the tables, in the order of their trees.
+const TABLES: [&str; 9] = [
+    // The version of the tables.
+    "CREATE TABLE format (id INTEGER PRIMARY KEY, version INTEGER NOT NULL) STRICT",
+    // The clock and the counters.
+    "CREATE TABLE state (id INTEGER PRIMARY KEY, clock INTEGER NOT NULL, next_object INTEGER NOT NULL, next_file INTEGER NOT NULL, next_upload INTEGER NOT NULL, next_change INTEGER NOT NULL) STRICT",
+    // One row for each object.
+    "CREATE TABLE objects (object INTEGER PRIMARY KEY, ingested INTEGER NOT NULL, object_tag INTEGER NOT NULL, metadata_tag INTEGER NOT NULL, files_tag INTEGER NOT NULL, changed INTEGER NOT NULL) STRICT",
+    // One row for each text of an object's metadata.
+    "CREATE TABLE metadata (object INTEGER NOT NULL, name TEXT NOT NULL, place INTEGER NOT NULL, value TEXT NOT NULL, PRIMARY KEY (object, name, place)) STRICT",
+    // One row for each file.
+    "CREATE TABLE files (file INTEGER PRIMARY KEY, object INTEGER NOT NULL, name TEXT NOT NULL, media TEXT NOT NULL, size INTEGER NOT NULL, tag INTEGER NOT NULL, deposited INTEGER NOT NULL, behalf TEXT, by_reference INTEGER NOT NULL, sha256 BLOB NOT NULL) STRICT",
+    // One row for each staged upload.
+    "CREATE TABLE uploads (upload INTEGER PRIMARY KEY, size INTEGER NOT NULL, count INTEGER NOT NULL, segment_size INTEGER NOT NULL, sha256 BLOB, last INTEGER NOT NULL) STRICT",
+    // One row for each segment that was received.
+    "CREATE TABLE segments (upload INTEGER NOT NULL, number INTEGER NOT NULL, size INTEGER NOT NULL, PRIMARY KEY (upload, number)) STRICT",
+    // One row for each upload that timed out.
+    "CREATE TABLE timed_out (upload INTEGER PRIMARY KEY) STRICT",
+    // The bytes of contents, in blocks.
+    "CREATE TABLE blocks (kind INTEGER NOT NULL, owner INTEGER NOT NULL, part INTEGER NOT NULL, place INTEGER NOT NULL, bytes BLOB NOT NULL, PRIMARY KEY (kind, owner, part, place)) STRICT",
+];
 
 /// Version 1.
 fn add_format<S: Alter>(tx: &mut Transaction<'_, S>) -> Result<(), StoreFault>
@@ -165,37 +70,16 @@ fn add_state<S: Alter>(tx: &mut Transaction<'_, S>) -> Result<(), StoreFault>
     )
 }
 
-/// The first three tables.
-fn create_first<S: Alter>(tx: &mut Transaction<'_, S>) -> Result<(), StoreFault>
+/// All tables, one after another.
+fn create_tables<S: Alter>(tx: &mut Transaction<'_, S>) -> Result<(), StoreFault>
     ensures adds { Turns (state S.Store tx.old.conn.now) (state S.Store tx.new.conn.now) result
-        (AddsAll (format_table ∷ state_table ∷ objects_table ∷ [])) }
+        (AddsAll our_tables) }
     ensures stays { StaysWithin S.Store tx.old.conn tx.new.conn result }
 {
-    create_format(tx)?;
-    create_state(tx)?;
-    create_objects(tx)
-}
-
-/// The tables of metadata, files and uploads.
-fn create_second<S: Alter>(tx: &mut Transaction<'_, S>) -> Result<(), StoreFault>
-    ensures adds { Turns (state S.Store tx.old.conn.now) (state S.Store tx.new.conn.now) result
-        (AddsAll (metadata_table ∷ files_table ∷ uploads_table ∷ [])) }
-    ensures stays { StaysWithin S.Store tx.old.conn tx.new.conn result }
-{
-    create_metadata(tx)?;
-    create_files(tx)?;
-    create_uploads(tx)
-}
-
-/// The tables after them.
-fn create_last<S: Alter>(tx: &mut Transaction<'_, S>) -> Result<(), StoreFault>
-    ensures adds { Turns (state S.Store tx.old.conn.now) (state S.Store tx.new.conn.now) result
-        (AddsAll (segments_table ∷ timed_out_table ∷ blocks_table ∷ [])) }
-    ensures stays { StaysWithin S.Store tx.old.conn tx.new.conn result }
-{
-    create_segments(tx)?;
-    create_timed_out(tx)?;
-    create_blocks(tx)
+    for text in &TABLES {
+        run(tx, text, &[])?;
+    }
+    Ok(())
 }
 
 /// The rows of a new store.
@@ -224,8 +108,6 @@ pub(crate) fn make_tables<S: Alter>(tx: &mut Transaction<'_, S>) -> Result<(), S
         GainsOurs }
     ensures stays { StaysWithin S.Store tx.old.conn tx.new.conn result }
 {
-    create_first(tx)?;
-    create_second(tx)?;
-    create_last(tx)?;
+    create_tables(tx)?;
     add_rows(tx)
 }

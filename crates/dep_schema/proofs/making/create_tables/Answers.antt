@@ -1,0 +1,27 @@
+use Rattle.std.proofs.Common.{refl, Err}
+use Rattle.std.proofs.lemmas.Result.{IfOk-from_err}
+use Rattle.dep_tables.proofs.Chains.{stays_then, stays_ok, stays_err}
+use Rattle.dep_schema.proofs.MadeTables.{none_made, one_made, all_made}
+use Rattle.dep_schema.proofs.making.create_tables.Goals as goal
+
+pub loop-text-init : goal.loop-text-init
+loop-text-init g c = none_made g.S.Store _ c.args.tx.now.conn refl
+
+pub loop-text-preserved : goal.loop-text-preserved
+loop-text-preserved g c =
+    one_made g.S.Store _ c.loop-text.text-index c.args.tx.now.conn c.run.new.tx.conn c.loop-text.tx.conn _ c.loop-text-test.true c.loop-text.invariant
+    c.in_ok-run.ensures.stays c.in_ok-run.ensures.runs
+
+-- where one was not made, nothing is said of an Ok
+pub returns-in_err-run : goal.returns-in_err-run
+returns-in_err-run g c =
+    let is_err = c.from_residual.ensures.0 in
+    record {
+      adds = λ clean inside. IfOk-from_err c.from_residual.result _ is_err;
+      stays = stays_err is_err (stays_then {r = Err c.in_err-run.field-0.0} c.loop-text.invariant.stays c.in_err-run.ensures.stays);
+    }
+
+pub returns : goal.returns
+returns g c =
+    let made = all_made g.S.Store _ c.loop-text.text-index c.args.tx.now.conn c.loop-text.tx.conn c.loop-text.auto.text-index-end c.loop-text-test.false c.loop-text.invariant in
+    record { adds = made.adds; stays = stays_ok made.stays }
