@@ -2,6 +2,7 @@
 use Rattle.std.proofs.Common.{◌≡◌, ℕ, Bool, true, false, ◌+◌, ◌<◌, ◌≤◌, zero, suc, List, [], ◌∷◌, length, map, take, get_or, IsTrue, inl, arith, if◌then◌else◌, Option, None, Some, Ok, Err, codes, refl, sym, ap, subst, ◌∙◌}
 use Rattle.std.proofs.lemmas.List.{take_more, get_or-map, length-map}
 use Rattle.std.specs.Option.{option_or}
+use Rattle.std.specs.List.{AllByRecursion}
 use Rattle.std.specs.Prelude.{is_some}
 use Rattle.sqlite_tied.specs.Compute.{everything}
 use Rattle.sqlite.specs.Schema.{Schema}
@@ -52,10 +53,6 @@ understood_by has read listed = if misses_table (compiled_by has read) then if_s
 abbrev IsMakingText : List ℕ → Checked Compiled → Type 0
 IsMakingText text r = (command_of r ≡ CreateTable) × IsPlain r × (statement_of text r ≡ text)
 
--- the text goes by what the schema has of the name
-abbrev MakesAnywhere : List ℕ → List ℕ → Type 0
-MakesAnywhere name text = (schema : Schema) → understood schema text ≡ understood_by (taken schema name) (first text) (compiled listing_schema text)
-
 -- where nothing is in its way, the text makes a table
 abbrev Makes : List ℕ → Checked Parsed → Type 0
 Makes text (Ok p) = IsMakingText text (Ok (with_command p ([], (CreateTable, None))))
@@ -70,10 +67,18 @@ only_makes text (Ok p) listed makes false (Some t) v None c h = absurd (cc)
 only_makes text (Ok p) listed makes false None (Some v) None c h = absurd (cc)
 only_makes text (Ok p) listed makes false None None None c h = makes
 
-adds_table : (name text : List ℕ) (table : Table) → MakesAnywhere name text → Makes text (first text) → table_defined_by text ≡ Ok (record table { tree = 0 }) → table.is_counted ≡ false
-    → (old new : State) (count : ℕ) → ExecutesInside 0 text [] old new (Ok count) → Adds table old.now new.now
-adds_table name text table by makes defined uncounted old new count h =
-    let added = adds text (record table { tree = 0 }) old new count defined uncounted h making in
+-- the text makes this table, wherever nothing is in its way
+record MakesTable (text : List ℕ) (table : Table) : Type 0 where
+  name : List ℕ
+  -- it goes by what the schema has of the name
+  by : (schema : Schema) → understood schema text ≡ understood_by (taken schema name) (first text) (compiled listing_schema text)
+  makes : Makes text (first text)
+  defined : table_defined_by text ≡ Ok (record table { tree = 0 })
+  uncounted : table.is_counted ≡ false
+
+adds_table : (text : List ℕ) (table : Table) → MakesTable text table → (old new : State) (count : ℕ) → ExecutesInside 0 text [] old new (Ok count) → Adds table old.now new.now
+adds_table text table is old new count h =
+    let added = adds text (record table { tree = 0 }) old new count is.defined is.uncounted h making in
     record {
       free = added.free;
       keeps = added.keeps;
@@ -81,144 +86,47 @@ adds_table name text table by makes defined uncounted old new count h =
     }
   where
     making : (c : Compiled) → understood old.now.schema text ≡ Ok c → IsMaking text old
-    making c is =
+    making c goes =
         let schema = old.now.schema in
-        subst (IsMakingText text) (sym (by schema)) (only_makes text (first text) (compiled listing_schema text) makes (is_attached schema name) (table_named schema name) (view_named schema name) (index_named schema name) c (sym (by schema) ∙ is))
+        let name = is.name in
+        subst (IsMakingText text) (sym (is.by schema))
+        (only_makes text (first text) (compiled listing_schema text) is.makes (is_attached schema name) (table_named schema name) (view_named schema name) (index_named schema name) c (sym (is.by schema) ∙ goes))
 
-format_by : MakesAnywhere (codes "format") create_format_text
+format_made : MakesTable create_format_text format_table
 unfolding understood everything
-format_by schema = refl
+format_made = record { name = codes "format"; by = λ schema. refl; makes = (refl, (refl, refl), refl); defined = refl; uncounted = refl }
 
-format_makes : Makes create_format_text (first create_format_text)
-unfolding everything
-format_makes = (refl, (refl, refl), refl)
-
-format_defined : table_defined_by create_format_text ≡ Ok (record format_table { tree = 0 })
-unfolding everything
-format_defined = refl
-
-adds_format : (old new : State) (count : ℕ) → ExecutesInside 0 create_format_text [] old new (Ok count) → Adds format_table old.now new.now
-adds_format old new count h = adds_table (codes "format") create_format_text format_table format_by format_makes format_defined refl old new count h
-
-state_by : MakesAnywhere (codes "state") create_state_text
+state_made : MakesTable create_state_text state_table
 unfolding understood everything
-state_by schema = refl
+state_made = record { name = codes "state"; by = λ schema. refl; makes = (refl, (refl, refl), refl); defined = refl; uncounted = refl }
 
-state_makes : Makes create_state_text (first create_state_text)
-unfolding everything
-state_makes = (refl, (refl, refl), refl)
-
-state_defined : table_defined_by create_state_text ≡ Ok (record state_table { tree = 0 })
-unfolding everything
-state_defined = refl
-
-adds_state : (old new : State) (count : ℕ) → ExecutesInside 0 create_state_text [] old new (Ok count) → Adds state_table old.now new.now
-adds_state old new count h = adds_table (codes "state") create_state_text state_table state_by state_makes state_defined refl old new count h
-
-objects_by : MakesAnywhere (codes "objects") create_objects_text
+objects_made : MakesTable create_objects_text objects_table
 unfolding understood everything
-objects_by schema = refl
+objects_made = record { name = codes "objects"; by = λ schema. refl; makes = (refl, (refl, refl), refl); defined = refl; uncounted = refl }
 
-objects_makes : Makes create_objects_text (first create_objects_text)
-unfolding everything
-objects_makes = (refl, (refl, refl), refl)
-
-objects_defined : table_defined_by create_objects_text ≡ Ok (record objects_table { tree = 0 })
-unfolding everything
-objects_defined = refl
-
-adds_objects : (old new : State) (count : ℕ) → ExecutesInside 0 create_objects_text [] old new (Ok count) → Adds objects_table old.now new.now
-adds_objects old new count h = adds_table (codes "objects") create_objects_text objects_table objects_by objects_makes objects_defined refl old new count h
-
-metadata_by : MakesAnywhere (codes "metadata") create_metadata_text
+metadata_made : MakesTable create_metadata_text metadata_table
 unfolding understood everything
-metadata_by schema = refl
+metadata_made = record { name = codes "metadata"; by = λ schema. refl; makes = (refl, (refl, refl), refl); defined = refl; uncounted = refl }
 
-metadata_makes : Makes create_metadata_text (first create_metadata_text)
-unfolding everything
-metadata_makes = (refl, (refl, refl), refl)
-
-metadata_defined : table_defined_by create_metadata_text ≡ Ok (record metadata_table { tree = 0 })
-unfolding everything
-metadata_defined = refl
-
-adds_metadata : (old new : State) (count : ℕ) → ExecutesInside 0 create_metadata_text [] old new (Ok count) → Adds metadata_table old.now new.now
-adds_metadata old new count h = adds_table (codes "metadata") create_metadata_text metadata_table metadata_by metadata_makes metadata_defined refl old new count h
-
-files_by : MakesAnywhere (codes "files") create_files_text
+files_made : MakesTable create_files_text files_table
 unfolding understood everything
-files_by schema = refl
+files_made = record { name = codes "files"; by = λ schema. refl; makes = (refl, (refl, refl), refl); defined = refl; uncounted = refl }
 
-files_makes : Makes create_files_text (first create_files_text)
-unfolding everything
-files_makes = (refl, (refl, refl), refl)
-
-files_defined : table_defined_by create_files_text ≡ Ok (record files_table { tree = 0 })
-unfolding everything
-files_defined = refl
-
-adds_files : (old new : State) (count : ℕ) → ExecutesInside 0 create_files_text [] old new (Ok count) → Adds files_table old.now new.now
-adds_files old new count h = adds_table (codes "files") create_files_text files_table files_by files_makes files_defined refl old new count h
-
-uploads_by : MakesAnywhere (codes "uploads") create_uploads_text
+uploads_made : MakesTable create_uploads_text uploads_table
 unfolding understood everything
-uploads_by schema = refl
+uploads_made = record { name = codes "uploads"; by = λ schema. refl; makes = (refl, (refl, refl), refl); defined = refl; uncounted = refl }
 
-uploads_makes : Makes create_uploads_text (first create_uploads_text)
-unfolding everything
-uploads_makes = (refl, (refl, refl), refl)
-
-uploads_defined : table_defined_by create_uploads_text ≡ Ok (record uploads_table { tree = 0 })
-unfolding everything
-uploads_defined = refl
-
-adds_uploads : (old new : State) (count : ℕ) → ExecutesInside 0 create_uploads_text [] old new (Ok count) → Adds uploads_table old.now new.now
-adds_uploads old new count h = adds_table (codes "uploads") create_uploads_text uploads_table uploads_by uploads_makes uploads_defined refl old new count h
-
-segments_by : MakesAnywhere (codes "segments") create_segments_text
+segments_made : MakesTable create_segments_text segments_table
 unfolding understood everything
-segments_by schema = refl
+segments_made = record { name = codes "segments"; by = λ schema. refl; makes = (refl, (refl, refl), refl); defined = refl; uncounted = refl }
 
-segments_makes : Makes create_segments_text (first create_segments_text)
-unfolding everything
-segments_makes = (refl, (refl, refl), refl)
-
-segments_defined : table_defined_by create_segments_text ≡ Ok (record segments_table { tree = 0 })
-unfolding everything
-segments_defined = refl
-
-adds_segments : (old new : State) (count : ℕ) → ExecutesInside 0 create_segments_text [] old new (Ok count) → Adds segments_table old.now new.now
-adds_segments old new count h = adds_table (codes "segments") create_segments_text segments_table segments_by segments_makes segments_defined refl old new count h
-
-timed_out_by : MakesAnywhere (codes "timed_out") create_timed_out_text
+timed_out_made : MakesTable create_timed_out_text timed_out_table
 unfolding understood everything
-timed_out_by schema = refl
+timed_out_made = record { name = codes "timed_out"; by = λ schema. refl; makes = (refl, (refl, refl), refl); defined = refl; uncounted = refl }
 
-timed_out_makes : Makes create_timed_out_text (first create_timed_out_text)
-unfolding everything
-timed_out_makes = (refl, (refl, refl), refl)
-
-timed_out_defined : table_defined_by create_timed_out_text ≡ Ok (record timed_out_table { tree = 0 })
-unfolding everything
-timed_out_defined = refl
-
-adds_timed_out : (old new : State) (count : ℕ) → ExecutesInside 0 create_timed_out_text [] old new (Ok count) → Adds timed_out_table old.now new.now
-adds_timed_out old new count h = adds_table (codes "timed_out") create_timed_out_text timed_out_table timed_out_by timed_out_makes timed_out_defined refl old new count h
-
-blocks_by : MakesAnywhere (codes "blocks") create_blocks_text
+blocks_made : MakesTable create_blocks_text blocks_table
 unfolding understood everything
-blocks_by schema = refl
-
-blocks_makes : Makes create_blocks_text (first create_blocks_text)
-unfolding everything
-blocks_makes = (refl, (refl, refl), refl)
-
-blocks_defined : table_defined_by create_blocks_text ≡ Ok (record blocks_table { tree = 0 })
-unfolding everything
-blocks_defined = refl
-
-adds_blocks : (old new : State) (count : ℕ) → ExecutesInside 0 create_blocks_text [] old new (Ok count) → Adds blocks_table old.now new.now
-adds_blocks old new count h = adds_table (codes "blocks") create_blocks_text blocks_table blocks_by blocks_makes blocks_defined refl old new count h
+blocks_made = record { name = codes "blocks"; by = λ schema. refl; makes = (refl, (refl, refl), refl); defined = refl; uncounted = refl }
 
 -- ---- all of them, one after another
 
@@ -233,23 +141,17 @@ all_makings =
 abbrev create_texts : List (List ℕ)
 create_texts = map (λ (m : Making). m.0) all_makings
 
-abbrev AddsBy : List ℕ → Table → Type 1
-AddsBy text table = (old new : State) (count : ℕ) → ExecutesInside 0 text [] old new (Ok count) → Adds table old.now new.now
+abbrev MakeEach : List Making → Type 0
+MakeEach = AllByRecursion (λ (m : Making). MakesTable m.0 m.1)
 
--- each text adds its table
-abbrev AddEach : List Making → Type 1
-AddEach [] = Unit
-AddEach (m ∷ makings) = AddsBy m.0 m.1 × AddEach makings
+each_makes : MakeEach all_makings
+each_makes = (format_made, (state_made, (objects_made, (metadata_made, (files_made, (uploads_made, (segments_made, (timed_out_made, (blocks_made, tt)))))))))
 
-each_adds : AddEach all_makings
-each_adds =
-    (adds_format, (adds_state, (adds_objects, (adds_metadata, (adds_files, (adds_uploads, (adds_segments, (adds_timed_out, (adds_blocks, tt)))))))))
-
-adds_at : (makings : List Making) → AddEach makings → (n : ℕ) (text : List ℕ) (table : Table) → n < length makings
-    → AddsBy (get_or (map (λ (m : Making). m.0) makings) n text) (get_or (map (λ (m : Making). m.1) makings) n table)
-adds_at [] each n text table below = absurd (omega arith)
-adds_at (m ∷ makings) each zero _ _ below = each.0
-adds_at (m ∷ makings) each (suc n) text table below = adds_at makings each.1 n text table (omega arith)
+makes_at : (makings : List Making) → MakeEach makings → (n : ℕ) (text : List ℕ) (table : Table) → n < length makings
+    → MakesTable (get_or (map (λ (m : Making). m.0) makings) n text) (get_or (map (λ (m : Making). m.1) makings) n table)
+makes_at [] each n text table below = absurd (omega arith)
+makes_at (m ∷ makings) each zero _ _ below = each.0
+makes_at (m ∷ makings) each (suc n) text table below = makes_at makings each.1 n text table (omega arith)
 
 -- the tables of the first of these texts are made, in a transaction that goes on
 pub record AreMadeTo {S : Type 0} (g : Ghosts S) (texts : List (Bor (List ℕ))) (n : ℕ) (old new : MutBor (Held S)) : Type 0 where
@@ -290,7 +192,7 @@ module _ {S : Type 0} (g : Ghosts S) (texts : List (Bor (List ℕ))) where
           adds = λ clean inside.
               let before = clean_before stays clean in
               let ran = runs clean (made.stays.inside before inside) in
-              let added = adds_at all_makings each_adds n [] format_table below (state g mid.now) (state g new.now) ran.0
+              let added = adds_table _ _ (makes_at all_makings each_makes n [] format_table below) (state g mid.now) (state g new.now) ran.0
               (subst (λ t. ExecutesInside 0 t [] (state g mid.now) (state g new.now) (Ok ran.0)) is ran.1) in
               subst (λ tables. AddsAll tables (state g old.now).now (state g new.now).now) (sym (take_more our_tables n format_table below))
               (adds_append (take n our_tables) (get_or our_tables n format_table ∷ []) (state g old.now).now (state g mid.now).now (state g new.now).now (made.adds before inside)
