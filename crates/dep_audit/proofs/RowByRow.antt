@@ -12,10 +12,9 @@ use Rattle.sqlite.specs.Listing.{understood}
 use Rattle.sqlite.specs.Next.{HasMoved}
 use Rattle.sqlite.specs.declared.error.Error.{Error}
 use Rattle.sqlite.specs.declared.rows.stream.Rows.{Rows}
-use Rattle.sqlite.proofs.Callers.{unchanged_then}
-use Rattle.sqlite.proofs.StateLemmas.{survives_then}
 use Rattle.sqlite_trees.specs.declared.store.Store.{Ghosts}
 use Rattle.dep_files.specs.Sent.{blob_of, joined}
+use Rattle.dep_files.proofs.NextRow.{clean_before, survives_on, unchanged_on}
 use Rattle.dep_files.proofs.SendingLemmas.{clean_was, commits_nothing, failed_then, joined_push, refused_left}
 use Rattle.dep_types.specs.declared.store_fault.StoreFault.{StoreFault}
 use Rattle.dep_audit.specs.Fixity.{HashesShown}
@@ -50,17 +49,15 @@ not_begun {X = X} g sql params old new result error fault left is =
     }
 
 module _ {S : Type 0} (g : Ghosts S) (old new : Rows S g) (result : Result (Option (Bor Row)) Error) (moved : HasMoved g old result new) where
-  pub clean_before : HasCleanDisk (state g new.conn.now) → HasCleanDisk (state g old.conn.now)
-  clean_before = clean_was (state g old.conn.now) (state g new.conn.now) _ moved.survives
+  earlier : HasCleanDisk (state g new.conn.now) → HasCleanDisk (state g old.conn.now)
+  earlier = clean_before g old new result moved
 
-  pub survives_on : (first : State) → Survives first (state g old.conn.now) (λ _. ⊥) → Survives first (state g new.conn.now) (λ _. ⊥)
-  survives_on first before =
-      survives_then first (state g old.conn.now) (state g new.conn.now) _ _ (λ _. ⊥) (λ _ db none. none) (λ _ db none. none) before moved.survives
-
-  pub unchanged_on : (first : State) (next : Option (Bor Row)) → result ≡ Ok next → HasCleanDisk (state g new.conn.now)
+  unchanged : (first : State) (next : Option (Bor Row)) → result ≡ Ok next → HasCleanDisk (state g new.conn.now)
       → IsUnchanged first (state g old.conn.now) → IsUnchanged first (state g new.conn.now)
-  unchanged_on first next is late same =
-      unchanged_then first (state g old.conn.now) (state g new.conn.now) same (rw is at (moved.same late))
+  unchanged = unchanged_on g old new result moved
+
+  survived : (first : State) → Survives first (state g old.conn.now) (λ _. ⊥) → Survives first (state g new.conn.now) (λ _. ⊥)
+  survived = survives_on g old new result moved
 
   module _ (sql : List ℕ) (params : Row) (first : State) (hasher : Sha256) (was : Hashed g sql params first old.conn.now hasher) (late : HasCleanDisk (state g new.conn.now)) where
     pub hashed_all : result ≡ Ok None → IsPlain (understood first.now.schema sql) → (digest : List ℕ)
@@ -77,7 +74,7 @@ module _ {S : Type 0} (g : Ghosts S) (old new : Rows S g) (result : Result (Opti
     hashed_more row after is more = (
       was.0 ++ row.now ∷ [],
       (rw is at (moved.ok late)) sql params was.0 was.1,
-      unchanged_on first (Some row) is late was.2,
+      unchanged first (Some row) is late was.2,
       subst (Holds256 after) (sym (joined_push was.0 row.now)) (more (joined was.0) was.3),
     )
 
@@ -95,11 +92,11 @@ module _ {S : Type 0} (g : Ghosts S) (old new : Rows S g) (result : Result (Opti
     pub ends_whole : result ≡ Ok None → (digest : List ℕ) → ((message : List ℕ) → Holds256 hasher message → digest ≡ sha256 message)
         → EndsHashing sql params first (state g new.conn.now) (Ok digest)
     ends_whole is digest made = record {
-      hashes = λ late plain. hashed_all sql params first hasher (was (clean_before late) plain) late is plain digest made;
-      same = λ late plain. unchanged_on first None is late (was (clean_before late) plain).2;
+      hashes = λ late plain. hashed_all sql params first hasher (was (earlier late) plain) late is plain digest made;
+      same = λ late plain. unchanged first None is late (was (earlier late) plain).2;
       err = λ late plain. tt;
-      clean = λ late. clean (clean_before late);
-      survives = λ plain. survives_on first (before plain);
+      clean = λ late. clean (earlier late);
+      survives = λ plain. survived first (before plain);
     }
 
     -- one was not given
@@ -108,9 +105,9 @@ module _ {S : Type 0} (g : Ghosts S) (old new : Rows S g) (result : Result (Opti
     ends_failed error is fault = record {
       hashes = λ late plain. tt;
       same = λ late plain. tt;
-      err = λ late plain. failed_on sql params first hasher (was (clean_before late) plain) late error is plain;
-      clean = λ late. clean (clean_before late);
-      survives = λ plain. survives_on first (before plain);
+      err = λ late plain. failed_on sql params first hasher (was (earlier late) plain) late error is plain;
+      clean = λ late. clean (earlier late);
+      survives = λ plain. survived first (before plain);
     }
 
     -- one has no bytes
@@ -119,7 +116,7 @@ module _ {S : Type 0} (g : Ghosts S) (old new : Rows S g) (result : Result (Opti
     ends_refused row is fault = record {
       hashes = λ late plain. tt;
       same = λ late plain. tt;
-      err = λ late plain. inl (unchanged_on first (Some row) is late (was (clean_before late) plain).2);
-      clean = λ late. clean (clean_before late);
-      survives = λ plain. survives_on first (before plain);
+      err = λ late plain. inl (unchanged first (Some row) is late (was (earlier late) plain).2);
+      clean = λ late. clean (earlier late);
+      survives = λ plain. survived first (before plain);
     }

@@ -1,4 +1,4 @@
-use Rattle.std.proofs.Common.{◌≡◌, ◌∙◌, ◌++◌, ◌+◌, ℕ, List, [], ◌∷◌, take, refl, rules, sym, ap, subst, append-nil}
+use Rattle.std.proofs.Common.{◌≡◌, ◌∙◌, ◌++◌, ◌+◌, ℕ, List, [], ◌∷◌, take, refl, sym, ap, subst, append-nil}
 use Rattle.std.specs.List.{AllZip, flat_map, zip}
 use Rattle.std.proofs.lemmas.List.{take_more, take_all}
 use Rattle.std.proofs.lemmas.Grind.{flat_map-append}
@@ -8,6 +8,7 @@ use Rattle.sqlite.proofs.StateLemmas.{survives_then, unchanged}
 use Rattle.dep_tables.specs.Tables.{Tables, tables_of}
 use Rattle.dep_tables.specs.declared.owner.BlockOwner.TheVariants as owner
 use Rattle.dep_types.specs.declared.rows.FileRow.{FileRow}
+use Rattle.dep_files.proofs.Results.{survives_itself}
 use Rattle.dep_audit.specs.Fixity.{IsDigestOf, KeepsDamaged, number_unless_kept}
 use Rattle.dep_audit.proofs.Stills.{still_then, ours_still, tables_still, kept_still, failed_still}
 use Rattle.dep_audit.proofs.Digests.{one_more, zip_more}
@@ -22,7 +23,7 @@ number_of p = number_unless_kept p.0 p.1
 pub files-init : goal.files-init
 files-init g c = (
   λ clean. clean,
-  λ clean ours. search rules,
+  λ clean ours. survives_itself (state g.S.Store c.args.connection.now),
   λ clean ours. record { now_is = refl; unchanged = unchanged (state g.S.Store c.args.connection.now); was_open = λ is_open. is_open },
   λ clean ours. ([], tt, c.new-damaged.ensures.items),
 )
@@ -59,34 +60,40 @@ files-preserved g c =
           ),
     )
 
-pub returns-clause-audits : goal.returns-clause-audits
-returns-clause-audits g c clean ours =
-    let done = c.files.invariant.3 clean ours in
+pub returns : goal.returns
+returns g c =
+    let inv = c.files.invariant in
     let whole = take_all c.files.row-index c.args.files.now c.files-test.false in
     record {
-      checked = refl;
-      digests = done.0;
-      are = subst (λ (l : List FileRow). AllZip (its (state g.S.Store c.args.connection.now)) l done.0) whole done.1;
-      damaged = done.2 ∙ ap (λ (l : List FileRow). flat_map number_of (zip l done.0)) whole;
+      audits = λ clean ours.
+          let done = inv.3 clean ours in
+          record {
+            checked = refl;
+            digests = done.0;
+            are = subst (λ (l : List FileRow). AllZip (its (state g.S.Store c.args.connection.now)) l done.0) whole done.1;
+            damaged = done.2 ∙ ap (λ (l : List FileRow). flat_map number_of (zip l done.0)) whole;
+          };
+      ok = λ clean ours opened. (inv.2 clean ours).unchanged opened;
+      same = λ clean ours. kept_still _ _ (inv.2 clean ours);
+      clean = inv.0;
+      survives = inv.1;
     }
 
-pub returns-clause-ok : goal.returns-clause-ok
-returns-clause-ok g c clean ours opened = (c.files.invariant.2 clean ours).unchanged opened
-
-pub returns-clause-same : goal.returns-clause-same
-returns-clause-same g c clean ours = kept_still _ _ (c.files.invariant.2 clean ours)
-
-pub returns-in-Err-clause-same : goal.returns-in-Err-clause-same
-returns-in-Err-clause-same g c clean ours =
+pub returns-in-Err : goal.returns-in-Err
+returns-in-Err g c =
     let old = state g.S.Store c.args.connection.now in
     let mid = state g.S.Store c.files.connection in
-    let still = c.files.invariant.2 (c.keep_damaged.ensures.clean clean) ours in
-    failed_still old mid (state g.S.Store c.keep_damaged.new.connection) still (λ is_open. c.in-Err.ensures.err clean (ours_still old mid still ours) is_open)
-
-pub returns-in-Err-clause-survives : goal.returns-in-Err-clause-survives
-returns-in-Err-clause-survives g c clean ours =
-    let old = state g.S.Store c.args.connection.now in
-    let mid = state g.S.Store c.files.connection in
-    let before = c.keep_damaged.ensures.clean clean in
-    survives_then old mid (state g.S.Store c.keep_damaged.new.connection) _ _ (λ _. ⊥) (λ _ db none. none) (λ _ db none. none) (c.files.invariant.1 before ours)
-    (c.keep_damaged.ensures.survives (ours_still old mid (c.files.invariant.2 before ours) ours))
+    let new = state g.S.Store c.keep_damaged.new.connection in
+    let inv = c.files.invariant in
+    let told = c.keep_damaged.ensures in
+    record {
+      audits = λ clean ours. tt;
+      ok = λ clean ours opened. tt;
+      same = λ clean ours.
+          let still = inv.2 (told.clean clean) ours in
+          failed_still old mid new still (λ is_open. c.in-Err.ensures.err clean (ours_still old mid still ours) is_open);
+      clean = λ clean. inv.0 (told.clean clean);
+      survives = λ clean ours.
+          let before = told.clean clean in
+          survives_then old mid new _ _ (λ _. ⊥) (λ _ db none. none) (λ _ db none. none) (inv.1 before ours) (told.survives (ours_still old mid (inv.2 before ours) ours));
+    }

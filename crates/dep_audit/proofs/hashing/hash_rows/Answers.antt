@@ -1,11 +1,12 @@
-use Rattle.std.proofs.Common.{[], refl, rules, inl, subst, Ok, Err, Some, None, ◌≡◌}
+use Rattle.std.proofs.Common.{[], refl, inl, sym, subst, Ok, Err, Some, None, ◌∙◌}
 use Rattle.sqlite.specs.State.{CommitsShowing}
 use Rattle.sqlite.specs.Held.{state}
 use Rattle.sqlite.specs.Values.{bound}
 use Rattle.sqlite.proofs.Callers.{begun_plain}
+use Rattle.dep_files.proofs.NextRow.{answered, clean_before, survives_on}
 use Rattle.dep_files.proofs.SendingLemmas.{commits_nothing, clean_was}
 use Rattle.dep_types.specs.declared.store_fault.StoreFault.TheVariants.{Store}
-use Rattle.dep_audit.proofs.RowByRow.{EndsHashing, clean_before, survives_on, hashed_more, not_begun, ends_whole, ends_failed, ends_refused}
+use Rattle.dep_audit.proofs.RowByRow.{EndsHashing, hashed_more, not_begun, ends_whole, ends_failed, ends_refused}
 use Rattle.dep_audit.proofs.hashing.hash_rows.Goals as goal
 
 pub returns-in-Err : goal.returns-in-Err
@@ -32,9 +33,9 @@ rows-preserved g c =
     let moved = c.next.follows.holds-at-none in
     let now = c.next.follows.lender-at-none in
     let first = state g.S.Store c.args.connection.now in
-    let some : c.next.result ≡ Ok (Some c.in-Some.row) = search rules in
+    let some = answered c.next.result c.in-Ok-next.next (Some c.in-Some.row) c.in-Ok-next.is c.in-Some.is in
     let earlier = clean_before g.S.Store c.rows.rows now c.next.result moved in (
-      search rules,
+      moved.same_reference ∙ c.rows.invariant.0,
       λ plain. survives_on g.S.Store c.rows.rows now c.next.result moved first (c.rows.invariant.1 plain),
       λ late plain.
           hashed_more g.S.Store c.rows.rows now c.next.result moved c.args.sql.now (bound c.args.params.now) first c.rows.hasher
@@ -46,8 +47,9 @@ pub returns-in_default : goal.returns-in_default
 returns-in_default g c =
     let now = c.next.follows.lender-at-none in
     let first = state g.S.Store c.args.connection.now in
-    let same : now.conn.now ≡ c.connection-in_default-1.given.0 = search rules in
-    let none : c.next.result ≡ Ok None = search rules in
+    let names = sym (c.next.follows.holds-at-none.same_reference ∙ c.rows.invariant.0 ∙ c.in-Ok.ensures.same_reference) in
+    let same = sym (c.connection-in_default-1.given.1 names ∙ c.drop-rows-in_default.ensures) in
+    let none = answered c.next.result c.in-Ok-next.next None c.in-Ok-next.is c.in_default.is in
     let ended = subst (λ h. EndsHashing c.args.sql.now (bound c.args.params.now) first (state g.S.Store h) (Ok c.finalize.result)) same
     (ends_whole g.S.Store c.rows.rows now c.next.result c.next.follows.holds-at-none c.args.sql.now (bound c.args.params.now) first
     c.rows.hasher c.rows.invariant.1 c.rows.invariant.2 c.rows.invariant.3 none c.finalize.result c.finalize.ensures) in
@@ -57,7 +59,8 @@ pub returns-in-Err-next : goal.returns-in-Err-next
 returns-in-Err-next g c =
     let now = c.next.follows.lender-at-none in
     let first = state g.S.Store c.args.connection.now in
-    let same : now.conn.now ≡ c.connection-in-Err-next-1.given.0 = search rules in
+    let names = sym (c.next.follows.holds-at-none.same_reference ∙ c.rows.invariant.0 ∙ c.in-Ok.ensures.same_reference) in
+    let same = sym (c.connection-in-Err-next-1.given.1 names ∙ c.drop-rows.ensures) in
     let fault = c.fault_of-in-Err-next.result in
     let ended = subst (λ h. EndsHashing c.args.sql.now (bound c.args.params.now) first (state g.S.Store h) (Err fault)) same
     (ends_failed g.S.Store c.rows.rows now c.next.result c.next.follows.holds-at-none c.args.sql.now (bound c.args.params.now) first
@@ -68,8 +71,9 @@ pub returns-in-Err-hash_row : goal.returns-in-Err-hash_row
 returns-in-Err-hash_row g c =
     let now = c.next.follows.lender-at-none in
     let first = state g.S.Store c.args.connection.now in
-    let same : now.conn.now ≡ c.connection-in-Err-hash_row-1.given.0 = search rules in
-    let some : c.next.result ≡ Ok (Some c.in-Some.row) = search rules in
+    let names = sym (c.next.follows.holds-at-none.same_reference ∙ c.rows.invariant.0 ∙ c.in-Ok.ensures.same_reference) in
+    let same = sym (c.connection-in-Err-hash_row-1.given.1 names ∙ c.drop-rows-in-Err-hash_row.ensures) in
+    let some = answered c.next.result c.in-Ok-next.next (Some c.in-Some.row) c.in-Ok-next.is c.in-Some.is in
     let ended = subst (λ h. EndsHashing c.args.sql.now (bound c.args.params.now) first (state g.S.Store h) (Err c.in-Err-hash_row.fault)) same
     (ends_refused g.S.Store c.rows.rows now c.next.result c.next.follows.holds-at-none c.args.sql.now (bound c.args.params.now) first
     c.rows.hasher c.rows.invariant.1 c.rows.invariant.2 c.rows.invariant.3 c.in-Some.row some c.in-Err-hash_row.fault) in
@@ -79,7 +83,8 @@ returns-in-Err-hash_row g c =
 pub returns : goal.returns
 returns g c =
     let first = state g.S.Store c.args.connection.now in
-    let same : c.rows.rows.conn.now ≡ c.connection-2-1.given.0 = search rules in
+    let names = sym (c.rows.invariant.0 ∙ c.in-Ok.ensures.same_reference) in
+    let same = sym (c.connection-2-1.given.1 names ∙ c.drop-rows-2.ensures) in
     let ended = subst (λ h. EndsHashing c.args.sql.now (bound c.args.params.now) first (state g.S.Store h) (Err Store)) same (record {
       hashes = λ late plain. tt;
       same = λ late plain. tt;
