@@ -7,9 +7,9 @@ use crate::trouble::Trouble;
 use crate::view::view_of;
 use dep_decisions::Operation;
 use dep_fields::SwordFields;
-use dep_tags::IfMatch;
 use dep_head::Head;
 use dep_rulings::{View, decide, touches};
+use dep_tags::IfMatch;
 use dep_types::{Config, Octets, Target, Text};
 use std::alloc::{AllocError, Global};
 

@@ -4,9 +4,9 @@ use crate::leaf::digests::tell_promised;
 use crate::page::Page;
 use crate::trouble::Trouble;
 use dep_fields::{Field, Kind, Opening, SwordFields};
-use dep_tags::IfMatch;
 use dep_fixity::DigestList;
 use dep_head::{Head, HeadFault, read_head};
+use dep_tags::IfMatch;
 use dep_types::{Octets, Text};
 use std::alloc::Global;
 
