@@ -51,22 +51,34 @@ const KEYS: [&str; 45] = [
     "max-segments",
 ];
 
-/// What is set, by its place among the keys.
+/// What is set: by the lines that were read, by the one that is played, and by one that is played with it. What is
+/// set last holds.
 #[derive(Clone, Copy)]
-pub struct Case<'a> {
-    values: [Option<&'a str>; 45],
+pub struct Case<'a, 'b> {
+    read: &'b [&'a str],
+    alone: &'a str,
+    beside: &'a str,
 }
 
-impl<'a> Case<'a> {
-    /// Nothing.
-    pub fn new() -> Case<'a> {
-        Case { values: [None; 45] }
+impl<'a, 'b> Case<'a, 'b> {
+    /// A line that is played by itself, on top of the settings that were read.
+    pub fn new(read: &'b [&'a str], alone: &'a str) -> Case<'a, 'b> {
+        let beside = "";
+        Case {
+            read,
+            alone,
+            beside,
+        }
+    }
+
+    /// The same line, with another one.
+    pub fn with(self, beside: &'a str) -> Case<'a, 'b> {
+        Case { beside, ..self }
     }
 
     /// What is set under a key, without blanks about it.
     pub fn get(&self, key: &str) -> Option<&'a str> {
-        let place = KEYS.iter().position(|each| *each == key)?;
-        self.values[place]
+        value_of(self.last_about(key)?, key)
     }
 
     /// Whether it is set to `true`.
@@ -79,23 +91,45 @@ impl<'a> Case<'a> {
         number(self.get(key).unwrap_or(""))
     }
 
-    /// Sets what stands between ` & `, in place of what was set so before.
-    pub fn with(&self, settings: &'a str) -> Result<Case<'a>, Trouble> {
-        let mut case = *self;
-        if settings.is_empty() {
-            return Ok(case);
+    // The last setting of a key.
+    fn last_about(&self, key: &str) -> Option<&'a str> {
+        if let Some(setting) = last_in(self.beside, key) {
+            return Some(setting);
         }
-        for setting in settings.split(" & ") {
-            case.set(setting)?;
+        if let Some(setting) = last_in(self.alone, key) {
+            return Some(setting);
         }
-        Ok(case)
+        last_of(self.read, key)
     }
+}
 
-    fn set(&mut self, setting: &'a str) -> Result<(), Trouble> {
-        let Some(place) = KEYS.iter().position(|key| is_about(setting, key)) else {
-            return Err(Trouble::Setting("nothing has that name"));
-        };
-        self.values[place] = value_of(setting, KEYS[place]);
+// The last setting of a key in a line.
+fn last_in<'a>(line: &'a str, key: &str) -> Option<&'a str> {
+    let mut last = None;
+    for setting in line.split(" & ") {
+        if is_about(setting, key) {
+            last = Some(setting);
+        }
+    }
+    last
+}
+
+// The last setting of a key among those that were read.
+fn last_of<'a>(read: &[&'a str], key: &str) -> Option<&'a str> {
+    let mut last = None;
+    for setting in read.iter() {
+        if is_about(setting, key) {
+            last = Some(*setting);
+        }
+    }
+    last
+}
+
+/// Refuses a line that sets what nothing is called.
+pub fn check_names(line: &str) -> Result<(), Trouble> {
+    if !line.is_empty() && sets(line, None) {
+        Err(Trouble::Setting("nothing has that name"))
+    } else {
         Ok(())
     }
 }

@@ -1,6 +1,5 @@
 //! The table, section by section.
 
-use crate::case::Case;
 use crate::section::Section;
 use crate::told::Told;
 use std::alloc::Global;
@@ -31,30 +30,40 @@ impl Tally {
 
 /// Plays each section, and prints the lines whose rulings are not as they are written.
 pub fn play(rt: &impl Print, alloc: Global, text: &str, tally: &mut Tally) -> io::Result<()> {
-    let mut sections = text.split("\n# ");
-    let Some(front) = sections.next() else {
-        return Ok(());
-    };
-    let world = play_section(rt, alloc, front, Case::new(), tally)?;
-    for lines in sections {
-        let _case = play_section(rt, alloc, lines, world, tally)?;
+    let mut section = Section::new(alloc);
+    let played = play_sections(rt, &mut section, text, tally);
+    drop(section);
+    played
+}
+
+// What is set before the first title holds in all sections.
+fn play_sections<'a>(
+    rt: &impl Print,
+    section: &mut Section<'a>,
+    text: &'a str,
+    tally: &mut Tally,
+) -> io::Result<()> {
+    let mut kept = 0;
+    for (index, lines) in text.split("\n# ").enumerate() {
+        section.begin(lines, kept);
+        play_lines(rt, section, lines, tally)?;
+        if index == 0 {
+            kept = section.count();
+        }
     }
     Ok(())
 }
 
-// Plays the lines of a section, on top of what is set before it. It tells what is set then.
-fn play_section<'a>(
+fn play_lines<'a>(
     rt: &impl Print,
-    alloc: Global,
+    section: &mut Section<'a>,
     lines: &'a str,
-    world: Case<'a>,
     tally: &mut Tally,
-) -> io::Result<Case<'a>> {
-    let mut section = Section::new(alloc, lines, world);
+) -> io::Result<()> {
     for (place, line) in lines.split('\n').enumerate() {
-        play_line(rt, &mut section, place, line, tally)?;
+        play_line(rt, section, place, line, tally)?;
     }
-    Ok(section.case())
+    Ok(())
 }
 
 fn play_line<'a>(

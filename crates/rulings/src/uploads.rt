@@ -1,12 +1,12 @@
 //! What a view tells of uploads.
 
-use crate::case::{Case, number, numbers_in};
+use crate::case::{Case, numbers_in};
 use dep_fixity::{Digests, Hasher, read_digest_field};
 use dep_rulings::{LiveUpload, Numbers, UploadState, UploadView, UploadViews};
 use dep_types::UploadRow;
 use std::alloc::{AllocError, Global};
 
-/// The uploads that may be set.
+/// The uploads that may be set, from number 1 on.
 const UPLOADS: [&str; 9] = [
     "upload 1", "upload 2", "upload 3", "upload 4", "upload 5", "upload 6", "upload 7", "upload 8",
     "upload 9",
@@ -29,10 +29,9 @@ pub fn uploads_of(
     Ok(UploadViews::from_vec(views))
 }
 
-fn text_at<'a>(case: &Case<'a>, upload: u64) -> Option<&'a str> {
-    let name = UPLOADS.iter().find(|name| number(name.strip_prefix("upload ").unwrap_or(""))
-        == upload)?;
-    case.get(name)
+fn text_at<'a>(case: &Case<'a, '_>, upload: u64) -> Option<&'a str> {
+    let place = usize::try_from(upload.checked_sub(1)?).ok()?;
+    case.get(UPLOADS.get(place)?)
 }
 
 // `SIZE COUNT SEGMENT-SIZE`, perhaps `promised` and a digest, and `segments` with each segment or `-`
