@@ -1,3 +1,4 @@
 pub mod WalkLemmas
 pub mod TellLemmas
 pub mod LineLemmas
+pub mod OpeningLemmas

@@ -6,10 +6,12 @@ mod audit_fault;
 mod auditing;
 mod exporting;
 mod lines;
+mod opening;
 mod outcome;
 mod tally;
 
 pub use auditing::audit_all;
 pub use dep_audit::{Unwatched, Watch};
 pub use exporting::export_object;
+pub use opening::{StartFault, open_hub};
 pub use outcome::Outcome;

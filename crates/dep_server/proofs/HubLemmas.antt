@@ -3,8 +3,6 @@ use Rattle.std.proofs.Common.{◌≡◌, ◌≢◌, ◌⊎◌, ℕ, ◌==◌, Bo
 use Rattle.std.specs.Io.KnownBytes.{Keeps}
 use Rattle.std.specs.Prelude.{IsSome}
 use Rattle.std.proofs.lemmas.Bool.{eqb-true, eq-eqb}
-use Rattle.sqlite.specs.Held.{Held, state}
-use Rattle.sqlite_trees.specs.declared.store.Store.{Ghosts}
 use Rattle.dep_types.specs.State.{State}
 use Rattle.dep_types.specs.Writing.{HasRisen}
 use Rattle.dep_types.specs.declared.config.Config.{Config}
@@ -12,7 +10,7 @@ use Rattle.dep_head.specs.Head.{head_end}
 use Rattle.dep_message.specs.Places.{Place, Open, Shut, Reading, IsOpen, HasBytes, place_with}
 use Rattle.dep_message.specs.Stream.{Item, Reads, Waits}
 use Rattle.dep_message.proofs.Reading.{reads_more, reads_append}
-use Rattle.dep_requests.specs.Standing.{StandsFor, Leaves}
+use Rattle.dep_archive.specs.Conditions.{Condition, StandsFor, Leaves}
 use Rattle.dep_server.specs.Machine.{Serves, serves_all, step_fails, gives_up, answer_at_place}
 use Rattle.dep_server.specs.Stops.{LeftByServing}
 use Rattle.dep_server.specs.Records.{Event, Connect, Arrive, Close, Record, stopped, Line, Absent, Live, ShutLine, World, first_world, with_line, line_after, ReadsBeyond, Arrives, at_live, at_shut_line, LeftByArrival, connects, closes, arrives, Run, goes_on, stops, breaks}
@@ -200,25 +198,25 @@ module _ (n i : ℕ) (cs : List Connection) (c : Connection) (index : index_of n
       subst (λ o. IsSome o) (sym some) refl
 
 -- the numbers ascend in one way
-pub same_hub : {S : Type 0} {g : Ghosts S} (hub : Hub S g) (a : Ascends 0 hub.connections.items hub.next) → record hub { ascends = a } ≡ hub
+pub same_hub : {A : Type 0} (hub : Hub A) (a : Ascends 0 hub.connections.items hub.next) → record hub { ascends = a } ≡ hub
 same_hub hub a i = record hub { ascends = Ascends-prop 0 hub.connections.items hub.next a hub.ascends i }
 
-module _ {S : Type 0} (g : Ghosts S) (old new : Hub S g) (n i : ℕ) (piece : List ℕ) (moment : ℕ) (c : Connection) (now : Reading)
+module _ {A : Type 0} (condition : A → Condition) (old new : Hub A) (n i : ℕ) (piece : List ℕ) (moment : ℕ) (c : Connection) (now : Reading)
     (index : index_of n old.connections.items ≡ Some i) (item : c ≡ get_or old.connections.items i c)
     (config : new.config ≡ old.config)
     (changed : new.connections.items ≡ set old.connections.items i (record { number = c.number; intake = now }))
-    (limit : now.limit ≡ c.intake.limit) (law : IsClean g new → IsHonest g new) (settles : Settles (store_of g new))
+    (limit : now.limit ≡ c.intake.limit) (law : IsClean condition new → IsHonest condition new) (settles : Settles (store_of condition new))
     (held holds : Option (List ℕ)) (failures failures_after : ℕ) where
   abbrev Over : Arrived → Type 0
-  Over answer = ServesOver old.config (arrival_of c.intake piece moment) (outside held failures (store_of g old)) (outside holds failures_after (store_of g new)) now.place answer
+  Over answer = ServesOver old.config (arrival_of c.intake piece moment) (outside held failures (store_of condition old)) (outside holds failures_after (store_of condition new)) now.place answer
 
   -- the world after the arrival
-  arrives_at : (answer : Arrived) (v : Over answer) → IsHonest g new → (w : World) → StandsAt g old w
-      → ArrivesTo g old.config new n piece moment v.sent failures failures_after answer w
+  arrives_at : (answer : Arrived) (v : Over answer) → IsHonest condition new → (w : World) → StandsAt condition old w
+      → ArrivesTo condition old.config new n piece moment v.sent failures failures_after answer w
   arrives_at answer v honest w at =
       let found = index_some n i old.connections.items c index item in
       let kept : IsKeptAs old.config.max_upload (w.line n) (Some c.intake) = subst (λ o. IsKeptAs old.config.max_upload (w.line n) o) found.1 (at.kept n) in
-      let r = arrival old.config piece moment (w.line n) w.state v.sent (outside held failures (store_of g old)) (outside holds failures_after (store_of g new))
+      let r = arrival old.config piece moment (w.line n) w.state v.sent (outside held failures (store_of condition old)) (outside holds failures_after (store_of condition new))
       c.intake now answer limit kept (λ same. v.serves same honest w.state at.state) in
       record {
         left = r.left;
@@ -230,13 +228,13 @@ module _ {S : Type 0} (g : Ghosts S) (old new : Hub S g) (n i : ℕ) (piece : Li
               (kept_put old.config.max_upload n r.becomes w.line (Some now) old.connections.items new.connections.items r.kept at.kept
               (λ m. ap (λ cs. intake_of cs m) changed ∙ intake_set n i old.connections.items (record { number = c.number; intake = now }) index found.0 m));
         };
-        rests = λ clean. stays_as (store_of g new) r.left settles (r.stands clean);
+        rests = λ clean. stays_as (store_of condition new) r.left settles (r.stands clean);
         stays_clean = r.stays_clean;
         stop = r.stop;
         cause = r.cause;
       }
 
-  arrives_adds : (answer : Arrived) (v : Over answer) → IsClean g new → Adds g old new (Arrive n piece moment) v.sent
+  arrives_adds : (answer : Arrived) (v : Over answer) → IsClean condition new → Adds condition old new (Arrive n piece moment) v.sent
   arrives_adds answer v clean first records h =
       let a = arrives_at answer v (law clean) h.world h.at in
       record {
@@ -246,12 +244,12 @@ module _ {S : Type 0} (g : Ghosts S) (old new : Hub S g) (n i : ℕ) (piece : Li
         at = a.stands clean;
       }
 
-  arrives_stops : (answer : Arrived) (v : Over answer) → StopsAfter g old new (Arrive n piece moment) v.sent
+  arrives_stops : (answer : Arrived) (v : Over answer) → StopsAfter condition old new (Arrive n piece moment) v.sent
   arrives_stops answer v honest first records h =
       let a = arrives_at answer v honest h.world h.at in
-      leaves_wider (store_of g new) _ _ (λ c l. breaks c h.run a.arrives l) a.stop
+      leaves_wider (store_of condition new) _ _ (λ c l. breaks c h.run a.arrives l) a.stop
 
-  over : (answer : Arrived) → Over answer → ArrivesOver g held holds failures failures_after old new n piece moment answer
+  over : (answer : Arrived) → Over answer → ArrivesOver condition held holds failures failures_after old new n piece moment answer
   over answer v = record {
     sent = v.sent;
     appends = v.passes.appends;
@@ -264,7 +262,7 @@ module _ {S : Type 0} (g : Ghosts S) (old new : Hub S g) (n i : ℕ) (piece : Li
     };
   }
 
-  pub comes_to : (answer : Arrived) → answer ≢ NoSuch → Over answer → ComesTo g held holds failures failures_after old new n piece moment answer
+  pub comes_to : (answer : Arrived) → answer ≢ NoSuch → Over answer → ComesTo condition held holds failures failures_after old new n piece moment answer
   comes_to StaysOpen there v = over StaysOpen v
   comes_to Closed there v = over Closed v
   comes_to Cut there v = over Cut v
@@ -282,14 +280,14 @@ absent_if n m cs false e f = refl
 pub absent_already : (n : ℕ) (cs : List Connection) → intake_of cs n ≡ None → (m : ℕ) → intake_of cs m ≡ (if m == n then None else intake_of cs m)
 absent_already n cs f m = absent_if n m cs (m == n) refl f
 
-module _ {S : Type 0} (g : Ghosts S) (old new : Hub S g) (config : new.config ≡ old.config) where
-  same_state : (w : State) → new.store ≡ old.store → StandsFor (store_of g old) w → StandsFor (store_of g new) w
-  same_state w store h = subst (λ (x : Held S). StandsFor (state g x) w) (sym store) h
+module _ {A : Type 0} (condition : A → Condition) (old new : Hub A) (config : new.config ≡ old.config) where
+  same_state : (w : State) → new.store ≡ old.store → StandsFor (store_of condition old) w → StandsFor (store_of condition new) w
+  same_state w store h = subst (λ (x : A). StandsFor (condition x) w) (sym store) h
 
   -- a connection is closed
   pub closes_moves : (n : ℕ) → new.store ≡ old.store
       → ((m : ℕ) → intake_of new.connections.items m ≡ (if m == n then None else intake_of old.connections.items m))
-      → Moves g old new (Close n) []
+      → Moves condition old new (Close n) []
   closes_moves n store gone w at = (
     record { state = w.state; line = with_line n Absent w.line },
     closes,
@@ -301,7 +299,7 @@ module _ {S : Type 0} (g : Ghosts S) (old new : Hub S g) (config : new.config �
   )
 
   -- what moves, adds
-  pub moves_adds : (event : Event) (sent : List ℕ) → Moves g old new event sent → Adds g old new event sent
+  pub moves_adds : (event : Event) (sent : List ℕ) → Moves condition old new event sent → Adds condition old new event sent
   moves_adds event sent m first records h =
       let a = m h.world h.at in
       record {
@@ -313,7 +311,7 @@ module _ {S : Type 0} (g : Ghosts S) (old new : Hub S g) (config : new.config �
   -- a connection is opened
   pub connects_moves : (n : ℕ) → new.store ≡ old.store → n ≡ old.next
       → new.connections.items ≡ old.connections.items ++ record { number = n; intake = record { limit = old.config.max_upload; place = Open false [] } } ∷ []
-      → Moves g old new (Connect n) []
+      → Moves condition old new (Connect n) []
   connects_moves n store this items w at =
       let d : Connection = record { number = n; intake = record { limit = old.config.max_upload; place = Open false [] } } in
       let low : Ascends 0 old.connections.items n = subst (λ k. Ascends 0 old.connections.items k) (sym this) old.ascends in (
@@ -328,8 +326,8 @@ module _ {S : Type 0} (g : Ghosts S) (old new : Hub S g) (config : new.config �
       )
 
   -- a hub that stands at the same worlds stands for the same records
-  pub same_stands_for : ((w : World) → StandsAt g old w → StandsAt g new w)
-      → (first : State) (records : List Record) → StandsAfter g old first records → StandsAfter g new first records
+  pub same_stands_for : ((w : World) → StandsAt condition old w → StandsAt condition new w)
+      → (first : State) (records : List Record) → StandsAfter condition old first records → StandsAfter condition new first records
   same_stands_for same first records h = record {
     world = h.world;
     run = subst (λ (x : _). Run x first records h.world) (sym config) h.run;
@@ -337,14 +335,14 @@ module _ {S : Type 0} (g : Ghosts S) (old new : Hub S g) (config : new.config �
   }
 
 -- a stop at rest
-pub rests : {S : Type 0} (g : Ghosts S) (hub : Hub S g) → Settles (store_of g hub) → (first : State) (records : List Record) → StandsAfter g hub first records
-    → Leaves (store_of g hub) (λ found. Run hub.config first (records ++ stopped ∷ []) (first_world found))
-rests g hub settles first records h =
-    leaves_wider (store_of g hub) _ _ (λ c e. subst (λ s. Run hub.config first (records ++ stopped ∷ []) (first_world s)) (sym e) (stops h.run))
-    (stays_as (store_of g hub) h.world.state settles h.at.state)
+pub rests : {A : Type 0} (condition : A → Condition) (hub : Hub A) → Settles (store_of condition hub) → (first : State) (records : List Record) → StandsAfter condition hub first records
+    → Leaves (store_of condition hub) (λ found. Run hub.config first (records ++ stopped ∷ []) (first_world found))
+rests condition hub settles first records h =
+    leaves_wider (store_of condition hub) _ _ (λ c e. subst (λ s. Run hub.config first (records ++ stopped ∷ []) (first_world s)) (sym e) (stops h.run))
+    (stays_as (store_of condition hub) h.world.state settles h.at.state)
 
 -- the store is the one of before, and so is what a stop leaves
-pub leaves_as_before : {S : Type 0} (g : Ghosts S) (old : Hub S g) (store : Held S) → store ≡ old.store → Settles (store_of g old)
-    → (w : World) → StandsAt g old w → Leaves (state g store) (λ found. found ≡ w.state)
-leaves_as_before g old store same settles w at =
-    subst (λ (x : Held _). Leaves (state g x) (λ found. found ≡ w.state)) (sym same) (stays_as (store_of g old) w.state settles at.state)
+pub leaves_as_before : {A : Type 0} (condition : A → Condition) (old : Hub A) (store : A) → store ≡ old.store → Settles (store_of condition old)
+    → (w : World) → StandsAt condition old w → Leaves (condition store) (λ found. found ≡ w.state)
+leaves_as_before condition old store same settles w at =
+    subst (λ (x : _). Leaves (condition x) (λ found. found ≡ w.state)) (sym same) (stays_as (store_of condition old) w.state settles at.state)

@@ -4,6 +4,5 @@ mod ServingLemmas
 mod SendingLemmas
 mod ConnectionLemmas
 pub mod HubLemmas
-mod OpeningLemmas
 pub mod TalkLemmas
 mod TurnLemmas

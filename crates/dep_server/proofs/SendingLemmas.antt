@@ -1,22 +1,18 @@
 -- What is ready is sent, with a stored content behind it.
 use Rattle.std.proofs.Common.{◌≡◌, ◌≢◌, ◌⊎◌, inl, inr, ℕ, List, [], ◌∷◌, ◌++◌, IsTrue, IsSome, refl, sym, ap, subst, ◌∙◌, append_assoc, Option, Some, None, Err}
 use Rattle.std.proofs.lemmas.List.{append-nil}
-use Rattle.std.specs.Option.{option_map_or, option_and_then}
+use Rattle.std.specs.Option.{option_map_or}
 use Rattle.std.specs.Io.KnownBytes.{Appends}
-use Rattle.std.specs.FinMap as map
-use Rattle.sqlite.specs.State as db
-use Rattle.dep_types.specs.State.{State, File, Object, file_at}
+use Rattle.dep_types.specs.State.{State, File, file_at}
 use Rattle.dep_types.specs.Writing.{IsProperPrefix, HasRisen}
 use Rattle.dep_types.specs.declared.stream_fault.StreamFault.{StreamFault}
 use Rattle.dep_types.specs.declared.stream_fault.StreamFault.TheVariants.{Writer, Store, Memory, NoSuchFile}
-use Rattle.dep_row_maps.specs.TablesAre.{files_at}
 use Rattle.dep_types.specs.Streams.{HasContent, IsPartOfContent, IsStreamed}
 use Rattle.dep_answers.specs.Steps.{Stepped, sent_by}
 use Rattle.dep_answers.specs.Performing.{stored_in}
 use Rattle.dep_answers.specs.declared.performed.FileId.{FileId}
 use Rattle.dep_answers.specs.declared.performed.Performed.{Performed}
-use Rattle.dep_requests.specs.Standing.{StandsFor, Leaves}
-use Rattle.dep_requests.specs.Performing.{Performs}
+use Rattle.dep_archive.specs.Conditions.{Condition, StandsFor, HasCleanDisk, Leaves, Performs}
 use Rattle.dep_server.specs.Sending.{SendsReply, Outside, Passes, SendsReady}
 use Rattle.dep_server.specs.declared.sending.Answered.{Answered}
 use Rattle.dep_server.specs.declared.sending.Answered.TheVariants.{Sent, GaveUp, CutShort}
@@ -45,7 +41,7 @@ passes_both {a} {b} {c} {xs} {ys} p q = record {
 }
 
 -- over a store that stays
-pub passes_at : (held holds : Option (List ℕ)) (before after : ℕ) (store : db.State) (sent : List ℕ) → Appends held holds sent
+pub passes_at : (held holds : Option (List ℕ)) (before after : ℕ) (store : Condition) (sent : List ℕ) → Appends held holds sent
     → Passes (record { taken = held; failures = before; store = store }) (record { taken = holds; failures = after; store = store }) sent
 passes_at held holds before after store sent a = record { appends = a; honest = λ h. h; clean = λ h. h }
 
@@ -66,25 +62,19 @@ nothing_of whole some = record { rest = whole; joined = refl; short = some }
 
 -- ---- the content of a file, by its number
 
-held_under : (s : State) (n f : ℕ) (file : File) (o : Option Object) → map.get s.objects n ≡ o → file_at s n f ≡ Some file
-    → map.get (files_at s.objects n) f ≡ Some file
-held_under s n f file None e h = let none : file_at s n f ≡ None = ap (option_and_then (λ (o : Object). map.get o.files f)) e in cc
-held_under s n f file (Some object) e h =
-    ap (λ (o : Option Object). map.get (option_map_or (λ (x : Object). x.files) o map.empty) f) e
-    ∙ (sym (ap (option_and_then (λ (o : Object). map.get o.files f)) e) ∙ h)
-
--- the blocks of a number are one content
-same_content : (d : db.State) (s : State) → StandsFor d s → (n m f : ℕ) (x y : File) → file_at s n f ≡ Some x → file_at s m f ≡ Some y → x.content ≡ y.content
-same_content d s stands n m f x y h k =
-    let parts = stands.means.are.files_parts in
-    sym (parts.of_files n f x (held_under s n f x (map.get s.objects n) refl h)) ∙ parts.of_files m f y (held_under s m f y (map.get s.objects m) refl k)
+-- a number is given to one file
+same_content : (c : Condition) (s : State) → StandsFor c s → (n m f : ℕ) (x y : File) → file_at s n f ≡ Some x → file_at s m f ≡ Some y → x.content ≡ y.content
+same_content c s stands n m f x y h k =
+    let one : n ≡ m = (c.sound_if_kept s stands).one_place n m f x y h k in
+    let both : Some x ≡ Some y = sym h ∙ (ap (λ (i : ℕ). file_at s i f) one ∙ k) in
+    ap (λ (o : Option File). option_map_or (λ (file : File). file.content) o []) both
 
 there : (o : Option File) (stored : List ℕ) → option_map_or (λ (file : File). file.content) o [] ≡ stored → stored ≢ []
     → (file : File) × (o ≡ Some file) × (file.content ≡ stored)
 there None stored e some = absurd (some (sym e))
 there (Some file) stored e some = (file, refl, e)
 
-module _ (d : db.State) (s : State) (stands : StandsFor d s) (id : FileId) (stored : List ℕ) (is : stored_in s (Some id) ≡ stored) (some : stored ≢ []) where
+module _ (d : Condition) (s : State) (stands : StandsFor d s) (id : FileId) (stored : List ℕ) (is : stored_in s (Some id) ≡ stored) (some : stored ≢ []) where
   whole_content : (bytes : List ℕ) → HasContent s id.file bytes → bytes ≡ stored
   whole_content bytes h =
       let t = there (file_at s id.object id.file) stored is some in
@@ -109,7 +99,7 @@ module _ (d : db.State) (s : State) (stands : StandsFor d s) (id : FileId) (stor
 
 module _ (old mid new : Outside) (p : Performed) (id : FileId) (is : p.stored ≡ Some id) (bytes : List ℕ) (ready : bytes ≡ p.front.items)
     (first : SendsReply old.taken mid.taken bytes Sent) (kept : mid.failures ≡ old.failures) (same : mid.store ≡ old.store)
-    (honest : db.HasCleanDisk new.store → db.HasCleanDisk old.store) (clean : IsTrue new.store.is_open → IsTrue old.store.is_open) where
+    (honest : HasCleanDisk new.store → HasCleanDisk old.store) (clean : IsTrue new.store.is_open → IsTrue old.store.is_open) where
   at_step : (stepped : Stepped) → Performs stepped old.store p → first.0 ≡ stepped.front
   at_step stepped perf = first.2 ∙ (ready ∙ perf.ready.front)
 
@@ -123,8 +113,8 @@ module _ (old mid new : Outside) (p : Performed) (id : FileId) (is : p.stored �
   passes sent a = record { appends = appends_both old.taken mid.taken new.taken first.0 sent first.1 a; honest = honest; clean = clean }
 
   pub ready_all : (x : (sent : List ℕ) × Appends mid.taken new.taken sent
-      × (db.HasCleanDisk new.store → (s : State) → StandsFor old.store s → HasContent s id.file sent))
-      → (db.HasCleanDisk new.store → (s : State) → StandsFor old.store s → StandsFor new.store s) → new.failures ≡ mid.failures
+      × (HasCleanDisk new.store → (s : State) → StandsFor old.store s → HasContent s id.file sent))
+      → (HasCleanDisk new.store → (s : State) → StandsFor old.store s → StandsFor new.store s) → new.failures ≡ mid.failures
       → SendsReady old new p Sent
   ready_all x ok then = record {
     sent = first.0 ++ x.0;
@@ -138,9 +128,9 @@ module _ (old mid new : Outside) (p : Performed) (id : FileId) (is : p.stored �
   }
 
   pub ready_cut : (fault : StreamFault) (x : (sent : List ℕ) × Appends mid.taken new.taken sent
-      × (db.HasCleanDisk new.store → (s : State) → StandsFor old.store s → IsStreamed {X = Unit {0}} s id.file sent (Err fault)))
+      × (HasCleanDisk new.store → (s : State) → StandsFor old.store s → IsStreamed {X = Unit {0}} s id.file sent (Err fault)))
       → (IsTrue new.store.is_open → (s : State) → StandsFor old.store s → StandsFor new.store s)
-      → (db.HasCleanDisk new.store → (s : State) → StandsFor old.store s → Leaves new.store (λ left. left ≡ s))
+      → (HasCleanDisk new.store → (s : State) → StandsFor old.store s → Leaves new.store (λ left. left ≡ s))
       → SendsReady old new p CutShort
   ready_cut fault x err stop = record {
     sent = first.0 ++ x.0;
@@ -162,7 +152,7 @@ nothing_behind : (s : State) (o : Option FileId) (stored : List ℕ) → o ≡ N
 nothing_behind s o stored e is = sym is ∙ ap (stored_in s) e
 
 -- the front was sent, and is all
-pub ready_front : (held holds : Option (List ℕ)) (before after : ℕ) (store : db.State) (p : Performed) (bytes : List ℕ) → bytes ≡ p.front.items → p.stored ≡ None
+pub ready_front : (held holds : Option (List ℕ)) (before after : ℕ) (store : Condition) (p : Performed) (bytes : List ℕ) → bytes ≡ p.front.items → p.stored ≡ None
     → SendsReply held holds bytes Sent → after ≡ before
     → SendsReady (record { taken = held; failures = before; store = store }) (record { taken = holds; failures = after; store = store }) p Sent
 ready_front held holds before after store p bytes ready none first kept = record {
@@ -176,7 +166,7 @@ ready_front held holds before after store p bytes ready none first kept = record
 }
 
 -- the front was cut
-pub front_cut : (held holds : Option (List ℕ)) (before after : ℕ) (store : db.State) (p : Performed) (bytes : List ℕ) (answer : Answered) → bytes ≡ p.front.items
+pub front_cut : (held holds : Option (List ℕ)) (before after : ℕ) (store : Condition) (p : Performed) (bytes : List ℕ) (answer : Answered) → bytes ≡ p.front.items
     → Settles store → answer ≢ Sent → SendsReply held holds bytes answer → (answer ≡ CutShort → HasRisen before after)
     → SendsReady (record { taken = held; failures = before; store = store }) (record { taken = holds; failures = after; store = store }) p answer
 front_cut held holds before after store p bytes Sent ready settles never first cause = absurd (never refl)

@@ -2,7 +2,6 @@
 use Rattle.std.proofs.Common.{◌≡◌, ◌≢◌, ◌⊎◌, inl, inr, ℕ, Bool, List, [], ◌∷◌, ◌++◌, IsTrue, refl, sym, ap, subst, ◌∙◌, append_assoc, Option}
 use Rattle.std.proofs.lemmas.List.{append-nil}
 use Rattle.std.specs.Io.KnownBytes.{Appends}
-use Rattle.sqlite.specs.State as db
 use Rattle.dep_types.specs.State.{State}
 use Rattle.dep_types.specs.declared.config.Config.{Config}
 use Rattle.dep_types.specs.Writing.{IsProperPrefix, HasRisen}
@@ -13,7 +12,7 @@ use Rattle.dep_message.specs.Places.{Place, Open, Shut, IsOpen, HasBytes, place_
 use Rattle.dep_message.specs.Stream.{Item, Fault, FirstAt, Waits}
 use Rattle.dep_message.proofs.Reading.{reads_one}
 use Rattle.dep_answers.specs.Steps.{sent_by}
-use Rattle.dep_requests.specs.Standing.{StandsFor, Leaves}
+use Rattle.dep_archive.specs.Conditions.{Condition, StandsFor, HasCleanDisk, Leaves}
 use Rattle.dep_server.specs.Machine.{starting_state, step, replies, state_after, given_up, cut_short, serves_all, step_fails, gives_up, SendsUpTo, all, cut, want_of_memory, store_fault, answer_at_place}
 use Rattle.dep_server.specs.Causes.{IsCutInContent}
 use Rattle.dep_server.specs.Sending.{IsSentUpTo, SendsOver, SendsReply, Outside, Passes, SendsStep, reply_to}
@@ -22,7 +21,7 @@ use Rattle.dep_server.specs.declared.arrived.Arrived.{Arrived}
 use Rattle.dep_server.specs.declared.arrived.Arrived.TheVariants.{Open as StaysOpen, Closed, Cut, NoSuch}
 use Rattle.dep_server.specs.declared.sending.Answered.{Answered}
 use Rattle.dep_server.specs.declared.sending.Answered.TheVariants.{Sent, GaveUp, CutShort}
-use Rattle.dep_server.proofs.Leaving.{Settles, stays_as, is_open}
+use Rattle.dep_server.proofs.Leaving.{Settles, stays_as}
 use Rattle.dep_server.proofs.SendingLemmas.{passes_none, passes_both, passes_at}
 
 -- what is sent for one item more
@@ -76,7 +75,7 @@ sends_up_to whole sent GaveUp h = subst (λ bytes. SendsUpTo whole bytes Closed)
 sends_up_to whole sent CutShort h = cut h
 
 -- what a failed step may leave
-pub record GivesUp (config : Config) (s : State) (item : Item) (moment : ℕ) (new : db.State) : Type 0 where
+pub record GivesUp (config : Config) (s : State) (item : Item) (moment : ℕ) (new : Condition) : Type 0 where
   pub left : State
   pub is_left : (left ≡ s) ⊎ (left ≡ starting_state config s item moment)
   pub stands : IsTrue new.is_open → StandsFor new left
@@ -88,8 +87,8 @@ is_fixed Memory = inl refl
 
 -- a fixed reply in place of the step's
 module _ (config : Config) (old new : Outside) (item : Item) (moment : ℕ) (fault : StoreFault)
-    (honest : db.HasCleanDisk new.store → db.HasCleanDisk old.store) (clean : IsTrue new.store.is_open → IsTrue old.store.is_open)
-    (gives : db.HasCleanDisk new.store → (s : State) → StandsFor old.store s → GivesUp config s item moment new.store) where
+    (honest : HasCleanDisk new.store → HasCleanDisk old.store) (clean : IsTrue new.store.is_open → IsTrue old.store.is_open)
+    (gives : HasCleanDisk new.store → (s : State) → StandsFor old.store s → GivesUp config s item moment new.store) where
   pub answers_fixed : (answer : Answered) → SendsOver old.taken new.taken (reply_to fault) answer → (answer ≡ CutShort → HasRisen old.failures new.failures)
       → Answers config old new item moment answer
   answers_fixed Sent x cause = absurd x.2
@@ -149,7 +148,7 @@ made_from config s item moment sent old mid new CutShort e h = record {
 }
 
 -- a reply without a stored content, over a store that stays
-pub answers_reply : (config : Config) (held holds : Option (List ℕ)) (before after : ℕ) (store : db.State) (item : Item) (moment : ℕ) (answer : Answered) (reply : List ℕ)
+pub answers_reply : (config : Config) (held holds : Option (List ℕ)) (before after : ℕ) (store : Condition) (item : Item) (moment : ℕ) (answer : Answered) (reply : List ℕ)
     → Settles store → SendsReply held holds reply answer → (answer ≡ Sent → after ≡ before) → (answer ≡ CutShort → HasRisen before after)
     → ((s : State) → StandsFor store s → StandsFor store (step config s item moment).state × (reply ≡ sent_by (step config s item moment)))
     → Answers config (record { taken = held; failures = before; store = store }) (record { taken = holds; failures = after; store = store }) item moment answer
@@ -192,7 +191,7 @@ module _ (config : Config) (came : Arrival) (old now : Outside) (at : Place) (v 
           left = state_after config s v.items came.moment;
           serves = serves_all v.items v.reads (w same);
           stands = λ _. b.stands;
-          stays_clean = λ _. is_open b.stands;
+          stays_clean = λ _. now.store.open_if_kept (state_after config s v.items came.moment) b.stands;
           stop = stays_as now.store (state_after config s v.items came.moment) settles b.stands;
           cause = λ c. absurd (never (r ∙ c));
         })));
@@ -201,7 +200,7 @@ module _ (config : Config) (came : Arrival) (old now : Outside) (at : Place) (v 
   -- a step fails
   pub serves_failed : (new : Outside) (next : Place) (item : Item) (answer : Arrived) (sent : List ℕ) → answer ≢ StaysOpen
       → FirstAt came.reading.limit at item next → Passes now new sent
-      → (db.HasCleanDisk new.store → (s : State) → StandsFor now.store s → FailsFrom config s item came.moment sent now new answer)
+      → (HasCleanDisk new.store → (s : State) → StandsFor now.store s → FailsFrom config s item came.moment sent now new answer)
       → ServesOver config came old new Shut answer
   serves_failed new next item answer sent ends f p fails = record {
     sent = v.sent ++ sent;
@@ -236,7 +235,7 @@ module _ (config : Config) (came : Arrival) (old now : Outside) (at : Place) (v 
           left = state_after config s v.items came.moment;
           serves = gives_up v.items at v.reads has a.2;
           stands = λ _. b.stands;
-          stays_clean = λ _. is_open b.stands;
+          stays_clean = λ _. now.store.open_if_kept (state_after config s v.items came.moment) b.stands;
           stop = stays_as now.store (state_after config s v.items came.moment) settles b.stands;
           cause = λ c. inl (subst (λ n. HasRisen n after) b.failures (cause c));
         }));

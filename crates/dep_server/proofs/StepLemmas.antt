@@ -1,6 +1,5 @@
 -- What is ready is the reply of a step.
 use Rattle.std.proofs.Common.{◌≡◌, ◌⊎◌, inl, inr, ℕ, Bool, List, Option, Some, None, ap, subst, ◌∙◌}
-use Rattle.sqlite.specs.State as db
 use Rattle.dep_types.specs.State.{State}
 use Rattle.dep_types.specs.declared.config.Config.{Config}
 use Rattle.dep_types.specs.declared.refusal.Refusal.{Refusal}
@@ -17,8 +16,7 @@ use Rattle.dep_answers.specs.Steps.{Stepped, refused_step, operation_step}
 use Rattle.dep_answers.specs.Performing.{IsReady, IsReply}
 use Rattle.dep_answers.specs.declared.performed.Delivery.{Delivery}
 use Rattle.dep_answers.specs.declared.performed.Performed.{Performed}
-use Rattle.dep_requests.specs.Standing.{StandsFor, Leaves}
-use Rattle.dep_requests.specs.Performing.{Performs}
+use Rattle.dep_archive.specs.Conditions.{Condition, StandsFor, Leaves, Performs}
 use Rattle.dep_server.specs.Machine.{operation_of, routed_step}
 use Rattle.dep_server.proofs.Leaving.{leaves_wider}
 
@@ -30,7 +28,7 @@ refusal_ready s d p r allow b c clock bare close e =
     subst (λ (x : Delivery). IsReply s (refused_answer x.clock r allow) x p) (λ i. record { clock = clock i; is_bare = bare i; closes = close i }) (e s)
 
 module _ (config : Config) (m : Message) (d : Delivery) (p : Performed) (bare : d.is_bare ≡ is_bare m.head) (close : d.closes ≡ closes m.head)
-    (store : db.State) (s : State) (stands : StandsFor store s) (clock : d.clock ≡ s.clock) where
+    (store : Condition) (s : State) (stands : StandsFor store s) (clock : d.clock ≡ s.clock) where
   pub performs_none : NotFound ≡ target m.head.method m.head.path → ((t : State) → IsReply t (refused_answer d.clock why.NotFound None) d p)
       → Performs (routed_step config s m (target m.head.method m.head.path)) store p
   performs_none r e = subst (λ (x : Routed). Performs (routed_step config s m x) store p) r
@@ -43,7 +41,7 @@ module _ (config : Config) (m : Message) (d : Delivery) (p : Performed) (bare : 
       (record { state = stands; ready = refusal_ready s d p why.MethodNotAllowed (Some methods) (is_bare m.head) (closes m.head) clock bare close e })
 
 -- a resource is named, and a method that it has
-module _ (config : Config) (m : Message) (t : Target) (named : To t ≡ target m.head.method m.head.path) (store : db.State) (s : State) where
+module _ (config : Config) (m : Message) (t : Target) (named : To t ≡ target m.head.method m.head.path) (store : Condition) (s : State) where
   same_step : operation_step config s (operation_of m t) ≡ routed_step config s m (target m.head.method m.head.path)
   same_step = ap (λ (x : Routed). routed_step config s m x) named
 
@@ -56,11 +54,11 @@ module _ (config : Config) (m : Message) (t : Target) (named : To t ≡ target m
   leaves_operation h = leaves_wider store _ _ (λ c e. elim e [ inl same ↦ inl same | inr next ↦ inr (next ∙ ap (λ (x : Stepped). x.state) same_step) ]) h
 
 -- where nothing was done
-pub leaves_it : (store : db.State) (s : State) (Q : State → Type 0) → Leaves store (λ found. found ≡ s) → Leaves store (λ found. (found ≡ s) ⊎ Q found)
+pub leaves_it : (store : Condition) (s : State) (Q : State → Type 0) → Leaves store (λ found. found ≡ s) → Leaves store (λ found. (found ≡ s) ⊎ Q found)
 leaves_it store s Q h = leaves_wider store _ _ (λ c e. inl e) h
 
 -- operations that are one
-module _ (config : Config) (s : State) (op it : Operation) (store : db.State) where
+module _ (config : Config) (s : State) (op it : Operation) (store : Condition) where
   pub performs_same : (p : Performed) → op ≡ it → Performs (operation_step config s op) store p → Performs (operation_step config s it) store p
   performs_same p e h = subst (λ (x : Operation). Performs (operation_step config s x) store p) e h
 

@@ -3,13 +3,10 @@ use Rattle.std.proofs.Common.{arith, ◌+◌, ◌<◌, length, ◌≡◌, ℕ, L
 use Rattle.std.proofs.lemmas.List.{append-nil}
 use Rattle.std.specs.List.{flat_map, FoldsTo}
 use Rattle.std.specs.Io.KnownBytes.{Appends, Consumes, Keeps}
-use Rattle.sqlite.specs.State as db
-use Rattle.sqlite.specs.Held.{Held, state}
 use Rattle.std.specs.Prelude.{IsTrue}
 use Rattle.dep_types.specs.State.{State}
 use Rattle.dep_types.specs.declared.config.Config.{Config}
-use Rattle.sqlite_trees.specs.declared.store.Store.{Ghosts}
-use Rattle.dep_requests.specs.Standing.{Leaves}
+use Rattle.dep_archive.specs.Conditions.{Condition, HasCleanDisk, Leaves}
 use Rattle.dep_server.specs.Records.{World, Line, with_line, Connect, Close, Record, stopped, first_world, Run, goes_on, stops, breaks, Arrives, LeftByArrival, Happens, connects, closes, arrives}
 use Rattle.dep_server.specs.Standing.{StandsAt, StandsAfter, IsClean, IsHonest, Moves, intake_of, store_of}
 use Rattle.dep_server.specs.declared.hub.Hub.{Hub}
@@ -81,9 +78,9 @@ transfers_both a b c xs ys us vs t u = record {
 rests_transfers : (a b : Wire) → Rests a b → Transfers a b [] []
 rests_transfers a b r = record { pieces = keeps_consumes a.unread b.unread r.pieces; replies = keeps_appends a.taken b.taken r.replies }
 
-module _ {S : Type 0} (g : Ghosts S) where
+module _ {A : Type 0} (condition : A → Condition) where
   -- no turn yet
-  pub talk_none : {C : Type 0} (ticks : C → ℕ → C → Type 0) (n : ℕ) (at : Session g C) → Talk g ticks n at at 0 StaysOpen
+  pub talk_none : {C : Type 0} (ticks : C → ℕ → C → Type 0) (n : ℕ) (at : Session condition C) → Talk condition ticks n at at 0 StaysOpen
   talk_none ticks n at = record {
     turns = [];
     counted = refl;
@@ -95,9 +92,9 @@ module _ {S : Type 0} (g : Ghosts S) where
   }
 
   -- one turn more
-  pub talk_more : {C : Type 0} (ticks : C → ℕ → C → Type 0) (n : ℕ) (old mid new : Session g C) (answer : Arrived) (k : ℕ)
-      → mid.hub.config ≡ old.hub.config → Talk g ticks n old mid k StaysOpen → OneTurn g ticks n mid new answer
-      → Talk g ticks n old new (k + 1) answer
+  pub talk_more : {C : Type 0} (ticks : C → ℕ → C → Type 0) (n : ℕ) (old mid new : Session condition C) (answer : Arrived) (k : ℕ)
+      → mid.hub.config ≡ old.hub.config → Talk condition ticks n old mid k StaysOpen → OneTurn condition ticks n mid new answer
+      → Talk condition ticks n old new (k + 1) answer
   talk_more ticks n old mid new answer k same t o =
       let u : Turn = record { piece = o.piece; moment = o.moment; sent = o.sent; answer = answer } in
       record {
@@ -113,19 +110,19 @@ module _ {S : Type 0} (g : Ghosts S) where
       }
 
   -- a turn of the same connection
-  pub turn_at : {C : Type 0} (ticks : C → ℕ → C → Type 0) (n m : ℕ) (old new : Session g C) (served : Option Served) → n ≡ m
-      → TurnsTo g ticks n old new served → TurnsTo g ticks m old new served
-  turn_at ticks n m old new served same t = subst (λ (k : ℕ). TurnsTo g ticks k old new served) same t
+  pub turn_at : {C : Type 0} (ticks : C → ℕ → C → Type 0) (n m : ℕ) (old new : Session condition C) (served : Option Served) → n ≡ m
+      → TurnsTo condition ticks n old new served → TurnsTo condition ticks m old new served
+  turn_at ticks n m old new served same t = subst (λ (k : ℕ). TurnsTo condition ticks k old new served) same t
 
   -- nothing more was read
-  pub talk_same : {C : Type 0} (ticks : C → ℕ → C → Type 0) (n : ℕ) (old mid new : Session g C) (k : ℕ)
-      → Talk g ticks n old mid k StaysOpen → NoTurn g mid new → Talk g ticks n old new k StaysOpen
+  pub talk_same : {C : Type 0} (ticks : C → ℕ → C → Type 0) (n : ℕ) (old mid new : Session condition C) (k : ℕ)
+      → Talk condition ticks n old mid k StaysOpen → NoTurn condition mid new → Talk condition ticks n old new k StaysOpen
   talk_same ticks n old mid new k t o = record {
     turns = t.turns;
     counted = t.counted;
     sizes = t.sizes;
-    talks = subst (λ h. Talks g n old.hub old.wire.failures t.turns h new.wire.failures) (sym o.same_hub)
-        (subst (λ k. Talks g n old.hub old.wire.failures t.turns mid.hub k) (sym o.rests.failures) t.talks);
+    talks = subst (λ h. Talks condition n old.hub old.wire.failures t.turns h new.wire.failures) (sym o.same_hub)
+        (subst (λ k. Talks condition n old.hub old.wire.failures t.turns mid.hub k) (sym o.rests.failures) t.talks);
     transfers = subst (λ l. Transfers old.wire new.wire l (replies_of t.turns)) (append-nil (pieces_of t.turns))
         (subst (λ l. Transfers old.wire new.wire (pieces_of t.turns ++ []) l) (append-nil (replies_of t.turns))
         (transfers_both old.wire mid.wire new.wire (pieces_of t.turns) [] (replies_of t.turns) [] t.transfers (rests_transfers mid.wire new.wire o.rests)));
@@ -134,9 +131,9 @@ module _ {S : Type 0} (g : Ghosts S) where
   }
 
   -- a turn that was the last
-  pub talk_last : {C : Type 0} (ticks : C → ℕ → C → Type 0) (n : ℕ) (old mid new : Session g C) (served : Served) (k : ℕ)
+  pub talk_last : {C : Type 0} (ticks : C → ℕ → C → Type 0) (n : ℕ) (old mid new : Session condition C) (served : Served) (k : ℕ)
       → k < most_reads → mid.hub.config ≡ old.hub.config
-      → Talk g ticks n old mid k StaysOpen → TurnsTo g ticks n mid new (Some served) → TalksUntil g ticks n old new served
+      → Talk condition ticks n old mid k StaysOpen → TurnsTo condition ticks n mid new (Some served) → TalksUntil condition ticks n old new served
   talk_last ticks n old mid new Closed k b same t o =
       let u = talk_more ticks n old mid new HasClosed k same t o in
       record { count = k + 1; answer = HasClosed; talk = u; ends = (u.answered, (omega (arith, b, u.counted))) }
@@ -153,13 +150,13 @@ module _ {S : Type 0} (g : Ghosts S) where
   talk_last ticks n old mid new Bound k b same t o = absurd o
 
   -- as many turns as there may be
-  pub talk_bound : {C : Type 0} (ticks : C → ℕ → C → Type 0) (n : ℕ) (old new : Session g C) (k : ℕ)
-      → k ≡ most_reads → Talk g ticks n old new k StaysOpen → TalksUntil g ticks n old new Bound
+  pub talk_bound : {C : Type 0} (ticks : C → ℕ → C → Type 0) (n : ℕ) (old new : Session condition C) (k : ℕ)
+      → k ≡ most_reads → Talk condition ticks n old new k StaysOpen → TalksUntil condition ticks n old new Bound
   talk_bound ticks n old new k e t = record { count = k; answer = StaysOpen; talk = t; ends = (t.answered, t.counted ∙ e) }
 
   -- whoever was served took one number
-  pub next_served : {C : Type 0} (ticks : C → ℕ → C → Type 0) (n : ℕ) (old new : Session g C) (end : Served)
-      → TalksUntil g ticks n old new end → (next : ℕ) → next_after next end ≡ next + 1
+  pub next_served : {C : Type 0} (ticks : C → ℕ → C → Type 0) (n : ℕ) (old new : Session condition C) (end : Served)
+      → TalksUntil condition ticks n old new end → (next : ℕ) → next_after next end ≡ next + 1
   next_served ticks n old new Ended t next = refl
   next_served ticks n old new Closed t next = refl
   next_served ticks n old new ReadFault t next = refl
@@ -265,36 +262,36 @@ opened_is connects = refl
 closed_is : {config : Config} {w : World} {n : ℕ} {v : World} {sent : List ℕ} → Happens config w (Close n) sent v → v ≡ with_closed n w
 closed_is closes = refl
 
-module _ {S : Type 0} (g : Ghosts S) where
+module _ {A : Type 0} (condition : A → Condition) where
   -- what the machine comes to by the turns: after one that leaves the connection open, or with an open store, the hub stands at it
-  record Exchanged (config : Config) (n : ℕ) (new : Hub S g) (turns : List Turn) (w : World) : Type 0 where
+  record Exchanged (config : Config) (n : ℕ) (new : Hub A) (turns : List Turn) (w : World) : Type 0 where
     pub talked : World
     pub exchanges : Exchanges config n w turns talked
-    pub stays : last_answer turns ≡ StaysOpen → StandsAt g new talked
-    pub at : IsClean g new → StandsAt g new talked
-    pub rests : IsClean g new → Leaves (store_of g new) (λ found. found ≡ talked.state)
-    pub stop : Leaves (store_of g new) (LeftByExchanges exchanges)
+    pub stays : last_answer turns ≡ StaysOpen → StandsAt condition new talked
+    pub at : IsClean condition new → StandsAt condition new talked
+    pub rests : IsClean condition new → Leaves (store_of condition new) (λ found. found ≡ talked.state)
+    pub stop : Leaves (store_of condition new) (LeftByExchanges exchanges)
 
-  talks_honest : (n : ℕ) (old new : Hub S g) (failures failures_after : ℕ) (turns : List Turn) → Talks g n old failures turns new failures_after → IsHonest g new → IsHonest g old
+  talks_honest : (n : ℕ) (old new : Hub A) (failures failures_after : ℕ) (turns : List Turn) → Talks condition n old failures turns new failures_after → IsHonest condition new → IsHonest condition old
   talks_honest n old new failures failures_after turns silent honest = honest
   talks_honest n old new failures failures_after turns (turn {mid = mid} {before = between} {turns = before} t talks stays same a) honest =
       talks_honest n old mid failures between before talks (a.honest honest)
 
-  talks_clean : (n : ℕ) (old new : Hub S g) (failures failures_after : ℕ) (turns : List Turn) → Talks g n old failures turns new failures_after → IsClean g new → IsClean g old
+  talks_clean : (n : ℕ) (old new : Hub A) (failures failures_after : ℕ) (turns : List Turn) → Talks condition n old failures turns new failures_after → IsClean condition new → IsClean condition old
   talks_clean n old new failures failures_after turns silent clean = clean
   talks_clean n old new failures failures_after turns (turn {mid = mid} {before = between} {turns = before} t talks stays same a) clean =
       talks_clean n old mid failures between before talks (a.clean clean)
 
   -- what the hub answered is what the machine answers
-  talks_exchange : (n : ℕ) (old new : Hub S g) (failures failures_after : ℕ) (turns : List Turn) → Settles (store_of g old) → Talks g n old failures turns new failures_after
-      → IsHonest g new → (w : World) → StandsAt g old w → Exchanged old.config n new turns w
+  talks_exchange : (n : ℕ) (old new : Hub A) (failures failures_after : ℕ) (turns : List Turn) → Settles (store_of condition old) → Talks condition n old failures turns new failures_after
+      → IsHonest condition new → (w : World) → StandsAt condition old w → Exchanged old.config n new turns w
   talks_exchange n old new failures failures_after turns settles silent honest w at = record {
     talked = w;
     exchanges = none_yet;
     stays = λ _. at;
     at = λ _. at;
-    rests = λ _. stays_as (store_of g old) w.state settles at.state;
-    stop = stays_as (store_of g old) w.state settles at.state;
+    rests = λ _. stays_as (store_of condition old) w.state settles at.state;
+    stop = stays_as (store_of condition old) w.state settles at.state;
   }
   talks_exchange n old new failures failures_after turns settles (turn {mid = mid} {before = between} {turns = before} t talks stays same a) honest w at =
       let h = talks_exchange n old mid failures between before settles talks (a.honest honest) w at in
@@ -305,54 +302,54 @@ module _ {S : Type 0} (g : Ghosts S) where
         stays = λ e. b.stands (b.stays_clean (sym (last_more before t) ∙ e));
         at = b.stands;
         rests = b.rests;
-        stop = leaves_wider (store_of g new) _ _ (λ c l. left_along mid.config old.config same b.arrives c l) b.stop;
+        stop = leaves_wider (store_of condition new) _ _ (λ c l. left_along mid.config old.config same b.arrives c l) b.stop;
       }
 
   -- what a stop now leaves goes on from the turns
-  talks_stop : (n : ℕ) (old new : Hub S g) (failures failures_after : ℕ) (turns : List Turn) → Settles (store_of g old) → Talks g n old failures turns new failures_after
-      → IsHonest g new → (first : State) (records : List Record) (w : World) → Run old.config first records w → StandsAt g old w
-      → Leaves (store_of g new) (λ found. Run old.config first ((records ++ map (record_of n) turns) ++ stopped ∷ []) (first_world found))
+  talks_stop : (n : ℕ) (old new : Hub A) (failures failures_after : ℕ) (turns : List Turn) → Settles (store_of condition old) → Talks condition n old failures turns new failures_after
+      → IsHonest condition new → (first : State) (records : List Record) (w : World) → Run old.config first records w → StandsAt condition old w
+      → Leaves (store_of condition new) (λ found. Run old.config first ((records ++ map (record_of n) turns) ++ stopped ∷ []) (first_world found))
   talks_stop n old new failures failures_after turns settles silent honest first records w run at =
-      leaves_wider (store_of g old) _ _
+      leaves_wider (store_of condition old) _ _
       (λ c e. subst (λ rs. Run old.config first (rs ++ stopped ∷ []) (first_world c)) (sym (append-nil records))
       (subst (λ s. Run old.config first (records ++ stopped ∷ []) (first_world s)) (sym e) (stops run)))
-      (stays_as (store_of g old) w.state settles at.state)
+      (stays_as (store_of condition old) w.state settles at.state)
   talks_stop n old new failures failures_after turns settles (turn {mid = mid} {before = between} {turns = before} t talks stays same a) honest first records w run at =
       let h = talks_exchange n old mid failures between before settles talks (a.honest honest) w at in
       let b = a.answers honest h.talked (h.stays stays) in
       let so_far : Run old.config first (records ++ map (record_of n) before) h.talked = exchanges_run old.config n first records w h.talked before run h.exchanges in
-      leaves_wider (store_of g new) _ _
+      leaves_wider (store_of condition new) _ _
       (λ c l. subst (λ rs. Run old.config first rs (first_world c))
       (sym (append_assoc (records ++ map (record_of n) before) (record_of n t ∷ []) (stopped ∷ []))
       ∙ ap (λ rs. rs ++ stopped ∷ []) (append_assoc records (map (record_of n) before) (record_of n t ∷ []) ∙ ap (λ l. records ++ l) (sym (map_more n before t))))
       (let x = left_same mid.config old.config same b.arrives c l in breaks c so_far x.0 x.1))
       b.stop
 
-  module _ (n : ℕ) (old opened talked new : Hub S g) (failures failures_after : ℕ) (turns : List Turn)
-      (opens : Moves g old opened (Connect n) []) (closes : Moves g talked new (Close n) []) (settles : Settles (store_of g opened))
-      (same_opened : opened.config ≡ old.config) (same_new : new.config ≡ old.config) (same_store : new.store ≡ talked.store) (talks : Talks g n opened failures turns talked failures_after) where
-    to_talked : (P : db.State → Type 0) → P (store_of g new) → P (store_of g talked)
-    to_talked P h = subst (λ (x : Held S). P (state g x)) same_store h
+  module _ (n : ℕ) (old opened talked new : Hub A) (failures failures_after : ℕ) (turns : List Turn)
+      (opens : Moves condition old opened (Connect n) []) (closes : Moves condition talked new (Close n) []) (settles : Settles (store_of condition opened))
+      (same_opened : opened.config ≡ old.config) (same_new : new.config ≡ old.config) (same_store : new.store ≡ talked.store) (talks : Talks condition n opened failures turns talked failures_after) where
+    to_talked : (P : Condition → Type 0) → P (store_of condition new) → P (store_of condition talked)
+    to_talked P h = subst (λ (x : A). P (condition x)) same_store h
 
-    from_talked : (P : db.State → Type 0) → P (store_of g talked) → P (store_of g new)
-    from_talked P h = subst (λ (x : Held S). P (state g x)) (sym same_store) h
+    from_talked : (P : Condition → Type 0) → P (store_of condition talked) → P (store_of condition new)
+    from_talked P h = subst (λ (x : A). P (condition x)) (sym same_store) h
 
-    answered : IsHonest g new → (w : World) → StandsAt g old w → IsAnswered g old new n turns w
+    answered : IsHonest condition new → (w : World) → StandsAt condition old w → IsAnswered condition old new n turns w
     answered honest w at =
         let o = opens w at in
-        let t = talks_exchange n opened talked failures failures_after turns settles talks (to_talked db.HasCleanDisk honest) (with_opened n w) (subst (λ v. StandsAt g opened v) (opened_is o.1) o.2) in
+        let t = talks_exchange n opened talked failures failures_after turns settles talks (to_talked HasCleanDisk honest) (with_opened n w) (subst (λ v. StandsAt condition opened v) (opened_is o.1) o.2) in
         record {
           talked = t.talked;
           exchanges = subst (λ (x : Config). Exchanges x n (with_opened n w) turns t.talked) same_opened t.exchanges;
           at = λ clean.
               let c = closes t.talked (t.at (to_talked (λ d. IsTrue d.is_open) clean)) in
-              subst (λ v. StandsAt g new v) (closed_is c.1) c.2;
+              subst (λ v. StandsAt condition new v) (closed_is c.1) c.2;
           rests = λ clean. from_talked (λ d. Leaves d (λ found. found ≡ t.talked.state)) (t.rests (to_talked (λ d. IsTrue d.is_open) clean));
           stop = from_talked (λ d. Leaves d (LeftByExchanges (subst (λ (x : Config). Exchanges x n (with_opened n w) turns t.talked) same_opened t.exchanges)))
-              (leaves_wider (store_of g talked) _ _ (λ c l. exchanged_along opened.config old.config same_opened t.exchanges c l) t.stop);
+              (leaves_wider (store_of condition talked) _ _ (λ c l. exchanged_along opened.config old.config same_opened t.exchanges c l) t.stop);
         }
 
-    all_added : (IsClean g new → IsHonest g new) → AddsAll g old new (records_of n turns)
+    all_added : (IsClean condition new → IsHonest condition new) → AddsAll condition old new (records_of n turns)
     all_added law clean first records h =
         let a = answered (law clean) h.world h.at in
         record {
@@ -362,24 +359,24 @@ module _ {S : Type 0} (g : Ghosts S) where
           at = a.at clean;
         }
 
-    all_stops : StopsAll g old new (record { event = Connect n; sent = [] } ∷ map (record_of n) turns)
+    all_stops : StopsAll condition old new (record { event = Connect n; sent = [] } ∷ map (record_of n) turns)
     all_stops honest first records h =
         let c : Record = record { event = Connect n; sent = [] } in
         let o = opens h.world h.at in
         let from : Run opened.config first (records ++ c ∷ []) o.0 = subst (λ (x : Config). Run x first (records ++ c ∷ []) o.0) (sym same_opened) (goes_on h.run o.1) in
-        subst (λ (x : Held S). Leaves (state g x) (λ found. Run old.config first ((records ++ c ∷ map (record_of n) turns) ++ stopped ∷ []) (first_world found))) (sym same_store)
-        (leaves_wider (store_of g talked) _ _
+        subst (λ (x : A). Leaves (condition x) (λ found. Run old.config first ((records ++ c ∷ map (record_of n) turns) ++ stopped ∷ []) (first_world found))) (sym same_store)
+        (leaves_wider (store_of condition talked) _ _
         (λ found r. subst (λ rs. Run old.config first (rs ++ stopped ∷ []) (first_world found)) (append_assoc records (c ∷ []) (map (record_of n) turns))
         (subst (λ (x : Config). Run x first (((records ++ c ∷ []) ++ map (record_of n) turns) ++ stopped ∷ []) (first_world found)) same_opened r))
-        (talks_stop n opened talked failures failures_after turns settles talks (to_talked db.HasCleanDisk honest) first (records ++ c ∷ []) o.0 from o.2))
+        (talks_stop n opened talked failures failures_after turns settles talks (to_talked HasCleanDisk honest) first (records ++ c ∷ []) o.0 from o.2))
 
-  module _ {C : Type 0} (ticks : C → ℕ → C → Type 0) (n : ℕ) (old : Session g C) (opened talked new : Hub S g) (wire : Wire) (now : C)
+  module _ {C : Type 0} (ticks : C → ℕ → C → Type 0) (n : ℕ) (old : Session condition C) (opened talked new : Hub A) (wire : Wire) (now : C)
       (is_next : n ≡ old.hub.next) (fresh : intake_of old.hub.connections.items n ≡ None)
-      (opens : Moves g old.hub opened (Connect n) []) (closes : Moves g talked new (Close n) []) (settles : Settles (store_of g opened)) (law : IsClean g new → IsHonest g new)
+      (opens : Moves condition old.hub opened (Connect n) []) (closes : Moves condition talked new (Close n) []) (settles : Settles (store_of condition opened)) (law : IsClean condition new → IsHonest condition new)
       (same_opened : opened.config ≡ old.hub.config) (same_new : new.config ≡ old.hub.config) (same_store : new.store ≡ talked.store)
       (gone : intake_of new.connections.items n ≡ None) where
-    converses : (end : Served) → TalksUntil g ticks n (session g opened old.wire old.clock) (session g talked wire now) end
-        → Converses g ticks old new wire end
+    converses : (end : Served) → TalksUntil condition ticks n (session condition opened old.wire old.clock) (session condition talked wire now) end
+        → Converses condition ticks old new wire end
     converses end u =
         let t = u.talk in
         record {
@@ -402,8 +399,8 @@ module _ {S : Type 0} (g : Ghosts S) where
           sizes = t.sizes;
         }
 
-    pub serves_whole : (served : Served) → TalksUntil g ticks n (session g opened old.wire old.clock) (session g talked wire now) served
-        → ConversesOver g ticks old new wire served
+    pub serves_whole : (served : Served) → TalksUntil condition ticks n (session condition opened old.wire old.clock) (session condition talked wire now) served
+        → ConversesOver condition ticks old new wire served
     serves_whole Closed t = converses Closed t
     serves_whole WriteFault t = converses WriteFault t
     serves_whole Ended t = converses Ended t
@@ -412,21 +409,21 @@ module _ {S : Type 0} (g : Ghosts S) where
     serves_whole Unserved t = absurd t.ends
 
   -- where the store is open, or honest, at the end of the turns, it was so before
-  pub later_clean : {C : Type 0} (ticks : C → ℕ → C → Type 0) (n : ℕ) (old new : Session g C) (served : Served) → TalksUntil g ticks n old new served → IsClean g new.hub → IsClean g old.hub
+  pub later_clean : {C : Type 0} (ticks : C → ℕ → C → Type 0) (n : ℕ) (old new : Session condition C) (served : Served) → TalksUntil condition ticks n old new served → IsClean condition new.hub → IsClean condition old.hub
   later_clean ticks n old new served t clean = talks_clean n old.hub new.hub old.wire.failures new.wire.failures t.talk.turns t.talk.talks clean
 
-  pub later_honest : {C : Type 0} (ticks : C → ℕ → C → Type 0) (n : ℕ) (old new : Session g C) (served : Served) → TalksUntil g ticks n old new served → IsHonest g new.hub → IsHonest g old.hub
+  pub later_honest : {C : Type 0} (ticks : C → ℕ → C → Type 0) (n : ℕ) (old new : Session condition C) (served : Served) → TalksUntil condition ticks n old new served → IsHonest condition new.hub → IsHonest condition old.hub
   later_honest ticks n old new served t honest = talks_honest n old.hub new.hub old.wire.failures new.wire.failures t.talk.turns t.talk.talks honest
 
   -- not opened
-  pub unserved : (old new : Hub S g) (wire : Wire) → ((w : World) → StandsAt g old w → StandsAt g new w) → new.store ≡ old.store
-      → ((w : World) → StandsAt g old w → Leaves (store_of g new) (λ found. found ≡ w.state))
-      → ((first : State) (records : List Record) → StandsAfter g old first records → StandsAfter g new first records)
-      → IsUnserved g old new wire wire
+  pub unserved : (old new : Hub A) (wire : Wire) → ((w : World) → StandsAt condition old w → StandsAt condition new w) → new.store ≡ old.store
+      → ((w : World) → StandsAt condition old w → Leaves (store_of condition new) (λ found. found ≡ w.state))
+      → ((first : State) (records : List Record) → StandsAfter condition old first records → StandsAfter condition new first records)
+      → IsUnserved condition old new wire wire
   unserved old new wire at store stays same = record {
     same = at;
     same_store = store;
     stays = stays;
-    adds = λ clean first records h. subst (λ rs. StandsAfter g new first rs) (sym (append-nil records)) (same first records h);
+    adds = λ clean first records h. subst (λ rs. StandsAfter condition new first rs) (sym (append-nil records)) (same first records h);
     rests = record { pieces = keeps_same wire.unread; replies = keeps_same wire.taken; failures = refl };
   }

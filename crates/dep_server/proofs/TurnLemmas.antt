@@ -1,7 +1,7 @@
 -- One turn of a connection.
 use Rattle.std.proofs.Common.{◌≡◌, ◌≤◌, ◌<◌, ℕ, List, ◌++◌, length, take, drop, sym, ap, subst, ◌∙◌, arith, Option, Some, None, refl, take_at}
 use Rattle.std.specs.Io.KnownBytes.{Consumes, Keeps}
-use Rattle.sqlite_trees.specs.declared.store.Store.{Ghosts}
+use Rattle.dep_archive.specs.Conditions.{Condition}
 use Rattle.dep_server.specs.Turns.{most_read}
 use Rattle.dep_server.specs.Standing.{ArrivesOver}
 use Rattle.dep_server.specs.Conversation.{Session, OneTurn, NoTurn}
@@ -46,22 +46,22 @@ keeps_itself : (o : Option (List ℕ)) → Keeps o o
 keeps_itself None = tt
 keeps_itself (Some xs) = refl
 
-module _ {S : Type 0} (g : Ghosts S) where
+module _ {A : Type 0} (condition : A → Condition) where
   -- a piece was read, and it arrived
-  pub one_turn : {C : Type 0} (ticks : C → ℕ → C → Type 0) (number : ℕ) (before after : Session g C) (answer : Arrived)
+  pub one_turn : {C : Type 0} (ticks : C → ℕ → C → Type 0) (number : ℕ) (before after : Session condition C) (answer : Arrived)
       (n len moment : ℕ) (buffer rest given items whole : List ℕ)
       → whole ≡ take len (buffer ++ rest) → length buffer ≡ length given → length given ≡ len
       → given ≡ items → length items ≡ most_read
       → n ≤ length buffer → n ≡ length (take n buffer) → (n ≡ 0 → ⊥)
       → Consumes before.wire.unread after.wire.unread (take n buffer)
       → ticks before.clock moment after.clock
-      → ArrivesOver g before.wire.taken after.wire.taken before.wire.failures after.wire.failures
+      → ArrivesOver condition before.wire.taken after.wire.taken before.wire.failures after.wire.failures
       before.hub after.hub number (take n whole) moment answer
-      → OneTurn g ticks number before after answer
+      → OneTurn condition ticks number before after answer
   one_turn ticks number before after answer n len moment buffer rest given items whole e b s same room fits long not_none read ticked arrival =
       let is_whole : whole ≡ buffer = read_whole len buffer rest given whole e b s in
-      let came : ArrivesOver g before.wire.taken after.wire.taken before.wire.failures after.wire.failures
-      before.hub after.hub number (take n buffer) moment answer = subst (λ (xs : List ℕ). ArrivesOver g before.wire.taken after.wire.taken before.wire.failures after.wire.failures
+      let came : ArrivesOver condition before.wire.taken after.wire.taken before.wire.failures after.wire.failures
+      before.hub after.hub number (take n buffer) moment answer = subst (λ (xs : List ℕ). ArrivesOver condition before.wire.taken after.wire.taken before.wire.failures after.wire.failures
       before.hub after.hub number (take n xs) moment answer) is_whole arrival in
       record {
         piece = take n buffer;
@@ -75,9 +75,9 @@ module _ {S : Type 0} (g : Ghosts S) where
       }
 
   -- nothing was read
-  pub no_turn : {C : Type 0} (before after : Session g C)
+  pub no_turn : {C : Type 0} (before after : Session condition C)
       → after.hub ≡ before.hub → after.clock ≡ before.clock → after.wire.taken ≡ before.wire.taken → after.wire.failures ≡ before.wire.failures
-      → Keeps before.wire.unread after.wire.unread → NoTurn g before after
+      → Keeps before.wire.unread after.wire.unread → NoTurn condition before after
   no_turn before after hub clock taken failures kept = record {
     same_hub = hub;
     rests = record {

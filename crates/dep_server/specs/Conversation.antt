@@ -2,9 +2,8 @@
 use Rattle.std.specs.Prelude.{◌<◌, ◌≤◌, ◌+◌, length, ◌≡◌, ℕ, List, [], ◌∷◌, ◌++◌, Option, Some, None, map}
 use Rattle.std.specs.List.{FoldsTo}
 use Rattle.std.specs.Io.KnownBytes.{Appends, Consumes, Keeps, IsAtEnd}
-use Rattle.sqlite_trees.specs.declared.store.Store.{Ghosts}
 use Rattle.dep_types.specs.State.{State}
-use Rattle.dep_requests.specs.Standing.{Leaves}
+use Rattle.dep_archive.specs.Conditions.{Condition, Leaves}
 use Rattle.dep_server.specs.Records.{World, Connect, Close, Record, stopped, Run, first_world}
 use Rattle.dep_server.specs.Standing.{StandsAt, StandsAfter, IsClean, IsHonest, Moves, IsArrival, intake_of, store_of}
 use Rattle.dep_server.specs.Turns.{Turn, pieces_of, replies_of, record_of, records_of, most_read, ArePieces, last_answer, with_opened, with_closed, Exchanges, LeftByExchanges, EndsAs}
@@ -49,40 +48,40 @@ next_after next ReadFault = next + 1
 next_after next WriteFault = next + 1
 next_after next Bound = next + 1
 
-module _ {S : Type 0} (g : Ghosts S) where
+module _ {A : Type 0} (condition : A → Condition) where
   -- where the serving of a connection stands
   pub record Session (C : Type 0) : Type 0 where
-    pub hub : Hub S g
+    pub hub : Hub A
     pub wire : Wire
     pub clock : C
 
-  abbrev pub session : {C : Type 0} → Hub S g → Wire → C → Session C
+  abbrev pub session : {C : Type 0} → Hub A → Wire → C → Session C
   session hub ends clock = record { hub = hub; wire = ends; clock = clock }
 
   -- for all records that it stood for, the hub stands for them with these after them, if its store
   -- is open
-  abbrev pub AddsAll : Hub S g → Hub S g → List Record → Type 0
-  AddsAll old new more = IsClean g new → (first : State) (records : List Record)
-      → StandsAfter g old first records
-      → StandsAfter g new first (records ++ more)
+  abbrev pub AddsAll : Hub A → Hub A → List Record → Type 0
+  AddsAll old new more = IsClean condition new → (first : State) (records : List Record)
+      → StandsAfter condition old first records
+      → StandsAfter condition new first (records ++ more)
 
   -- what a stop now leaves stands for all records that the hub stood for, with these after them and
   -- a stop
-  abbrev pub StopsAll : Hub S g → Hub S g → List Record → Type 0
-  StopsAll old new more = IsHonest g new → (first : State) (records : List Record)
-      → StandsAfter g old first records
-      → Leaves (store_of g new)
+  abbrev pub StopsAll : Hub A → Hub A → List Record → Type 0
+  StopsAll old new more = IsHonest condition new → (first : State) (records : List Record)
+      → StandsAfter condition old first records
+      → Leaves (store_of condition new)
       (λ found. Run old.config first ((records ++ more) ++ stopped ∷ []) (first_world found))
 
   -- the turns leave the connection open, one after another, each with the outlet's failures that
   -- the one before left
   pub data Talks (number : ℕ)
-      : Hub S g → (failures : ℕ) → List Turn → Hub S g → (failures_after : ℕ) → Type 0 where
-    silent : {hub : Hub S g} {failures : ℕ} → Talks number hub failures [] hub failures
-    turn : {hub mid new : Hub S g} {failures before after : ℕ} {turns : List Turn} (t : Turn)
+      : Hub A → (failures : ℕ) → List Turn → Hub A → (failures_after : ℕ) → Type 0 where
+    silent : {hub : Hub A} {failures : ℕ} → Talks number hub failures [] hub failures
+    turn : {hub mid new : Hub A} {failures before after : ℕ} {turns : List Turn} (t : Turn)
         → Talks number hub failures turns mid before
         → last_answer turns ≡ StaysOpen → mid.config ≡ hub.config
-        → IsArrival g mid new number t.piece t.moment t.sent before after t.answer
+        → IsArrival condition mid new number t.piece t.moment t.sent before after t.answer
         → Talks number hub failures (turns ++ t ∷ []) new after
 
   -- turns so far: what they add, read, write, and when
@@ -103,7 +102,7 @@ module _ {S : Type 0} (g : Ghosts S) where
     pub piece : List ℕ
     pub moment : ℕ
     pub sent : List ℕ
-    pub arrives : IsArrival g before.hub after.hub number piece moment sent
+    pub arrives : IsArrival condition before.hub after.hub number piece moment sent
         before.wire.failures after.wire.failures answer
     pub some : 0 < length piece
     pub small : length piece ≤ most_read
@@ -139,30 +138,30 @@ module _ {S : Type 0} (g : Ghosts S) where
   -- what the machine makes of the turns, from whatever machine the hub kept: it answers them as
   -- they were answered, and the hub keeps what it comes to, if its store is open; a stop then
   -- leaves just that, and where the store is shut what it may leave after the last turn
-  pub record IsAnswered (old new : Hub S g) (number : ℕ) (turns : List Turn)
+  pub record IsAnswered (old new : Hub A) (number : ℕ) (turns : List Turn)
       (w : World) : Type 0 where
     pub talked : World
     pub exchanges : Exchanges old.config number (with_opened number w) turns talked
-    pub at : IsClean g new → StandsAt g new (with_closed number talked)
-    pub rests : IsClean g new → Leaves (store_of g new) (λ found. found ≡ talked.state)
-    pub stop : Leaves (store_of g new) (LeftByExchanges exchanges)
+    pub at : IsClean condition new → StandsAt condition new (with_closed number talked)
+    pub rests : IsClean condition new → Leaves (store_of condition new) (λ found. found ≡ talked.state)
+    pub stop : Leaves (store_of condition new) (LeftByExchanges exchanges)
 
   -- one connection: what was read are its pieces, what was written is what was sent, each at the
   -- clock's answer
   pub record Converses {C : Type 0} (ticks : C → ℕ → C → Type 0)
-      (before : Session C) (new : Hub S g)
+      (before : Session C) (new : Hub A)
       (after : Wire) (served : Served) : Type 0 where
     pub number : ℕ
     pub turns : List Turn
     pub is_next : number ≡ before.hub.next
     pub fresh : intake_of before.hub.connections.items number ≡ None
-    pub opened : Hub S g
-    pub opens : Moves g before.hub opened (Connect number) []
-    pub talked : Hub S g
+    pub opened : Hub A
+    pub opens : Moves condition before.hub opened (Connect number) []
+    pub talked : Hub A
     pub talks : Talks number opened before.wire.failures turns talked after.failures
-    pub closes : Moves g talked new (Close number) []
+    pub closes : Moves condition talked new (Close number) []
     pub gone : intake_of new.connections.items number ≡ None
-    pub answers : IsHonest g new → (w : World) → StandsAt g before.hub w
+    pub answers : IsHonest condition new → (w : World) → StandsAt condition before.hub w
         → IsAnswered before.hub new number turns w
     pub adds : AddsAll before.hub new (records_of number turns)
     pub stops : StopsAll before.hub new
@@ -173,15 +172,15 @@ module _ {S : Type 0} (g : Ghosts S) where
     pub sizes : ArePieces turns
 
   -- nothing is read or written, and the hub stands for what it did
-  pub record IsUnserved (old new : Hub S g) (before after : Wire) : Type 0 where
-    pub same : (w : World) → StandsAt g old w → StandsAt g new w
+  pub record IsUnserved (old new : Hub A) (before after : Wire) : Type 0 where
+    pub same : (w : World) → StandsAt condition old w → StandsAt condition new w
     pub same_store : new.store ≡ old.store
-    pub stays : (w : World) → StandsAt g old w → Leaves (store_of g new) (λ found. found ≡ w.state)
+    pub stays : (w : World) → StandsAt condition old w → Leaves (store_of condition new) (λ found. found ≡ w.state)
     pub adds : AddsAll old new []
     pub rests : Rests before after
 
   abbrev pub ConversesOver : {C : Type 0} → (C → ℕ → C → Type 0) → (before : Session C)
-      → (new : Hub S g)
+      → (new : Hub A)
       → (after : Wire)
       → Served → Type 0
   ConversesOver ticks before new after Unserved = IsUnserved before.hub new before.wire after

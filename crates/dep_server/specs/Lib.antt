@@ -1,7 +1,6 @@
 pub mod Machine
 pub mod Stops
 pub mod Records
-pub mod Opening
 pub mod Causes
 pub mod Sending
 pub mod Serving

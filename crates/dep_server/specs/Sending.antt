@@ -1,14 +1,12 @@
 -- Replies that are sent over an outlet, and contents behind them.
 use Rattle.std.specs.Prelude.{◌≡◌, ◌⊎◌, ℕ, List, Option, IsTrue}
 use Rattle.std.specs.Io.KnownBytes.{Appends}
-use Rattle.sqlite.specs.State as db
 use Rattle.dep_types.specs.Writing.{IsProperPrefix, HasRisen}
 use Rattle.dep_types.specs.declared.store_fault.StoreFault.{StoreFault}
 use Rattle.dep_types.specs.declared.store_fault.StoreFault.TheVariants.{Store, Memory}
 use Rattle.dep_answers.specs.Steps.{Stepped, sent_by}
 use Rattle.dep_answers.specs.declared.performed.Performed.{Performed}
-use Rattle.dep_requests.specs.Standing.{StandsFor, Leaves}
-use Rattle.dep_requests.specs.Performing.{Performs}
+use Rattle.dep_archive.specs.Conditions.{Condition, StandsFor, HasCleanDisk, Leaves, Performs}
 use Rattle.dep_server.specs.Machine.{want_of_memory, store_fault}
 use Rattle.dep_server.specs.Causes.{CutsStored}
 use Rattle.dep_server.specs.declared.sending.Answered.{Answered}
@@ -44,16 +42,16 @@ reply_to Memory = want_of_memory
 pub record Outside : Type 1 where
   pub taken : Option (List ℕ)
   pub failures : ℕ
-  pub store : db.State
+  pub store : Condition
 
-abbrev pub outside : (taken : Option (List ℕ)) → (failures : ℕ) → (store : db.State) → Outside
+abbrev pub outside : (taken : Option (List ℕ)) → (failures : ℕ) → (store : Condition) → Outside
 outside taken failures store = record { taken = taken; failures = failures; store = store }
 
 -- from one to the other these bytes were sent; and where the disk has told no lie up to the second,
 -- or the store is open there, it was so at the first
 pub record Passes (old new : Outside) (sent : List ℕ) : Type 0 where
   pub appends : Appends old.taken new.taken sent
-  pub honest : db.HasCleanDisk new.store → db.HasCleanDisk old.store
+  pub honest : HasCleanDisk new.store → HasCleanDisk old.store
   pub clean : IsTrue new.store.is_open → IsTrue old.store.is_open
 
 -- what of the reply to a step was sent, once the step was made
@@ -78,5 +76,5 @@ SendsStep stepped old new sent CutShort = CutsStep stepped old new sent
 pub record SendsReady (old new : Outside) (p : Performed) (answer : Answered) : Type 0 where
   pub sent : List ℕ
   pub passes : Passes old new sent
-  pub sends : db.HasCleanDisk new.store → (stepped : Stepped) → Performs stepped old.store p
+  pub sends : HasCleanDisk new.store → (stepped : Stepped) → Performs stepped old.store p
       → SendsStep stepped old new sent answer

@@ -1,12 +1,11 @@
 -- How far an arrival has been served.
 use Rattle.std.specs.Prelude.{◌≡◌, ◌⊎◌, ℕ, List, IsTrue}
-use Rattle.sqlite.specs.State as db
 use Rattle.dep_types.specs.State.{State}
 use Rattle.dep_types.specs.Writing.{HasRisen}
 use Rattle.dep_types.specs.declared.config.Config.{Config}
 use Rattle.dep_message.specs.Places.{Place, Reading, place_with}
 use Rattle.dep_message.specs.Stream.{Item, Reads}
-use Rattle.dep_requests.specs.Standing.{StandsFor, Leaves}
+use Rattle.dep_archive.specs.Conditions.{StandsFor, HasCleanDisk, Leaves}
 use Rattle.dep_server.specs.Machine.{step, replies, state_after, Fails, Serves}
 use Rattle.dep_server.specs.Stops.{LeftByFailure, LeftByServing}
 use Rattle.dep_server.specs.Causes.{IsCutInContent, EndsInContent}
@@ -50,7 +49,7 @@ pub record Answers (config : Config) (old new : Outside) (item : Item) (moment :
     : Type 0 where
   pub sent : List ℕ
   pub passes : Passes old new sent
-  pub steps : db.HasCleanDisk new.store → (s : State) → StandsFor old.store s
+  pub steps : HasCleanDisk new.store → (s : State) → StandsFor old.store s
       → IsAnsweredBy config s item moment sent old new answer
 
 -- an arrival at an intake: what it keeps, the piece that comes, and when
@@ -79,7 +78,7 @@ pub record Progress (config : Config) (a : Arrival) (old now : Outside) (at : Pl
   pub sent : List ℕ
   pub reads : ReadsWith a items at
   pub passes : Passes old now sent
-  pub replied : db.HasCleanDisk now.store → (s : State) → StandsFor old.store s
+  pub replied : HasCleanDisk now.store → (s : State) → StandsFor old.store s
       → Replied config a s items sent old now
 
 -- it was served from what the intake keeps and from a state that the store stood for; a connection
@@ -100,5 +99,5 @@ pub record ServesOver (config : Config) (a : Arrival) (old new : Outside) (at : 
     : Type 0 where
   pub sent : List ℕ
   pub passes : Passes old new sent
-  pub serves : a.reading.limit ≡ config.max_upload → db.HasCleanDisk new.store → (s : State)
+  pub serves : a.reading.limit ≡ config.max_upload → HasCleanDisk new.store → (s : State)
       → StandsFor old.store s → ServesFrom config a s sent old new at answer

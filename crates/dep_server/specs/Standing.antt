@@ -1,14 +1,11 @@
 -- What a hub stands for: the lists of records that may have led to what it keeps.
 use Rattle.std.specs.Prelude.{◌≡◌, ◌==◌, ℕ, List, [], ◌∷◌, ◌++◌, if◌then◌else◌, Option, None, Some, IsTrue}
 use Rattle.std.specs.Io.KnownBytes.{Appends, Keeps}
-use Rattle.sqlite.specs.State as db
-use Rattle.sqlite.specs.Held.{state}
-use Rattle.sqlite_trees.specs.declared.store.Store.{Ghosts}
 use Rattle.dep_types.specs.State.{State}
 use Rattle.dep_types.specs.declared.config.Config.{Config}
 use Rattle.dep_message.specs.Places.{Shut, Reading, IsOpen}
 use Rattle.dep_message.specs.Stream.{Item, Spells}
-use Rattle.dep_requests.specs.Standing.{StandsFor, Leaves}
+use Rattle.dep_archive.specs.Conditions.{Condition, StandsFor, HasCleanDisk, Leaves}
 use Rattle.dep_server.specs.Records.{Event, Arrive, Record, stopped, Line, Absent, Live, ShutLine, World, Run, first_world, with_line, Arrives, LeftByArrival, Happens}
 use Rattle.dep_server.specs.declared.arrived.Arrived.{Arrived}
 use Rattle.dep_server.specs.declared.arrived.Arrived.TheVariants.{Open as StaysOpen, Closed, Cut, NoSuch}
@@ -43,38 +40,38 @@ IsKeptAs limit (Live stream) (Some reading) = KeepsRest limit stream reading
 IsKeptAs limit ShutLine None = ⊥
 IsKeptAs limit ShutLine (Some reading) = IsShut limit reading
 
-module _ {S : Type 0} (g : Ghosts S) where
+module _ {A : Type 0} (condition : A → Condition) where
   -- the store of the hub, as the database shows it
-  abbrev pub store_of : Hub S g → db.State
-  store_of hub = state g hub.store
+  abbrev pub store_of : Hub A → Condition
+  store_of hub = condition hub.store
 
   -- the store is open: no fault has shut it, and the disk has told no lie that was taken as true
-  abbrev pub IsClean : Hub S g → Type 0
+  abbrev pub IsClean : Hub A → Type 0
   IsClean hub = IsTrue (store_of hub).is_open
 
   -- the disk has told no lie that was taken as true; a fault may have shut the store
-  abbrev pub IsHonest : Hub S g → Type 0
-  IsHonest hub = db.HasCleanDisk (store_of hub)
+  abbrev pub IsHonest : Hub A → Type 0
+  IsHonest hub = HasCleanDisk (store_of hub)
 
   -- the hub keeps what the machine is
-  pub record StandsAt (hub : Hub S g) (w : World) : Type 0 where
+  pub record StandsAt (hub : Hub A) (w : World) : Type 0 where
     pub state : StandsFor (store_of hub) w.state
     pub kept : (number : ℕ)
         → IsKeptAs hub.config.max_upload (w.line number) (intake_of hub.connections.items number)
 
   -- the machine may be there after these records
-  pub record StandsAfter (hub : Hub S g) (first : State) (records : List Record) : Type 0 where
+  pub record StandsAfter (hub : Hub A) (first : State) (records : List Record) : Type 0 where
     pub world : World
     pub run : Run hub.config first records world
     pub at : StandsAt hub world
 
   -- for all records that it stood for, the hub stands for them with one more
-  abbrev pub Adds : Hub S g → Hub S g → Event → List ℕ → Type 0
+  abbrev pub Adds : Hub A → Hub A → Event → List ℕ → Type 0
   Adds old new event sent = (first : State) (records : List Record) → StandsAfter old first records
       → StandsAfter new first (records ++ record { event = event; sent = sent } ∷ [])
 
   -- whatever machine the hub kept, it keeps what the event makes of that machine
-  abbrev pub Moves : Hub S g → Hub S g → Event → List ℕ → Type 0
+  abbrev pub Moves : Hub A → Hub A → Event → List ℕ → Type 0
   Moves old new event sent = (w : World) → StandsAt old w
       → (w' : World) × Happens old.config w event sent w' × StandsAt new w'
 
@@ -82,7 +79,7 @@ module _ {S : Type 0} (g : Ghosts S) where
   -- stands at the next one, and a stop leaves just that; whether it is or not, a stop leaves what
   -- it may leave after the arrival. A connection that stays open has an open store, and a cut has a
   -- cause, on the bytes that were sent.
-  pub record ArrivesTo (config : Config) (new : Hub S g) (number : ℕ) (piece : List ℕ) (moment : ℕ)
+  pub record ArrivesTo (config : Config) (new : Hub A) (number : ℕ) (piece : List ℕ) (moment : ℕ)
       (sent : List ℕ) (failures failures_after : ℕ) (answer : Arrived) (w : World) : Type 0 where
     pub left : State
     pub line : Line
@@ -95,14 +92,14 @@ module _ {S : Type 0} (g : Ghosts S) where
     pub cause : answer ≡ Cut → HasCause failures failures_after arrives
 
   -- what a stop at the end of an arrival leaves stands for the records, with the arrival and a stop
-  abbrev pub StopsAfter : Hub S g → Hub S g → Event → List ℕ → Type 0
+  abbrev pub StopsAfter : Hub A → Hub A → Event → List ℕ → Type 0
   StopsAfter old new event sent = IsHonest new → (first : State) (records : List Record)
       → StandsAfter old first records
       → Leaves (store_of new) (λ found. Run old.config first
       (records ++ record { event = event; sent = sent } ∷ stopped ∷ []) (first_world found))
 
   -- an arrival at a connection that is there: what is sent for it is a run's, and so is the answer
-  pub record IsArrival (old new : Hub S g) (number : ℕ) (piece : List ℕ) (moment : ℕ)
+  pub record IsArrival (old new : Hub A) (number : ℕ) (piece : List ℕ) (moment : ℕ)
       (sent : List ℕ)
       (failures failures_after : ℕ) (answer : Arrived) : Type 0 where
     pub adds : IsClean new → Adds old new (Arrive number piece moment) sent
@@ -114,21 +111,21 @@ module _ {S : Type 0} (g : Ghosts S) where
 
   -- what was sent over an outlet for an arrival, by what the outlet tells before and after
   pub record ArrivesOver (held holds : Option (List ℕ)) (failures failures_after : ℕ)
-      (old new : Hub S g)
+      (old new : Hub A)
       (number : ℕ) (piece : List ℕ) (moment : ℕ) (answer : Arrived) : Type 0 where
     pub sent : List ℕ
     pub appends : Appends held holds sent
     pub arrival : IsArrival old new number piece moment sent failures failures_after answer
 
   -- there is no such connection, and nothing happens
-  pub record IsNoSuch (held holds : Option (List ℕ)) (old new : Hub S g) (number : ℕ) : Type 0 where
+  pub record IsNoSuch (held holds : Option (List ℕ)) (old new : Hub A) (number : ℕ) : Type 0 where
     pub absent : intake_of old.connections.items number ≡ None
     pub same : new ≡ old
     pub sends_nothing : Keeps held holds
 
   -- what an arrival comes to, over an outlet
   abbrev pub ComesTo : (held holds : Option (List ℕ)) → (failures failures_after : ℕ)
-      → (old new : Hub S g)
+      → (old new : Hub A)
       → (number : ℕ) → (piece : List ℕ) → (moment : ℕ) → Arrived → Type 0
   ComesTo held holds failures failures_after old new number piece moment NoSuch =
       IsNoSuch held holds old new number

@@ -7,9 +7,9 @@ ghost use Rattle.dep_server.specs.Conversation.{session, wire, ConversesOver, Ta
 use crate::arrived::Arrived;
 use crate::connections::ConnId;
 use crate::hub::Hub;
+use dep_archive::Archive;
 use dep_moment::Moment;
 use dep_types::Outlet;
-use sqlite::Alter;
 use std::alloc::Global;
 use std::io::Read;
 
@@ -42,22 +42,22 @@ struct Incoming {
 }
 
 /// Serves one fresh connection, from its opening to its close.
-pub fn serve_connection<S: Alter, R: Read, W: Outlet, C: FnMut() -> Moment>(
+pub fn serve_connection<A: Archive, R: Read, W: Outlet, C: FnMut() -> Moment>(
     alloc: Global,
     reader: &mut R,
     writer: &mut W,
-    hub: &mut Hub<S>,
+    hub: &mut Hub<A>,
     mut clock: C,
 ) -> Served
     requires { C.IsAlwaysCallable clock }
     ensures config { hub.new.config ≡ hub.old.config }
-    ensures converses { ConversesOver S.Store C.step
-        (session S.Store hub.old
+    ensures converses { ConversesOver A.condition C.step
+        (session A.condition hub.old
         (wire (R.remaining reader.old) (W.taken writer.old) (W.failures writer.old)) clock)
         hub.new (wire (R.remaining reader.new) (W.taken writer.new)
         (W.failures writer.new)) result }
-    ensures clean { IsClean S.Store hub.new → IsClean S.Store hub.old }
-    ensures honest { IsHonest S.Store hub.new → IsHonest S.Store hub.old }
+    ensures clean { IsClean A.condition hub.new → IsClean A.condition hub.old }
+    ensures honest { IsHonest A.condition hub.new → IsHonest A.condition hub.old }
     ensures next { hub.new.next ≡ next_after hub.old.next result }
 {
     let Ok(buffer) = vec![in alloc; 0u8; MOST_READ] else {
@@ -73,10 +73,10 @@ pub fn serve_connection<S: Alter, R: Read, W: Outlet, C: FnMut() -> Moment>(
 }
 
 /// Serves a connection until it ends.
-fn converse<S: Alter, R: Read, W: Outlet, C: FnMut() -> Moment>(
+fn converse<A: Archive, R: Read, W: Outlet, C: FnMut() -> Moment>(
     reader: &mut R,
     writer: &mut W,
-    hub: &mut Hub<S>,
+    hub: &mut Hub<A>,
     clock: &mut C,
     incoming: &mut Incoming,
 ) -> Served
@@ -85,10 +85,10 @@ fn converse<S: Alter, R: Read, W: Outlet, C: FnMut() -> Moment>(
     requires room { length incoming.old.buffer.items ≡ most_read }
     ensures config { hub.new.config ≡ hub.old.config }
     ensures next { hub.new.next ≡ hub.old.next }
-    ensures talks { TalksUntil S.Store C.step incoming.old.connection
-        (session S.Store hub.old
+    ensures talks { TalksUntil A.condition C.step incoming.old.connection
+        (session A.condition hub.old
         (wire (R.remaining reader.old) (W.taken writer.old) (W.failures writer.old)) clock.old)
-        (session S.Store hub.new
+        (session A.condition hub.new
         (wire (R.remaining reader.new) (W.taken writer.new)
         (W.failures writer.new)) clock.new) result }
 {
@@ -101,10 +101,10 @@ fn converse<S: Alter, R: Read, W: Outlet, C: FnMut() -> Moment>(
 }
 
 /// Reads a piece, and has it served.
-fn turn<S: Alter, R: Read, W: Outlet, C: FnMut() -> Moment>(
+fn turn<A: Archive, R: Read, W: Outlet, C: FnMut() -> Moment>(
     reader: &mut R,
     writer: &mut W,
-    hub: &mut Hub<S>,
+    hub: &mut Hub<A>,
     clock: &mut C,
     incoming: &mut Incoming,
 ) -> Option<Served>
@@ -117,10 +117,10 @@ fn turn<S: Alter, R: Read, W: Outlet, C: FnMut() -> Moment>(
     ensures same { incoming.new.connection ≡ incoming.old.connection }
     ensures config { hub.new.config ≡ hub.old.config }
     ensures next { hub.new.next ≡ hub.old.next }
-    ensures turn { TurnsTo S.Store C.step incoming.old.connection
-        (session S.Store hub.old
+    ensures turn { TurnsTo A.condition C.step incoming.old.connection
+        (session A.condition hub.old
         (wire (R.remaining reader.old) (W.taken writer.old) (W.failures writer.old)) clock.old)
-        (session S.Store hub.new
+        (session A.condition hub.new
         (wire (R.remaining reader.new) (W.taken writer.new)
         (W.failures writer.new)) clock.new) result }
 {

@@ -1,9 +1,8 @@
 //! All connections, and the one store that they share.
 ghost use Rattle.std.specs.Prelude.{◌+◌, ◌≡◌, ◌<◌, ◌≤◌, ℕ, [], ◌∷◌, ◌++◌, List, length, IfOk, IfErr, OnErr, IfSome, None, IsErrOf, IsSome, ◌⊎◌, ◌≢◌};
 ghost use Rattle.dep_types.specs.State.{State};
-ghost use Rattle.sqlite.specs.Held.{state};
-ghost use Rattle.dep_requests.specs.Standing.{StandsFor, Leaves};
 ghost use Rattle.dep_types.specs.Config.{IsChecked};
+ghost use Rattle.dep_archive.specs.Conditions.{StandsFor, Leaves};
 ghost use Rattle.dep_server.specs.Records.{Connect, Close, Record, World, Run, Absent, stopped, first_world};
 ghost use Rattle.dep_server.specs.Numbers.{Ascends, Ascends-prop, most_connections, last_number};
 
@@ -11,20 +10,19 @@ use crate::arrived::Arrived;
 use crate::connections::{ConnId, Connection, index_among};
 use crate::serving::{Piece, serve};
 use dep_answers::Service;
+use dep_archive::Archive;
 use dep_message::Intake;
 use dep_moment::Moment;
-use dep_store::Store;
 use dep_types::{Config, ConfigFault, Outlet};
-use sqlite::Alter;
 use std::alloc::Global;
 use std::error::Error;
 use std::fmt;
 
 /// All connections, and the one store that they share.
 #[derive(Drop)]
-pub struct Hub<S: Alter> {
+pub struct Hub<A> {
     config: Service,
-    store: Store<S>,
+    store: A,
     connections: Vec<Connection>,
     next: u64,
     // No number is there twice, and the next one is above them.
@@ -75,21 +73,17 @@ impl fmt::Display for ConnectFault {
 
 impl Error for ConnectFault {}
 
-impl<S: Alter> Hub<S> {
+impl<A: Archive> Hub<A> {
     ghost use Rattle.dep_server.specs.Standing.{StandsAfter, StandsAt, IsClean, IsHonest, store_of, Adds, Moves, ComesTo, intake_of};
 
     /// A hub over the store, without connections. A refusal hands the store back.
-    pub fn new(
-        alloc: Global,
-        config: Config,
-        store: Store<S>,
-    ) -> Result<Hub<S>, (HubFault, Store<S>)>
-        ensures stands { IfOk result (λ hub. (first : State) → StandsFor (state S.Store store) first
-            → StandsAfter S.Store hub first []) }
+    pub fn new(alloc: Global, config: Config, store: A) -> Result<Hub<A>, (HubFault, A)>
+        ensures stands { IfOk result (λ hub. (first : State) → StandsFor (A.condition store) first
+            → StandsAfter A.condition hub first []) }
         // Also after a stop.
         ensures again { IfOk result (λ hub. (first : State) (records : List Record) (w : World)
             → Run config first records w → ((n : ℕ) → w.line n ≡ Absent)
-            → StandsFor (state S.Store store) w.state → StandsAfter S.Store hub first records) }
+            → StandsFor (A.condition store) w.state → StandsAfter A.condition hub first records) }
         ensures config { IfOk result (λ hub. hub.config ≡ config) }
         ensures kept { IfOk result (λ hub. hub.store ≡ store) }
         ensures checked { IfOk result (λ _. IsChecked config) }
@@ -121,11 +115,11 @@ impl<S: Alter> Hub<S> {
 
     /// Opens a connection.
     pub fn connect(&mut self) -> Result<ConnId, ConnectFault>
-        ensures adds { IfOk result (λ number. Adds S.Store self.old self.new (Connect number) []) }
+        ensures adds { IfOk result (λ number. Adds A.condition self.old self.new (Connect number) []) }
         ensures moves { IfOk result
-            (λ number. Moves S.Store self.old self.new (Connect number) []) }
-        ensures same { OnErr result ((w : World) → StandsAt S.Store self.old w
-            → StandsAt S.Store self.new w) }
+            (λ number. Moves A.condition self.old self.new (Connect number) []) }
+        ensures same { OnErr result ((w : World) → StandsAt A.condition self.old w
+            → StandsAt A.condition self.new w) }
         ensures config { self.new.config ≡ self.old.config }
         ensures store { self.new.store ≡ self.old.store }
         ensures next { IfOk result (λ number.
@@ -143,8 +137,8 @@ impl<S: Alter> Hub<S> {
         ensures there { IfOk result
             (λ number. IsSome (intake_of self.new.connections.items number)) }
         // What a stop now leaves.
-        ensures rests { (w : World) → StandsAt S.Store self.old w
-            → Leaves (store_of S.Store self.new) (λ found. found ≡ w.state) }
+        ensures rests { (w : World) → StandsAt A.condition self.old w
+            → Leaves (store_of A.condition self.new) (λ found. found ≡ w.state) }
     {
         if self.connections.len() >= MOST_CONNECTIONS || self.next >= LAST_NUMBER {
             return Err(ConnectFault::Full);
@@ -175,12 +169,12 @@ impl<S: Alter> Hub<S> {
         ensures absent { intake_of self.old.connections.items connection ≡ None
             → result ≡ Arrived.NoSuch }
         // The store is open after it only where it was before, and the disk honest.
-        ensures clean { IsClean S.Store self.new → IsClean S.Store self.old }
-        ensures honest { IsHonest S.Store self.new → IsHonest S.Store self.old }
+        ensures clean { IsClean A.condition self.new → IsClean A.condition self.old }
+        ensures honest { IsHonest A.condition self.new → IsHonest A.condition self.old }
         // A connection that was there is there.
         ensures there { IsSome (intake_of self.old.connections.items connection)
             → (result ≢ Arrived.NoSuch) × IsSome (intake_of self.new.connections.items connection) }
-        ensures arrival { ComesTo S.Store (O.taken out.old) (O.taken out.new)
+        ensures arrival { ComesTo A.condition (O.taken out.old) (O.taken out.new)
             (O.failures out.old) (O.failures out.new)
             self.old self.new connection piece.now moment result }
     {
@@ -197,12 +191,12 @@ impl<S: Alter> Hub<S> {
 
     /// Forgets a connection.
     pub fn close(&mut self, connection: ConnId)
-        ensures adds { Adds S.Store self.old self.new (Close connection) [] }
-        ensures moves { Moves S.Store self.old self.new (Close connection) [] }
+        ensures adds { Adds A.condition self.old self.new (Close connection) [] }
+        ensures moves { Moves A.condition self.old self.new (Close connection) [] }
         ensures gone { intake_of self.new.connections.items connection ≡ None }
         // What a stop now leaves.
-        ensures rests { (w : World) → StandsAt S.Store self.old w
-            → Leaves (store_of S.Store self.new) (λ found. found ≡ w.state) }
+        ensures rests { (w : World) → StandsAt A.condition self.old w
+            → Leaves (store_of A.condition self.new) (λ found. found ≡ w.state) }
         ensures config { self.new.config ≡ self.old.config }
         ensures store { self.new.store ≡ self.old.store }
         ensures next { self.new.next ≡ self.old.next }
@@ -213,16 +207,16 @@ impl<S: Alter> Hub<S> {
     }
 
     /// Hands back the store.
-    pub fn into_store(self) -> Store<S>
+    pub fn into_store(self) -> A
         ensures same { result ≡ self.store }
-        ensures stands { (w : World) → StandsAt S.Store self w
-            → StandsFor (state S.Store result) w.state }
+        ensures stands { (w : World) → StandsAt A.condition self w
+            → StandsFor (A.condition result) w.state }
         // What a stop now leaves is what the machine keeps, and stands for the records with a stop.
-        ensures rests { (w : World) → StandsAt S.Store self w
-            → Leaves (state S.Store result) (λ found. found ≡ w.state) }
+        ensures rests { (w : World) → StandsAt A.condition self w
+            → Leaves (A.condition result) (λ found. found ≡ w.state) }
         ensures stop { (first : State) (records : List Record)
-            → StandsAfter S.Store self first records
-            → Leaves (state S.Store result)
+            → StandsAfter A.condition self first records
+            → Leaves (A.condition result)
             (λ found. Run self.config first (records ++ stopped ∷ []) (first_world found)) }
     {
         let Hub {

@@ -1,14 +1,12 @@
 //! Replies that are sent over an outlet.
 ghost use Rattle.std.specs.Prelude.{◌≡◌};
-ghost use Rattle.sqlite.specs.Held.{state};
 ghost use Rattle.dep_types.specs.Writing.{HasRisen};
 ghost use Rattle.dep_server.specs.Machine.{want_of_memory, store_fault};
 ghost use Rattle.dep_server.specs.Sending.{SendsOver, SendsReady, SendsReply, outside, reply_to};
 
 use dep_answers::Performed;
-use dep_store::Store;
+use dep_archive::Archive;
 use dep_types::{Outlet, StoreFault, WriteFailed};
-use sqlite::Alter;
 
 /// How an item was answered.
 #[derive(Clone, Copy, Debug, PartialEq, Eq)]
@@ -78,15 +76,15 @@ pub(crate) fn send<O: Outlet>(out: &mut O, reply: &[u8]) -> Answered
 
 /// Sends what is ready: its front as one write, and the content of a file behind it as the store
 /// keeps it.
-pub(crate) fn send_performed<S: Alter, O: Outlet>(
-    store: &mut Store<S>,
+pub(crate) fn send_performed<A: Archive, O: Outlet>(
+    store: &mut A,
     performed: &Performed,
     out: &mut O,
 ) -> Answered
     ensures { SendsReady
-        (outside (O.taken out.old) (O.failures out.old) (state S.Store store.old))
+        (outside (O.taken out.old) (O.failures out.old) (A.condition store.old))
         (outside (O.taken out.new) (O.failures out.new)
-        (state S.Store store.new)) performed.now result }
+        (A.condition store.new)) performed.now result }
 {
     match send(out, performed.front.as_slice()) {
         Answered::Sent => match performed.stored {

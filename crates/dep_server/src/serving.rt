@@ -2,7 +2,6 @@
 ghost use Rattle.std.specs.Prelude.{◌≡◌, ◌≢◌, ℕ, List};
 ghost use Rattle.std.specs.Io.KnownBytes.{Appends};
 ghost use Rattle.dep_types.specs.Writing.{HasRisen};
-ghost use Rattle.sqlite.specs.Held.{state};
 ghost use Rattle.dep_server.specs.Machine.{SendsUpTo, want_of_memory};
 ghost use Rattle.dep_message.specs.Places.{Reading, Shut};
 ghost use Rattle.dep_server.specs.Sending.{outside};
@@ -12,11 +11,10 @@ use crate::arrived::Arrived;
 use crate::sending::{Answered, send_want_of_memory};
 use crate::step::{StreamRefusal, answer_continue, answer_fault, answer_message};
 use dep_answers::Service;
+use dep_archive::Archive;
 use dep_message::{Intake, Step};
 use dep_moment::Moment;
-use dep_store::Store;
 use dep_types::Outlet;
-use sqlite::Alter;
 use std::alloc::AllocError;
 
 /// A piece of a connection's stream, and when it came.
@@ -27,18 +25,18 @@ pub(crate) struct Piece<'a> {
 }
 
 /// Takes the piece, and answers each item that is complete with it.
-pub(crate) fn serve<S: Alter, O: Outlet>(
+pub(crate) fn serve<A: Archive, O: Outlet>(
     service: &Service,
-    store: &mut Store<S>,
+    store: &mut A,
     intake: &mut Intake,
     piece: &Piece<'_>,
     out: &mut O,
 ) -> Arrived
     ensures served { ServesOver service.now
         (arrival_of intake.old piece.now.bytes.now piece.now.moment)
-        (outside (O.taken out.old) (O.failures out.old) (state S.Store store.old))
+        (outside (O.taken out.old) (O.failures out.old) (A.condition store.old))
         (outside (O.taken out.new) (O.failures out.new)
-        (state S.Store store.new)) intake.new.place result }
+        (A.condition store.new)) intake.new.place result }
     ensures limit { intake.new.limit ≡ intake.old.limit }
     ensures there { result ≢ Arrived.NoSuch }
 {

@@ -1,7 +1,5 @@
 //! One step of the machine, and what is sent for it.
 ghost use Rattle.std.specs.Prelude.{◌≡◌, ◌⊎◌, ℕ, IfOk, IsTrue, OnErr};
-ghost use Rattle.sqlite.specs.Held.{state};
-ghost use Rattle.sqlite.specs.State.{HasCleanDisk};
 ghost use Rattle.dep_types.specs.State.{State};
 ghost use Rattle.dep_types.specs.declared.config.Config.{Config as Settings};
 ghost use Rattle.dep_message.specs.Stream.{Fault, Continue, Request};
@@ -10,24 +8,22 @@ ghost use Rattle.dep_router.specs.Targets.{target};
 ghost use Rattle.dep_answers.specs.Performing.{IsReply};
 ghost use Rattle.dep_answers.specs.Replies.{refused_answer};
 ghost use Rattle.dep_answers.specs.Steps.{operation_step};
-ghost use Rattle.dep_requests.specs.Standing.{StandsFor, Leaves};
-ghost use Rattle.dep_requests.specs.Performing.{Performs};
+ghost use Rattle.dep_archive.specs.Conditions.{StandsFor, HasCleanDisk, Leaves, Performs};
 ghost use Rattle.dep_server.specs.Machine.{operation_of, routed_step};
 ghost use Rattle.dep_server.specs.Sending.{outside};
 ghost use Rattle.dep_server.specs.Serving.{Answers};
 
 use crate::sending::{Answered, send, send_fault, send_performed};
 use dep_answers::{Delivery, Performed, Service, refused};
+use dep_archive::Archive;
 use dep_decisions::Operation;
 use dep_fields::SwordFields;
 use dep_head::Head;
 use dep_message::{Message, closes, is_without_body};
 use dep_moment::Moment;
 use dep_router::{Routed, Routes};
-use dep_store::Store;
 use dep_tags::IfMatch;
 use dep_types::{Octets, Outlet, Refusal, StoreFault, Target};
-use sqlite::Alter;
 use std::alloc::{AllocError, Global};
 
 /// What a fault of a stream is answered: why it is refused, and whether the reply has no body.
@@ -38,16 +34,16 @@ pub(crate) struct StreamRefusal {
 }
 
 /// Steps a whole message: the clock goes on, and then the message is answered.
-pub(crate) fn answer_message<S: Alter, O: Outlet>(
+pub(crate) fn answer_message<A: Archive, O: Outlet>(
     service: &Service,
-    store: &mut Store<S>,
+    store: &mut A,
     message: Message,
     moment: Moment,
     out: &mut O,
 ) -> Answered
     ensures { Answers service.now
-        (outside (O.taken out.old) (O.failures out.old) (state S.Store store.old))
-        (outside (O.taken out.new) (O.failures out.new) (state S.Store store.new))
+        (outside (O.taken out.old) (O.failures out.old) (A.condition store.old))
+        (outside (O.taken out.new) (O.failures out.new) (A.condition store.new))
         (Request message) moment result }
 {
     match store.tick(service.config(), moment) {
@@ -67,26 +63,26 @@ pub(crate) fn answer_message<S: Alter, O: Outlet>(
 }
 
 /// Tells the client that it may send the body (RFC 9110, section 15.2.1). The clock stays.
-pub(crate) fn answer_continue<S: Alter, O: Outlet>(store: &Store<S>, out: &mut O) -> Answered
+pub(crate) fn answer_continue<A: Archive, O: Outlet>(store: &A, out: &mut O) -> Answered
     ensures { (config : Settings) (moment : ℕ) → Answers config
-        (outside (O.taken out.old) (O.failures out.old) (state S.Store store.now))
-        (outside (O.taken out.new) (O.failures out.new) (state S.Store store.now))
+        (outside (O.taken out.old) (O.failures out.old) (A.condition store.now))
+        (outside (O.taken out.new) (O.failures out.new) (A.condition store.now))
         Continue moment result }
 {
     send(out, b"HTTP/1.1 100 Continue\r\n\r\n")
 }
 
 /// Steps a fault of a stream: the clock goes on, and the connection is closed after the reply.
-pub(crate) fn answer_fault<S: Alter, O: Outlet>(
+pub(crate) fn answer_fault<A: Archive, O: Outlet>(
     service: &Service,
-    store: &mut Store<S>,
+    store: &mut A,
     fault: StreamRefusal,
     moment: Moment,
     out: &mut O,
 ) -> Answered
     ensures { Answers service.now
-        (outside (O.taken out.old) (O.failures out.old) (state S.Store store.old))
-        (outside (O.taken out.new) (O.failures out.new) (state S.Store store.new))
+        (outside (O.taken out.old) (O.failures out.old) (A.condition store.old))
+        (outside (O.taken out.new) (O.failures out.new) (A.condition store.new))
         (Fault fault.refusal fault.is_bare) moment result }
 {
     match store.tick(service.config(), moment) {
@@ -110,28 +106,28 @@ pub(crate) fn answer_fault<S: Alter, O: Outlet>(
 }
 
 // What a message comes to, once the clock has gone on and is this one.
-fn perform<S: Alter>(
+fn perform<A: Archive>(
     service: &Service,
-    store: &mut Store<S>,
+    store: &mut A,
     message: Message,
     clock: Moment,
 ) -> Result<Performed, StoreFault>
-    ensures ok { HasCleanDisk (state S.Store store.new) → (s : State)
-        → StandsFor (state S.Store store.old) s
+    ensures ok { HasCleanDisk (A.condition store.new) → (s : State)
+        → StandsFor (A.condition store.old) s
         → clock ≡ s.clock
         → IfOk result (λ p. Performs
         (routed_step service.now s message (target message.head.method message.head.path))
-        (state S.Store store.new) p) }
-    ensures err { IsTrue (state S.Store store.new).is_open → (s : State)
-        → StandsFor (state S.Store store.old) s
-        → OnErr result (StandsFor (state S.Store store.new) s) }
-    ensures honest { HasCleanDisk (state S.Store store.new)
-        → HasCleanDisk (state S.Store store.old) }
-    ensures open { IsTrue (state S.Store store.new).is_open
-        → IsTrue (state S.Store store.old).is_open }
-    ensures stop { HasCleanDisk (state S.Store store.new) → (s : State)
-        → StandsFor (state S.Store store.old) s
-        → Leaves (state S.Store store.new) (λ found. (found ≡ s) ⊎ (found ≡
+        (A.condition store.new) p) }
+    ensures err { IsTrue (A.condition store.new).is_open → (s : State)
+        → StandsFor (A.condition store.old) s
+        → OnErr result (StandsFor (A.condition store.new) s) }
+    ensures honest { HasCleanDisk (A.condition store.new)
+        → HasCleanDisk (A.condition store.old) }
+    ensures open { IsTrue (A.condition store.new).is_open
+        → IsTrue (A.condition store.old).is_open }
+    ensures stop { HasCleanDisk (A.condition store.new) → (s : State)
+        → StandsFor (A.condition store.old) s
+        → Leaves (A.condition store.new) (λ found. (found ≡ s) ⊎ (found ≡
         (routed_step service.now s message (target message.head.method message.head.path)).state)) }
 {
     let delivery = Delivery {
@@ -175,26 +171,26 @@ fn refuse(
 }
 
 // What a request for a resource comes to.
-fn operate<S: Alter>(
+fn operate<A: Archive>(
     service: &Service,
-    store: &mut Store<S>,
+    store: &mut A,
     message: Message,
     target: Target,
 ) -> Result<Performed, StoreFault>
-    ensures ok { HasCleanDisk (state S.Store store.new) → (s : State)
-        → StandsFor (state S.Store store.old) s
+    ensures ok { HasCleanDisk (A.condition store.new) → (s : State)
+        → StandsFor (A.condition store.old) s
         → IfOk result (λ p. Performs
-        (operation_step service.now s (operation_of message target)) (state S.Store store.new) p) }
-    ensures err { IsTrue (state S.Store store.new).is_open → (s : State)
-        → StandsFor (state S.Store store.old) s
-        → OnErr result (StandsFor (state S.Store store.new) s) }
-    ensures honest { HasCleanDisk (state S.Store store.new)
-        → HasCleanDisk (state S.Store store.old) }
-    ensures open { IsTrue (state S.Store store.new).is_open
-        → IsTrue (state S.Store store.old).is_open }
-    ensures stop { HasCleanDisk (state S.Store store.new) → (s : State)
-        → StandsFor (state S.Store store.old) s
-        → Leaves (state S.Store store.new) (λ found. (found ≡ s) ⊎
+        (operation_step service.now s (operation_of message target)) (A.condition store.new) p) }
+    ensures err { IsTrue (A.condition store.new).is_open → (s : State)
+        → StandsFor (A.condition store.old) s
+        → OnErr result (StandsFor (A.condition store.new) s) }
+    ensures honest { HasCleanDisk (A.condition store.new)
+        → HasCleanDisk (A.condition store.old) }
+    ensures open { IsTrue (A.condition store.new).is_open
+        → IsTrue (A.condition store.old).is_open }
+    ensures stop { HasCleanDisk (A.condition store.new) → (s : State)
+        → StandsFor (A.condition store.old) s
+        → Leaves (A.condition store.new) (λ found. (found ≡ s) ⊎
         (found ≡ (operation_step service.now s (operation_of message target)).state)) }
 {
     let Message { head, content } = message;

@@ -1,3 +1,4 @@
 pub mod Auditing
 pub mod Remembering
 pub mod Opening
+pub mod Archive

@@ -2,6 +2,7 @@
 //! crash leaves of that.
 #![tactic(auto)]
 
+mod archive;
 mod auditing;
 mod opening;
 mod reading;

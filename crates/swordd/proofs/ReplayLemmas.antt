@@ -3,15 +3,14 @@ use Rattle.std.proofs.Common.{◌≡◌, ℕ, zero, suc, List, [], ◌∷◌, �
 use Rattle.std.specs.Prelude.{All}
 use Rattle.std.specs.List.{FoldsTo}
 use Rattle.sqlite.specs.State as db
-use Rattle.sqlite.specs.Steps.{over_memory, IsEmpty}
+use Rattle.sqlite.specs.Steps.{IsEmpty}
 use Rattle.sqlite.specs.Effect.{IsDatabase}
 use Rattle.dep_schema.specs.Standing.{HoldsNone}
-use Rattle.sqlite.proofs.Callers.{memory_is_clean}
-use Rattle.sqlite_trees.specs.declared.memory.MemStore.{MemStore}
+use Rattle.dep_archive.specs.Conditions.{Condition}
 use Rattle.dep_types.specs.State.{State, empty_state}
 use Rattle.dep_types.specs.declared.config.Config.{Config}
 use Rattle.dep_server.specs.Records.{World, Record, Arrive, stopped, first_world, Run, begins, goes_on, stops, breaks}
-use Rattle.dep_server.specs.Standing.{StandsAt, StandsAfter}
+use Rattle.dep_server.specs.Standing.{StandsAt, StandsAfter, IsHonest}
 use Rattle.dep_server.specs.Turns.{Turn, with_opened, Exchanges}
 use Rattle.dep_server.specs.Conversation.{Wire, Session, Rests, Converses, ConversesOver}
 use Rattle.dep_server.proofs.HubLemmas.{keeps_same}
@@ -45,7 +44,7 @@ world_at_first (stops {records} r) e = absurd (not_nil records stopped e)
 world_at_first (breaks {records} {n} {moment} {piece} {sent} found r a l) e =
     absurd (not_nil_more records (record { event = Arrive n piece moment; sent = sent }) stopped e)
 
-module _ {C : Type 0} (ticks : C → ℕ → C → Type 0) (moment : ℕ) (tells : C → Type 0)
+module _ {A : Type 0} (condition : A → Condition) {C : Type 0} (ticks : C → ℕ → C → Type 0) (moment : ℕ) (tells : C → Type 0)
     (same : (before after : C) (m : ℕ) → tells before → ticks before m after → (m ≡ moment) × tells after) where
   -- a clock that tells one moment tells it at each turn
   all_at : (turns : List Turn) (clock last : C) → tells clock → FoldsTo (λ before (t : Turn) after. ticks before t.moment after) clock turns last
@@ -55,12 +54,12 @@ module _ {C : Type 0} (ticks : C → ℕ → C → Type 0) (moment : ℕ) (tells
       let s = same clock f.0 t.moment p f.1 in
       all_more (λ (u : Turn). u.moment ≡ moment) t turns s.0 (all_at turns f.0 last s.1 f.2)
 
-  module _ (base : List ℕ) (before : Session over_memory C) (new : Hub MemStore over_memory) (after : Wire) (first : StandsAfter over_memory before.hub empty_state [])
-      (given : before.hub.config ≡ program_config base) (told : tells before.clock) where
-    replays : (end : Served) → Converses over_memory ticks before new after end → IsReplayed base moment before.wire after end
+  module _ (base : List ℕ) (before : Session condition C) (new : Hub A) (after : Wire) (first : StandsAfter condition before.hub empty_state [])
+      (honest : IsHonest condition new) (given : before.hub.config ≡ program_config base) (told : tells before.clock) where
+    replays : (end : Served) → Converses condition ticks before new after end → IsReplayed base moment before.wire after end
     replays end v =
         let fresh = world_at_first first.run refl in
-        let answers = v.answers (memory_is_clean new.store) (first_world empty_state) (subst (λ w. StandsAt over_memory before.hub w) fresh first.at) in
+        let answers = v.answers honest (first_world empty_state) (subst (λ w. StandsAt condition before.hub w) fresh first.at) in
         let exchanges : Exchanges (program_config base) v.number (with_opened v.number (first_world empty_state)) v.turns answers.talked =
         subst (λ (x : Config). Exchanges x v.number (with_opened v.number (first_world empty_state)) v.turns answers.talked) given answers.exchanges in
         record {
@@ -75,7 +74,7 @@ module _ {C : Type 0} (ticks : C → ℕ → C → Type 0) (moment : ℕ) (tells
           ends = v.ends;
         }
 
-    pub comes_to : (end : Served) → ConversesOver over_memory ticks before new after end → Replays base moment before.wire after (outcome_of end)
+    pub comes_to : (end : Served) → ConversesOver condition ticks before new after end → Replays base moment before.wire after (outcome_of end)
     comes_to Unserved v = not_begun v.rests
     comes_to Ended v = replayed Ended (replays Ended v)
     comes_to Closed v = replayed Closed (replays Closed v)

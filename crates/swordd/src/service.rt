@@ -2,11 +2,10 @@
 
 use crate::serve::serve_on;
 use crate::setup::configuration_at;
+use dep_archive::Archive;
 use dep_commands::Outcome;
 use dep_moment::Moment;
 use dep_server::{Hub, HubFault};
-use dep_store::Store;
-use sqlite::Alter;
 use std::net::{Ipv4Addr, TcpListener};
 use std::time::{SystemTime, UNIX_EPOCH};
 
@@ -18,7 +17,7 @@ pub struct Door {
 }
 
 /// Serves so many connections of 127.0.0.1 at the port, one after another, over the store, which it hands back.
-pub fn serve_store<S: Alter>(rt: &HostRuntime, door: Door, store: Store<S>) -> (Outcome, Store<S>) {
+pub fn serve_store<A: Archive>(rt: &HostRuntime, door: Door, store: A) -> (Outcome, A) {
     let Ok(config) = configuration_at(rt.alloc(), u64::from(door.port)) else {
         return (Outcome::StoreFault, store);
     };
@@ -29,7 +28,7 @@ pub fn serve_store<S: Alter>(rt: &HostRuntime, door: Door, store: Store<S>) -> (
     }
 }
 
-fn listen<S: Alter>(rt: &HostRuntime, door: Door, hub: &mut Hub<S>) -> Outcome {
+fn listen<A: Archive>(rt: &HostRuntime, door: Door, hub: &mut Hub<A>) -> Outcome {
     match TcpListener::bind(rt, (Ipv4Addr::LOCALHOST, door.port)) {
         Ok(listener) => serve_on(rt.alloc(), &listener, door.count, hub, || now(rt)),
         Err(_) => Outcome::TransferFault,

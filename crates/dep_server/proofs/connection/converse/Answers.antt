@@ -5,7 +5,7 @@ use Rattle.dep_server.proofs.TalkLemmas.{talk_none, talk_more, talk_last, talk_b
 use Rattle.dep_server.proofs.connection.converse.Goals as goal
 
 pub loop-count-init : goal.loop-count-init
-loop-count-init g c = record { call = c.requires.call; room = c.requires.room; same = refl; there = c.requires.there; config = refl; next = refl; talk = talk_none g.S.Store _ _ _ }
+loop-count-init g c = record { call = c.requires.call; room = c.requires.room; same = refl; there = c.requires.there; config = refl; next = refl; talk = talk_none g.A.Archive.condition _ _ _ }
 
 pub loop-count-preserved : goal.loop-count-preserved
 loop-count-preserved g c = record {
@@ -15,14 +15,14 @@ loop-count-preserved g c = record {
   there = subst (λ (n : ℕ). IsSome (intake_of c.turn.new.hub.connections.items n)) c.loop-count.invariant.same c.turn.ensures.there;
   config = c.turn.ensures.config ∙ c.loop-count.invariant.config;
   next = c.turn.ensures.next ∙ c.loop-count.invariant.next;
-  talk = talk_more g.S.Store _ _ _ _ _ _ _ c.loop-count.invariant.config c.loop-count.invariant.talk
-      (turn_at g.S.Store _ _ _ _ _ None c.loop-count.invariant.same c.in_default.ensures.turn);
+  talk = talk_more g.A.Archive.condition _ _ _ _ _ _ _ c.loop-count.invariant.config c.loop-count.invariant.talk
+      (turn_at g.A.Archive.condition _ _ _ _ _ None c.loop-count.invariant.same c.in_default.ensures.turn);
 }
 
 pub returns-in-Some-clause-talks : goal.returns-in-Some-clause-talks
-returns-in-Some-clause-talks g c = talk_last g.S.Store _ _ _ _ _ c.in-Some.end _ (omega (arith, c.loop-count-test.true))
+returns-in-Some-clause-talks g c = talk_last g.A.Archive.condition _ _ _ _ _ c.in-Some.end _ (omega (arith, c.loop-count-test.true))
     c.loop-count.invariant.config c.loop-count.invariant.talk
-    (turn_at g.S.Store _ _ _ _ _ (Some c.in-Some.end) c.loop-count.invariant.same c.in-Some.ensures.turn)
+    (turn_at g.A.Archive.condition _ _ _ _ _ (Some c.in-Some.end) c.loop-count.invariant.same c.in-Some.ensures.turn)
 
 pub returns-clause-talks : goal.returns-clause-talks
-returns-clause-talks g c = talk_bound g.S.Store _ _ _ _ _ (omega arith) c.loop-count.invariant.talk
+returns-clause-talks g c = talk_bound g.A.Archive.condition _ _ _ _ _ (omega arith) c.loop-count.invariant.talk

@@ -13,7 +13,7 @@ invariant-loop-count g l = record {
   there : IsSome (intake_of l.hub.connections.items l.fn.incoming.connection);
   config : l.hub.config ≡ l.fn.hub.config;
   next : l.hub.next ≡ l.fn.hub.next;
-  talk : Talk g.S.Store (goal.C-step g) l.fn.incoming.connection
-      (session g.S.Store l.fn.hub (wire (g.R.Read.remaining l.fn.reader) (g.W.Outlet.taken l.fn.writer) (g.W.Outlet.failures l.fn.writer)) l.fn.clock)
-      (session g.S.Store l.hub (wire (g.R.Read.remaining l.reader) (g.W.Outlet.taken l.writer) (g.W.Outlet.failures l.writer)) l.clock) l.count StaysOpen;
+  talk : Talk g.A.Archive.condition (goal.C-step g) l.fn.incoming.connection
+      (session g.A.Archive.condition l.fn.hub (wire (g.R.Read.remaining l.fn.reader) (g.W.Outlet.taken l.fn.writer) (g.W.Outlet.failures l.fn.writer)) l.fn.clock)
+      (session g.A.Archive.condition l.hub (wire (g.R.Read.remaining l.reader) (g.W.Outlet.taken l.writer) (g.W.Outlet.failures l.writer)) l.clock) l.count StaysOpen;
 }

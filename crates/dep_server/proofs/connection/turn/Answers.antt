@@ -8,9 +8,9 @@ use Rattle.dep_server.proofs.connection.turn.Given as given
 
 pub returns-in-Open-clause-turn : goal.returns-in-Open-clause-turn
 returns-in-Open-clause-turn g c =
-    one_turn g.S.Store (given.C-step g) c.args.incoming.now.connection
-    (session g.S.Store c.args.hub.now (wire (g.R.Read.remaining c.args.reader.now) (g.W.Outlet.taken c.args.writer.now) (g.W.Outlet.failures c.args.writer.now)) c.args.clock.now)
-    (session g.S.Store c.arrive.new.self (wire (g.R.Read.remaining c.read.new.self) (g.W.Outlet.taken c.arrive.new.out) (g.W.Outlet.failures c.arrive.new.out)) c.clock-moment.new.self)
+    one_turn g.A.Archive.condition (given.C-step g) c.args.incoming.now.connection
+    (session g.A.Archive.condition c.args.hub.now (wire (g.R.Read.remaining c.args.reader.now) (g.W.Outlet.taken c.args.writer.now) (g.W.Outlet.failures c.args.writer.now)) c.args.clock.now)
+    (session g.A.Archive.condition c.arrive.new.self (wire (g.R.Read.remaining c.read.new.self) (g.W.Outlet.taken c.arrive.new.out) (g.W.Outlet.failures c.arrive.new.out)) c.clock-moment.new.self)
     StaysOpen c.in-Ok.n c.args.incoming.now.buffer.len c.clock-moment.result
     c.read.new.buf (drop (length c.read.new.buf) c.args.incoming.now.buffer.items) c.as_mut_slice.result.now c.args.incoming.now.buffer.items c.deref.result.now
     c.deref.ensures.value c.read.auto.buf c.as_mut_slice.ensures.len c.as_mut_slice.ensures.value c.requires.room
@@ -18,9 +18,9 @@ returns-in-Open-clause-turn g c =
 
 pub returns-in-Closed-clause-turn : goal.returns-in-Closed-clause-turn
 returns-in-Closed-clause-turn g c =
-    one_turn g.S.Store (given.C-step g) c.args.incoming.now.connection
-    (session g.S.Store c.args.hub.now (wire (g.R.Read.remaining c.args.reader.now) (g.W.Outlet.taken c.args.writer.now) (g.W.Outlet.failures c.args.writer.now)) c.args.clock.now)
-    (session g.S.Store c.arrive.new.self (wire (g.R.Read.remaining c.read.new.self) (g.W.Outlet.taken c.arrive.new.out) (g.W.Outlet.failures c.arrive.new.out)) c.clock-moment.new.self)
+    one_turn g.A.Archive.condition (given.C-step g) c.args.incoming.now.connection
+    (session g.A.Archive.condition c.args.hub.now (wire (g.R.Read.remaining c.args.reader.now) (g.W.Outlet.taken c.args.writer.now) (g.W.Outlet.failures c.args.writer.now)) c.args.clock.now)
+    (session g.A.Archive.condition c.arrive.new.self (wire (g.R.Read.remaining c.read.new.self) (g.W.Outlet.taken c.arrive.new.out) (g.W.Outlet.failures c.arrive.new.out)) c.clock-moment.new.self)
     HasClosed c.in-Ok.n c.args.incoming.now.buffer.len c.clock-moment.result
     c.read.new.buf (drop (length c.read.new.buf) c.args.incoming.now.buffer.items) c.as_mut_slice.result.now c.args.incoming.now.buffer.items c.deref.result.now
     c.deref.ensures.value c.read.auto.buf c.as_mut_slice.ensures.len c.as_mut_slice.ensures.value c.requires.room
@@ -28,9 +28,9 @@ returns-in-Closed-clause-turn g c =
 
 pub returns-in-Cut-clause-turn : goal.returns-in-Cut-clause-turn
 returns-in-Cut-clause-turn g c =
-    one_turn g.S.Store (given.C-step g) c.args.incoming.now.connection
-    (session g.S.Store c.args.hub.now (wire (g.R.Read.remaining c.args.reader.now) (g.W.Outlet.taken c.args.writer.now) (g.W.Outlet.failures c.args.writer.now)) c.args.clock.now)
-    (session g.S.Store c.arrive.new.self (wire (g.R.Read.remaining c.read.new.self) (g.W.Outlet.taken c.arrive.new.out) (g.W.Outlet.failures c.arrive.new.out)) c.clock-moment.new.self)
+    one_turn g.A.Archive.condition (given.C-step g) c.args.incoming.now.connection
+    (session g.A.Archive.condition c.args.hub.now (wire (g.R.Read.remaining c.args.reader.now) (g.W.Outlet.taken c.args.writer.now) (g.W.Outlet.failures c.args.writer.now)) c.args.clock.now)
+    (session g.A.Archive.condition c.arrive.new.self (wire (g.R.Read.remaining c.read.new.self) (g.W.Outlet.taken c.arrive.new.out) (g.W.Outlet.failures c.arrive.new.out)) c.clock-moment.new.self)
     Cut c.in-Ok.n c.args.incoming.now.buffer.len c.clock-moment.result
     c.read.new.buf (drop (length c.read.new.buf) c.args.incoming.now.buffer.items) c.as_mut_slice.result.now c.args.incoming.now.buffer.items c.deref.result.now
     c.deref.ensures.value c.read.auto.buf c.as_mut_slice.ensures.len c.as_mut_slice.ensures.value c.requires.room
@@ -38,17 +38,17 @@ returns-in-Cut-clause-turn g c =
 
 pub returns-in-Err-clause-turn : goal.returns-in-Err-clause-turn
 returns-in-Err-clause-turn g c =
-    no_turn g.S.Store
-    (session g.S.Store c.args.hub.now (wire (g.R.Read.remaining c.args.reader.now) (g.W.Outlet.taken c.args.writer.now) (g.W.Outlet.failures c.args.writer.now)) c.args.clock.now)
-    (session g.S.Store c.args.hub.now (wire (g.R.Read.remaining c.read.new.self) (g.W.Outlet.taken c.args.writer.now) (g.W.Outlet.failures c.args.writer.now)) c.args.clock.now)
+    no_turn g.A.Archive.condition
+    (session g.A.Archive.condition c.args.hub.now (wire (g.R.Read.remaining c.args.reader.now) (g.W.Outlet.taken c.args.writer.now) (g.W.Outlet.failures c.args.writer.now)) c.args.clock.now)
+    (session g.A.Archive.condition c.args.hub.now (wire (g.R.Read.remaining c.read.new.self) (g.W.Outlet.taken c.args.writer.now) (g.W.Outlet.failures c.args.writer.now)) c.args.clock.now)
     refl refl refl refl c.in-Err.ensures.bytes
 
 pub returns-in-Ok-eq0-clause-turn : goal.returns-in-Ok-eq0-clause-turn
 returns-in-Ok-eq0-clause-turn g c =
     let none = c.in-Ok-eq0.field-0-test in (
-      no_turn g.S.Store
-          (session g.S.Store c.args.hub.now (wire (g.R.Read.remaining c.args.reader.now) (g.W.Outlet.taken c.args.writer.now) (g.W.Outlet.failures c.args.writer.now)) c.args.clock.now)
-          (session g.S.Store c.args.hub.now (wire (g.R.Read.remaining c.read.new.self) (g.W.Outlet.taken c.args.writer.now) (g.W.Outlet.failures c.args.writer.now)) c.args.clock.now)
+      no_turn g.A.Archive.condition
+          (session g.A.Archive.condition c.args.hub.now (wire (g.R.Read.remaining c.args.reader.now) (g.W.Outlet.taken c.args.writer.now) (g.W.Outlet.failures c.args.writer.now)) c.args.clock.now)
+          (session g.A.Archive.condition c.args.hub.now (wire (g.R.Read.remaining c.read.new.self) (g.W.Outlet.taken c.args.writer.now) (g.W.Outlet.failures c.args.writer.now)) c.args.clock.now)
           refl refl refl refl
           (none_read c.in-Ok-eq0.field-0 c.read.new.buf (g.R.Read.remaining c.args.reader.now) (g.R.Read.remaining c.read.new.self) none c.in-Ok-eq0.ensures.bytes.0),
       c.in-Ok-eq0.ensures.bytes.1 none (has_room c.read.new.buf c.as_mut_slice.result.now c.args.incoming.now.buffer.items c.read.auto.buf c.as_mut_slice.ensures.value c.requires.room),

@@ -1,5 +1,4 @@
 use Rattle.std.proofs.Common.{◌≡◌}
-use Rattle.sqlite.specs.Held.{state}
 use Rattle.dep_message.specs.Places.{left_to_read}
 use Rattle.dep_server.specs.Sending.{outside}
 use Rattle.dep_server.specs.Serving.{Progress, arrival_of}
@@ -9,8 +8,8 @@ use Rattle.dep_server.proofs.serving.serve.Given as goal
 abbrev pub invariant-loop-intake : goal.invariant-loop-intake
 invariant-loop-intake g l = record {
   served : Progress l.service (arrival_of l.fn.intake l.piece.bytes.now l.piece.moment)
-      (outside (g.O.Outlet.taken l.fn.out) (g.O.Outlet.failures l.fn.out) (state g.S.Store l.fn.store))
-      (outside (g.O.Outlet.taken l.out) (g.O.Outlet.failures l.out) (state g.S.Store l.store)) l.intake.place;
+      (outside (g.O.Outlet.taken l.fn.out) (g.O.Outlet.failures l.fn.out) (g.A.Archive.condition l.fn.store))
+      (outside (g.O.Outlet.taken l.out) (g.O.Outlet.failures l.out) (g.A.Archive.condition l.store)) l.intake.place;
   limit : l.intake.limit ≡ l.fn.intake.limit;
 }
 

@@ -1,5 +1,4 @@
 use Rattle.std.proofs.Common.{None, true, inl, inr, refl}
-use Rattle.sqlite.specs.Held.{state}
 use Rattle.dep_types.specs.State.{tick}
 use Rattle.dep_types.specs.declared.store_fault.StoreFault.TheVariants.{Memory}
 use Rattle.dep_message.specs.Stream.{Fault}
@@ -37,8 +36,8 @@ pub returns-in-Err-refused : goal.returns-in-Err-refused
 unfolding step
 returns-in-Err-refused g c =
     let config = c.args.service.now in
-    let new = state g.S.Store c.tick.new.self in
-    answers_fixed config (outside (g.O.Outlet.taken c.args.out.now) (g.O.Outlet.failures c.args.out.now) (state g.S.Store c.args.store.now)) (outside (g.O.Outlet.taken c.send_fault.new.out) (g.O.Outlet.failures c.send_fault.new.out) (state g.S.Store c.tick.new.self)) (Fault c.args.fault.refusal c.args.fault.is_bare) c.args.moment Memory
+    let new = g.A.Archive.condition c.tick.new.self in
+    answers_fixed config (outside (g.O.Outlet.taken c.args.out.now) (g.O.Outlet.failures c.args.out.now) (g.A.Archive.condition c.args.store.now)) (outside (g.O.Outlet.taken c.send_fault.new.out) (g.O.Outlet.failures c.send_fault.new.out) (g.A.Archive.condition c.tick.new.self)) (Fault c.args.fault.refusal c.args.fault.is_bare) c.args.moment Memory
     c.tick.ensures.honest c.tick.ensures.open
     (λ disk s stands.
     let t = (rw c.config.ensures at c.in-Ok.ensures.ok) disk s stands in record {
@@ -46,15 +45,15 @@ returns-in-Err-refused g c =
       is_left = inr refl;
       stands = λ _. t.1;
       stop = leaves_wider new _ _ (λ found e. inr (inl e))
-          (stays_as new (tick config s c.args.moment) (λ is_open trees h. g.met.S.Store.settled c.tick.new.self.store trees is_open h) t.1);
+          (stays_as new (tick config s c.args.moment) (g.met.A.Archive.settled c.tick.new.self) t.1);
     })
     c.send_fault.result c.send_fault.ensures.sends c.send_fault.ensures.cause
 
 pub returns-in-Err : goal.returns-in-Err
 unfolding step
 returns-in-Err g c =
-    let new = state g.S.Store c.tick.new.self in
-    answers_fixed c.args.service.now (outside (g.O.Outlet.taken c.args.out.now) (g.O.Outlet.failures c.args.out.now) (state g.S.Store c.args.store.now)) (outside (g.O.Outlet.taken c.send_fault-in-Err.new.out) (g.O.Outlet.failures c.send_fault-in-Err.new.out) (state g.S.Store c.tick.new.self)) (Fault c.args.fault.refusal c.args.fault.is_bare) c.args.moment c.in-Err.store_fault
+    let new = g.A.Archive.condition c.tick.new.self in
+    answers_fixed c.args.service.now (outside (g.O.Outlet.taken c.args.out.now) (g.O.Outlet.failures c.args.out.now) (g.A.Archive.condition c.args.store.now)) (outside (g.O.Outlet.taken c.send_fault-in-Err.new.out) (g.O.Outlet.failures c.send_fault-in-Err.new.out) (g.A.Archive.condition c.tick.new.self)) (Fault c.args.fault.refusal c.args.fault.is_bare) c.args.moment c.in-Err.store_fault
     c.tick.ensures.honest c.tick.ensures.open
     (λ disk s stands. record {
       left = s;

@@ -1,5 +1,4 @@
 use Rattle.std.proofs.Common.{inl, inr, refl}
-use Rattle.sqlite.specs.Held.{state}
 use Rattle.dep_types.specs.State.{tick}
 use Rattle.dep_message.specs.Stream.{Request}
 use Rattle.dep_message.specs.declared.message.Message.{Message}
@@ -35,8 +34,8 @@ unfolding step
 returns-in-Err-perform g c =
     let config = c.args.service.now in
     let m : Message = c.args.message in
-    let new = state g.S.Store c.perform.new.store in
-    answers_fixed config (outside (g.O.Outlet.taken c.args.out.now) (g.O.Outlet.failures c.args.out.now) (state g.S.Store c.args.store.now)) (outside (g.O.Outlet.taken c.send_fault.new.out) (g.O.Outlet.failures c.send_fault.new.out) (state g.S.Store c.perform.new.store)) (Request m) c.args.moment c.in-Err-perform.fault
+    let new = g.A.Archive.condition c.perform.new.store in
+    answers_fixed config (outside (g.O.Outlet.taken c.args.out.now) (g.O.Outlet.failures c.args.out.now) (g.A.Archive.condition c.args.store.now)) (outside (g.O.Outlet.taken c.send_fault.new.out) (g.O.Outlet.failures c.send_fault.new.out) (g.A.Archive.condition c.perform.new.store)) (Request m) c.args.moment c.in-Err-perform.fault
     (λ h. c.tick.ensures.honest (c.perform.ensures.honest h)) (λ h. c.tick.ensures.open (c.perform.ensures.open h))
     (λ disk s stands.
     let t = (rw c.config.ensures at c.in-Ok.ensures.ok) (c.perform.ensures.honest disk) s stands in record {
@@ -50,8 +49,8 @@ returns-in-Err-perform g c =
 pub returns-in-Err : goal.returns-in-Err
 unfolding step
 returns-in-Err g c =
-    let new = state g.S.Store c.tick.new.self in
-    answers_fixed c.args.service.now (outside (g.O.Outlet.taken c.args.out.now) (g.O.Outlet.failures c.args.out.now) (state g.S.Store c.args.store.now)) (outside (g.O.Outlet.taken c.send_fault-in-Err.new.out) (g.O.Outlet.failures c.send_fault-in-Err.new.out) (state g.S.Store c.tick.new.self)) (Request c.args.message) c.args.moment c.in-Err.fault
+    let new = g.A.Archive.condition c.tick.new.self in
+    answers_fixed c.args.service.now (outside (g.O.Outlet.taken c.args.out.now) (g.O.Outlet.failures c.args.out.now) (g.A.Archive.condition c.args.store.now)) (outside (g.O.Outlet.taken c.send_fault-in-Err.new.out) (g.O.Outlet.failures c.send_fault-in-Err.new.out) (g.A.Archive.condition c.tick.new.self)) (Request c.args.message) c.args.moment c.in-Err.fault
     c.tick.ensures.honest c.tick.ensures.open
     (λ disk s stands. record {
       left = s;

@@ -1,6 +1,5 @@
 use Rattle.std.proofs.Common.{subst, sym, ap}
 use Rattle.std.proofs.lemmas.Result.{IfOk-weaker}
-use Rattle.sqlite.specs.Held.{state}
 use Rattle.dep_fields.specs.Fit.{AreFit}
 use Rattle.dep_fields.specs.declared.fields.SwordFields.{SwordFields}
 use Rattle.dep_fields.proofs.FitFields.{fields_are_fit}
@@ -11,17 +10,17 @@ use Rattle.dep_server.proofs.step.operate.Goals as goal
 
 pub returns-in-Err-clause-stop : goal.returns-in-Err-clause-stop
 returns-in-Err-clause-stop g c disk s stands =
-    leaves_it (state g.S.Store c.args.store.now) s _
-    (stays_as (state g.S.Store c.args.store.now) s (λ is_open trees h. g.met.S.Store.settled c.args.store.now.store trees is_open h) stands)
+    leaves_it (g.A.Archive.condition c.args.store.now) s _
+    (stays_as (g.A.Archive.condition c.args.store.now) s (g.met.A.Archive.settled c.args.store.now) stands)
 
 pub returns-in-Ok-clause-ok : goal.returns-in-Ok-clause-ok
 returns-in-Ok-clause-ok g c disk s stands =
     let e = c.in-Ok.ensures in
     let fit : AreFit c.in-Ok.operation.fields = subst (λ (f : SwordFields). AreFit f) (ap (λ (o : Operation). o.fields) (sym e)) (fields_are_fit c.args.message.head.fields) in
-    IfOk-weaker c.perform-performed.result _ _ (λ p h. performs_same c.args.service.now s _ _ (state g.S.Store c.perform-performed.new.self) p e h) (c.perform-performed.ensures.ok disk fit s stands)
+    IfOk-weaker c.perform-performed.result _ _ (λ p h. performs_same c.args.service.now s _ _ (g.A.Archive.condition c.perform-performed.new.self) p e h) (c.perform-performed.ensures.ok disk fit s stands)
 
 pub returns-in-Ok-clause-stop : goal.returns-in-Ok-clause-stop
 returns-in-Ok-clause-stop g c disk s stands =
     let e = c.in-Ok.ensures in
     let fit : AreFit c.in-Ok.operation.fields = subst (λ (f : SwordFields). AreFit f) (ap (λ (o : Operation). o.fields) (sym e)) (fields_are_fit c.args.message.head.fields) in
-    leaves_same c.args.service.now s _ _ (state g.S.Store c.perform-performed.new.self) e (c.perform-performed.ensures.stop disk fit s stands)
+    leaves_same c.args.service.now s _ _ (g.A.Archive.condition c.perform-performed.new.self) e (c.perform-performed.ensures.stop disk fit s stands)

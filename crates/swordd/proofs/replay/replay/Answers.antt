@@ -1,7 +1,7 @@
 use Rattle.std.proofs.Common.{◌≡◌, ◌∙◌, refl, sym, subst, of_calls}
 use Rattle.dep_types.specs.Config.{IsChecked}
 use Rattle.dep_types.specs.declared.config.Config.{Config}
-use Rattle.sqlite.specs.Steps.{over_memory}
+use Rattle.sqlite.proofs.Callers.{memory_is_clean}
 use Rattle.dep_server.specs.Conversation.{wire, session}
 use Rattle.swordd.specs.Replays.{Replays, refused, not_begun}
 use Rattle.dep_commands.specs.declared.outcome.Outcome.{Outcome}
@@ -27,7 +27,7 @@ returns g c =
     let before = wire (g.R.Read.remaining c.args.reader.now) (g.W.Outlet.taken c.args.writer.now) (g.W.Outlet.failures c.args.writer.now) in
     let after = wire (g.R.Read.remaining c.serve_connection.new.reader) (g.W.Outlet.taken c.serve_connection.new.writer) (g.W.Outlet.failures c.serve_connection.new.writer) in
     subst (λ (o : Outcome). Replays c.args.base.now c.args.moment before after o) (sym c.outcome_of.ensures)
-    (comes_to _ c.args.moment (λ f. f.0 ≡ c.args.moment) (λ before after m p e. ((search of_calls), (search of_calls)))
-    c.args.base.now (session over_memory c.in-Ok-new.hub before _) c.serve_connection.new.hub after
-    (c.in-Ok-new.ensures.stands _ c.in-Ok-new_store.ensures) (c.in-Ok-new.ensures.config ∙ c.in-Ok.ensures) refl
+    (comes_to _ _ c.args.moment (λ f. f.0 ≡ c.args.moment) (λ before after m p e. ((search of_calls), (search of_calls)))
+    c.args.base.now (session _ c.in-Ok-new.hub before _) c.serve_connection.new.hub after
+    (c.in-Ok-new.ensures.stands _ c.in-Ok-new_store.ensures) (memory_is_clean c.serve_connection.new.hub.store) (c.in-Ok-new.ensures.config ∙ c.in-Ok.ensures) refl
     c.serve_connection.result c.serve_connection.ensures.converses)

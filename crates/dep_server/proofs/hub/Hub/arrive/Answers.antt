@@ -1,5 +1,4 @@
 use Rattle.std.proofs.Common.{refl, sym, ◌∙◌}
-use Rattle.sqlite.proofs.StateLemmas.{clean_if_open}
 use Rattle.dep_server.specs.Numbers.{index_of}
 use Rattle.dep_server.proofs.ConnectionLemmas.{index_none, ascends_set}
 use Rattle.dep_server.proofs.HubLemmas.{comes_to, stays_there, none_there, keeps_same, not_absent, same_hub}
@@ -14,12 +13,12 @@ returns-in_default-clause-arrival g c = record {
 
 pub returns-clause-arrival : goal.returns-clause-arrival
 returns-clause-arrival g c =
-    let store = c.serve.new.store.store in
-    comes_to g.S.Store c.args.self.now _ c.args.connection c.in-Some.i c.args.piece.now c.args.moment c.index_mut-kept.result.now c.serve.new.intake
+    let store = c.serve.new.store in
+    comes_to g.A.Archive.condition c.args.self.now _ c.args.connection c.in-Some.i c.args.piece.now c.args.moment c.index_mut-kept.result.now c.serve.new.intake
     ((λ i. index_of (sym c.number.ensures i) (sym c.as_slice.ensures.value i)) ∙ sym c.in-Some.ensures.value)
     c.index_mut-kept.ensures.value refl refl c.serve.ensures.limit
-    (λ is_open. clean_if_open (g.S.Store.view store) (g.met.S.Store.shut_if_dirty store) is_open)
-    (λ is_open trees h. g.met.S.Store.settled store trees is_open h)
+    (g.met.A.Archive.honest_if_open store)
+    (g.met.A.Archive.settled store)
     (g.O.Outlet.taken c.args.out.now) (g.O.Outlet.taken c.serve.new.out) (g.O.Outlet.failures c.args.out.now) (g.O.Outlet.failures c.serve.new.out) c.serve.result c.serve.ensures.there c.serve.ensures.served
 
 pub returns-clause-clean : goal.returns-clause-clean

@@ -11,19 +11,19 @@ use Rattle.dep_server.proofs.hub.Hub.close.Goals as goal
 pub returns-in-Some-clause-moves : goal.returns-in-Some-clause-moves
 returns-in-Some-clause-moves g c =
     let index = (λ i. index_of (sym c.number.ensures i) (sym c.as_slice.ensures.value i)) ∙ sym c.in-Some.ensures.value in
-    closes_moves g.S.Store c.args.self.now _ refl c.args.connection refl
+    closes_moves g.A.Archive.condition c.args.self.now _ refl c.args.connection refl
     (λ m. ap (λ (cs : List Connection). intake_of cs m) c.remove.ensures.items ∙ intake_remove c.args.connection 0 c.args.self.now.next c.in-Some.i c.args.self.now.connections.items index c.args.self.now.ascends m)
 
 pub returns-in-Some-clause-adds : goal.returns-in-Some-clause-adds
-returns-in-Some-clause-adds g c = moves_adds g.S.Store c.args.self.now _ refl (Close c.args.connection) [] (returns-in-Some-clause-moves g c)
+returns-in-Some-clause-adds g c = moves_adds g.A.Archive.condition c.args.self.now _ refl (Close c.args.connection) [] (returns-in-Some-clause-moves g c)
 
 pub returns-in_default-clause-moves : goal.returns-in_default-clause-moves
 returns-in_default-clause-moves g c =
-    closes_moves g.S.Store c.args.self.now c.args.self.now refl c.args.connection refl
+    closes_moves g.A.Archive.condition c.args.self.now c.args.self.now refl c.args.connection refl
     (absent_already c.args.connection c.args.self.now.connections.items (index_none c.args.connection c.args.self.now.connections.items ((λ i. index_of (sym c.number.ensures i) (sym c.as_slice.ensures.value i)) ∙ (sym c.index_among.ensures.value ∙ c.in_default.is))))
 
 pub returns-in_default-clause-adds : goal.returns-in_default-clause-adds
-returns-in_default-clause-adds g c = moves_adds g.S.Store c.args.self.now c.args.self.now refl (Close c.args.connection) [] (returns-in_default-clause-moves g c)
+returns-in_default-clause-adds g c = moves_adds g.A.Archive.condition c.args.self.now c.args.self.now refl (Close c.args.connection) [] (returns-in_default-clause-moves g c)
 
 pub returns-in-Some-clause-gone : goal.returns-in-Some-clause-gone
 returns-in-Some-clause-gone g c =
@@ -44,8 +44,8 @@ invariant_of-self g c = record {
 
 pub returns-in-Some-clause-rests : goal.returns-in-Some-clause-rests
 returns-in-Some-clause-rests g c =
-    leaves_as_before g.S.Store c.args.self.now _ refl (λ is_open trees k. g.met.S.Store.settled c.args.self.now.store.store trees is_open k)
+    leaves_as_before g.A.Archive.condition c.args.self.now _ refl (g.met.A.Archive.settled c.args.self.now.store)
 
 pub returns-in_default-clause-rests : goal.returns-in_default-clause-rests
 returns-in_default-clause-rests g c =
-    leaves_as_before g.S.Store c.args.self.now _ refl (λ is_open trees k. g.met.S.Store.settled c.args.self.now.store.store trees is_open k)
+    leaves_as_before g.A.Archive.condition c.args.self.now _ refl (g.met.A.Archive.settled c.args.self.now.store)

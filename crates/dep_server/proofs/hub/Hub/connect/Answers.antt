@@ -12,14 +12,14 @@ use Rattle.dep_server.proofs.hub.Hub.connect.Goals as goal
 
 pub returns-clause-moves : goal.returns-clause-moves
 returns-clause-moves g c =
-    connects_moves g.S.Store c.args.self.now _ refl c.new-2.result refl c.new-2.ensures
+    connects_moves g.A.Archive.condition c.args.self.now _ refl c.new-2.result refl c.new-2.ensures
     (c.in_default.ensures.items ∙ (λ i. c.args.self.now.connections.items ++ record {
       number = sym c.new-2.ensures i;
       intake = (c.new.ensures ∙ ap (λ (x : Config). record { limit = x.max_upload; place = Open false [] }) c.config.ensures) i;
     } ∷ []))
 
 pub returns-clause-adds : goal.returns-clause-adds
-returns-clause-adds g c = moves_adds g.S.Store c.args.self.now _ refl (Connect c.new-2.result) [] (returns-clause-moves g c)
+returns-clause-adds g c = moves_adds g.A.Archive.condition c.args.self.now _ refl (Connect c.new-2.result) [] (returns-clause-moves g c)
 
 pub returns-clause-fresh : goal.returns-clause-fresh
 returns-clause-fresh g c =
@@ -47,12 +47,12 @@ invariant_of-self-2 g c =
 
 pub returns-then-len-ge-MOST_CONNECTIONS-clause-rests : goal.returns-then-len-ge-MOST_CONNECTIONS-clause-rests
 returns-then-len-ge-MOST_CONNECTIONS-clause-rests g c =
-    leaves_as_before g.S.Store c.args.self.now _ refl (λ is_open trees k. g.met.S.Store.settled c.args.self.now.store.store trees is_open k)
+    leaves_as_before g.A.Archive.condition c.args.self.now _ refl (g.met.A.Archive.settled c.args.self.now.store)
 
 pub returns-in-Err-clause-rests : goal.returns-in-Err-clause-rests
 returns-in-Err-clause-rests g c =
-    leaves_as_before g.S.Store c.args.self.now _ refl (λ is_open trees k. g.met.S.Store.settled c.args.self.now.store.store trees is_open k)
+    leaves_as_before g.A.Archive.condition c.args.self.now _ refl (g.met.A.Archive.settled c.args.self.now.store)
 
 pub returns-clause-rests : goal.returns-clause-rests
 returns-clause-rests g c =
-    leaves_as_before g.S.Store c.args.self.now _ refl (λ is_open trees k. g.met.S.Store.settled c.args.self.now.store.store trees is_open k)
+    leaves_as_before g.A.Archive.condition c.args.self.now _ refl (g.met.A.Archive.settled c.args.self.now.store)

@@ -4,8 +4,8 @@ use Rattle.dep_server.proofs.hub.Hub.into_store.Goals as goal
 
 pub returns-clause-stop : goal.returns-clause-stop
 returns-clause-stop g c first records h =
-    rests g.S.Store c.args.self (λ is_open trees k. g.met.S.Store.settled c.args.self.store.store trees is_open k) first records h
+    rests g.A.Archive.condition c.args.self (g.met.A.Archive.settled c.args.self.store) first records h
 
 pub returns-clause-rests : goal.returns-clause-rests
 returns-clause-rests g c w at =
-    leaves_as_before g.S.Store c.args.self _ refl (λ is_open trees k. g.met.S.Store.settled c.args.self.store.store trees is_open k) w at
+    leaves_as_before g.A.Archive.condition c.args.self _ refl (g.met.A.Archive.settled c.args.self.store) w at

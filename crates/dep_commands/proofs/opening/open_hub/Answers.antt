@@ -5,9 +5,8 @@ use Rattle.dep_types.specs.State.{empty_state}
 use Rattle.dep_store.specs.Opening.{OpenLeaves}
 use Rattle.dep_requests.specs.Standing.{StandsFor}
 use Rattle.dep_server.specs.Records.{first_world}
-use Rattle.dep_server.specs.Standing.{store_of}
-use Rattle.dep_server.proofs.OpeningLemmas.{opening_leaves}
-use Rattle.dep_server.proofs.hub.Hub.open.Goals as goal
+use Rattle.dep_commands.proofs.OpeningLemmas.{opening_leaves}
+use Rattle.dep_commands.proofs.opening.open_hub.Goals as goal
 
 pub returns-in-Ok-new-clause-fresh : goal.returns-in-Ok-new-clause-fresh
 returns-in-Ok-new-clause-fresh g c honest none =
@@ -20,7 +19,7 @@ returns-in-Ok-new-clause-again g c honest found left first records run =
 
 pub returns-in-Ok-new-clause-stop : goal.returns-in-Ok-new-clause-stop
 returns-in-Ok-new-clause-stop g c =
-    opening_leaves c.args.config (state g.S.Store c.args.connection) (store_of g.S.Store c.in-Ok-new.hub)
+    opening_leaves c.args.config (state g.S.Store c.args.connection) (state g.S.Store c.in-Ok-new.hub.store)
     (subst (λ (x : Held _). OpenLeaves (state g.S.Store c.args.connection) (state g.S.Store x)) (sym c.in-Ok-new.ensures.kept) c.in-Ok.ensures.stop)
 
 pub returns-in-Err-new-clause-kept : goal.returns-in-Err-new-clause-kept

@@ -1,0 +1,39 @@
+-- How an archive stands, as far as it can be told without knowing how it keeps what it was told.
+use Rattle.std.specs.Prelude.{Bool, IsTrue}
+use Rattle.dep_types.specs.State.{State}
+use Rattle.dep_types.specs.Sound.{IsSound}
+use Rattle.dep_answers.specs.Steps.{Stepped}
+use Rattle.dep_answers.specs.Performing.{IsReady}
+use Rattle.dep_answers.specs.declared.performed.Performed.{Performed}
+
+pub record Condition : Type 1 where
+  -- no fault has shut it, and its disk has told no lie that was taken as true
+  pub is_open : Bool
+  -- its disk has told no lie that was taken as true; a fault may have shut it
+  pub is_honest : Type 0
+  -- it is open, and what it keeps stands for this state
+  pub keeps : State → Type 0
+  -- what may lie on a disk; what a crash at this moment may leave there; and which state that stands for
+  pub Image : Type 0
+  pub may_leave : Image → Type 0
+  pub is_left_as : Image → State → Type 0
+  pub open_if_kept : (s : State) → keeps s → IsTrue is_open
+  pub sound_if_kept : (s : State) → keeps s → IsSound s
+
+-- the archive is open, and what it keeps stands for the state
+abbrev pub StandsFor : Condition → State → Type 0
+StandsFor c s = c.keeps s
+
+-- its disk has told no lie that was taken as true
+abbrev pub HasCleanDisk : Condition → Type 0
+HasCleanDisk c = c.is_honest
+
+-- whatever a crash leaves now stands for one of these states
+abbrev pub Leaves : Condition → (State → Type 0) → Type 0
+Leaves c allowed = (image : c.Image) → c.may_leave image
+    → (left : State) × c.is_left_as image left × allowed left
+
+-- the archive stands for the state that the step leaves, and what is ready is its reply
+pub record Performs (stepped : Stepped) (new : Condition) (p : Performed) : Type 0 where
+  pub state : StandsFor new stepped.state
+  pub ready : IsReady stepped p
