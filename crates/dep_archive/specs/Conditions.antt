@@ -13,7 +13,8 @@ pub record Condition : Type 1 where
   pub is_honest : Type 0
   -- it is open, and what it keeps stands for this state
   pub keeps : State → Type 0
-  -- what may lie on a disk; what a crash at this moment may leave there; and which state that stands for
+  -- what may lie on a disk, what a crash at this moment may leave there, and for which state
+  -- that stands
   pub Image : Type 0
   pub may_leave : Image → Type 0
   pub is_left_as : Image → State → Type 0

@@ -35,10 +35,11 @@ pub trait Archive {
             → IsTrue (condition self.old).is_open }
         ensures stop { HasCleanDisk (condition self.new)
             → (s : State) → StandsFor (condition self.old) s
-            → Leaves (condition self.new) (λ left. (left ≡ s) ⊎ (left ≡ tick config.now s moment)) };
+            → Leaves (condition self.new)
+            (λ left. (left ≡ s) ⊎ (left ≡ tick config.now s moment)) };
 
-    /// Does what a request asks for, once the clock has gone on, in one transaction. The reply is made
-    /// before the commit, so an `Err` changes nothing.
+    /// Does what a request asks for, once the clock has gone on, all of it or nothing. The reply is
+    /// made before it is kept, so an `Err` changes nothing.
     fn perform(
         &mut self,
         service: &Service,
@@ -80,10 +81,12 @@ pub trait Archive {
         ensures kept { OnOk result (O.failures out.new ≡ O.failures out.old) }
         ensures cause { result ≡ Err StreamFault.Writer
             → HasRisen (O.failures out.old) (O.failures out.new) }
-        ensures others { result ≢ Err StreamFault.Writer → O.failures out.new ≡ O.failures out.old };
+        ensures others { result ≢ Err StreamFault.Writer
+            → O.failures out.new ≡ O.failures out.old };
 
     // An open archive has an honest disk.
-    ghost honest_if_open: { (a : Self) → IsTrue (condition a).is_open → HasCleanDisk (condition a) };
+    ghost honest_if_open: { (a : Self) → IsTrue (condition a).is_open
+        → HasCleanDisk (condition a) };
 
     // While it stands for a state, a crash leaves that state.
     ghost settled: { (a : Self) (s : State) → StandsFor (condition a) s

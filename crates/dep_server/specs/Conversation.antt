@@ -143,7 +143,8 @@ module _ {A : Type 0} (condition : A → Condition) where
     pub talked : World
     pub exchanges : Exchanges old.config number (with_opened number w) turns talked
     pub at : IsClean condition new → StandsAt condition new (with_closed number talked)
-    pub rests : IsClean condition new → Leaves (store_of condition new) (λ found. found ≡ talked.state)
+    pub rests : IsClean condition new
+        → Leaves (store_of condition new) (λ found. found ≡ talked.state)
     pub stop : Leaves (store_of condition new) (LeftByExchanges exchanges)
 
   -- one connection: what was read are its pieces, what was written is what was sent, each at the
@@ -175,7 +176,8 @@ module _ {A : Type 0} (condition : A → Condition) where
   pub record IsUnserved (old new : Hub A) (before after : Wire) : Type 0 where
     pub same : (w : World) → StandsAt condition old w → StandsAt condition new w
     pub same_store : new.store ≡ old.store
-    pub stays : (w : World) → StandsAt condition old w → Leaves (store_of condition new) (λ found. found ≡ w.state)
+    pub stays : (w : World) → StandsAt condition old w
+        → Leaves (store_of condition new) (λ found. found ≡ w.state)
     pub adds : AddsAll old new []
     pub rests : Rests before after
 

@@ -115,7 +115,8 @@ impl<A: Archive> Hub<A> {
 
     /// Opens a connection.
     pub fn connect(&mut self) -> Result<ConnId, ConnectFault>
-        ensures adds { IfOk result (λ number. Adds A.condition self.old self.new (Connect number) []) }
+        ensures adds { IfOk result
+            (λ number. Adds A.condition self.old self.new (Connect number) []) }
         ensures moves { IfOk result
             (λ number. Moves A.condition self.old self.new (Connect number) []) }
         ensures same { OnErr result ((w : World) → StandsAt A.condition self.old w
