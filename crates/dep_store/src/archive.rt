@@ -1,5 +1,4 @@
 //! The store, as those who serve it see it.
-ghost use Rattle.sqlite.specs.Held.{state};
 ghost use Rattle.sqlite.proofs.StateLemmas.{clean_if_open};
 ghost use Rattle.dep_requests.proofs.Transacting.{leaves_as_was};
 ghost use Rattle.dep_store.specs.Archive.{condition_of};
@@ -34,6 +33,6 @@ impl<S: Alter> Archive for Store<S> {
     ghost honest_if_open = { λ store is_open.
         clean_if_open (S.Store.view store.store) (S.Store.shut_if_dirty store.store) is_open };
 
-    ghost settled = { λ store s stands. leaves_as_was (state S.Store store) s
+    ghost settled = { λ store s stands. leaves_as_was _ s
         (λ trees h. S.Store.settled store.store trees stands.stands.is_open h) stands };
 }
