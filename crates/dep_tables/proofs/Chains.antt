@@ -2,9 +2,6 @@
 use Rattle.std.proofs.Common.{Result, Ok, IsErr, ◌∙◌, arith}
 use Rattle.std.specs.Prelude.{⊤}
 use Rattle.std.proofs.lemmas.Result.{IfOk-from_err}
-use Rattle.std.specs.Borrow.{MutBor}
-use Rattle.sqlite_trees.specs.declared.store.Store.{Ghosts}
-use Rattle.sqlite.specs.Held.{Held, state}
 use Rattle.sqlite.specs.State.{State, HasCleanDisk, Survives}
 use Rattle.sqlite.proofs.StateLemmas.{survives_then}
 use Rattle.sqlite.proofs.InsideLemmas.{keeps_then}
@@ -19,30 +16,30 @@ pub survived : (old mid new : State) → Survives old mid (λ _. ⊥) → Surviv
 survived old mid new first second = survives_then old mid new _ _ (λ _. ⊥) (λ _ db none. none) (λ _ db none. none) first second
 
 -- what an Ok keeps, with no value
-abbrev pub Stays : {S : Type 0} → Ghosts S → MutBor (Held S) → MutBor (Held S) → Type 0
-Stays g old new = StaysWithin {A = ⊤} {E = ⊤} g old new (Ok tt)
+abbrev pub Stays : {T L : Type 0} → (T → L) → (T → State) → T → T → Type 0
+Stays lenders state old new = StaysWithin {A = ⊤} {E = ⊤} lenders state old new (Ok tt)
 
-module _ {S : Type 0} {g : Ghosts S} {old mid new : MutBor (Held S)} {A E B F : Type 0} {x : A} {r : Result B F} where
+module _ {T L : Type 0} {lenders : T → L} {state : T → State} {old mid new : T} {A E B F : Type 0} {x : A} {r : Result B F} where
   -- a call behind one that was Ok
-  pub stays_then : StaysWithin {A = A} {E = E} g old mid (Ok x) → StaysWithin g mid new r → StaysWithin g old new r
+  pub stays_then : StaysWithin {A = A} {E = E} lenders state old mid (Ok x) → StaysWithin lenders state mid new r → StaysWithin lenders state old new r
   stays_then first second =
-      let before = was_clean (state g mid.now) (state g new.now) second.survives in record {
+      let before = was_clean (state mid) (state new) second.survives in record {
         same_reference = second.same_reference ∙ first.same_reference;
-        survives = survived (state g old.now) (state g mid.now) (state g new.now) first.survives second.survives;
+        survives = survived (state old) (state mid) (state new) first.survives second.survives;
         inside = λ clean inside. second.inside clean (first.inside (before clean) inside);
         kept = λ clean inside.
-            keeps_then (state g old.now) (state g mid.now) (state g new.now) (first.kept (before clean) inside)
+            keeps_then (state old) (state mid) (state new) (first.kept (before clean) inside)
             (second.kept clean (first.inside (before clean) inside));
       }
 
-module _ {S : Type 0} {g : Ghosts S} {old new : MutBor (Held S)} where
-  pub clean_before : {A E : Type 0} {r : Result A E} → StaysWithin g old new r → HasCleanDisk (state g new.now) → HasCleanDisk (state g old.now)
-  clean_before stays clean = was_clean (state g old.now) (state g new.now) stays.survives clean
+module _ {T L : Type 0} {lenders : T → L} {state : T → State} {old new : T} where
+  pub clean_before : {A E : Type 0} {r : Result A E} → StaysWithin lenders state old new r → HasCleanDisk (state new) → HasCleanDisk (state old)
+  clean_before stays clean = was_clean (state old) (state new) stays.survives clean
 
   -- the same where something else is answered behind an Ok
-  pub stays_ok : {A E B F : Type 0} {x : A} {r : Result B F} → StaysWithin {A = A} {E = E} g old new (Ok x) → StaysWithin g old new r
+  pub stays_ok : {A E B F : Type 0} {x : A} {r : Result B F} → StaysWithin {A = A} {E = E} lenders state old new (Ok x) → StaysWithin lenders state old new r
   stays_ok {r = r} stays = record { same_reference = stays.same_reference; survives = stays.survives; inside = λ clean inside. if_ok r (stays.inside clean inside); kept = stays.kept }
 
   -- and where an error is
-  pub stays_err : {A E B F : Type 0} {r : Result A E} {s : Result B F} → IsErr s → StaysWithin g old new r → StaysWithin g old new s
+  pub stays_err : {A E B F : Type 0} {r : Result A E} {s : Result B F} → IsErr s → StaysWithin lenders state old new r → StaysWithin lenders state old new s
   stays_err {s = s} is stays = record { same_reference = stays.same_reference; survives = stays.survives; inside = λ clean inside. IfOk-from_err s _ is; kept = stays.kept }

@@ -1,7 +1,6 @@
 pub mod Results
 mod ReadRows
 pub mod Chains
-pub mod Asking
 pub mod Leading
 pub mod Answered
 pub mod StateTable

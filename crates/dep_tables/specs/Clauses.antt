@@ -1,9 +1,6 @@
 -- What the clauses of the statements say of the states before and after.
 use Rattle.std.specs.Prelude.{◌≡◌, ◌⊎◌, ◌≤◌, ℕ, List, All, IsTrue, Result, Err, OnOk, OnErr, IfOk, IfErr, length, map}
-use Rattle.std.specs.Borrow.{MutBor}
-use Rattle.sqlite_trees.specs.declared.store.Store.{Ghosts}
 use Rattle.sqlite.specs.Order.{Row}
-use Rattle.sqlite.specs.Held.{Held, state}
 use Rattle.sqlite.specs.declared.error.Error.{Error}
 use Rattle.sqlite.specs.State.{State, HasCleanDisk, KeepsCommit, IsUnchanged, IsRolledBack, Survives, ExecutesInside, FailsToQuery, IsTooLate, Shown}
 use Rattle.sqlite.specs.Given.{IsPlain}
@@ -56,14 +53,14 @@ module _ (old new : State) where
   abbrev pub CommitsNothing : Type 0
   CommitsNothing = Survives old new (λ _. ⊥)
 
-module _ {S A E : Type 0} (g : Ghosts S) (old new : MutBor (Held S)) (result : Result A E) where
+module _ {T L A E : Type 0} (lenders : T → L) (state : T → State) (old new : T) (result : Result A E) where
   -- what every call on a transaction keeps, whatever it answers
   pub record StaysWithin : Type 0 where
-    -- the transaction is over the same connection
-    pub same_reference : new.ghost_name ≡ old.ghost_name
-    pub survives : CommitsNothing (state g old.now) (state g new.now)
-    pub inside : GoesOn (state g old.now) (state g new.now) result
-    pub kept : StaysInside (state g old.now) (state g new.now)
+    -- it is the same transaction, over the same connection
+    pub same_reference : lenders new ≡ lenders old
+    pub survives : CommitsNothing (state old) (state new)
+    pub inside : GoesOn (state old) (state new) result
+    pub kept : StaysInside (state old) (state new)
 
 -- the statement of this text was run, and its error is told by this fault
 abbrev pub FailsToRun : List ℕ → Row → State → State → StoreFault → Type 0

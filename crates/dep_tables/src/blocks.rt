@@ -3,14 +3,13 @@
 ghost use Rattle.std.specs.Prelude.{◌≡◌, ◌∷◌, [], pos, ◌<◌, ◌^◌, option_map};
 ghost use Rattle.std.specs.Option.{option_to_list};
 ghost use Rattle.sqlite.specs.declared.types.Value.TheVariants.{Int, Blob};
-ghost use Rattle.sqlite.specs.Held.{state};
 ghost use Rattle.sqlite.specs.Values.{bound};
 ghost use Rattle.dep_tables.specs.Rows.{IsStorableOwner, owner_values, IsStorableKey, key_values, block_values, move_values, place_values, IsBytesRow, IsPlaceRow};
 ghost use Rattle.dep_tables.specs.Edits.{with_new_block, without_blocks_of, with_part_moved, LacksBlock, AreBytesAt, IsBlockAfter};
 ghost use Rattle.dep_tables.specs.Clauses.{AtMostOne, Changes, Shows, Reads, ReadsOnly, FailsWhole, FailsReading, RefusesNumbers, FailsByRunning, FailsByReading, StaysWithin};
 ghost use Rattle.dep_tables.specs.Texts.{insert_block_text, delete_blocks_text, move_part_text, read_block_text, next_block_text};
 
-use crate::calls::run;
+use crate::calls::Statements;
 use crate::numbers::{LIMIT, number_at};
 use crate::owner::{
     BlockKey, BlockOwner, BlockPlace, is_storable_key, is_storable_owner, key_params, owner_params,
@@ -19,7 +18,7 @@ use crate::owner::{
 use crate::reading::{FromRow, ask_one};
 use dep_types::StoreFault;
 use sqlite::types::ValueRef;
-use sqlite::{Alter, Error, Row, Transaction};
+use sqlite::{Error, Row};
 
 fn block_params<'a>(key: &BlockKey, bytes: &'a [u8]) -> [ValueRef<'a>; 5]
     requires { IsStorableKey key.now }
@@ -30,55 +29,44 @@ fn block_params<'a>(key: &BlockKey, bytes: &'a [u8]) -> [ValueRef<'a>; 5]
 }
 
 /// Adds a block. It is a fault of the store where there is a block of this key, and where a number is 2^63 or more.
-pub fn insert_block<S: Alter>(
-    tx: &mut Transaction<'_, S>,
+pub fn insert_block<T: Statements>(
+    tx: &mut T,
     key: &BlockKey,
     bytes: &[u8],
 ) -> Result<(), StoreFault>
-    ensures ok { Changes (state S.Store tx.old.conn.now) (state S.Store tx.new.conn.now) result
+    ensures ok { Changes (T.state tx.old) (T.state tx.new) result
         (with_new_block key.now bytes.now) }
-    ensures free { Shows (state S.Store tx.old.conn.now) (state S.Store tx.new.conn.now) result
-        (LacksBlock key.now) }
-    ensures numbers { RefusesNumbers
-        (state S.Store tx.old.conn.now) (state S.Store tx.new.conn.now) result
+    ensures free { Shows (T.state tx.old) (T.state tx.new) result (LacksBlock key.now) }
+    ensures numbers { RefusesNumbers (T.state tx.old) (T.state tx.new) result
         (IsStorableKey key.now) }
-    ensures cause { FailsByRunning
-        (state S.Store tx.old.conn.now) (state S.Store tx.new.conn.now) result
+    ensures cause { FailsByRunning (T.state tx.old) (T.state tx.new) result
         (IsStorableKey key.now) insert_block_text (block_values key.now bytes.now) }
-    ensures err { FailsWhole (state S.Store tx.old.conn.now) (state S.Store tx.new.conn.now) result }
-    ensures stays { StaysWithin S.Store tx.old.conn tx.new.conn result }
+    ensures err { FailsWhole (T.state tx.old) (T.state tx.new) result }
+    ensures stays { StaysWithin T.lenders T.state tx.old tx.new result }
 {
     if !is_storable_key(key) {
         return Err(StoreFault::Store);
     }
-    run(
-        tx,
+    tx.run(
         "INSERT INTO blocks (kind, owner, part, place, bytes) VALUES (?1, ?2, ?3, ?4, ?5)",
         &block_params(key, bytes),
     )
 }
 
 /// Deletes the blocks of an owner. A number of 2^63 or more is a fault of the store.
-pub fn delete_blocks<S: Alter>(
-    tx: &mut Transaction<'_, S>,
-    owner: BlockOwner,
-) -> Result<(), StoreFault>
-    ensures ok { Changes (state S.Store tx.old.conn.now) (state S.Store tx.new.conn.now) result
-        (without_blocks_of owner) }
-    ensures numbers { RefusesNumbers
-        (state S.Store tx.old.conn.now) (state S.Store tx.new.conn.now) result
+pub fn delete_blocks<T: Statements>(tx: &mut T, owner: BlockOwner) -> Result<(), StoreFault>
+    ensures ok { Changes (T.state tx.old) (T.state tx.new) result (without_blocks_of owner) }
+    ensures numbers { RefusesNumbers (T.state tx.old) (T.state tx.new) result
         (IsStorableOwner owner) }
-    ensures cause { FailsByRunning
-        (state S.Store tx.old.conn.now) (state S.Store tx.new.conn.now) result
+    ensures cause { FailsByRunning (T.state tx.old) (T.state tx.new) result
         (IsStorableOwner owner) delete_blocks_text (owner_values owner) }
-    ensures err { FailsWhole (state S.Store tx.old.conn.now) (state S.Store tx.new.conn.now) result }
-    ensures stays { StaysWithin S.Store tx.old.conn tx.new.conn result }
+    ensures err { FailsWhole (T.state tx.old) (T.state tx.new) result }
+    ensures stays { StaysWithin T.lenders T.state tx.old tx.new result }
 {
     if !is_storable_owner(owner) {
         return Err(StoreFault::Store);
     }
-    run(
-        tx,
+    tx.run(
         "DELETE FROM blocks WHERE kind = ?1 AND owner = ?2",
         &owner_params(owner),
     )
@@ -96,29 +84,26 @@ fn move_params(upload: u64, part: u64, file: u64) -> [ValueRef<'static>; 5]
 }
 
 /// Gives the blocks of one part of an upload to a file. It is a fault of the store where the file has a block of that key, and where a number is 2^63 or more.
-pub fn move_part<S: Alter>(
-    tx: &mut Transaction<'_, S>,
+pub fn move_part<T: Statements>(
+    tx: &mut T,
     upload: u64,
     part: u64,
     file: u64,
 ) -> Result<(), StoreFault>
-    ensures ok { Changes (state S.Store tx.old.conn.now) (state S.Store tx.new.conn.now) result
+    ensures ok { Changes (T.state tx.old) (T.state tx.new) result
         (with_part_moved upload part file) }
-    ensures numbers { RefusesNumbers
-        (state S.Store tx.old.conn.now) (state S.Store tx.new.conn.now) result
+    ensures numbers { RefusesNumbers (T.state tx.old) (T.state tx.new) result
         ((upload < 2 ^ 63) × (part < 2 ^ 63) × (file < 2 ^ 63)) }
-    ensures cause { FailsByRunning
-        (state S.Store tx.old.conn.now) (state S.Store tx.new.conn.now) result
+    ensures cause { FailsByRunning (T.state tx.old) (T.state tx.new) result
         ((upload < 2 ^ 63) × (part < 2 ^ 63)
         × (file < 2 ^ 63)) move_part_text (move_values upload part file) }
-    ensures err { FailsWhole (state S.Store tx.old.conn.now) (state S.Store tx.new.conn.now) result }
-    ensures stays { StaysWithin S.Store tx.old.conn tx.new.conn result }
+    ensures err { FailsWhole (T.state tx.old) (T.state tx.new) result }
+    ensures stays { StaysWithin T.lenders T.state tx.old tx.new result }
 {
     if upload >= LIMIT || part >= LIMIT || file >= LIMIT {
         return Err(StoreFault::Store);
     }
-    run(
-        tx,
+    tx.run(
         "UPDATE blocks SET kind = ?4, owner = ?5 WHERE kind = ?1 AND owner = ?2 AND part = ?3",
         &move_params(upload, part, file),
     )
@@ -158,22 +143,17 @@ impl FromRow for Vec<u8> {
 }
 
 /// The bytes of the block of this key, if there is one. A number of 2^63 or more is a fault of the store.
-pub fn read_block<S: Alter>(
-    tx: &mut Transaction<'_, S>,
-    key: &BlockKey,
-) -> Result<Option<Vec<u8>>, StoreFault>
-    ensures ok { Reads (state S.Store tx.old.conn.now) (state S.Store tx.new.conn.now) result
+pub fn read_block<T: Statements>(tx: &mut T, key: &BlockKey) -> Result<Option<Vec<u8>>, StoreFault>
+    ensures ok { Reads (T.state tx.old) (T.state tx.new) result
         (λ t found. AreBytesAt key.now t
         (option_to_list (option_map (λ bytes. Blob bytes.items) found))) }
-    ensures same { ReadsOnly (state S.Store tx.old.conn.now) (state S.Store tx.new.conn.now) result }
-    ensures numbers { RefusesNumbers
-        (state S.Store tx.old.conn.now) (state S.Store tx.new.conn.now) result
+    ensures same { ReadsOnly (T.state tx.old) (T.state tx.new) result }
+    ensures numbers { RefusesNumbers (T.state tx.old) (T.state tx.new) result
         (IsStorableKey key.now) }
-    ensures cause { FailsByReading
-        (state S.Store tx.old.conn.now) (state S.Store tx.new.conn.now) result
+    ensures cause { FailsByReading (T.state tx.old) (T.state tx.new) result
         (IsStorableKey key.now) read_block_text (key_values key.now) (AtMostOne IsBytesRow) }
-    ensures err { FailsReading (state S.Store tx.old.conn.now) (state S.Store tx.new.conn.now) result }
-    ensures stays { StaysWithin S.Store tx.old.conn tx.new.conn result }
+    ensures err { FailsReading (T.state tx.old) (T.state tx.new) result }
+    ensures stays { StaysWithin T.lenders T.state tx.old tx.new result }
 {
     if !is_storable_key(key) {
         return Err(StoreFault::Store);
@@ -186,21 +166,18 @@ pub fn read_block<S: Alter>(
 }
 
 /// The next block of the same owner, by part and place, whether or not there is a block of the key itself. A number of 2^63 or more is a fault of the store.
-pub fn next_block<S: Alter>(
-    tx: &mut Transaction<'_, S>,
+pub fn next_block<T: Statements>(
+    tx: &mut T,
     after: &BlockKey,
 ) -> Result<Option<BlockPlace>, StoreFault>
-    ensures ok { Reads (state S.Store tx.old.conn.now) (state S.Store tx.new.conn.now) result
-        (IsBlockAfter after.now) }
-    ensures same { ReadsOnly (state S.Store tx.old.conn.now) (state S.Store tx.new.conn.now) result }
-    ensures numbers { RefusesNumbers
-        (state S.Store tx.old.conn.now) (state S.Store tx.new.conn.now) result
+    ensures ok { Reads (T.state tx.old) (T.state tx.new) result (IsBlockAfter after.now) }
+    ensures same { ReadsOnly (T.state tx.old) (T.state tx.new) result }
+    ensures numbers { RefusesNumbers (T.state tx.old) (T.state tx.new) result
         (IsStorableKey after.now) }
-    ensures cause { FailsByReading
-        (state S.Store tx.old.conn.now) (state S.Store tx.new.conn.now) result
+    ensures cause { FailsByReading (T.state tx.old) (T.state tx.new) result
         (IsStorableKey after.now) next_block_text (key_values after.now) (AtMostOne IsPlaceRow) }
-    ensures err { FailsReading (state S.Store tx.old.conn.now) (state S.Store tx.new.conn.now) result }
-    ensures stays { StaysWithin S.Store tx.old.conn tx.new.conn result }
+    ensures err { FailsReading (T.state tx.old) (T.state tx.new) result }
+    ensures stays { StaysWithin T.lenders T.state tx.old tx.new result }
 {
     if !is_storable_key(after) {
         return Err(StoreFault::Store);

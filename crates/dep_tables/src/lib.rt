@@ -17,7 +17,7 @@ mod timed_out;
 mod uploads;
 
 pub use blocks::{delete_blocks, insert_block, move_part, next_block, read_block};
-pub use calls::run;
+pub use calls::Statements;
 pub use fault::fault_of;
 pub use files::{delete_file, delete_files, files_of, find_file, insert_file};
 pub use metadata::{MetadataRow, delete_metadata, insert_metadata, metadata_of};

@@ -2,20 +2,19 @@
 
 ghost use Rattle.std.specs.Prelude.{All, ◌≡◌, ◌↔◌, IsTrue, ◌<◌, ◌^◌, ◌∷◌, [], pos};
 ghost use Rattle.sqlite.specs.declared.types.Value.TheVariants.{Int};
-ghost use Rattle.sqlite.specs.Held.{state};
 ghost use Rattle.sqlite.specs.Values.{bound};
 ghost use Rattle.dep_tables.specs.Rows.{IsStorableMetadata, metadata_values, IsMetadataRow};
 ghost use Rattle.dep_tables.specs.Edits.{with_new_metadata_row, without_metadata_rows, LacksMetadataRow, AreMetadataRowsOf};
 ghost use Rattle.dep_tables.specs.Clauses.{Changes, Shows, Reads, ReadsOnly, FailsWhole, FailsReading, RefusesNumbers, FailsByRunning, FailsByReading, StaysWithin};
 ghost use Rattle.dep_tables.specs.Texts.{insert_metadata_text, delete_metadata_text, metadata_of_text};
 
-use crate::calls::run;
+use crate::calls::Statements;
 use crate::numbers::{LIMIT, key_param, number, number_at};
 use crate::reading::{FromRow, ask_all};
 use crate::texts::{text_at, text_value};
 use dep_types::{StoreFault, Text};
 use sqlite::types::ValueRef;
-use sqlite::{Alter, Error, Row, Transaction};
+use sqlite::{Error, Row};
 use std::alloc::Global;
 
 /// One text of an object's metadata.
@@ -50,54 +49,38 @@ fn metadata_params(row: &MetadataRow) -> [ValueRef<'_>; 4]
 }
 
 /// Adds a row. It is a fault of the store where there is a row of this object, name and place, and where a number is 2^63 or more.
-pub fn insert_metadata<S: Alter>(
-    tx: &mut Transaction<'_, S>,
-    row: &MetadataRow,
-) -> Result<(), StoreFault>
-    ensures ok { Changes (state S.Store tx.old.conn.now) (state S.Store tx.new.conn.now) result
-        (with_new_metadata_row row.now) }
-    ensures free { Shows (state S.Store tx.old.conn.now) (state S.Store tx.new.conn.now) result
-        (LacksMetadataRow row.now) }
-    ensures numbers { RefusesNumbers
-        (state S.Store tx.old.conn.now) (state S.Store tx.new.conn.now) result
+pub fn insert_metadata<T: Statements>(tx: &mut T, row: &MetadataRow) -> Result<(), StoreFault>
+    ensures ok { Changes (T.state tx.old) (T.state tx.new) result (with_new_metadata_row row.now) }
+    ensures free { Shows (T.state tx.old) (T.state tx.new) result (LacksMetadataRow row.now) }
+    ensures numbers { RefusesNumbers (T.state tx.old) (T.state tx.new) result
         (IsStorableMetadata row.now) }
-    ensures cause { FailsByRunning
-        (state S.Store tx.old.conn.now) (state S.Store tx.new.conn.now) result
+    ensures cause { FailsByRunning (T.state tx.old) (T.state tx.new) result
         (IsStorableMetadata row.now) insert_metadata_text (metadata_values row.now) }
-    ensures err { FailsWhole (state S.Store tx.old.conn.now) (state S.Store tx.new.conn.now) result }
-    ensures stays { StaysWithin S.Store tx.old.conn tx.new.conn result }
+    ensures err { FailsWhole (T.state tx.old) (T.state tx.new) result }
+    ensures stays { StaysWithin T.lenders T.state tx.old tx.new result }
 {
     if !is_storable_metadata(row) {
         return Err(StoreFault::Store);
     }
-    run(
-        tx,
+    tx.run(
         "INSERT INTO metadata (object, name, place, value) VALUES (?1, ?2, ?3, ?4)",
         &metadata_params(row),
     )
 }
 
 /// Deletes the rows of an object. A number of 2^63 or more is a fault of the store.
-pub fn delete_metadata<S: Alter>(tx: &mut Transaction<'_, S>, object: u64) -> Result<(), StoreFault>
-    ensures ok { Changes (state S.Store tx.old.conn.now) (state S.Store tx.new.conn.now) result
-        (without_metadata_rows object) }
-    ensures numbers { RefusesNumbers
-        (state S.Store tx.old.conn.now) (state S.Store tx.new.conn.now) result
-        (object < 2 ^ 63) }
-    ensures cause { FailsByRunning
-        (state S.Store tx.old.conn.now) (state S.Store tx.new.conn.now) result
+pub fn delete_metadata<T: Statements>(tx: &mut T, object: u64) -> Result<(), StoreFault>
+    ensures ok { Changes (T.state tx.old) (T.state tx.new) result (without_metadata_rows object) }
+    ensures numbers { RefusesNumbers (T.state tx.old) (T.state tx.new) result (object < 2 ^ 63) }
+    ensures cause { FailsByRunning (T.state tx.old) (T.state tx.new) result
         (object < 2 ^ 63) delete_metadata_text (Int (pos object) ∷ []) }
-    ensures err { FailsWhole (state S.Store tx.old.conn.now) (state S.Store tx.new.conn.now) result }
-    ensures stays { StaysWithin S.Store tx.old.conn tx.new.conn result }
+    ensures err { FailsWhole (T.state tx.old) (T.state tx.new) result }
+    ensures stays { StaysWithin T.lenders T.state tx.old tx.new result }
 {
     if object >= LIMIT {
         return Err(StoreFault::Store);
     }
-    run(
-        tx,
-        "DELETE FROM metadata WHERE object = ?1",
-        &key_param(object),
-    )
+    tx.run("DELETE FROM metadata WHERE object = ?1", &key_param(object))
 }
 
 impl FromRow for MetadataRow {
@@ -120,22 +103,19 @@ impl FromRow for MetadataRow {
 }
 
 /// The rows of an object, by name and place. It is a fault of the store where one is not one that `insert_metadata` writes, and for a number of 2^63 or more.
-pub fn metadata_of<S: Alter>(
-    tx: &mut Transaction<'_, S>,
+pub fn metadata_of<T: Statements>(
+    tx: &mut T,
     alloc: Global,
     object: u64,
 ) -> Result<Vec<MetadataRow>, StoreFault>
-    ensures ok { Reads (state S.Store tx.old.conn.now) (state S.Store tx.new.conn.now) result
+    ensures ok { Reads (T.state tx.old) (T.state tx.new) result
         (λ t found. AreMetadataRowsOf object t found.items) }
-    ensures same { ReadsOnly (state S.Store tx.old.conn.now) (state S.Store tx.new.conn.now) result }
-    ensures numbers { RefusesNumbers
-        (state S.Store tx.old.conn.now) (state S.Store tx.new.conn.now) result
-        (object < 2 ^ 63) }
-    ensures cause { FailsByReading
-        (state S.Store tx.old.conn.now) (state S.Store tx.new.conn.now) result
+    ensures same { ReadsOnly (T.state tx.old) (T.state tx.new) result }
+    ensures numbers { RefusesNumbers (T.state tx.old) (T.state tx.new) result (object < 2 ^ 63) }
+    ensures cause { FailsByReading (T.state tx.old) (T.state tx.new) result
         (object < 2 ^ 63) metadata_of_text (Int (pos object) ∷ []) (All IsMetadataRow) }
-    ensures err { FailsReading (state S.Store tx.old.conn.now) (state S.Store tx.new.conn.now) result }
-    ensures stays { StaysWithin S.Store tx.old.conn tx.new.conn result }
+    ensures err { FailsReading (T.state tx.old) (T.state tx.new) result }
+    ensures stays { StaysWithin T.lenders T.state tx.old tx.new result }
 {
     if object >= LIMIT {
         return Err(StoreFault::Store);

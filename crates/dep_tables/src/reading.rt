@@ -5,7 +5,6 @@ ghost use Rattle.std.specs.Option.{option_to_list};
 ghost use Rattle.sqlite.specs.Order.{Row as Values};
 ghost use Rattle.sqlite.specs.declared.types.Value.TheVariants.{Int};
 ghost use Rattle.sqlite.specs.State.{HasCleanDisk, IsUnchanged};
-ghost use Rattle.sqlite.specs.Held.{state};
 ghost use Rattle.sqlite.specs.Values.{bound};
 ghost use Rattle.dep_statements.specs.Rows.{columns_from};
 ghost use Rattle.dep_types.specs.declared.store_fault.StoreFault.TheVariants.{Memory};
@@ -13,12 +12,12 @@ ghost use Rattle.dep_tables.specs.Faults.{IsMemoryWhere};
 ghost use Rattle.dep_tables.specs.Rows.{IsNumberRow};
 ghost use Rattle.dep_tables.specs.Clauses.{AtMostOne, FailsToRead, FailsWhole, ShowsColumns, IsPlainIn, StaysWithin};
 
-use crate::calls::ask;
+use crate::calls::Statements;
 use crate::fault::fault_of;
 use crate::numbers::number_at;
 use dep_types::StoreFault;
 use sqlite::types::ValueRef;
-use sqlite::{Alter, Error, Row, Transaction};
+use sqlite::{Error, Row};
 use std::alloc::Global;
 
 /// What one row stands for.
@@ -86,50 +85,48 @@ fn all<R: FromRow + Drop>(alloc: Global, rows: &[Row]) -> Result<Vec<R>, StoreFa
 }
 
 /// Runs a query, and answers what its one row stands for, if it shows one.
-pub(crate) fn ask_one<S: Alter, R: FromRow>(
-    tx: &mut Transaction<'_, S>,
+pub(crate) fn ask_one<T: Statements, R: FromRow>(
+    tx: &mut T,
     sql: &str,
     params: &[ValueRef<'_>],
 ) -> Result<Option<R>, StoreFault>
-    ensures shown { HasCleanDisk (state S.Store tx.new.conn.now)
+    ensures shown { HasCleanDisk (T.state tx.new)
         → IfOk result (λ found. ShowsColumns sql.now (bound params.now)
-        (state S.Store tx.old.conn.now) (state S.Store tx.new.conn.now) R.width
-        (map R.values (option_to_list found))) }
-    ensures cause { HasCleanDisk (state S.Store tx.new.conn.now)
+        (T.state tx.old) (T.state tx.new) R.width (map R.values (option_to_list found))) }
+    ensures cause { HasCleanDisk (T.state tx.new)
         → IfErr result (FailsToRead (AtMostOne R.is_ours) sql.now (bound params.now)
-        (state S.Store tx.old.conn.now) (state S.Store tx.new.conn.now)) }
-    ensures same { HasCleanDisk (state S.Store tx.new.conn.now)
-        → IsPlainIn (state S.Store tx.old.conn.now) sql.now
-        → OnOk result (IsUnchanged (state S.Store tx.old.conn.now) (state S.Store tx.new.conn.now)) }
-    ensures err { IsPlainIn (state S.Store tx.old.conn.now) sql.now
-        → FailsWhole (state S.Store tx.old.conn.now) (state S.Store tx.new.conn.now) result }
-    ensures stays { StaysWithin S.Store tx.old.conn tx.new.conn result }
+        (T.state tx.old) (T.state tx.new)) }
+    ensures same { HasCleanDisk (T.state tx.new)
+        → IsPlainIn (T.state tx.old) sql.now
+        → OnOk result (IsUnchanged (T.state tx.old) (T.state tx.new)) }
+    ensures err { IsPlainIn (T.state tx.old) sql.now
+        → FailsWhole (T.state tx.old) (T.state tx.new) result }
+    ensures stays { StaysWithin T.lenders T.state tx.old tx.new result }
 {
-    let rows = ask(tx, sql, params)?;
+    let rows = tx.ask(sql, params)?;
     at_most_one(rows.as_slice())
 }
 
 /// Runs a query, and answers what each of its rows stands for.
-pub(crate) fn ask_all<S: Alter, R: FromRow + Drop>(
-    tx: &mut Transaction<'_, S>,
+pub(crate) fn ask_all<T: Statements, R: FromRow + Drop>(
+    tx: &mut T,
     alloc: Global,
     sql: &str,
     params: &[ValueRef<'_>],
 ) -> Result<Vec<R>, StoreFault>
-    ensures shown { HasCleanDisk (state S.Store tx.new.conn.now)
+    ensures shown { HasCleanDisk (T.state tx.new)
         → IfOk result (λ found. ShowsColumns sql.now (bound params.now)
-        (state S.Store tx.old.conn.now) (state S.Store tx.new.conn.now) R.width
-        (map R.values found.items)) }
-    ensures cause { HasCleanDisk (state S.Store tx.new.conn.now)
+        (T.state tx.old) (T.state tx.new) R.width (map R.values found.items)) }
+    ensures cause { HasCleanDisk (T.state tx.new)
         → IfErr result (FailsToRead (All R.is_ours) sql.now (bound params.now)
-        (state S.Store tx.old.conn.now) (state S.Store tx.new.conn.now)) }
-    ensures same { HasCleanDisk (state S.Store tx.new.conn.now)
-        → IsPlainIn (state S.Store tx.old.conn.now) sql.now
-        → OnOk result (IsUnchanged (state S.Store tx.old.conn.now) (state S.Store tx.new.conn.now)) }
-    ensures err { IsPlainIn (state S.Store tx.old.conn.now) sql.now
-        → FailsWhole (state S.Store tx.old.conn.now) (state S.Store tx.new.conn.now) result }
-    ensures stays { StaysWithin S.Store tx.old.conn tx.new.conn result }
+        (T.state tx.old) (T.state tx.new)) }
+    ensures same { HasCleanDisk (T.state tx.new)
+        → IsPlainIn (T.state tx.old) sql.now
+        → OnOk result (IsUnchanged (T.state tx.old) (T.state tx.new)) }
+    ensures err { IsPlainIn (T.state tx.old) sql.now
+        → FailsWhole (T.state tx.old) (T.state tx.new) result }
+    ensures stays { StaysWithin T.lenders T.state tx.old tx.new result }
 {
-    let rows = ask(tx, sql, params)?;
+    let rows = tx.ask(sql, params)?;
     all(alloc, rows.as_slice())
 }

@@ -2,19 +2,18 @@
 
 ghost use Rattle.std.specs.Prelude.{All, ◌≡◌, ◌↔◌, IsTrue, ◌<◌, ◌^◌, ◌∷◌, [], pos};
 ghost use Rattle.sqlite.specs.declared.types.Value.TheVariants.{Int};
-ghost use Rattle.sqlite.specs.Held.{state};
 ghost use Rattle.sqlite.specs.Values.{bound};
 ghost use Rattle.dep_tables.specs.Rows.{IsStorableSegment, segment_values, IsSegmentRow};
 ghost use Rattle.dep_tables.specs.Edits.{with_new_segment_row, without_segment_rows, LacksSegmentRow, AreSegmentRowsOf};
 ghost use Rattle.dep_tables.specs.Clauses.{Changes, Shows, Reads, ReadsOnly, FailsWhole, FailsReading, RefusesNumbers, FailsByRunning, FailsByReading, StaysWithin};
 ghost use Rattle.dep_tables.specs.Texts.{insert_segment_text, delete_segments_text, segments_of_text};
 
-use crate::calls::run;
+use crate::calls::Statements;
 use crate::numbers::{LIMIT, key_param, number, number_at};
 use crate::reading::{FromRow, ask_all};
 use dep_types::StoreFault;
 use sqlite::types::ValueRef;
-use sqlite::{Alter, Error, Row, Transaction};
+use sqlite::{Error, Row};
 use std::alloc::Global;
 
 /// A segment that was received, less its bytes.
@@ -46,54 +45,38 @@ fn segment_params(row: &SegmentRow) -> [ValueRef<'static>; 3]
 }
 
 /// Adds a row. It is a fault of the store where there is a row of this upload and number, and where a number is 2^63 or more.
-pub fn insert_segment<S: Alter>(
-    tx: &mut Transaction<'_, S>,
-    row: &SegmentRow,
-) -> Result<(), StoreFault>
-    ensures ok { Changes (state S.Store tx.old.conn.now) (state S.Store tx.new.conn.now) result
-        (with_new_segment_row row.now) }
-    ensures free { Shows (state S.Store tx.old.conn.now) (state S.Store tx.new.conn.now) result
-        (LacksSegmentRow row.now) }
-    ensures numbers { RefusesNumbers
-        (state S.Store tx.old.conn.now) (state S.Store tx.new.conn.now) result
+pub fn insert_segment<T: Statements>(tx: &mut T, row: &SegmentRow) -> Result<(), StoreFault>
+    ensures ok { Changes (T.state tx.old) (T.state tx.new) result (with_new_segment_row row.now) }
+    ensures free { Shows (T.state tx.old) (T.state tx.new) result (LacksSegmentRow row.now) }
+    ensures numbers { RefusesNumbers (T.state tx.old) (T.state tx.new) result
         (IsStorableSegment row.now) }
-    ensures cause { FailsByRunning
-        (state S.Store tx.old.conn.now) (state S.Store tx.new.conn.now) result
+    ensures cause { FailsByRunning (T.state tx.old) (T.state tx.new) result
         (IsStorableSegment row.now) insert_segment_text (segment_values row.now) }
-    ensures err { FailsWhole (state S.Store tx.old.conn.now) (state S.Store tx.new.conn.now) result }
-    ensures stays { StaysWithin S.Store tx.old.conn tx.new.conn result }
+    ensures err { FailsWhole (T.state tx.old) (T.state tx.new) result }
+    ensures stays { StaysWithin T.lenders T.state tx.old tx.new result }
 {
     if !is_storable_segment(row) {
         return Err(StoreFault::Store);
     }
-    run(
-        tx,
+    tx.run(
         "INSERT INTO segments (upload, number, size) VALUES (?1, ?2, ?3)",
         &segment_params(row),
     )
 }
 
 /// Deletes the rows of an upload. A number of 2^63 or more is a fault of the store.
-pub fn delete_segments<S: Alter>(tx: &mut Transaction<'_, S>, upload: u64) -> Result<(), StoreFault>
-    ensures ok { Changes (state S.Store tx.old.conn.now) (state S.Store tx.new.conn.now) result
-        (without_segment_rows upload) }
-    ensures numbers { RefusesNumbers
-        (state S.Store tx.old.conn.now) (state S.Store tx.new.conn.now) result
-        (upload < 2 ^ 63) }
-    ensures cause { FailsByRunning
-        (state S.Store tx.old.conn.now) (state S.Store tx.new.conn.now) result
+pub fn delete_segments<T: Statements>(tx: &mut T, upload: u64) -> Result<(), StoreFault>
+    ensures ok { Changes (T.state tx.old) (T.state tx.new) result (without_segment_rows upload) }
+    ensures numbers { RefusesNumbers (T.state tx.old) (T.state tx.new) result (upload < 2 ^ 63) }
+    ensures cause { FailsByRunning (T.state tx.old) (T.state tx.new) result
         (upload < 2 ^ 63) delete_segments_text (Int (pos upload) ∷ []) }
-    ensures err { FailsWhole (state S.Store tx.old.conn.now) (state S.Store tx.new.conn.now) result }
-    ensures stays { StaysWithin S.Store tx.old.conn tx.new.conn result }
+    ensures err { FailsWhole (T.state tx.old) (T.state tx.new) result }
+    ensures stays { StaysWithin T.lenders T.state tx.old tx.new result }
 {
     if upload >= LIMIT {
         return Err(StoreFault::Store);
     }
-    run(
-        tx,
-        "DELETE FROM segments WHERE upload = ?1",
-        &key_param(upload),
-    )
+    tx.run("DELETE FROM segments WHERE upload = ?1", &key_param(upload))
 }
 
 impl FromRow for SegmentRow {
@@ -115,22 +98,19 @@ impl FromRow for SegmentRow {
 }
 
 /// The rows of an upload, by number. It is a fault of the store where one is not one that `insert_segment` writes, and for a number of 2^63 or more.
-pub fn segments_of<S: Alter>(
-    tx: &mut Transaction<'_, S>,
+pub fn segments_of<T: Statements>(
+    tx: &mut T,
     alloc: Global,
     upload: u64,
 ) -> Result<Vec<SegmentRow>, StoreFault>
-    ensures ok { Reads (state S.Store tx.old.conn.now) (state S.Store tx.new.conn.now) result
+    ensures ok { Reads (T.state tx.old) (T.state tx.new) result
         (λ t found. AreSegmentRowsOf upload t found.items) }
-    ensures same { ReadsOnly (state S.Store tx.old.conn.now) (state S.Store tx.new.conn.now) result }
-    ensures numbers { RefusesNumbers
-        (state S.Store tx.old.conn.now) (state S.Store tx.new.conn.now) result
-        (upload < 2 ^ 63) }
-    ensures cause { FailsByReading
-        (state S.Store tx.old.conn.now) (state S.Store tx.new.conn.now) result
+    ensures same { ReadsOnly (T.state tx.old) (T.state tx.new) result }
+    ensures numbers { RefusesNumbers (T.state tx.old) (T.state tx.new) result (upload < 2 ^ 63) }
+    ensures cause { FailsByReading (T.state tx.old) (T.state tx.new) result
         (upload < 2 ^ 63) segments_of_text (Int (pos upload) ∷ []) (All IsSegmentRow) }
-    ensures err { FailsReading (state S.Store tx.old.conn.now) (state S.Store tx.new.conn.now) result }
-    ensures stays { StaysWithin S.Store tx.old.conn tx.new.conn result }
+    ensures err { FailsReading (T.state tx.old) (T.state tx.new) result }
+    ensures stays { StaysWithin T.lenders T.state tx.old tx.new result }
 {
     if upload >= LIMIT {
         return Err(StoreFault::Store);

@@ -3,19 +3,18 @@
 ghost use Rattle.std.specs.Prelude.{◌≡◌, IfErr, ◌↔◌, IsTrue, Some, ◌<◌, ◌^◌, []};
 ghost use Rattle.sqlite.specs.declared.types.Value.TheVariants.{Int};
 ghost use Rattle.sqlite.specs.State.{HasCleanDisk};
-ghost use Rattle.sqlite.specs.Held.{state};
 ghost use Rattle.sqlite.specs.Values.{bound};
 ghost use Rattle.dep_tables.specs.Rows.{IsStorableState, IsStateRow, state_values};
 ghost use Rattle.dep_tables.specs.Edits.{with_state_row, HasStateRow};
 ghost use Rattle.dep_tables.specs.Clauses.{Changes, Reads, ReadsOnly, FailsWhole, FailsReading, RefusesNumbers, FailsByRunning, FailsToRead, JustOne, StaysWithin};
 ghost use Rattle.dep_tables.specs.Texts.{write_state_text, read_state_text};
 
-use crate::calls::run;
+use crate::calls::Statements;
 use crate::numbers::{LIMIT, number, number_at};
 use crate::reading::{FromRow, ask_one};
 use dep_types::{Counters, StoreFault};
 use sqlite::types::ValueRef;
-use sqlite::{Alter, Error, Row, Transaction};
+use sqlite::{Error, Row};
 
 /// The clock, a moment in seconds of Unix time, and the numbers to be given next.
 #[derive(Clone, Copy, Debug, PartialEq, Eq)]
@@ -50,23 +49,19 @@ fn state_params(row: &StateRow) -> [ValueRef<'static>; 5]
 }
 
 /// Sets the row, if there is one. A number of 2^63 or more is a fault of the store.
-pub fn write_state<S: Alter>(tx: &mut Transaction<'_, S>, row: &StateRow) -> Result<(), StoreFault>
-    ensures ok { Changes (state S.Store tx.old.conn.now) (state S.Store tx.new.conn.now) result
-        (with_state_row row.now) }
-    ensures numbers { RefusesNumbers
-        (state S.Store tx.old.conn.now) (state S.Store tx.new.conn.now) result
+pub fn write_state<T: Statements>(tx: &mut T, row: &StateRow) -> Result<(), StoreFault>
+    ensures ok { Changes (T.state tx.old) (T.state tx.new) result (with_state_row row.now) }
+    ensures numbers { RefusesNumbers (T.state tx.old) (T.state tx.new) result
         (IsStorableState row.now) }
-    ensures cause { FailsByRunning
-        (state S.Store tx.old.conn.now) (state S.Store tx.new.conn.now) result
+    ensures cause { FailsByRunning (T.state tx.old) (T.state tx.new) result
         (IsStorableState row.now) write_state_text (state_values row.now) }
-    ensures err { FailsWhole (state S.Store tx.old.conn.now) (state S.Store tx.new.conn.now) result }
-    ensures stays { StaysWithin S.Store tx.old.conn tx.new.conn result }
+    ensures err { FailsWhole (T.state tx.old) (T.state tx.new) result }
+    ensures stays { StaysWithin T.lenders T.state tx.old tx.new result }
 {
     if !is_storable_state(row) {
         return Err(StoreFault::Store);
     }
-    run(
-        tx,
+    tx.run(
         "UPDATE state SET clock = ?1, next_object = ?2, next_file = ?3, next_upload = ?4, next_change = ?5 WHERE id = 1",
         &state_params(row),
     )
@@ -95,15 +90,14 @@ impl FromRow for StateRow {
 }
 
 /// Reads the row. It is a fault of the store where there is none, or where it is not one that `write_state` writes.
-pub fn read_state<S: Alter>(tx: &mut Transaction<'_, S>) -> Result<StateRow, StoreFault>
-    ensures ok { Reads
-        (state S.Store tx.old.conn.now) (state S.Store tx.new.conn.now) result HasStateRow }
-    ensures same { ReadsOnly (state S.Store tx.old.conn.now) (state S.Store tx.new.conn.now) result }
-    ensures cause { HasCleanDisk (state S.Store tx.new.conn.now)
+pub fn read_state<T: Statements>(tx: &mut T) -> Result<StateRow, StoreFault>
+    ensures ok { Reads (T.state tx.old) (T.state tx.new) result HasStateRow }
+    ensures same { ReadsOnly (T.state tx.old) (T.state tx.new) result }
+    ensures cause { HasCleanDisk (T.state tx.new)
         → IfErr result (FailsToRead (JustOne IsStateRow) read_state_text []
-        (state S.Store tx.old.conn.now) (state S.Store tx.new.conn.now)) }
-    ensures err { FailsReading (state S.Store tx.old.conn.now) (state S.Store tx.new.conn.now) result }
-    ensures stays { StaysWithin S.Store tx.old.conn tx.new.conn result }
+        (T.state tx.old) (T.state tx.new)) }
+    ensures err { FailsReading (T.state tx.old) (T.state tx.new) result }
+    ensures stays { StaysWithin T.lenders T.state tx.old tx.new result }
 {
     let found = ask_one(
         tx,

@@ -2,61 +2,44 @@
 
 ghost use Rattle.std.specs.Prelude.{◌≡◌, pos, is_some, ◌<◌, ◌^◌, ◌∷◌, []};
 ghost use Rattle.sqlite.specs.declared.types.Value.TheVariants.{Int};
-ghost use Rattle.sqlite.specs.Held.{state};
 ghost use Rattle.dep_tables.specs.Rows.{IsNumberRow};
 ghost use Rattle.dep_tables.specs.Edits.{with_timed_out, LacksTimedOut, has_timed_out};
 ghost use Rattle.dep_tables.specs.Clauses.{AtMostOne, Changes, Shows, Reads, ReadsOnly, FailsWhole, FailsReading, RefusesNumbers, FailsByRunning, FailsByReading, StaysWithin};
 ghost use Rattle.dep_tables.specs.Texts.{insert_timed_out_text, find_timed_out_text};
 
-use crate::calls::run;
+use crate::calls::Statements;
 use crate::numbers::{LIMIT, key_param};
 use crate::reading::ask_one;
 use dep_types::StoreFault;
-use sqlite::{Alter, Transaction};
 
 /// Adds a number. It is a fault of the store where it is there, and where it is 2^63 or more.
-pub fn insert_timed_out<S: Alter>(
-    tx: &mut Transaction<'_, S>,
-    upload: u64,
-) -> Result<(), StoreFault>
-    ensures ok { Changes (state S.Store tx.old.conn.now) (state S.Store tx.new.conn.now) result
-        (with_timed_out upload) }
-    ensures free { Shows (state S.Store tx.old.conn.now) (state S.Store tx.new.conn.now) result
-        (LacksTimedOut upload) }
-    ensures numbers { RefusesNumbers
-        (state S.Store tx.old.conn.now) (state S.Store tx.new.conn.now) result
-        (upload < 2 ^ 63) }
-    ensures cause { FailsByRunning
-        (state S.Store tx.old.conn.now) (state S.Store tx.new.conn.now) result
+pub fn insert_timed_out<T: Statements>(tx: &mut T, upload: u64) -> Result<(), StoreFault>
+    ensures ok { Changes (T.state tx.old) (T.state tx.new) result (with_timed_out upload) }
+    ensures free { Shows (T.state tx.old) (T.state tx.new) result (LacksTimedOut upload) }
+    ensures numbers { RefusesNumbers (T.state tx.old) (T.state tx.new) result (upload < 2 ^ 63) }
+    ensures cause { FailsByRunning (T.state tx.old) (T.state tx.new) result
         (upload < 2 ^ 63) insert_timed_out_text (Int (pos upload) ∷ []) }
-    ensures err { FailsWhole (state S.Store tx.old.conn.now) (state S.Store tx.new.conn.now) result }
-    ensures stays { StaysWithin S.Store tx.old.conn tx.new.conn result }
+    ensures err { FailsWhole (T.state tx.old) (T.state tx.new) result }
+    ensures stays { StaysWithin T.lenders T.state tx.old tx.new result }
 {
     if upload >= LIMIT {
         return Err(StoreFault::Store);
     }
-    run(
-        tx,
+    tx.run(
         "INSERT INTO timed_out (upload) VALUES (?1)",
         &key_param(upload),
     )
 }
 
-fn find_number<S: Alter>(
-    tx: &mut Transaction<'_, S>,
-    upload: u64,
-) -> Result<Option<u64>, StoreFault>
-    ensures ok { Reads (state S.Store tx.old.conn.now) (state S.Store tx.new.conn.now) result
+fn find_number<T: Statements>(tx: &mut T, upload: u64) -> Result<Option<u64>, StoreFault>
+    ensures ok { Reads (T.state tx.old) (T.state tx.new) result
         (λ t found. is_some found ≡ has_timed_out upload t) }
-    ensures same { ReadsOnly (state S.Store tx.old.conn.now) (state S.Store tx.new.conn.now) result }
-    ensures numbers { RefusesNumbers
-        (state S.Store tx.old.conn.now) (state S.Store tx.new.conn.now) result
-        (upload < 2 ^ 63) }
-    ensures cause { FailsByReading
-        (state S.Store tx.old.conn.now) (state S.Store tx.new.conn.now) result
+    ensures same { ReadsOnly (T.state tx.old) (T.state tx.new) result }
+    ensures numbers { RefusesNumbers (T.state tx.old) (T.state tx.new) result (upload < 2 ^ 63) }
+    ensures cause { FailsByReading (T.state tx.old) (T.state tx.new) result
         (upload < 2 ^ 63) find_timed_out_text (Int (pos upload) ∷ []) (AtMostOne IsNumberRow) }
-    ensures err { FailsReading (state S.Store tx.old.conn.now) (state S.Store tx.new.conn.now) result }
-    ensures stays { StaysWithin S.Store tx.old.conn tx.new.conn result }
+    ensures err { FailsReading (T.state tx.old) (T.state tx.new) result }
+    ensures stays { StaysWithin T.lenders T.state tx.old tx.new result }
 {
     if upload >= LIMIT {
         return Err(StoreFault::Store);
@@ -69,21 +52,15 @@ fn find_number<S: Alter>(
 }
 
 /// Whether the number is there. A number of 2^63 or more is a fault of the store.
-pub fn find_timed_out<S: Alter>(
-    tx: &mut Transaction<'_, S>,
-    upload: u64,
-) -> Result<bool, StoreFault>
-    ensures ok { Reads (state S.Store tx.old.conn.now) (state S.Store tx.new.conn.now) result
+pub fn find_timed_out<T: Statements>(tx: &mut T, upload: u64) -> Result<bool, StoreFault>
+    ensures ok { Reads (T.state tx.old) (T.state tx.new) result
         (λ t found. found ≡ has_timed_out upload t) }
-    ensures same { ReadsOnly (state S.Store tx.old.conn.now) (state S.Store tx.new.conn.now) result }
-    ensures numbers { RefusesNumbers
-        (state S.Store tx.old.conn.now) (state S.Store tx.new.conn.now) result
-        (upload < 2 ^ 63) }
-    ensures cause { FailsByReading
-        (state S.Store tx.old.conn.now) (state S.Store tx.new.conn.now) result
+    ensures same { ReadsOnly (T.state tx.old) (T.state tx.new) result }
+    ensures numbers { RefusesNumbers (T.state tx.old) (T.state tx.new) result (upload < 2 ^ 63) }
+    ensures cause { FailsByReading (T.state tx.old) (T.state tx.new) result
         (upload < 2 ^ 63) find_timed_out_text (Int (pos upload) ∷ []) (AtMostOne IsNumberRow) }
-    ensures err { FailsReading (state S.Store tx.old.conn.now) (state S.Store tx.new.conn.now) result }
-    ensures stays { StaysWithin S.Store tx.old.conn tx.new.conn result }
+    ensures err { FailsReading (T.state tx.old) (T.state tx.new) result }
+    ensures stays { StaysWithin T.lenders T.state tx.old tx.new result }
 {
     let found = find_number(tx, upload)?;
     Ok(found.is_some())

@@ -2,20 +2,19 @@
 
 ghost use Rattle.std.specs.Prelude.{◌≡◌, ◌↔◌, pos, IsTrue, ◌<◌, ◌^◌, ◌∷◌, []};
 ghost use Rattle.sqlite.specs.declared.types.Value.TheVariants.{Int};
-ghost use Rattle.sqlite.specs.Held.{state};
 ghost use Rattle.sqlite.specs.Values.{bound};
 ghost use Rattle.dep_tables.specs.Rows.{IsStorableUpload, upload_values, IsNumberRow, IsUploadRow};
 ghost use Rattle.dep_tables.specs.Edits.{with_new_upload_row, with_upload_row, without_upload_row, LacksUploadRow, IsUploadRowAt, IsUploadAfter};
 ghost use Rattle.dep_tables.specs.Clauses.{AtMostOne, Changes, Shows, Reads, ReadsOnly, FailsWhole, FailsReading, RefusesNumbers, FailsByRunning, FailsByReading, StaysWithin};
 ghost use Rattle.dep_tables.specs.Texts.{insert_upload_text, write_upload_text, delete_upload_text, find_upload_text, next_upload_text};
 
-use crate::calls::run;
+use crate::calls::Statements;
 use crate::numbers::{LIMIT, key_param, number, number_at};
 use crate::reading::{FromRow, ask_one};
 use crate::texts::{digest_or_null, digest_or_null_at};
 use dep_types::{StoreFault, UploadRow};
 use sqlite::types::ValueRef;
-use sqlite::{Alter, Error, Row, Transaction};
+use sqlite::{Error, Row};
 
 fn is_storable_upload(row: &UploadRow) -> bool
     ensures { IsTrue result ↔ IsStorableUpload row.now }
@@ -42,80 +41,57 @@ fn upload_params(row: &UploadRow) -> [ValueRef<'_>; 6]
 }
 
 /// Adds a row. It is a fault of the store where there is a row of this key, and where a number is 2^63 or more.
-pub fn insert_upload<S: Alter>(
-    tx: &mut Transaction<'_, S>,
-    row: &UploadRow,
-) -> Result<(), StoreFault>
-    ensures ok { Changes (state S.Store tx.old.conn.now) (state S.Store tx.new.conn.now) result
-        (with_new_upload_row row.now) }
-    ensures free { Shows (state S.Store tx.old.conn.now) (state S.Store tx.new.conn.now) result
-        (LacksUploadRow row.now.upload) }
-    ensures numbers { RefusesNumbers
-        (state S.Store tx.old.conn.now) (state S.Store tx.new.conn.now) result
+pub fn insert_upload<T: Statements>(tx: &mut T, row: &UploadRow) -> Result<(), StoreFault>
+    ensures ok { Changes (T.state tx.old) (T.state tx.new) result (with_new_upload_row row.now) }
+    ensures free { Shows (T.state tx.old) (T.state tx.new) result (LacksUploadRow row.now.upload) }
+    ensures numbers { RefusesNumbers (T.state tx.old) (T.state tx.new) result
         (IsStorableUpload row.now) }
-    ensures cause { FailsByRunning
-        (state S.Store tx.old.conn.now) (state S.Store tx.new.conn.now) result
+    ensures cause { FailsByRunning (T.state tx.old) (T.state tx.new) result
         (IsStorableUpload row.now) insert_upload_text (upload_values row.now) }
-    ensures err { FailsWhole (state S.Store tx.old.conn.now) (state S.Store tx.new.conn.now) result }
-    ensures stays { StaysWithin S.Store tx.old.conn tx.new.conn result }
+    ensures err { FailsWhole (T.state tx.old) (T.state tx.new) result }
+    ensures stays { StaysWithin T.lenders T.state tx.old tx.new result }
 {
     if !is_storable_upload(row) {
         return Err(StoreFault::Store);
     }
-    run(
-        tx,
+    tx.run(
         "INSERT INTO uploads (upload, size, count, segment_size, sha256, last) VALUES (?1, ?2, ?3, ?4, ?5, ?6)",
         &upload_params(row),
     )
 }
 
 /// Sets the row of this key, if there is one. A number of 2^63 or more is a fault of the store.
-pub fn write_upload<S: Alter>(
-    tx: &mut Transaction<'_, S>,
-    row: &UploadRow,
-) -> Result<(), StoreFault>
-    ensures ok { Changes (state S.Store tx.old.conn.now) (state S.Store tx.new.conn.now) result
-        (with_upload_row row.now) }
-    ensures numbers { RefusesNumbers
-        (state S.Store tx.old.conn.now) (state S.Store tx.new.conn.now) result
+pub fn write_upload<T: Statements>(tx: &mut T, row: &UploadRow) -> Result<(), StoreFault>
+    ensures ok { Changes (T.state tx.old) (T.state tx.new) result (with_upload_row row.now) }
+    ensures numbers { RefusesNumbers (T.state tx.old) (T.state tx.new) result
         (IsStorableUpload row.now) }
-    ensures cause { FailsByRunning
-        (state S.Store tx.old.conn.now) (state S.Store tx.new.conn.now) result
+    ensures cause { FailsByRunning (T.state tx.old) (T.state tx.new) result
         (IsStorableUpload row.now) write_upload_text (upload_values row.now) }
-    ensures err { FailsWhole (state S.Store tx.old.conn.now) (state S.Store tx.new.conn.now) result }
-    ensures stays { StaysWithin S.Store tx.old.conn tx.new.conn result }
+    ensures err { FailsWhole (T.state tx.old) (T.state tx.new) result }
+    ensures stays { StaysWithin T.lenders T.state tx.old tx.new result }
 {
     if !is_storable_upload(row) {
         return Err(StoreFault::Store);
     }
-    run(
-        tx,
+    tx.run(
         "UPDATE uploads SET size = ?2, count = ?3, segment_size = ?4, sha256 = ?5, last = ?6 WHERE upload = ?1",
         &upload_params(row),
     )
 }
 
 /// Deletes the row of this key, if there is one. A number of 2^63 or more is a fault of the store.
-pub fn delete_upload<S: Alter>(tx: &mut Transaction<'_, S>, upload: u64) -> Result<(), StoreFault>
-    ensures ok { Changes (state S.Store tx.old.conn.now) (state S.Store tx.new.conn.now) result
-        (without_upload_row upload) }
-    ensures numbers { RefusesNumbers
-        (state S.Store tx.old.conn.now) (state S.Store tx.new.conn.now) result
-        (upload < 2 ^ 63) }
-    ensures cause { FailsByRunning
-        (state S.Store tx.old.conn.now) (state S.Store tx.new.conn.now) result
+pub fn delete_upload<T: Statements>(tx: &mut T, upload: u64) -> Result<(), StoreFault>
+    ensures ok { Changes (T.state tx.old) (T.state tx.new) result (without_upload_row upload) }
+    ensures numbers { RefusesNumbers (T.state tx.old) (T.state tx.new) result (upload < 2 ^ 63) }
+    ensures cause { FailsByRunning (T.state tx.old) (T.state tx.new) result
         (upload < 2 ^ 63) delete_upload_text (Int (pos upload) ∷ []) }
-    ensures err { FailsWhole (state S.Store tx.old.conn.now) (state S.Store tx.new.conn.now) result }
-    ensures stays { StaysWithin S.Store tx.old.conn tx.new.conn result }
+    ensures err { FailsWhole (T.state tx.old) (T.state tx.new) result }
+    ensures stays { StaysWithin T.lenders T.state tx.old tx.new result }
 {
     if upload >= LIMIT {
         return Err(StoreFault::Store);
     }
-    run(
-        tx,
-        "DELETE FROM uploads WHERE upload = ?1",
-        &key_param(upload),
-    )
+    tx.run("DELETE FROM uploads WHERE upload = ?1", &key_param(upload))
 }
 
 impl FromRow for UploadRow {
@@ -140,21 +116,14 @@ impl FromRow for UploadRow {
 }
 
 /// The row of this key. It is a fault of the store where the row is not one that `insert_upload` writes, and for a number of 2^63 or more.
-pub fn find_upload<S: Alter>(
-    tx: &mut Transaction<'_, S>,
-    upload: u64,
-) -> Result<Option<UploadRow>, StoreFault>
-    ensures ok { Reads (state S.Store tx.old.conn.now) (state S.Store tx.new.conn.now) result
-        (IsUploadRowAt upload) }
-    ensures same { ReadsOnly (state S.Store tx.old.conn.now) (state S.Store tx.new.conn.now) result }
-    ensures numbers { RefusesNumbers
-        (state S.Store tx.old.conn.now) (state S.Store tx.new.conn.now) result
-        (upload < 2 ^ 63) }
-    ensures cause { FailsByReading
-        (state S.Store tx.old.conn.now) (state S.Store tx.new.conn.now) result
+pub fn find_upload<T: Statements>(tx: &mut T, upload: u64) -> Result<Option<UploadRow>, StoreFault>
+    ensures ok { Reads (T.state tx.old) (T.state tx.new) result (IsUploadRowAt upload) }
+    ensures same { ReadsOnly (T.state tx.old) (T.state tx.new) result }
+    ensures numbers { RefusesNumbers (T.state tx.old) (T.state tx.new) result (upload < 2 ^ 63) }
+    ensures cause { FailsByReading (T.state tx.old) (T.state tx.new) result
         (upload < 2 ^ 63) find_upload_text (Int (pos upload) ∷ []) (AtMostOne IsUploadRow) }
-    ensures err { FailsReading (state S.Store tx.old.conn.now) (state S.Store tx.new.conn.now) result }
-    ensures stays { StaysWithin S.Store tx.old.conn tx.new.conn result }
+    ensures err { FailsReading (T.state tx.old) (T.state tx.new) result }
+    ensures stays { StaysWithin T.lenders T.state tx.old tx.new result }
 {
     if upload >= LIMIT {
         return Err(StoreFault::Store);
@@ -167,21 +136,14 @@ pub fn find_upload<S: Alter>(
 }
 
 /// The least upload above this one. A number of 2^63 or more is a fault of the store.
-pub fn next_upload<S: Alter>(
-    tx: &mut Transaction<'_, S>,
-    after: u64,
-) -> Result<Option<u64>, StoreFault>
-    ensures ok { Reads (state S.Store tx.old.conn.now) (state S.Store tx.new.conn.now) result
-        (IsUploadAfter after) }
-    ensures same { ReadsOnly (state S.Store tx.old.conn.now) (state S.Store tx.new.conn.now) result }
-    ensures numbers { RefusesNumbers
-        (state S.Store tx.old.conn.now) (state S.Store tx.new.conn.now) result
-        (after < 2 ^ 63) }
-    ensures cause { FailsByReading
-        (state S.Store tx.old.conn.now) (state S.Store tx.new.conn.now) result
+pub fn next_upload<T: Statements>(tx: &mut T, after: u64) -> Result<Option<u64>, StoreFault>
+    ensures ok { Reads (T.state tx.old) (T.state tx.new) result (IsUploadAfter after) }
+    ensures same { ReadsOnly (T.state tx.old) (T.state tx.new) result }
+    ensures numbers { RefusesNumbers (T.state tx.old) (T.state tx.new) result (after < 2 ^ 63) }
+    ensures cause { FailsByReading (T.state tx.old) (T.state tx.new) result
         (after < 2 ^ 63) next_upload_text (Int (pos after) ∷ []) (AtMostOne IsNumberRow) }
-    ensures err { FailsReading (state S.Store tx.old.conn.now) (state S.Store tx.new.conn.now) result }
-    ensures stays { StaysWithin S.Store tx.old.conn tx.new.conn result }
+    ensures err { FailsReading (T.state tx.old) (T.state tx.new) result }
+    ensures stays { StaysWithin T.lenders T.state tx.old tx.new result }
 {
     if after >= LIMIT {
         return Err(StoreFault::Store);

@@ -1,16 +1,15 @@
 use Rattle.std.proofs.Common.{inl}
-use Rattle.sqlite.specs.Held.{state}
 use Rattle.dep_statements.proofs.Asked.{shown_unchanged}
 use Rattle.dep_tables.proofs.Results.{if_ok, if_failed}
 use Rattle.dep_tables.proofs.Chains.{stays_ok}
 use Rattle.dep_tables.proofs.reading.ask_one.Goals as goal
 
 pub returns-clause-same : goal.returns-clause-same
-returns-clause-same g c clean plain = if_ok c.at_most_one.result (shown_unchanged _ _ (state g.S.Store c.args.tx.now.conn.now) (state g.S.Store c.ask.new.tx.conn.now) plain _ (c.in_ok-rows.ensures.shown clean))
+returns-clause-same g c clean plain = if_ok c.at_most_one.result (shown_unchanged _ _ (g.T.Statements.state c.args.tx.now) (g.T.Statements.state c.ask.new.self) plain _ (c.in_ok-rows.ensures.shown clean))
 
 pub returns-clause-err : goal.returns-clause-err
 returns-clause-err g c plain clean inside is_open =
-    if_failed c.at_most_one.result (inl (shown_unchanged _ _ (state g.S.Store c.args.tx.now.conn.now) (state g.S.Store c.ask.new.tx.conn.now) plain _ (c.in_ok-rows.ensures.shown clean)))
+    if_failed c.at_most_one.result (inl (shown_unchanged _ _ (g.T.Statements.state c.args.tx.now) (g.T.Statements.state c.ask.new.self) plain _ (c.in_ok-rows.ensures.shown clean)))
 
 pub returns-clause-stays : goal.returns-clause-stays
 returns-clause-stays g c = stays_ok c.in_ok-rows.ensures.stays

@@ -1,4 +1,3 @@
-use Rattle.sqlite.specs.Held.{state}
 use Rattle.dep_tables.specs.Texts.{segments_of_text}
 use Rattle.dep_tables.proofs.Results.{if_then}
 use Rattle.dep_tables.proofs.Leading.{plain_here}
@@ -6,13 +5,13 @@ use Rattle.dep_tables.proofs.SegmentsTable.{lists_segments, list_is}
 use Rattle.dep_tables.proofs.segments.segments_of.Goals as goal
 
 pub returns-clause-ok : goal.returns-clause-ok
-returns-clause-ok g c clean ours = if_then c.ask_all.result (c.ask_all.ensures.shown clean) (λ found read. lists_segments (state g.S.Store c.args.tx.now.conn.now) (state g.S.Store c.ask_all.new.tx.conn.now) c.args.upload found.items ours (rw c.key_param.ensures at read))
+returns-clause-ok g c clean ours = if_then c.ask_all.result (c.ask_all.ensures.shown clean) (λ found read. lists_segments (g.T.Statements.state c.args.tx.now) (g.T.Statements.state c.ask_all.new.tx) c.args.upload found.items ours (rw c.key_param.ensures at read))
 
 pub returns-clause-same : goal.returns-clause-same
-returns-clause-same g c clean ours = c.ask_all.ensures.same clean (plain_here (state g.S.Store c.args.tx.now.conn.now) segments_of_text ours list_is.plain)
+returns-clause-same g c clean ours = c.ask_all.ensures.same clean (plain_here (g.T.Statements.state c.args.tx.now) segments_of_text ours list_is.plain)
 
 pub returns-clause-err : goal.returns-clause-err
-returns-clause-err g c clean inside ours is_open = c.ask_all.ensures.err (plain_here (state g.S.Store c.args.tx.now.conn.now) segments_of_text ours list_is.plain) clean inside is_open
+returns-clause-err g c clean inside ours is_open = c.ask_all.ensures.err (plain_here (g.T.Statements.state c.args.tx.now) segments_of_text ours list_is.plain) clean inside is_open
 
 pub returns-clause-cause : goal.returns-clause-cause
 returns-clause-cause g c storable clean = rw c.key_param.ensures at (c.ask_all.ensures.cause clean)
