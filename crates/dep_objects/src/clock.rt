@@ -2,7 +2,6 @@
 
 ghost use Rattle.std.specs.Prelude.{◌≡◌, [], IfOk, IfErr, OnOk};
 ghost use Rattle.sqlite.specs.State.{HasCleanDisk};
-ghost use Rattle.sqlite.specs.Held.{state};
 ghost use Rattle.dep_tables.specs.Clauses.{ReadsOnly, FailsWhole, FailsReading, FailsByRunning, FailsToRead, JustOne, RefusesNumbers, StaysWithin};
 ghost use Rattle.dep_tables.specs.Rows.{IsStateRow, IsStorableState, state_values};
 ghost use Rattle.dep_tables.specs.Texts.{read_state_text, write_state_text};
@@ -10,39 +9,36 @@ ghost use Rattle.dep_row_maps.specs.Stored.{state_row};
 ghost use Rattle.dep_row_maps.specs.TablesAre.{with_counters};
 ghost use Rattle.dep_row_maps.specs.Clauses.{FromMaps, KeepsOurs, SeesState};
 
-use dep_tables::{StateRow, read_state, write_state};
+use dep_tables::{StateRow, Statements, read_state, write_state};
 use dep_types::StoreFault;
-use sqlite::{Alter, Transaction};
 
 /// The clock and the counters.
-pub fn counters<S: Alter>(tx: &mut Transaction<'_, S>) -> Result<StateRow, StoreFault>
-    ensures map { FromMaps (state S.Store tx.old.conn.now) (state S.Store tx.new.conn.now)
+pub fn counters<T: Statements>(tx: &mut T) -> Result<StateRow, StoreFault>
+    ensures map { FromMaps (T.state tx.old) (T.state tx.new)
         (λ s. IfOk result (λ row. row ≡ state_row s)) }
-    ensures same { ReadsOnly (state S.Store tx.old.conn.now) (state S.Store tx.new.conn.now) result }
-    ensures ours { KeepsOurs (state S.Store tx.old.conn.now) (state S.Store tx.new.conn.now) result }
-    ensures cause { HasCleanDisk (state S.Store tx.new.conn.now)
+    ensures same { ReadsOnly (T.state tx.old) (T.state tx.new) result }
+    ensures ours { KeepsOurs (T.state tx.old) (T.state tx.new) result }
+    ensures cause { HasCleanDisk (T.state tx.new)
         → IfErr result (FailsToRead (JustOne IsStateRow) read_state_text []
-        (state S.Store tx.old.conn.now) (state S.Store tx.new.conn.now)) }
-    ensures err { FailsReading (state S.Store tx.old.conn.now) (state S.Store tx.new.conn.now) result }
-    ensures stays { StaysWithin S.Store tx.old.conn tx.new.conn result }
+        (T.state tx.old) (T.state tx.new)) }
+    ensures err { FailsReading (T.state tx.old) (T.state tx.new) result }
+    ensures stays { StaysWithin T.lenders T.state tx.old tx.new result }
 {
     read_state(tx)
 }
 
 /// Sets the clock and the counters. A number of 2^63 or more is a fault of the store.
-pub fn set_counters<S: Alter>(tx: &mut Transaction<'_, S>, row: &StateRow) -> Result<(), StoreFault>
-    ensures map { FromMaps (state S.Store tx.old.conn.now) (state S.Store tx.new.conn.now)
+pub fn set_counters<T: Statements>(tx: &mut T, row: &StateRow) -> Result<(), StoreFault>
+    ensures map { FromMaps (T.state tx.old) (T.state tx.new)
         (λ s. OnOk result
-        (SeesState (state S.Store tx.new.conn.now) (with_counters s row.now.clock row.now.next))) }
-    ensures ours { KeepsOurs (state S.Store tx.old.conn.now) (state S.Store tx.new.conn.now) result }
-    ensures numbers { RefusesNumbers
-        (state S.Store tx.old.conn.now) (state S.Store tx.new.conn.now) result
+        (SeesState (T.state tx.new) (with_counters s row.now.clock row.now.next))) }
+    ensures ours { KeepsOurs (T.state tx.old) (T.state tx.new) result }
+    ensures numbers { RefusesNumbers (T.state tx.old) (T.state tx.new) result
         (IsStorableState row.now) }
-    ensures cause { FailsByRunning
-        (state S.Store tx.old.conn.now) (state S.Store tx.new.conn.now) result
+    ensures cause { FailsByRunning (T.state tx.old) (T.state tx.new) result
         (IsStorableState row.now) write_state_text (state_values row.now) }
-    ensures err { FailsWhole (state S.Store tx.old.conn.now) (state S.Store tx.new.conn.now) result }
-    ensures stays { StaysWithin S.Store tx.old.conn tx.new.conn result }
+    ensures err { FailsWhole (T.state tx.old) (T.state tx.new) result }
+    ensures stays { StaysWithin T.lenders T.state tx.old tx.new result }
 {
     write_state(tx, row)
 }

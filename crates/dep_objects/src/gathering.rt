@@ -2,7 +2,6 @@
 
 ghost use Rattle.std.specs.Prelude.{◌≡◌, Some, IfOk, map as each};
 ghost use Rattle.std.specs.FinMap as map;
-ghost use Rattle.sqlite.specs.Held.{state};
 ghost use Rattle.dep_tables.specs.Clauses.{ReadsOnly, FailsReading, StaysWithin};
 ghost use Rattle.dep_row_maps.specs.Stored.{added, listed, grouped};
 ghost use Rattle.dep_row_maps.specs.Laws.{pair_of};
@@ -10,9 +9,8 @@ ghost use Rattle.dep_row_maps.specs.TablesAre.{metadata_at};
 ghost use Rattle.dep_row_maps.specs.Clauses.{FromMaps, KeepsOurs};
 ghost use Rattle.dep_objects.specs.Texts.{closed};
 
-use dep_tables::{MetadataRow, metadata_of};
+use dep_tables::{MetadataRow, Statements, metadata_of};
 use dep_types::{Metadata, StoreFault, Text, TextList};
-use sqlite::{Alter, Transaction};
 use std::alloc::Global;
 
 // A name with the texts that were read of it.
@@ -87,18 +85,18 @@ fn gathered(alloc: Global, rows: Vec<MetadataRow>) -> Result<Metadata, StoreFaul
 
 /// The metadata of an object; none where there is no such object. A number of 2^63 or more is a fault
 /// of the store.
-pub(crate) fn load_metadata<S: Alter>(
-    tx: &mut Transaction<'_, S>,
+pub(crate) fn load_metadata<T: Statements>(
+    tx: &mut T,
     alloc: Global,
     object: u64,
 ) -> Result<Metadata, StoreFault>
-    ensures map { FromMaps (state S.Store tx.old.conn.now) (state S.Store tx.new.conn.now)
+    ensures map { FromMaps (T.state tx.old) (T.state tx.new)
         (λ s. IfOk result (λ metadata.
         metadata ≡ grouped (listed (metadata_at s.objects object)))) }
-    ensures same { ReadsOnly (state S.Store tx.old.conn.now) (state S.Store tx.new.conn.now) result }
-    ensures ours { KeepsOurs (state S.Store tx.old.conn.now) (state S.Store tx.new.conn.now) result }
-    ensures err { FailsReading (state S.Store tx.old.conn.now) (state S.Store tx.new.conn.now) result }
-    ensures stays { StaysWithin S.Store tx.old.conn tx.new.conn result }
+    ensures same { ReadsOnly (T.state tx.old) (T.state tx.new) result }
+    ensures ours { KeepsOurs (T.state tx.old) (T.state tx.new) result }
+    ensures err { FailsReading (T.state tx.old) (T.state tx.new) result }
+    ensures stays { StaysWithin T.lenders T.state tx.old tx.new result }
 {
     gathered(alloc, metadata_of(tx, alloc, object)?)
 }

@@ -2,7 +2,6 @@
 
 ghost use Rattle.std.specs.Prelude.{◌≡◌, Some, IfOk, OnOk, length, map as each};
 ghost use Rattle.std.specs.FinMap as map;
-ghost use Rattle.sqlite.specs.Held.{state};
 ghost use Rattle.dep_types.specs.State.{Object};
 ghost use Rattle.dep_types.specs.MetadataEntries.{name_and_texts};
 ghost use Rattle.dep_decisions.specs.Effects.{joined};
@@ -14,9 +13,8 @@ ghost use Rattle.dep_row_maps.specs.Clauses.{FromMaps, Becomes, KeepsOurs, SeesS
 ghost use Rattle.dep_objects.specs.Texts.{rows_beside};
 
 use crate::gathering::load_metadata;
-use dep_tables::{LIMIT, MetadataRow, delete_metadata, insert_metadata};
+use dep_tables::{LIMIT, MetadataRow, Statements, delete_metadata, insert_metadata};
 use dep_types::{Metadata, MetadataEntry, StoreFault, Text};
-use sqlite::{Alter, Transaction};
 use std::alloc::Global;
 
 fn text_row(
@@ -43,21 +41,20 @@ fn text_row(
 }
 
 // Puts in the texts of a name, from this place on.
-fn put_texts<S: Alter>(
-    tx: &mut Transaction<'_, S>,
+fn put_texts<T: Statements>(
+    tx: &mut T,
     alloc: Global,
     object: u64,
     entry: &MetadataEntry,
     start: u64,
 ) -> Result<(), StoreFault>
-    ensures ok { Becomes (state S.Store tx.old.conn.now) (state S.Store tx.new.conn.now) result
+    ensures ok { Becomes (T.state tx.old) (T.state tx.new) result
         (λ t. record t {
           metadata = put_each
               (placed (text_values object entry.now.name) start entry.now.texts) t.metadata;
         }) }
-    ensures err { FailsUncommitted
-        (state S.Store tx.old.conn.now) (state S.Store tx.new.conn.now) result }
-    ensures stays { StaysWithin S.Store tx.old.conn tx.new.conn result }
+    ensures err { FailsUncommitted (T.state tx.old) (T.state tx.new) result }
+    ensures stays { StaysWithin T.lenders T.state tx.old tx.new result }
 {
     let mut place = start;
     'texts: for text in entry.texts.as_slice() {
@@ -80,21 +77,20 @@ fn count_of(metadata: &Metadata, name: &Text) -> u64
 }
 
 // Puts in texts behind those that the object has.
-fn put_entries<S: Alter>(
-    tx: &mut Transaction<'_, S>,
+fn put_entries<T: Statements>(
+    tx: &mut T,
     alloc: Global,
     object: u64,
     have: &Metadata,
     entries: &[MetadataEntry],
 ) -> Result<(), StoreFault>
-    ensures ok { Becomes (state S.Store tx.old.conn.now) (state S.Store tx.new.conn.now) result
+    ensures ok { Becomes (T.state tx.old) (T.state tx.new) result
         (λ t. record t {
           metadata = put_each
               (rows_beside object have.now (each name_and_texts entries.now)) t.metadata;
         }) }
-    ensures err { FailsUncommitted
-        (state S.Store tx.old.conn.now) (state S.Store tx.new.conn.now) result }
-    ensures stays { StaysWithin S.Store tx.old.conn tx.new.conn result }
+    ensures err { FailsUncommitted (T.state tx.old) (T.state tx.new) result }
+    ensures stays { StaysWithin T.lenders T.state tx.old tx.new result }
 {
     'entries: for entry in entries {
         put_texts(tx, alloc, object, entry, count_of(have, &entry.name))?;
@@ -104,20 +100,19 @@ fn put_entries<S: Alter>(
 
 /// Gives an object that is there this metadata in place of its own. A number of 2^63 or more is a fault
 /// of the store.
-pub fn set_metadata<S: Alter>(
-    tx: &mut Transaction<'_, S>,
+pub fn set_metadata<T: Statements>(
+    tx: &mut T,
     alloc: Global,
     object: u64,
     metadata: &Metadata,
 ) -> Result<(), StoreFault>
-    ensures map { FromMaps (state S.Store tx.old.conn.now) (state S.Store tx.new.conn.now)
+    ensures map { FromMaps (T.state tx.old) (T.state tx.new)
         (λ s. (o : Object) → map.get s.objects object ≡ Some o
-        → OnOk result (SeesState (state S.Store tx.new.conn.now)
+        → OnOk result (SeesState (T.state tx.new)
         (with_object s object (with_metadata o metadata.now)))) }
-    ensures ours { KeepsOurs (state S.Store tx.old.conn.now) (state S.Store tx.new.conn.now) result }
-    ensures err { FailsUncommitted
-        (state S.Store tx.old.conn.now) (state S.Store tx.new.conn.now) result }
-    ensures stays { StaysWithin S.Store tx.old.conn tx.new.conn result }
+    ensures ours { KeepsOurs (T.state tx.old) (T.state tx.new) result }
+    ensures err { FailsUncommitted (T.state tx.old) (T.state tx.new) result }
+    ensures stays { StaysWithin T.lenders T.state tx.old tx.new result }
 {
     delete_metadata(tx, object)?;
     put_entries(tx, alloc, object, &Metadata::new(alloc), metadata.entries())
@@ -125,21 +120,19 @@ pub fn set_metadata<S: Alter>(
 
 /// Puts the texts of each name behind those that an object that is there has. A number of 2^63 or more
 /// is a fault of the store.
-pub fn append_metadata<S: Alter>(
-    tx: &mut Transaction<'_, S>,
+pub fn append_metadata<T: Statements>(
+    tx: &mut T,
     alloc: Global,
     object: u64,
     more: &Metadata,
 ) -> Result<(), StoreFault>
-    ensures map { FromMaps (state S.Store tx.old.conn.now) (state S.Store tx.new.conn.now)
+    ensures map { FromMaps (T.state tx.old) (T.state tx.new)
         (λ s. (o : Object) → map.get s.objects object ≡ Some o
-        → OnOk result (SeesState (state S.Store tx.new.conn.now)
-        (with_object s object (with_metadata o
-        (joined (map.entries more.now) o.metadata))))) }
-    ensures ours { KeepsOurs (state S.Store tx.old.conn.now) (state S.Store tx.new.conn.now) result }
-    ensures err { FailsReadingUncommitted
-        (state S.Store tx.old.conn.now) (state S.Store tx.new.conn.now) result }
-    ensures stays { StaysWithin S.Store tx.old.conn tx.new.conn result }
+        → OnOk result (SeesState (T.state tx.new)
+        (with_object s object (with_metadata o (joined (map.entries more.now) o.metadata))))) }
+    ensures ours { KeepsOurs (T.state tx.old) (T.state tx.new) result }
+    ensures err { FailsReadingUncommitted (T.state tx.old) (T.state tx.new) result }
+    ensures stays { StaysWithin T.lenders T.state tx.old tx.new result }
 {
     let have = load_metadata(tx, alloc, object)?;
     put_entries(tx, alloc, object, &have, more.entries())

@@ -2,7 +2,6 @@
 
 ghost use Rattle.std.specs.Prelude.{◌≡◌, ◌<◌, ◌^◌, pos, [], ◌∷◌, IfOk, OnOk, option_map};
 ghost use Rattle.std.specs.FinMap as map;
-ghost use Rattle.sqlite.specs.Held.{state};
 ghost use Rattle.sqlite.specs.declared.types.Value.TheVariants.{Int};
 ghost use Rattle.dep_types.specs.Rows.{object_row};
 ghost use Rattle.dep_types.specs.Sound.{IsSound};
@@ -15,9 +14,8 @@ ghost use Rattle.dep_row_maps.specs.Clauses.{FromMaps, KeepsOurs, SeesState, Fai
 ghost use Rattle.dep_objects.specs.Objects.{object_of, described_object};
 
 use crate::gathering::load_metadata;
-use dep_tables::{delete_metadata, insert_object, write_object};
+use dep_tables::{Statements, delete_metadata, insert_object, write_object};
 use dep_types::{Metadata, ObjectRow, StoreFault};
-use sqlite::{Alter, Transaction};
 use std::alloc::Global;
 
 /// An object without its files.
@@ -31,18 +29,18 @@ pub struct DescribedObject {
 
 /// The object of this number, if there is one. It reads the object's own rows alone. A number of 2^63
 /// or more is a fault of the store.
-pub fn load_object<S: Alter>(
-    tx: &mut Transaction<'_, S>,
+pub fn load_object<T: Statements>(
+    tx: &mut T,
     alloc: Global,
     object: u64,
 ) -> Result<Option<DescribedObject>, StoreFault>
-    ensures map { FromMaps (state S.Store tx.old.conn.now) (state S.Store tx.new.conn.now)
+    ensures map { FromMaps (T.state tx.old) (T.state tx.new)
         (λ s. IsSound s → IfOk result (λ found.
         found ≡ option_map (described_object object) (map.get s.objects object))) }
-    ensures same { ReadsOnly (state S.Store tx.old.conn.now) (state S.Store tx.new.conn.now) result }
-    ensures ours { KeepsOurs (state S.Store tx.old.conn.now) (state S.Store tx.new.conn.now) result }
-    ensures err { FailsReading (state S.Store tx.old.conn.now) (state S.Store tx.new.conn.now) result }
-    ensures stays { StaysWithin S.Store tx.old.conn tx.new.conn result }
+    ensures same { ReadsOnly (T.state tx.old) (T.state tx.new) result }
+    ensures ours { KeepsOurs (T.state tx.old) (T.state tx.new) result }
+    ensures err { FailsReading (T.state tx.old) (T.state tx.new) result }
+    ensures stays { StaysWithin T.lenders T.state tx.old tx.new result }
 {
     let Some(row) = dep_tables::find_object(tx, object)? else {
         return Ok(None);
@@ -53,58 +51,46 @@ pub fn load_object<S: Alter>(
 
 /// The row of an object, without its metadata and files, if there is one. A number of 2^63 or more is a
 /// fault of the store.
-pub fn find_object<S: Alter>(
-    tx: &mut Transaction<'_, S>,
-    object: u64,
-) -> Result<Option<ObjectRow>, StoreFault>
-    ensures map { FromMaps (state S.Store tx.old.conn.now) (state S.Store tx.new.conn.now)
+pub fn find_object<T: Statements>(tx: &mut T, object: u64) -> Result<Option<ObjectRow>, StoreFault>
+    ensures map { FromMaps (T.state tx.old) (T.state tx.new)
         (λ s. IfOk result
         (λ found. found ≡ option_map (object_row object) (map.get s.objects object))) }
-    ensures same { ReadsOnly (state S.Store tx.old.conn.now) (state S.Store tx.new.conn.now) result }
-    ensures ours { KeepsOurs (state S.Store tx.old.conn.now) (state S.Store tx.new.conn.now) result }
-    ensures numbers { RefusesNumbers
-        (state S.Store tx.old.conn.now) (state S.Store tx.new.conn.now) result
-        (object < 2 ^ 63) }
-    ensures cause { FailsByReading
-        (state S.Store tx.old.conn.now) (state S.Store tx.new.conn.now) result
+    ensures same { ReadsOnly (T.state tx.old) (T.state tx.new) result }
+    ensures ours { KeepsOurs (T.state tx.old) (T.state tx.new) result }
+    ensures numbers { RefusesNumbers (T.state tx.old) (T.state tx.new) result (object < 2 ^ 63) }
+    ensures cause { FailsByReading (T.state tx.old) (T.state tx.new) result
         (object < 2 ^ 63) find_object_text (Int (pos object) ∷ []) (AtMostOne IsObjectRow) }
-    ensures err { FailsReading (state S.Store tx.old.conn.now) (state S.Store tx.new.conn.now) result }
-    ensures stays { StaysWithin S.Store tx.old.conn tx.new.conn result }
+    ensures err { FailsReading (T.state tx.old) (T.state tx.new) result }
+    ensures stays { StaysWithin T.lenders T.state tx.old tx.new result }
 {
     dep_tables::find_object(tx, object)
 }
 
 /// The least number of an object above this one. A number of 2^63 or more is a fault of the store.
-pub fn next_object<S: Alter>(
-    tx: &mut Transaction<'_, S>,
-    after: u64,
-) -> Result<Option<u64>, StoreFault>
-    ensures map { FromMaps (state S.Store tx.old.conn.now) (state S.Store tx.new.conn.now)
+pub fn next_object<T: Statements>(tx: &mut T, after: u64) -> Result<Option<u64>, StoreFault>
+    ensures map { FromMaps (T.state tx.old) (T.state tx.new)
         (λ s. IfOk result (λ found. found ≡ option_map (λ e. e.0) (next_entry s.objects after))) }
-    ensures same { ReadsOnly (state S.Store tx.old.conn.now) (state S.Store tx.new.conn.now) result }
-    ensures ours { KeepsOurs (state S.Store tx.old.conn.now) (state S.Store tx.new.conn.now) result }
-    ensures numbers { RefusesNumbers
-        (state S.Store tx.old.conn.now) (state S.Store tx.new.conn.now) result
-        (after < 2 ^ 63) }
-    ensures cause { FailsByReading
-        (state S.Store tx.old.conn.now) (state S.Store tx.new.conn.now) result
+    ensures same { ReadsOnly (T.state tx.old) (T.state tx.new) result }
+    ensures ours { KeepsOurs (T.state tx.old) (T.state tx.new) result }
+    ensures numbers { RefusesNumbers (T.state tx.old) (T.state tx.new) result (after < 2 ^ 63) }
+    ensures cause { FailsByReading (T.state tx.old) (T.state tx.new) result
         (after < 2 ^ 63) next_object_text (Int (pos after) ∷ []) (AtMostOne IsNumberRow) }
-    ensures err { FailsReading (state S.Store tx.old.conn.now) (state S.Store tx.new.conn.now) result }
-    ensures stays { StaysWithin S.Store tx.old.conn tx.new.conn result }
+    ensures err { FailsReading (T.state tx.old) (T.state tx.new) result }
+    ensures stays { StaysWithin T.lenders T.state tx.old tx.new result }
 {
     dep_tables::next_object(tx, after)
 }
 
 /// Puts an object in, or writes it in the place of the one that is there, which keeps its metadata and
 /// files. A number of 2^63 or more is a fault of the store.
-pub fn put_object<S: Alter>(tx: &mut Transaction<'_, S>, row: &ObjectRow) -> Result<(), StoreFault>
-    ensures map { FromMaps (state S.Store tx.old.conn.now) (state S.Store tx.new.conn.now)
-        (λ s. OnOk result (SeesState (state S.Store tx.new.conn.now)
+pub fn put_object<T: Statements>(tx: &mut T, row: &ObjectRow) -> Result<(), StoreFault>
+    ensures map { FromMaps (T.state tx.old) (T.state tx.new)
+        (λ s. OnOk result (SeesState (T.state tx.new)
         (with_object s row.now.object (object_of row.now
         (metadata_at s.objects row.now.object) (files_at s.objects row.now.object))))) }
-    ensures ours { KeepsOurs (state S.Store tx.old.conn.now) (state S.Store tx.new.conn.now) result }
-    ensures err { FailsReading (state S.Store tx.old.conn.now) (state S.Store tx.new.conn.now) result }
-    ensures stays { StaysWithin S.Store tx.old.conn tx.new.conn result }
+    ensures ours { KeepsOurs (T.state tx.old) (T.state tx.new) result }
+    ensures err { FailsReading (T.state tx.old) (T.state tx.new) result }
+    ensures stays { StaysWithin T.lenders T.state tx.old tx.new result }
 {
     match dep_tables::find_object(tx, row.object)? {
         Some(_) => write_object(tx, row),
@@ -114,14 +100,13 @@ pub fn put_object<S: Alter>(tx: &mut Transaction<'_, S>, row: &ObjectRow) -> Res
 
 /// Deletes an object that has no files, with its metadata, if there is one. A number of 2^63 or more is
 /// a fault of the store.
-pub fn delete_object<S: Alter>(tx: &mut Transaction<'_, S>, object: u64) -> Result<(), StoreFault>
-    ensures map { FromMaps (state S.Store tx.old.conn.now) (state S.Store tx.new.conn.now)
+pub fn delete_object<T: Statements>(tx: &mut T, object: u64) -> Result<(), StoreFault>
+    ensures map { FromMaps (T.state tx.old) (T.state tx.new)
         (λ s. files_at s.objects object ≡ map.empty
-        → OnOk result (SeesState (state S.Store tx.new.conn.now) (without_object s object))) }
-    ensures ours { KeepsOurs (state S.Store tx.old.conn.now) (state S.Store tx.new.conn.now) result }
-    ensures err { FailsUncommitted
-        (state S.Store tx.old.conn.now) (state S.Store tx.new.conn.now) result }
-    ensures stays { StaysWithin S.Store tx.old.conn tx.new.conn result }
+        → OnOk result (SeesState (T.state tx.new) (without_object s object))) }
+    ensures ours { KeepsOurs (T.state tx.old) (T.state tx.new) result }
+    ensures err { FailsUncommitted (T.state tx.old) (T.state tx.new) result }
+    ensures stays { StaysWithin T.lenders T.state tx.old tx.new result }
 {
     delete_metadata(tx, object)?;
     dep_tables::delete_object(tx, object)

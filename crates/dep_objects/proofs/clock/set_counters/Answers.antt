@@ -1,5 +1,4 @@
 use Rattle.std.proofs.Common.{sym, subst}
-use Rattle.sqlite.specs.Held.{state}
 use Rattle.dep_tables.proofs.Results.{ok_then}
 use Rattle.dep_tables.specs.Tables.{tables_of}
 use Rattle.dep_row_maps.specs.TablesAre.{TablesAre}
@@ -10,4 +9,4 @@ pub returns-clause-map : goal.returns-clause-map
 returns-clause-map g c clean inside ours s are =
     let next = record s { clock = c.args.row.now.clock; next = c.args.row.now.next } in
     ok_then c.write_state.result (c.write_state.ensures.ok clean inside ours)
-    (λ leads. subst (λ t. TablesAre t next) (sym leads.rows) (state_written (tables_of (state g.S.Store c.args.tx.now.conn.now)) s are c.args.row.now.clock c.args.row.now.next))
+    (λ leads. subst (λ t. TablesAre t next) (sym leads.rows) (state_written (tables_of (g.T.Statements.state c.args.tx.now)) s are c.args.row.now.clock c.args.row.now.next))

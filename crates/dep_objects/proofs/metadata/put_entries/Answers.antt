@@ -1,6 +1,5 @@
 use Rattle.std.proofs.Common.{◌<◌, length, Ok, arith}
 use Rattle.std.proofs.lemmas.List.{take_all}
-use Rattle.sqlite.specs.Held.{state}
 use Rattle.dep_tables.proofs.Chains.{clean_before, stays_err, stays_ok, stays_then}
 use Rattle.dep_tables.specs.Tables.{tables_of}
 use Rattle.dep_objects.proofs.Appending.{one_more_name}
@@ -8,9 +7,9 @@ use Rattle.dep_objects.proofs.metadata.put_entries.Goals as goal
 
 pub entries-preserved : goal.entries-preserved
 entries-preserved g c =
-    let old = state g.S.Store c.args.tx.now.conn.now in
-    let mid = state g.S.Store c.entries.tx.conn.now in
-    let new = state g.S.Store c.put_texts.new.tx.conn.now in
+    let old = g.T.Statements.state c.args.tx.now in
+    let mid = g.T.Statements.state c.entries.tx in
+    let new = g.T.Statements.state c.put_texts.new.tx in
     let inv = c.entries.invariant in
     let within : c.entries.entry-index < length c.args.entries.now = omega (arith, c.entries-test.true) in (
       stays_ok (stays_then {r = Ok tt} inv.0 c.in_ok-put_texts.ensures.stays),

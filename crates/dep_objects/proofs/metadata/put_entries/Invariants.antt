@@ -1,6 +1,5 @@
 use Rattle.std.proofs.Common.{take, map, IsTrue}
 use Rattle.sqlite.specs.State.{HasCleanDisk}
-use Rattle.sqlite.specs.Held.{state}
 use Rattle.dep_types.specs.MetadataEntries.{name_and_texts}
 use Rattle.dep_tables.proofs.Chains.{Stays}
 use Rattle.dep_tables.specs.Tables.{tables_of, IsOurs}
@@ -11,7 +10,7 @@ use Rattle.dep_objects.proofs.metadata.put_entries.Given as goal
 
 abbrev pub invariant-entries : goal.invariant-entries
 invariant-entries g l =
-    let old = state g.S.Store l.fn.tx.conn.now in
-    let now = state g.S.Store l.tx.conn.now in
-    Stays g.S.Store l.fn.tx.conn l.tx.conn
+    let old = g.T.Statements.state l.fn.tx in
+    let now = g.T.Statements.state l.tx in
+    Stays g.T.Statements.lenders g.T.Statements.state l.fn.tx l.tx
     × (HasCleanDisk now → IsTrue old.in_transaction → IsOurs old → Sees now (record (tables_of old) { metadata = put_each (rows_beside l.fn.object l.fn.have (map name_and_texts (take l.entry-index l.entries))) (tables_of old).metadata }))

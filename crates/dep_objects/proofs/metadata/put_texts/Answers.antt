@@ -1,6 +1,5 @@
 use Rattle.std.proofs.Common.{◌<◌, ◌≡◌, ◌+◌, length, take, get_or, ap, ◌∙◌, Ok, arith}
 use Rattle.std.proofs.lemmas.List.{take_all}
-use Rattle.sqlite.specs.Held.{state}
 use Rattle.dep_statements.specs.Rows.{put_next}
 use Rattle.dep_tables.proofs.Chains.{clean_before, stays_err, stays_ok, stays_then}
 use Rattle.dep_tables.specs.Rows.{metadata_values}
@@ -10,9 +9,9 @@ use Rattle.dep_objects.proofs.metadata.put_texts.Goals as goal
 
 pub texts-preserved : goal.texts-preserved
 texts-preserved g c =
-    let old = state g.S.Store c.args.tx.now.conn.now in
-    let mid = state g.S.Store c.texts.tx.conn.now in
-    let new = state g.S.Store c.insert_metadata.new.tx.conn.now in
+    let old = g.T.Statements.state c.args.tx.now in
+    let mid = g.T.Statements.state c.texts.tx in
+    let new = g.T.Statements.state c.insert_metadata.new.tx in
     let inv = c.texts.invariant in
     let within : c.texts.text-index < length c.args.entry.now.texts = omega (arith, ap length inv.3, c.texts-test.true) in
     let next_place : c.texts.place + 1 ≡ c.args.start + (c.texts.text-index + 1) = omega (arith, inv.2) in (

@@ -1,6 +1,5 @@
 use Rattle.std.proofs.Common.{◌≡◌, ◌+◌, take, IsTrue}
 use Rattle.sqlite.specs.State.{HasCleanDisk}
-use Rattle.sqlite.specs.Held.{state}
 use Rattle.dep_tables.proofs.Chains.{Stays}
 use Rattle.dep_tables.specs.Tables.{tables_of, IsOurs}
 use Rattle.dep_row_maps.specs.Owned.{placed, put_each}
@@ -10,8 +9,8 @@ use Rattle.dep_objects.proofs.metadata.put_texts.Given as goal
 
 abbrev pub invariant-texts : goal.invariant-texts
 invariant-texts g l =
-    let old = state g.S.Store l.fn.tx.conn.now in
-    let now = state g.S.Store l.tx.conn.now in
-    Stays g.S.Store l.fn.tx.conn l.tx.conn
+    let old = g.T.Statements.state l.fn.tx in
+    let now = g.T.Statements.state l.tx in
+    Stays g.T.Statements.lenders g.T.Statements.state l.fn.tx l.tx
     × (HasCleanDisk now → IsTrue old.in_transaction → IsOurs old → Sees now (record (tables_of old) { metadata = put_each (placed (text_values l.fn.object l.fn.entry.name) l.fn.start (take l.text-index l.fn.entry.texts)) (tables_of old).metadata }))
     × (l.place ≡ l.fn.start + l.text-index) × (l.text-items ≡ l.fn.entry.texts)

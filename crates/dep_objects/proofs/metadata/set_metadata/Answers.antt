@@ -1,5 +1,4 @@
 use Rattle.std.proofs.Common.{ap, ◌∙◌, map}
-use Rattle.sqlite.specs.Held.{state}
 use Rattle.dep_types.specs.MetadataEntries.{name_and_texts}
 use Rattle.dep_tables.proofs.Chains.{clean_before, stays_then}
 use Rattle.dep_tables.proofs.Results.{ok_then}
@@ -11,9 +10,9 @@ use Rattle.dep_objects.proofs.metadata.set_metadata.Goals as goal
 
 pub returns-clause-map : goal.returns-clause-map
 returns-clause-map g c clean inside ours s are o there =
-    let old = state g.S.Store c.args.tx.now.conn.now in
-    let mid = state g.S.Store c.delete_metadata.new.tx.conn.now in
-    let new = state g.S.Store c.put_entries-2.new.tx.conn.now in
+    let old = g.T.Statements.state c.args.tx.now in
+    let mid = g.T.Statements.state c.delete_metadata.new.tx in
+    let new = g.T.Statements.state c.put_entries-2.new.tx in
     let before = clean_before c.put_entries-2.ensures.stays clean in
     let first = c.in_ok-delete_metadata.ensures.ok before inside ours in
     ok_then c.put_entries-2.result (c.put_entries-2.ensures.ok clean (c.in_ok-delete_metadata.ensures.stays.inside before inside) first.ours)

@@ -1,4 +1,3 @@
-use Rattle.sqlite.specs.Held.{state}
 use Rattle.dep_tables.proofs.Chains.{clean_before, stays_then}
 use Rattle.dep_tables.proofs.Results.{ok_then}
 use Rattle.dep_tables.specs.Tables.{tables_of}
@@ -7,9 +6,9 @@ use Rattle.dep_objects.proofs.objects.delete_object.Goals as goal
 
 pub returns-clause-map : goal.returns-clause-map
 returns-clause-map g c clean inside ours s are files =
-    let old = state g.S.Store c.args.tx.now.conn.now in
-    let mid = state g.S.Store c.delete_metadata.new.tx.conn.now in
-    let new = state g.S.Store c.delete_object.new.tx.conn.now in
+    let old = g.T.Statements.state c.args.tx.now in
+    let mid = g.T.Statements.state c.delete_metadata.new.tx in
+    let new = g.T.Statements.state c.delete_object.new.tx in
     let before = clean_before c.delete_object.ensures.stays clean in
     let first = c.in_ok-delete_metadata.ensures.ok before inside ours in
     ok_then c.delete_object.result (c.delete_object.ensures.ok clean (c.in_ok-delete_metadata.ensures.stays.inside before inside) first.ours)

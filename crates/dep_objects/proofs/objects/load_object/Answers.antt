@@ -2,7 +2,6 @@ use Rattle.dep_tables.proofs.Chains.{clean_before, stays_err, stays_ok, stays_th
 use Rattle.dep_tables.proofs.Results.{if_failed}
 use Rattle.sqlite.proofs.Callers.{unchanged_then}
 use Rattle.std.proofs.Common.{sym, subst, ◌∙◌}
-use Rattle.sqlite.specs.Held.{state}
 use Rattle.dep_tables.specs.Tables.{tables_of}
 use Rattle.dep_row_maps.specs.TablesAre.{TablesAre}
 use Rattle.dep_row_maps.proofs.Readings.{object_read}
@@ -12,12 +11,12 @@ use Rattle.dep_objects.proofs.objects.load_object.Goals as goal
 
 pub returns-in_default-clause-map : goal.returns-in_default-clause-map
 returns-in_default-clause-map g c clean inside ours s are sound =
-    none_described s c.args.object (sym c.in_default.is ∙ object_read (tables_of (state g.S.Store c.args.tx.now.conn.now)) s are c.args.object c.in_ok-row.field-0 (c.in_ok-row.ensures.ok clean ours))
+    none_described s c.args.object (sym c.in_default.is ∙ object_read (tables_of (g.T.Statements.state c.args.tx.now)) s are c.args.object c.in_ok-row.field-0 (c.in_ok-row.ensures.ok clean ours))
 
 pub returns-clause-map : goal.returns-clause-map
 returns-clause-map g c clean inside ours s are sound =
-    let old = state g.S.Store c.args.tx.now.conn.now in
-    let mid = state g.S.Store c.find_object.new.tx.conn.now in
+    let old = g.T.Statements.state c.args.tx.now in
+    let mid = g.T.Statements.state c.find_object.new.tx in
     let before = clean_before c.load_metadata.ensures.stays clean in
     let same = c.in_ok-row.ensures.same before ours in
     let found = object_read (tables_of old) s are c.args.object c.in_ok-row.field-0 (c.in_ok-row.ensures.ok before ours) in
@@ -30,9 +29,9 @@ returns-in_err-metadata-clause-stays g c = stays_err c.from_residual-in_err-meta
 
 pub returns-in_err-metadata-clause-err : goal.returns-in_err-metadata-clause-err
 returns-in_err-metadata-clause-err g c clean inside ours is_open =
-    let old = state g.S.Store c.args.tx.now.conn.now in
-    let at_1 = state g.S.Store c.find_object.new.tx.conn.now in
-    let at_2 = state g.S.Store c.load_metadata.new.tx.conn.now in
+    let old = g.T.Statements.state c.args.tx.now in
+    let at_1 = g.T.Statements.state c.find_object.new.tx in
+    let at_2 = g.T.Statements.state c.load_metadata.new.tx in
     let clean_1 = clean_before c.load_metadata.ensures.stays clean in
     let inside_1 = c.in_ok-row.ensures.stays.inside clean_1 inside in
     let same_1 = c.in_ok-row.ensures.same clean_1 ours in
@@ -43,9 +42,9 @@ returns-clause-stays g c = stays_ok (stays_then c.in_ok-row.ensures.stays c.in_o
 
 pub returns-clause-same : goal.returns-clause-same
 returns-clause-same g c clean ours =
-    let old = state g.S.Store c.args.tx.now.conn.now in
-    let at_1 = state g.S.Store c.find_object.new.tx.conn.now in
-    let at_2 = state g.S.Store c.load_metadata.new.tx.conn.now in
+    let old = g.T.Statements.state c.args.tx.now in
+    let at_1 = g.T.Statements.state c.find_object.new.tx in
+    let at_2 = g.T.Statements.state c.load_metadata.new.tx in
     let clean_1 = clean_before c.load_metadata.ensures.stays clean in
     let same_1 = c.in_ok-row.ensures.same clean_1 ours in
     let same_2 = unchanged_then old at_1 at_2 same_1 (c.in_ok-metadata.ensures.same clean (still_ours old at_1 same_1 ours)) in
@@ -53,9 +52,9 @@ returns-clause-same g c clean ours =
 
 pub returns-clause-ours : goal.returns-clause-ours
 returns-clause-ours g c clean inside ours =
-    let old = state g.S.Store c.args.tx.now.conn.now in
-    let at_1 = state g.S.Store c.find_object.new.tx.conn.now in
-    let at_2 = state g.S.Store c.load_metadata.new.tx.conn.now in
+    let old = g.T.Statements.state c.args.tx.now in
+    let at_1 = g.T.Statements.state c.find_object.new.tx in
+    let at_2 = g.T.Statements.state c.load_metadata.new.tx in
     let clean_1 = clean_before c.load_metadata.ensures.stays clean in
     let same_1 = c.in_ok-row.ensures.same clean_1 ours in
     let same_2 = unchanged_then old at_1 at_2 same_1 (c.in_ok-metadata.ensures.same clean (still_ours old at_1 same_1 ours)) in

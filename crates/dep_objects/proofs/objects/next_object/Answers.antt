@@ -1,4 +1,3 @@
-use Rattle.sqlite.specs.Held.{state}
 use Rattle.dep_tables.proofs.Results.{if_then}
 use Rattle.dep_tables.specs.Tables.{tables_of}
 use Rattle.dep_row_maps.proofs.Readings.{next_object_read}
@@ -6,4 +5,4 @@ use Rattle.dep_objects.proofs.objects.next_object.Goals as goal
 
 pub returns-clause-map : goal.returns-clause-map
 returns-clause-map g c clean inside ours s are =
-    if_then c.next_object.result (c.next_object.ensures.ok clean ours) (λ found read. next_object_read (tables_of (state g.S.Store c.args.tx.now.conn.now)) s are c.args.after found read)
+    if_then c.next_object.result (c.next_object.ensures.ok clean ours) (λ found read. next_object_read (tables_of (g.T.Statements.state c.args.tx.now)) s are c.args.after found read)

@@ -1,6 +1,5 @@
 use Rattle.std.proofs.lemmas.Result.{on_err_weaker}
 use Rattle.std.proofs.Common.{sym, subst, ◌∙◌}
-use Rattle.sqlite.specs.Held.{state}
 use Rattle.dep_tables.proofs.Chains.{clean_before, stays_then}
 use Rattle.dep_tables.proofs.Results.{ok_then}
 use Rattle.dep_tables.specs.Tables.{tables_of}
@@ -12,9 +11,9 @@ use Rattle.dep_objects.proofs.objects.put_object.Goals as goal
 
 pub returns-in-Some-clause-map : goal.returns-in-Some-clause-map
 returns-in-Some-clause-map g c clean inside ours s are =
-    let old = state g.S.Store c.args.tx.now.conn.now in
-    let mid = state g.S.Store c.find_object.new.tx.conn.now in
-    let new = state g.S.Store c.write_object.new.tx.conn.now in
+    let old = g.T.Statements.state c.args.tx.now in
+    let mid = g.T.Statements.state c.find_object.new.tx in
+    let new = g.T.Statements.state c.write_object.new.tx in
     let before = clean_before c.write_object.ensures.stays clean in
     let same = c.in_ok-find_object.ensures.same before ours in
     let found = object_read (tables_of old) s are c.args.row.now.object c.in_ok-find_object.field-0 (c.in_ok-find_object.ensures.ok before ours) in
@@ -25,9 +24,9 @@ returns-in-Some-clause-map g c clean inside ours s are =
 
 pub returns-in-None-clause-map : goal.returns-in-None-clause-map
 returns-in-None-clause-map g c clean inside ours s are =
-    let old = state g.S.Store c.args.tx.now.conn.now in
-    let mid = state g.S.Store c.find_object.new.tx.conn.now in
-    let new = state g.S.Store c.insert_object.new.tx.conn.now in
+    let old = g.T.Statements.state c.args.tx.now in
+    let mid = g.T.Statements.state c.find_object.new.tx in
+    let new = g.T.Statements.state c.insert_object.new.tx in
     let before = clean_before c.insert_object.ensures.stays clean in
     let same = c.in_ok-find_object.ensures.same before ours in
     let here = subst (λ t. TablesAre t s) (sym (tables_same old mid same)) are in
@@ -36,34 +35,34 @@ returns-in-None-clause-map g c clean inside ours s are =
 
 pub returns-in-Some-clause-err : goal.returns-in-Some-clause-err
 returns-in-Some-clause-err g c clean inside ours is_open =
-    let old = state g.S.Store c.args.tx.now.conn.now in
-    let mid = state g.S.Store c.find_object.new.tx.conn.now in
-    let new = state g.S.Store c.write_object.new.tx.conn.now in
+    let old = g.T.Statements.state c.args.tx.now in
+    let mid = g.T.Statements.state c.find_object.new.tx in
+    let new = g.T.Statements.state c.write_object.new.tx in
     let before = clean_before c.write_object.ensures.stays clean in
     let same = c.in_ok-find_object.ensures.same before ours in
     on_err_weaker c.write_object.result (failed_since old mid same new) (c.write_object.ensures.err clean (c.in_ok-find_object.ensures.stays.inside before inside) is_open)
 
 pub returns-in-Some-clause-ours : goal.returns-in-Some-clause-ours
 returns-in-Some-clause-ours g c clean inside ours =
-    let old = state g.S.Store c.args.tx.now.conn.now in
-    let mid = state g.S.Store c.find_object.new.tx.conn.now in
+    let old = g.T.Statements.state c.args.tx.now in
+    let mid = g.T.Statements.state c.find_object.new.tx in
     let before = clean_before c.write_object.ensures.stays clean in
     let same = c.in_ok-find_object.ensures.same before ours in
     ok_then c.write_object.result (c.write_object.ensures.ok clean (c.in_ok-find_object.ensures.stays.inside before inside) (still_ours old mid same ours)) (λ leads. leads.ours)
 
 pub returns-in-None-clause-err : goal.returns-in-None-clause-err
 returns-in-None-clause-err g c clean inside ours is_open =
-    let old = state g.S.Store c.args.tx.now.conn.now in
-    let mid = state g.S.Store c.find_object.new.tx.conn.now in
-    let new = state g.S.Store c.insert_object.new.tx.conn.now in
+    let old = g.T.Statements.state c.args.tx.now in
+    let mid = g.T.Statements.state c.find_object.new.tx in
+    let new = g.T.Statements.state c.insert_object.new.tx in
     let before = clean_before c.insert_object.ensures.stays clean in
     let same = c.in_ok-find_object.ensures.same before ours in
     on_err_weaker c.insert_object.result (failed_since old mid same new) (c.insert_object.ensures.err clean (c.in_ok-find_object.ensures.stays.inside before inside) is_open)
 
 pub returns-in-None-clause-ours : goal.returns-in-None-clause-ours
 returns-in-None-clause-ours g c clean inside ours =
-    let old = state g.S.Store c.args.tx.now.conn.now in
-    let mid = state g.S.Store c.find_object.new.tx.conn.now in
+    let old = g.T.Statements.state c.args.tx.now in
+    let mid = g.T.Statements.state c.find_object.new.tx in
     let before = clean_before c.insert_object.ensures.stays clean in
     let same = c.in_ok-find_object.ensures.same before ours in
     ok_then c.insert_object.result (c.insert_object.ensures.ok clean (c.in_ok-find_object.ensures.stays.inside before inside) (still_ours old mid same ours)) (λ leads. leads.ours)
