@@ -1,12 +1,9 @@
 -- Facts on a result that is passed on, and on a transaction that goes on unchanged.
 use Rattle.std.proofs.Common.{◌≡◌, ◌⊎◌, inl, inr, IsTrue, Result, Ok, Err, OnOk, ap, sym, subst, ◌∙◌, ◌≢◌, ℕ, ◌≤◌, ◌<◌, refl, arith}
 use Rattle.std.proofs.lemmas.Result.{on_err_weaker}
-use Rattle.std.specs.Borrow.{MutBor}
-use Rattle.sqlite_trees.specs.declared.store.Store.{Ghosts}
 use Rattle.sqlite.specs.State.{State, Survives, KeepsCommit, IsUnchanged, IsRolledBack}
 use Rattle.sqlite.specs.Effect.{Database}
 use Rattle.sqlite_trees.specs.View.{doubt}
-use Rattle.sqlite.specs.Held.{Held, state}
 use Rattle.dep_tables.specs.Tables.{IsOurs, HasOurTables, tables_of, tables_in}
 use Rattle.dep_tables.specs.Clauses.{FailsWhole, StaysWithin}
 use Rattle.dep_tables.proofs.Chains.{clean_before}
@@ -41,19 +38,19 @@ uncommitted_after old mid new kept inside is_open (inl same) = uncommitted_more 
 uncommitted_after old mid new kept inside is_open (inr back) = uncommitted_more old mid new kept (back.was_open is_open) (left_whole mid new inside is_open (inr back))
 
 -- what fails behind calls that were Ok: a statement, and a call that may have written before it failed
-module _ {S : Type 0} {g : Ghosts S} {old mid new : MutBor (Held S)} {A E B F : Type 0} {x : A} {r : Result B F} where
-  pub fails_behind : StaysWithin {A = A} {E = E} g old mid (Ok x) → StaysWithin g mid new r → FailsWhole (state g mid.now) (state g new.now) r → FailsUncommitted (state g old.now) (state g new.now) r
+module _ {T L : Type 0} {lenders : T → L} {state : T → State} {old mid new : T} {A E B F : Type 0} {x : A} {r : Result B F} where
+  pub fails_behind : StaysWithin {A = A} {E = E} lenders state old mid (Ok x) → StaysWithin lenders state mid new r → FailsWhole (state mid) (state new) r → FailsUncommitted (state old) (state new) r
   fails_behind first second fails clean inside is_open =
       let before = clean_before second clean in
       let within = first.inside before inside in
-      on_err_weaker r (uncommitted_after (state g old.now) (state g mid.now) (state g new.now) (first.kept before inside) within is_open) (fails clean within is_open)
+      on_err_weaker r (uncommitted_after (state old) (state mid) (state new) (first.kept before inside) within is_open) (fails clean within is_open)
 
-  pub uncommitted_behind : StaysWithin {A = A} {E = E} g old mid (Ok x) → StaysWithin g mid new r → FailsUncommitted (state g mid.now) (state g new.now) r → FailsUncommitted (state g old.now) (state g new.now) r
+  pub uncommitted_behind : StaysWithin {A = A} {E = E} lenders state old mid (Ok x) → StaysWithin lenders state mid new r → FailsUncommitted (state mid) (state new) r → FailsUncommitted (state old) (state new) r
   uncommitted_behind first second fails clean inside is_open =
       let before = clean_before second clean in
       let within = first.inside before inside in
       let was_open = (second.kept clean within).was_open is_open in
-      on_err_weaker r (uncommitted_more (state g old.now) (state g mid.now) (state g new.now) (first.kept before inside) was_open) (fails clean within is_open)
+      on_err_weaker r (uncommitted_more (state old) (state mid) (state new) (first.kept before inside) was_open) (fails clean within is_open)
 
 -- ---- nothing was asked
 

@@ -15,25 +15,26 @@ ghost use Rattle.dep_files.specs.Sent.{SendsBlocks};
 use crate::content::Content;
 use crate::fault::BlockFault;
 use crate::sending::stream_sized;
-use dep_tables::{BlockKey, BlockOwner, BlockPlace, insert_block, is_storable_owner, owner_params};
+use dep_tables::{
+    BlockKey, BlockOwner, BlockPlace, Statements, insert_block, is_storable_owner, owner_params,
+};
 use dep_types::{Outlet, StoreFault};
-use sqlite::{Alter, Connection, Transaction};
+use sqlite::{Alter, Connection};
 
 /// Writes a content as a part of an owner, each byte once. It is a fault of the store where the
 /// owner has a block of this part at one of its places, and where a number is 2^63 or more.
-pub fn put_blocks<S: Alter, C: Content>(
-    tx: &mut Transaction<'_, S>,
+pub fn put_blocks<T: Statements, C: Content>(
+    tx: &mut T,
     owner: BlockOwner,
     part: u64,
     content: &C,
 ) -> Result<(), StoreFault>
-    ensures ok { Becomes (state S.Store tx.old.conn.now) (state S.Store tx.new.conn.now) result
+    ensures ok { Becomes (T.state tx.old) (T.state tx.new) result
         (λ t. record t {
           blocks = put_blocks owner part 0 (blocks_of (C.bytes content.now)) t.blocks;
         }) }
-    ensures err { FailsUncommitted
-        (state S.Store tx.old.conn.now) (state S.Store tx.new.conn.now) result }
-    ensures stays { StaysWithin S.Store tx.old.conn tx.new.conn result }
+    ensures err { FailsUncommitted (T.state tx.old) (T.state tx.new) result }
+    ensures stays { StaysWithin T.lenders T.state tx.old tx.new result }
 {
     for place in 0..content.count() {
         let at = BlockPlace {

@@ -2,7 +2,6 @@
 
 ghost use Rattle.std.specs.Prelude.{◌≡◌, ℕ, Some, None, OnOk, map};
 ghost use Rattle.std.specs.FinMap as finmap;
-ghost use Rattle.sqlite.specs.Held.{state};
 ghost use Rattle.dep_types.specs.State.{Object, File, file_at};
 ghost use Rattle.dep_types.specs.Rows.{file_row};
 ghost use Rattle.dep_tables.specs.Tables.{tables_of};
@@ -13,9 +12,8 @@ ghost use Rattle.dep_files.specs.Edits.{with_file, without_file, without_files, 
 
 use crate::blocks::put_blocks;
 use crate::content::Content;
-use dep_tables::{BlockOwner, delete_blocks, files_of, insert_file};
+use dep_tables::{BlockOwner, Statements, delete_blocks, files_of, insert_file};
 use dep_types::{FileRow, StoreFault};
-use sqlite::{Alter, Transaction};
 use std::alloc::Global;
 
 /// The part that a content has that came whole.
@@ -24,24 +22,23 @@ const ONLY_PART: u64 = 1;
 /// Adds a file to an object that is there: its row and its content, each byte of which is written
 /// once. It is a fault of the store where the number of the file is taken, and where a number is
 /// 2^63 or more.
-pub fn put_file<S: Alter, C: Content>(
-    tx: &mut Transaction<'_, S>,
+pub fn put_file<T: Statements, C: Content>(
+    tx: &mut T,
     row: &FileRow,
     content: &C,
 ) -> Result<(), StoreFault>
-    ensures map { FromMaps (state S.Store tx.old.conn.now) (state S.Store tx.new.conn.now)
+    ensures map { FromMaps (T.state tx.old) (T.state tx.new)
         (λ s. (o : Object) (file : File)
         → finmap.get s.objects row.now.object ≡ Some o
         → row.now ≡ file_row row.now.object row.now.file file
         → C.bytes content.now ≡ file.content
-        → OnOk result (TablesAre (tables_of (state S.Store tx.new.conn.now))
+        → OnOk result (TablesAre (tables_of (T.state tx.new))
         (with_file s row.now.object o row.now.file file))) }
-    ensures free { FromMaps (state S.Store tx.old.conn.now) (state S.Store tx.new.conn.now)
+    ensures free { FromMaps (T.state tx.old) (T.state tx.new)
         (λ s. OnOk result ((n : ℕ) → file_at s n row.now.file ≡ None)) }
-    ensures ours { KeepsOurs (state S.Store tx.old.conn.now) (state S.Store tx.new.conn.now) result }
-    ensures err { FailsUncommitted
-        (state S.Store tx.old.conn.now) (state S.Store tx.new.conn.now) result }
-    ensures stays { StaysWithin S.Store tx.old.conn tx.new.conn result }
+    ensures ours { KeepsOurs (T.state tx.old) (T.state tx.new) result }
+    ensures err { FailsUncommitted (T.state tx.old) (T.state tx.new) result }
+    ensures stays { StaysWithin T.lenders T.state tx.old tx.new result }
 {
     put_blocks(tx, BlockOwner::File(row.file), ONLY_PART, content)?;
     insert_file(tx, row)
@@ -49,33 +46,27 @@ pub fn put_file<S: Alter, C: Content>(
 
 /// Deletes a file with its content, if there is one of this number. A number of 2^63 or more is a
 /// fault of the store.
-pub fn delete_file<S: Alter>(tx: &mut Transaction<'_, S>, file: u64) -> Result<(), StoreFault>
-    ensures map { FromMaps (state S.Store tx.old.conn.now) (state S.Store tx.new.conn.now)
+pub fn delete_file<T: Statements>(tx: &mut T, file: u64) -> Result<(), StoreFault>
+    ensures map { FromMaps (T.state tx.old) (T.state tx.new)
         (λ s. (n : ℕ) (o : Object) (it : File)
         → finmap.get s.objects n ≡ Some o → finmap.get o.files file ≡ Some it
-        → OnOk result (TablesAre (tables_of (state S.Store tx.new.conn.now))
-        (without_file s n o file))) }
-    ensures absent { FromMaps (state S.Store tx.old.conn.now) (state S.Store tx.new.conn.now)
+        → OnOk result (TablesAre (tables_of (T.state tx.new)) (without_file s n o file))) }
+    ensures absent { FromMaps (T.state tx.old) (T.state tx.new)
         (λ s. ((n : ℕ) → file_at s n file ≡ None)
-        → OnOk result (TablesAre (tables_of (state S.Store tx.new.conn.now)) s)) }
-    ensures ours { KeepsOurs (state S.Store tx.old.conn.now) (state S.Store tx.new.conn.now) result }
-    ensures err { FailsUncommitted
-        (state S.Store tx.old.conn.now) (state S.Store tx.new.conn.now) result }
-    ensures stays { StaysWithin S.Store tx.old.conn tx.new.conn result }
+        → OnOk result (TablesAre (tables_of (T.state tx.new)) s)) }
+    ensures ours { KeepsOurs (T.state tx.old) (T.state tx.new) result }
+    ensures err { FailsUncommitted (T.state tx.old) (T.state tx.new) result }
+    ensures stays { StaysWithin T.lenders T.state tx.old tx.new result }
 {
     delete_blocks(tx, BlockOwner::File(file))?;
     dep_tables::delete_file(tx, file)
 }
 
-fn delete_contents<S: Alter>(
-    tx: &mut Transaction<'_, S>,
-    rows: &[FileRow],
-) -> Result<(), StoreFault>
-    ensures ok { Becomes (state S.Store tx.old.conn.now) (state S.Store tx.new.conn.now) result
+fn delete_contents<T: Statements>(tx: &mut T, rows: &[FileRow]) -> Result<(), StoreFault>
+    ensures ok { Becomes (T.state tx.old) (T.state tx.new) result
         (λ t. record t { blocks = without_contents (map (λ row. row.file) rows.now) t.blocks }) }
-    ensures err { FailsUncommitted
-        (state S.Store tx.old.conn.now) (state S.Store tx.new.conn.now) result }
-    ensures stays { StaysWithin S.Store tx.old.conn tx.new.conn result }
+    ensures err { FailsUncommitted (T.state tx.old) (T.state tx.new) result }
+    ensures stays { StaysWithin T.lenders T.state tx.old tx.new result }
 {
     'rows: for row in rows {
         delete_blocks(tx, BlockOwner::File(row.file))?;
@@ -85,19 +76,13 @@ fn delete_contents<S: Alter>(
 
 /// Deletes all files of an object with their contents. It holds the rows of the files. A number of
 /// 2^63 or more is a fault of the store.
-pub fn delete_files<S: Alter>(
-    tx: &mut Transaction<'_, S>,
-    alloc: Global,
-    object: u64,
-) -> Result<(), StoreFault>
-    ensures map { FromMaps (state S.Store tx.old.conn.now) (state S.Store tx.new.conn.now)
+pub fn delete_files<T: Statements>(tx: &mut T, alloc: Global, object: u64) -> Result<(), StoreFault>
+    ensures map { FromMaps (T.state tx.old) (T.state tx.new)
         (λ s. (o : Object) → finmap.get s.objects object ≡ Some o
-        → OnOk result (TablesAre (tables_of (state S.Store tx.new.conn.now))
-        (without_files s object o))) }
-    ensures ours { KeepsOurs (state S.Store tx.old.conn.now) (state S.Store tx.new.conn.now) result }
-    ensures err { FailsReadingUncommitted
-        (state S.Store tx.old.conn.now) (state S.Store tx.new.conn.now) result }
-    ensures stays { StaysWithin S.Store tx.old.conn tx.new.conn result }
+        → OnOk result (TablesAre (tables_of (T.state tx.new)) (without_files s object o))) }
+    ensures ours { KeepsOurs (T.state tx.old) (T.state tx.new) result }
+    ensures err { FailsReadingUncommitted (T.state tx.old) (T.state tx.new) result }
+    ensures stays { StaysWithin T.lenders T.state tx.old tx.new result }
 {
     let rows = files_of(tx, alloc, object)?;
     delete_contents(tx, rows.as_slice())?;

@@ -2,7 +2,6 @@
 
 ghost use Rattle.std.specs.Prelude.{All, ◌≡◌, ◌<◌, ◌^◌, pos, [], ◌∷◌, nat_eq, map, option_map, option_and_then};
 ghost use Rattle.std.specs.FinMap as finmap;
-ghost use Rattle.sqlite.specs.Held.{state};
 ghost use Rattle.sqlite.specs.declared.types.Value.TheVariants.{Int};
 ghost use Rattle.dep_types.specs.State.{file_at};
 ghost use Rattle.dep_types.specs.Rows.{file_row};
@@ -13,30 +12,26 @@ ghost use Rattle.dep_row_maps.specs.TablesAre.{files_at};
 ghost use Rattle.dep_types.specs.Names.{if_passes};
 ghost use Rattle.dep_files.specs.Reading.{Tells};
 
-use dep_tables::files_of;
+use dep_tables::{Statements, files_of};
 use dep_types::{FileRow, FileRows, StoreFault};
-use sqlite::{Alter, Transaction};
 use std::alloc::Global;
 
 /// The files of an object, by ascending number; none where there is no such object. A number of 2^63
 /// or more is a fault of the store.
-pub fn load_files<S: Alter>(
-    tx: &mut Transaction<'_, S>,
+pub fn load_files<T: Statements>(
+    tx: &mut T,
     alloc: Global,
     object: u64,
 ) -> Result<FileRows, StoreFault>
-    ensures map { Tells (state S.Store tx.old.conn.now) (state S.Store tx.new.conn.now) result
+    ensures map { Tells (T.state tx.old) (T.state tx.new) result
         (λ s found. found
         ≡ map (λ e. file_row object e.0 e.1) (finmap.entries (files_at s.objects object))) }
-    ensures same { ReadsOnly (state S.Store tx.old.conn.now) (state S.Store tx.new.conn.now) result }
-    ensures numbers { RefusesNumbers
-        (state S.Store tx.old.conn.now) (state S.Store tx.new.conn.now) result
-        (object < 2 ^ 63) }
-    ensures cause { FailsByReading
-        (state S.Store tx.old.conn.now) (state S.Store tx.new.conn.now) result
+    ensures same { ReadsOnly (T.state tx.old) (T.state tx.new) result }
+    ensures numbers { RefusesNumbers (T.state tx.old) (T.state tx.new) result (object < 2 ^ 63) }
+    ensures cause { FailsByReading (T.state tx.old) (T.state tx.new) result
         (object < 2 ^ 63) files_of_text (Int (pos object) ∷ []) (All IsFileRow) }
-    ensures err { FailsReading (state S.Store tx.old.conn.now) (state S.Store tx.new.conn.now) result }
-    ensures stays { StaysWithin S.Store tx.old.conn tx.new.conn result }
+    ensures err { FailsReading (T.state tx.old) (T.state tx.new) result }
+    ensures stays { StaysWithin T.lenders T.state tx.old tx.new result }
 {
     Ok(FileRows::new(files_of(tx, alloc, object)?))
 }
@@ -52,22 +47,19 @@ fn of_object(found: Option<FileRow>, object: u64) -> Option<FileRow>
 
 /// The file of an object and a number, if the object has it. A number of a file of 2^63 or more is a
 /// fault of the store.
-pub fn find_file<S: Alter>(
-    tx: &mut Transaction<'_, S>,
+pub fn find_file<T: Statements>(
+    tx: &mut T,
     object: u64,
     file: u64,
 ) -> Result<Option<FileRow>, StoreFault>
-    ensures map { Tells (state S.Store tx.old.conn.now) (state S.Store tx.new.conn.now) result
+    ensures map { Tells (T.state tx.old) (T.state tx.new) result
         (λ s found. found ≡ option_map (file_row object file) (file_at s object file)) }
-    ensures same { ReadsOnly (state S.Store tx.old.conn.now) (state S.Store tx.new.conn.now) result }
-    ensures numbers { RefusesNumbers
-        (state S.Store tx.old.conn.now) (state S.Store tx.new.conn.now) result
-        (file < 2 ^ 63) }
-    ensures cause { FailsByReading
-        (state S.Store tx.old.conn.now) (state S.Store tx.new.conn.now) result
+    ensures same { ReadsOnly (T.state tx.old) (T.state tx.new) result }
+    ensures numbers { RefusesNumbers (T.state tx.old) (T.state tx.new) result (file < 2 ^ 63) }
+    ensures cause { FailsByReading (T.state tx.old) (T.state tx.new) result
         (file < 2 ^ 63) find_file_text (Int (pos file) ∷ []) (AtMostOne IsFileRow) }
-    ensures err { FailsReading (state S.Store tx.old.conn.now) (state S.Store tx.new.conn.now) result }
-    ensures stays { StaysWithin S.Store tx.old.conn tx.new.conn result }
+    ensures err { FailsReading (T.state tx.old) (T.state tx.new) result }
+    ensures stays { StaysWithin T.lenders T.state tx.old tx.new result }
 {
     Ok(of_object(dep_tables::find_file(tx, file)?, object))
 }

@@ -1,5 +1,4 @@
 use Rattle.std.proofs.Common.{◌<◌, length, subst}
-use Rattle.sqlite.specs.Held.{state}
 use Rattle.dep_tables.specs.Tables.{tables_of}
 use Rattle.dep_tables.proofs.Results.{if_failed}
 use Rattle.dep_tables.proofs.Chains.{clean_before, stays_then, stays_ok, stays_err}
@@ -10,9 +9,9 @@ use Rattle.dep_files.proofs.blocks.put_blocks.Goals as goal
 
 pub loop-place-preserved : goal.loop-place-preserved
 loop-place-preserved g c =
-    let old = state g.S.Store c.args.tx.now.conn.now in
-    let mid = state g.S.Store c.loop-place.tx.conn.now in
-    let new = state g.S.Store c.insert_block.new.tx.conn.now in
+    let old = g.T.Statements.state c.args.tx.now in
+    let mid = g.T.Statements.state c.loop-place.tx in
+    let new = g.T.Statements.state c.insert_block.new.tx in
     let inv = c.loop-place.invariant in
     let blocks = blocks_of (g.C.Content.bytes c.args.content.now) in
     let within : c.loop-place.place < length blocks = subst (λ n. c.loop-place.place < n) inv.0 c.loop-place-test.true in (

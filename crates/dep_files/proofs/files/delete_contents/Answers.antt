@@ -1,5 +1,4 @@
 use Rattle.std.proofs.Common.{◌<◌, length, arith}
-use Rattle.sqlite.specs.Held.{state}
 use Rattle.std.proofs.lemmas.List.{take_all}
 use Rattle.dep_tables.proofs.Results.{if_failed}
 use Rattle.dep_tables.proofs.Chains.{clean_before, stays_then, stays_ok, stays_err}
@@ -10,9 +9,9 @@ use Rattle.dep_files.proofs.files.delete_contents.Goals as goal
 
 pub rows-preserved : goal.rows-preserved
 rows-preserved g c =
-    let old = state g.S.Store c.args.tx.now.conn.now in
-    let mid = state g.S.Store c.rows.tx.conn.now in
-    let new = state g.S.Store c.delete_blocks.new.tx.conn.now in
+    let old = g.T.Statements.state c.args.tx.now in
+    let mid = g.T.Statements.state c.rows.tx in
+    let new = g.T.Statements.state c.delete_blocks.new.tx in
     let inv = c.rows.invariant in
     let within : c.rows.row-index < length c.args.rows.now = omega arith in (
       stays_ok (stays_then inv.0 c.in_ok-delete_blocks.ensures.stays),

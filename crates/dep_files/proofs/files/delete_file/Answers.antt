@@ -1,4 +1,3 @@
-use Rattle.sqlite.specs.Held.{state}
 use Rattle.dep_tables.specs.Tables.{tables_of}
 use Rattle.dep_tables.proofs.Results.{ok_then}
 use Rattle.dep_tables.proofs.Chains.{clean_before, stays_then}
@@ -8,9 +7,9 @@ use Rattle.dep_files.proofs.files.delete_file.Goals as goal
 
 pub returns-clause-map : goal.returns-clause-map
 returns-clause-map g c clean inside ours s are n o it there has =
-    let old = state g.S.Store c.args.tx.now.conn.now in
-    let mid = state g.S.Store c.delete_blocks.new.tx.conn.now in
-    let new = state g.S.Store c.delete_file.new.tx.conn.now in
+    let old = g.T.Statements.state c.args.tx.now in
+    let mid = g.T.Statements.state c.delete_blocks.new.tx in
+    let new = g.T.Statements.state c.delete_file.new.tx in
     let before = clean_before c.delete_file.ensures.stays clean in
     let first = c.in_ok-delete_blocks.ensures.ok before inside ours in
     ok_then c.delete_file.result (c.delete_file.ensures.ok clean first.shows.mode first.ours)
@@ -18,9 +17,9 @@ returns-clause-map g c clean inside ours s are n o it there has =
 
 pub returns-clause-absent : goal.returns-clause-absent
 returns-clause-absent g c clean inside ours s are none =
-    let old = state g.S.Store c.args.tx.now.conn.now in
-    let mid = state g.S.Store c.delete_blocks.new.tx.conn.now in
-    let new = state g.S.Store c.delete_file.new.tx.conn.now in
+    let old = g.T.Statements.state c.args.tx.now in
+    let mid = g.T.Statements.state c.delete_blocks.new.tx in
+    let new = g.T.Statements.state c.delete_file.new.tx in
     let before = clean_before c.delete_file.ensures.stays clean in
     let first = c.in_ok-delete_blocks.ensures.ok before inside ours in
     ok_then c.delete_file.result (c.delete_file.ensures.ok clean first.shows.mode first.ours)

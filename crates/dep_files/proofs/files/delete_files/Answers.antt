@@ -1,5 +1,4 @@
 use Rattle.std.proofs.Common.{◌≡◌, ap, ◌∙◌, map}
-use Rattle.sqlite.specs.Held.{state}
 use Rattle.dep_types.specs.declared.rows.FileRow.{FileRow}
 use Rattle.dep_tables.specs.Tables.{Tables, tables_of}
 use Rattle.dep_tables.proofs.Results.{ok_then, if_failed}
@@ -12,10 +11,10 @@ use Rattle.dep_files.proofs.files.delete_files.Goals as goal
 
 pub returns-clause-map : goal.returns-clause-map
 returns-clause-map g c clean inside ours s are o there =
-    let old = state g.S.Store c.args.tx.now.conn.now in
-    let one = state g.S.Store c.files_of.new.tx.conn.now in
-    let two = state g.S.Store c.delete_contents.new.tx.conn.now in
-    let new = state g.S.Store c.delete_files.new.tx.conn.now in
+    let old = g.T.Statements.state c.args.tx.now in
+    let one = g.T.Statements.state c.files_of.new.tx in
+    let two = g.T.Statements.state c.delete_contents.new.tx in
+    let new = g.T.Statements.state c.delete_files.new.tx in
     let clean_two = clean_before c.delete_files.ensures.stays clean in
     let clean_one = clean_before c.delete_contents.ensures.stays clean_two in
     let same = c.in_ok-rows.ensures.same clean_one ours in
@@ -31,7 +30,7 @@ returns-clause-map g c clean inside ours s are o there =
     (λ leads. files_gone (tables_of old) (tables_of two) (tables_of new) s c.args.object o found are ours.trees.ordered.1.1.1.1.0 there is first leads.rows)
 
 pub returns-in_err-rows-clause-err : goal.returns-in_err-rows-clause-err
-returns-in_err-rows-clause-err g c ours clean inside is_open = if_failed _ (left_whole (state g.S.Store c.args.tx.now.conn.now) (state g.S.Store c.files_of.new.tx.conn.now) inside is_open (c.in_err-rows.ensures.err clean inside ours is_open))
+returns-in_err-rows-clause-err g c ours clean inside is_open = if_failed _ (left_whole (g.T.Statements.state c.args.tx.now) (g.T.Statements.state c.files_of.new.tx) inside is_open (c.in_err-rows.ensures.err clean inside ours is_open))
 
 pub returns-in_err-delete_contents-clause-stays : goal.returns-in_err-delete_contents-clause-stays
 returns-in_err-delete_contents-clause-stays g c =
@@ -50,9 +49,9 @@ returns-clause-err g c ours =
 
 pub returns-clause-ours : goal.returns-clause-ours
 returns-clause-ours g c clean inside ours =
-    let old = state g.S.Store c.args.tx.now.conn.now in
-    let one = state g.S.Store c.files_of.new.tx.conn.now in
-    let two = state g.S.Store c.delete_contents.new.tx.conn.now in
+    let old = g.T.Statements.state c.args.tx.now in
+    let one = g.T.Statements.state c.files_of.new.tx in
+    let two = g.T.Statements.state c.delete_contents.new.tx in
     let clean_two = clean_before c.delete_files.ensures.stays clean in
     let clean_one = clean_before c.delete_contents.ensures.stays clean_two in
     let inside_one = c.in_ok-rows.ensures.stays.inside clean_one inside in

@@ -1,4 +1,3 @@
-use Rattle.sqlite.specs.Held.{state}
 use Rattle.dep_tables.specs.Tables.{tables_of}
 use Rattle.dep_tables.proofs.Results.{ok_then}
 use Rattle.dep_tables.proofs.Chains.{clean_before, stays_then}
@@ -8,9 +7,9 @@ use Rattle.dep_files.proofs.files.put_file.Goals as goal
 
 pub returns-clause-map : goal.returns-clause-map
 returns-clause-map g c clean inside ours s are o file there is same =
-    let old = state g.S.Store c.args.tx.now.conn.now in
-    let mid = state g.S.Store c.put_blocks.new.tx.conn.now in
-    let new = state g.S.Store c.insert_file.new.tx.conn.now in
+    let old = g.T.Statements.state c.args.tx.now in
+    let mid = g.T.Statements.state c.put_blocks.new.tx in
+    let new = g.T.Statements.state c.insert_file.new.tx in
     let before = clean_before c.insert_file.ensures.stays clean in
     let within = c.in_ok-put_blocks.ensures.stays.inside before inside in
     let first = c.in_ok-put_blocks.ensures.ok before inside ours in
@@ -19,8 +18,8 @@ returns-clause-map g c clean inside ours s are o file there is same =
 
 pub returns-clause-free : goal.returns-clause-free
 returns-clause-free g c clean inside ours s are =
-    let old = state g.S.Store c.args.tx.now.conn.now in
-    let mid = state g.S.Store c.put_blocks.new.tx.conn.now in
+    let old = g.T.Statements.state c.args.tx.now in
+    let mid = g.T.Statements.state c.put_blocks.new.tx in
     let before = clean_before c.insert_file.ensures.stays clean in
     let first = c.in_ok-put_blocks.ensures.ok before inside ours in
     ok_then c.insert_file.result (c.insert_file.ensures.free clean (c.in_ok-put_blocks.ensures.stays.inside before inside) first.ours)

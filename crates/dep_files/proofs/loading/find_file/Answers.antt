@@ -1,9 +1,8 @@
 use Rattle.std.proofs.Common.{◌∙◌}
-use Rattle.sqlite.specs.Held.{state}
 use Rattle.dep_tables.specs.Tables.{tables_of}
 use Rattle.dep_row_maps.proofs.Readings.{file_read}
 use Rattle.dep_files.proofs.loading.find_file.Goals as goal
 
 pub returns-clause-map : goal.returns-clause-map
 returns-clause-map g c clean ours s are =
-    c.of_object.ensures ∙ file_read (tables_of (state g.S.Store c.args.tx.now.conn.now)) s are ours.trees.ordered.1.1.1.1.0 c.args.file c.in_ok-find_file.field-0 (c.in_ok-find_file.ensures.ok clean ours) c.args.object
+    c.of_object.ensures ∙ file_read (tables_of (g.T.Statements.state c.args.tx.now)) s are ours.trees.ordered.1.1.1.1.0 c.args.file c.in_ok-find_file.field-0 (c.in_ok-find_file.ensures.ok clean ours) c.args.object
