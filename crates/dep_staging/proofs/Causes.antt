@@ -1,22 +1,10 @@
 -- A failure after calls that committed nothing.
-use Rattle.std.proofs.Common.{◌≡◌, Result, Ok, Err, IfErr, IsErrAnd, subst, sym, inl, refl, arith}
+use Rattle.std.proofs.Common.{◌≡◌, Result, Ok, Err, IfErr, IsErrAnd, subst, sym}
 use Rattle.sqlite.specs.State as db
 use Rattle.sqlite.specs.State.{Survives}
-use Rattle.sqlite.specs.Held.{Held, state}
 use Rattle.sqlite.proofs.StateLemmas.{survives_then}
-use Rattle.sqlite_trees.specs.declared.store.Store.{Ghosts}
 use Rattle.dep_types.specs.declared.store_fault.StoreFault.{StoreFault}
 use Rattle.dep_staging.specs.Causes.{FailsSince}
-
-pub survives_itself : (s : db.State) → Survives s s (λ _. ⊥)
-survives_itself s = record {
-  clean = omega arith;
-  shield = λ x. x;
-  counts = omega arith;
-  limit = refl;
-  closes = λ clean is_open. inl is_open;
-  crash = λ clean left there. inl there;
-}
 
 pub if_err_then : {A : Type 0} {P Q : StoreFault → Type 0} (r : Result A StoreFault) → IfErr r P → ((fault : StoreFault) → P fault → Q fault) → IfErr r Q
 if_err_then (Ok x) p f = tt
@@ -31,16 +19,16 @@ if_err_is P (Err e) fault is p = subst P (sym is) p
 pub never_failed : {A E P : Type 0} (x : A) (e : E) → ◌≡◌ {A = Result A E} (Ok x) (Err e) → P
 never_failed x e same = absurd (cc)
 
-module _ {S : Type 0} (g : Ghosts S) (old mid new : Held S) (since : Survives (state g old) (state g mid) (λ _. ⊥)) where
+module _ {T : Type 0} (state : T → db.State) (old mid new : T) (since : Survives (state old) (state mid) (λ _. ⊥)) where
   -- a statement fails at once
-  pub fails_then : (fails : db.State → db.State → StoreFault → Type 0) (fault : StoreFault) → fails (state g mid) (state g new) fault → FailsSince g fails old new fault
+  pub fails_then : (fails : db.State → db.State → StoreFault → Type 0) (fault : StoreFault) → fails (state mid) (state new) fault → FailsSince state fails old new fault
   fails_then fails fault by = record { at = mid; since = since; by = by }
 
   -- one of fewer statements fails later
   pub fails_later : (few fails : db.State → db.State → StoreFault → Type 0) → ((at now : db.State) (fault : StoreFault) → few at now fault → fails at now fault)
-      → (fault : StoreFault) → FailsSince g few mid new fault → FailsSince g fails old new fault
+      → (fault : StoreFault) → FailsSince state few mid new fault → FailsSince state fails old new fault
   fails_later few fails among fault it = record {
     at = it.at;
-    since = survives_then (state g old) (state g mid) (state g it.at) _ _ (λ _. ⊥) (λ _ left none. none) (λ _ left none. none) since it.since;
-    by = among (state g it.at) (state g new) fault it.by;
+    since = survives_then (state old) (state mid) (state it.at) _ _ (λ _. ⊥) (λ _ left none. none) (λ _ left none. none) since it.since;
+    by = among (state it.at) (state new) fault it.by;
   }

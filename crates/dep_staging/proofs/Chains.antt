@@ -1,9 +1,6 @@
 -- One call after another that only reads.
 use Rattle.std.proofs.Common.{◌⊎◌, IsTrue, inl, inr, ◌∙◌, Result, Ok}
 use Rattle.std.proofs.lemmas.Result.{on_err_weaker}
-use Rattle.std.specs.Borrow.{MutBor}
-use Rattle.sqlite_trees.specs.declared.store.Store.{Ghosts}
-use Rattle.sqlite.specs.Held.{Held, state}
 use Rattle.sqlite.specs.State.{State, IsUnchanged, IsRolledBack}
 use Rattle.sqlite.proofs.Callers.{unchanged_then}
 use Rattle.dep_tables.specs.Clauses.{FailsReading, ReadsOnly, StaysWithin}
@@ -23,24 +20,24 @@ failed_since old mid new same (inr back) = inr (record {
   counts = record { changes = back.counts.changes ∙ same.1.changes; last_rowid = back.counts.last_rowid ∙ same.1.last_rowid };
 })
 
-module _ {S : Type 0} {g : Ghosts S} {old new : MutBor (Held S)} {A E : Type 0} {r : Result A E} where
+module _ {T L : Type 0} {lenders : T → L} {state : T → State} {old new : T} {A E : Type 0} {r : Result A E} where
   -- what only reads leaves our tables
-  pub reads_ours : StaysWithin g old new r → ReadsOnly (state g old.now) (state g new.now) r → KeepsOurs (state g old.now) (state g new.now) r
-  reads_ours stays reads clean inside ours = ok_then r (reads clean ours) (λ same. still_ours (state g old.now) (state g new.now) same ours)
+  pub reads_ours : StaysWithin lenders state old new r → ReadsOnly (state old) (state new) r → KeepsOurs (state old) (state new) r
+  reads_ours stays reads clean inside ours = ok_then r (reads clean ours) (λ same. still_ours (state old) (state new) same ours)
 
-module _ {S : Type 0} {g : Ghosts S} {old mid new : MutBor (Held S)} {A E B F : Type 0} {x : A} {r : Result B F} where
+module _ {T L : Type 0} {lenders : T → L} {state : T → State} {old mid new : T} {A E B F : Type 0} {x : A} {r : Result B F} where
   -- a call that only reads, on an open store, behind one that was Ok
-  pub reads_then : StaysWithin {A = A} {E = E} g old mid (Ok x) → StaysWithin g mid new r → ReadsOnly {A = A} {E = E} (state g old.now) (state g mid.now) (Ok x)
-      → (IsTrue (state g mid.now).is_open → ReadsOnly (state g mid.now) (state g new.now) r) → ReadsOnly (state g old.now) (state g new.now) r
+  pub reads_then : StaysWithin {A = A} {E = E} lenders state old mid (Ok x) → StaysWithin lenders state mid new r → ReadsOnly {A = A} {E = E} (state old) (state mid) (Ok x)
+      → (IsTrue (state mid).is_open → ReadsOnly (state mid) (state new) r) → ReadsOnly (state old) (state new) r
   reads_then first second one two clean ours =
       let same = one (clean_before second clean) ours in
-      ok_then r (two same.0.is_open clean (still_ours (state g old.now) (state g mid.now) same ours)) (λ more. unchanged_then (state g old.now) (state g mid.now) (state g new.now) same more)
+      ok_then r (two same.0.is_open clean (still_ours (state old) (state mid) same ours)) (λ more. unchanged_then (state old) (state mid) (state new) same more)
 
   -- the same of its failure
-  pub fails_reading : StaysWithin {A = A} {E = E} g old mid (Ok x) → StaysWithin g mid new r → ReadsOnly {A = A} {E = E} (state g old.now) (state g mid.now) (Ok x)
-      → FailsReading (state g mid.now) (state g new.now) r → FailsReading (state g old.now) (state g new.now) r
+  pub fails_reading : StaysWithin {A = A} {E = E} lenders state old mid (Ok x) → StaysWithin lenders state mid new r → ReadsOnly {A = A} {E = E} (state old) (state mid) (Ok x)
+      → FailsReading (state mid) (state new) r → FailsReading (state old) (state new) r
   fails_reading first second one fails clean inside ours is_open =
       let before = clean_before second clean in
       let same = one before ours in
-      on_err_weaker r (failed_since (state g old.now) (state g mid.now) (state g new.now) same)
-      (fails clean (first.inside before inside) (still_ours (state g old.now) (state g mid.now) same ours) is_open)
+      on_err_weaker r (failed_since (state old) (state mid) (state new) same)
+      (fails clean (first.inside before inside) (still_ours (state old) (state mid) same ours) is_open)

@@ -3,9 +3,7 @@ use Rattle.std.specs.Prelude.{◌≡◌, ℕ, ◌<◌, ◌^◌, pos, List, [], �
 use Rattle.std.specs.FinMap as map
 use Rattle.sqlite.specs.State as db
 use Rattle.sqlite.specs.State.{HasCleanDisk, Survives}
-use Rattle.sqlite.specs.Held.{Held, state}
 use Rattle.sqlite.specs.declared.types.Value.TheVariants.{Int}
-use Rattle.sqlite_trees.specs.declared.store.Store.{Ghosts}
 use Rattle.dep_types.specs.Maps.{Numbered}
 use Rattle.dep_types.specs.State.{State, Upload, clock_at, expires, tick}
 use Rattle.dep_types.specs.declared.config.Config.{Config}
@@ -18,19 +16,19 @@ use Rattle.dep_row_maps.specs.Stored.{block_key, state_row}
 use Rattle.dep_row_maps.specs.TablesAre.{segments_at}
 
 -- a statement fails so, after others that committed nothing and forgot no fault
-pub record FailsSince {S : Type 0} (g : Ghosts S)
+pub record FailsSince {T : Type 0} (state : T → db.State)
     (fails : db.State → db.State → StoreFault → Type 0)
-    (old new : Held S) (fault : StoreFault) : Type 0 where
-  pub at : Held S
-  pub since : Survives (state g old) (state g at) (λ _. ⊥)
-  pub by : fails (state g at) (state g new) fault
+    (old new : T) (fault : StoreFault) : Type 0 where
+  pub at : T
+  pub since : Survives (state old) (state at) (λ _. ⊥)
+  pub by : fails (state at) (state new) fault
 
 -- inside a transaction, where the numbers are SQL's, a failure is that of one of these statements
-abbrev pub FailsByOne : {S A : Type 0} (g : Ghosts S) (old new : Held S)
+abbrev pub FailsByOne : {T A : Type 0} (state : T → db.State) (old new : T)
     (result : Result A StoreFault) → Type 0 → (db.State → db.State → StoreFault → Type 0) → Type 0
-FailsByOne g old new result storable fails =
-    storable → HasCleanDisk (state g new) → IsTrue (state g old).in_transaction
-    → IfErr result (FailsSince g fails old new)
+FailsByOne state old new result storable fails =
+    storable → HasCleanDisk (state new) → IsTrue (state old).in_transaction
+    → IfErr result (FailsSince state fails old new)
 
 -- the numbers of the uploads are SQL's
 abbrev pub HasStorableNumbers : Numbered Upload → Type 0

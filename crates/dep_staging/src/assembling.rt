@@ -3,7 +3,6 @@
 ghost use Rattle.std.specs.Prelude.{◌≡◌, ◌≤◌, ℕ, List, Some, OnOk, IsTrue};
 ghost use Rattle.std.specs.List.{range_with_len};
 ghost use Rattle.std.specs.FinMap as finmap;
-ghost use Rattle.sqlite.specs.Held.{state};
 ghost use Rattle.dep_types.specs.State.{Object, File, Upload};
 ghost use Rattle.dep_types.specs.Rows.{upload_row, file_row};
 ghost use Rattle.dep_types.specs.Uploads.{assembled, is_complete};
@@ -15,24 +14,22 @@ ghost use Rattle.dep_row_maps.specs.TablesAre.{TablesAre};
 ghost use Rattle.dep_row_maps.specs.Clauses.{Becomes, FromMaps, KeepsOurs, FailsUncommitted};
 ghost use Rattle.dep_staging.specs.Assembling.{HasItsSegments, deposited};
 
-use dep_tables::{delete_segments, delete_upload, insert_file, move_part};
+use dep_tables::{Statements, delete_segments, delete_upload, insert_file, move_part};
 use dep_types::{FileRow, StoreFault, UploadRow};
-use sqlite::{Alter, Transaction};
 
-fn move_parts<S: Alter>(
-    tx: &mut Transaction<'_, S>,
+fn move_parts<T: Statements>(
+    tx: &mut T,
     upload: u64,
     count: u64,
     file: u64,
 ) -> Result<(), StoreFault>
-    ensures ok { Becomes (state S.Store tx.old.conn.now) (state S.Store tx.new.conn.now) result
+    ensures ok { Becomes (T.state tx.old) (T.state tx.new) result
         (λ t. record t {
           blocks = move_parts (owner.Upload upload) (owner.File file)
               (range_with_len 1 count) t.blocks;
         }) }
-    ensures err { FailsUncommitted
-        (state S.Store tx.old.conn.now) (state S.Store tx.new.conn.now) result }
-    ensures stays { StaysWithin S.Store tx.old.conn tx.new.conn result }
+    ensures err { FailsUncommitted (T.state tx.old) (T.state tx.new) result }
+    ensures stays { StaysWithin T.lenders T.state tx.old tx.new result }
 {
     for before in 0..count {
         move_part(tx, upload, before + 1, file)?;
@@ -43,23 +40,22 @@ fn move_parts<S: Alter>(
 /// Makes a file of an upload each of whose segments was received: its bytes become the file's, part
 /// by part, and the upload goes with its segments. It is a fault of the store where the number of
 /// the file is taken, and where a number is 2^63 or more.
-pub fn assemble<S: Alter>(
-    tx: &mut Transaction<'_, S>,
+pub fn assemble<T: Statements>(
+    tx: &mut T,
     upload: &UploadRow,
     row: &FileRow,
 ) -> Result<(), StoreFault>
-    ensures map { FromMaps (state S.Store tx.old.conn.now) (state S.Store tx.new.conn.now)
+    ensures map { FromMaps (T.state tx.old) (T.state tx.new)
         (λ s. (o : Object) (it : Upload) (file : File)
         → finmap.get s.objects row.now.object ≡ Some o
         → finmap.get s.uploads upload.now.upload ≡ Some it → HasItsSegments it
         → upload.now ≡ upload_row upload.now.upload it
         → row.now ≡ file_row row.now.object row.now.file file → file.content ≡ assembled it
-        → OnOk result (TablesAre (tables_of (state S.Store tx.new.conn.now))
+        → OnOk result (TablesAre (tables_of (T.state tx.new))
         (deposited s row.now.object o row.now.file file upload.now.upload))) }
-    ensures ours { KeepsOurs (state S.Store tx.old.conn.now) (state S.Store tx.new.conn.now) result }
-    ensures err { FailsUncommitted
-        (state S.Store tx.old.conn.now) (state S.Store tx.new.conn.now) result }
-    ensures stays { StaysWithin S.Store tx.old.conn tx.new.conn result }
+    ensures ours { KeepsOurs (T.state tx.old) (T.state tx.new) result }
+    ensures err { FailsUncommitted (T.state tx.old) (T.state tx.new) result }
+    ensures stays { StaysWithin T.lenders T.state tx.old tx.new result }
 {
     move_parts(tx, upload.upload, upload.count, row.file)?;
     delete_segments(tx, upload.upload)?;

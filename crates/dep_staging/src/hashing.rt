@@ -5,7 +5,6 @@ ghost use Rattle.std.specs.FinMap as finmap;
 ghost use Rattle.sha2.specs.Sha256.{sha256};
 ghost use Rattle.sha2.specs.Hashers.{Holds256};
 ghost use Rattle.sqlite.specs.State.{HasCleanDisk};
-ghost use Rattle.sqlite.specs.Held.{state};
 ghost use Rattle.dep_types.specs.State.{State, Upload};
 ghost use Rattle.dep_types.specs.Uploads.{assembled};
 ghost use Rattle.dep_tables.specs.Tables.{tables_of, IsOurs};
@@ -20,30 +19,30 @@ ghost use Rattle.dep_staging.specs.Causes.{FailsSince, FailsToHash, HasStorableS
 ghost use Rattle.dep_staging.specs.Hashing.{IsSegmentOf, received_bytes};
 
 use dep_files::BLOCK_SIZE;
-use dep_tables::{BlockKey, BlockOwner, BlockPlace, SegmentRow, read_block, segments_of};
+use dep_tables::{
+    BlockKey, BlockOwner, BlockPlace, SegmentRow, Statements, read_block, segments_of,
+};
 use dep_types::StoreFault;
 use sha2::{Digest, Sha256};
-use sqlite::{Alter, Transaction};
 use std::alloc::Global;
 
-fn segment_block<S: Alter>(
-    tx: &mut Transaction<'_, S>,
+fn segment_block<T: Statements>(
+    tx: &mut T,
     segment: &SegmentRow,
     place: u64,
 ) -> Result<Vec<u8>, StoreFault>
-    ensures map { Tells (state S.Store tx.old.conn.now) (state S.Store tx.new.conn.now) result
+    ensures map { Tells (T.state tx.old) (T.state tx.new) result
         (λ s found. (bytes : List ℕ) → IsSegmentOf s segment.now bytes
         → found.items ≡ slice_index_or (blocks_of bytes) place []) }
-    ensures same { ReadsOnly (state S.Store tx.old.conn.now) (state S.Store tx.new.conn.now) result }
-    ensures cause { HasCleanDisk (state S.Store tx.new.conn.now)
-        → IsOurs (state S.Store tx.old.conn.now)
-        → (s : State) → TablesAre (tables_of (state S.Store tx.old.conn.now)) s
+    ensures same { ReadsOnly (T.state tx.old) (T.state tx.new) result }
+    ensures cause { HasCleanDisk (T.state tx.new)
+        → IsOurs (T.state tx.old)
+        → (s : State) → TablesAre (tables_of (T.state tx.old)) s
         → (bytes : List ℕ) → IsSegmentOf s segment.now bytes → place < length (blocks_of bytes)
         → IsStorableKey (block_key (owner.Upload segment.now.upload) segment.now.number place)
-        → IfErr result
-        (FailsSince S.Store (FailsToHash segment.now.upload) tx.old.conn.now tx.new.conn.now) }
-    ensures err { FailsReading (state S.Store tx.old.conn.now) (state S.Store tx.new.conn.now) result }
-    ensures stays { StaysWithin S.Store tx.old.conn tx.new.conn result }
+        → IfErr result (FailsSince T.state (FailsToHash segment.now.upload) tx.old tx.new) }
+    ensures err { FailsReading (T.state tx.old) (T.state tx.new) result }
+    ensures stays { StaysWithin T.lenders T.state tx.old tx.new result }
 {
     let key = BlockKey {
         owner: BlockOwner::Upload(segment.upload),
@@ -58,27 +57,26 @@ fn segment_block<S: Alter>(
     }
 }
 
-fn hash_segment<S: Alter>(
-    tx: &mut Transaction<'_, S>,
+fn hash_segment<T: Statements>(
+    tx: &mut T,
     segment: &SegmentRow,
     hasher: &mut Sha256,
 ) -> Result<(), StoreFault>
-    ensures map { HasCleanDisk (state S.Store tx.new.conn.now) → IsOurs (state S.Store tx.old.conn.now)
-        → IsTrue (state S.Store tx.old.conn.now).is_open
-        → (s : State) → TablesAre (tables_of (state S.Store tx.old.conn.now)) s
+    ensures map { HasCleanDisk (T.state tx.new) → IsOurs (T.state tx.old)
+        → IsTrue (T.state tx.old).is_open
+        → (s : State) → TablesAre (tables_of (T.state tx.old)) s
         → (bytes message : List ℕ) → IsSegmentOf s segment.now bytes → Holds256 hasher.old message
         → OnOk result (Holds256 hasher.new (message ++ bytes)) }
-    ensures same { IsTrue (state S.Store tx.old.conn.now).is_open
-        → ReadsOnly (state S.Store tx.old.conn.now) (state S.Store tx.new.conn.now) result }
-    ensures cause { HasCleanDisk (state S.Store tx.new.conn.now)
-        → IsOurs (state S.Store tx.old.conn.now)
-        → IsTrue (state S.Store tx.old.conn.now).is_open
-        → (s : State) → TablesAre (tables_of (state S.Store tx.old.conn.now)) s
+    ensures same { IsTrue (T.state tx.old).is_open
+        → ReadsOnly (T.state tx.old) (T.state tx.new) result }
+    ensures cause { HasCleanDisk (T.state tx.new)
+        → IsOurs (T.state tx.old)
+        → IsTrue (T.state tx.old).is_open
+        → (s : State) → TablesAre (tables_of (T.state tx.old)) s
         → (bytes : List ℕ) → IsSegmentOf s segment.now bytes → IsStorableSegment segment.now
-        → IfErr result
-        (FailsSince S.Store (FailsToHash segment.now.upload) tx.old.conn.now tx.new.conn.now) }
-    ensures err { FailsReading (state S.Store tx.old.conn.now) (state S.Store tx.new.conn.now) result }
-    ensures stays { StaysWithin S.Store tx.old.conn tx.new.conn result }
+        → IfErr result (FailsSince T.state (FailsToHash segment.now.upload) tx.old tx.new) }
+    ensures err { FailsReading (T.state tx.old) (T.state tx.new) result }
+    ensures stays { StaysWithin T.lenders T.state tx.old tx.new result }
 {
     for place in 0..segment.size.div_ceil(BLOCK_SIZE as u64) {
         let block = segment_block(tx, segment, place)?;
@@ -91,24 +89,24 @@ fn hash_segment<S: Alter>(
 /// that of the assembled bytes where all are there, and that of no bytes where there is no upload. It
 /// holds one block at a time, and the rows of the segments. A number of 2^63 or more is a fault of
 /// the store.
-pub fn hash_upload<S: Alter>(
-    tx: &mut Transaction<'_, S>,
+pub fn hash_upload<T: Statements>(
+    tx: &mut T,
     alloc: Global,
     upload: u64,
 ) -> Result<[u8; 32], StoreFault>
-    ensures map { Tells (state S.Store tx.old.conn.now) (state S.Store tx.new.conn.now) result
+    ensures map { Tells (T.state tx.old) (T.state tx.new) result
         (λ s digest. digest ≡ sha256 (received_bytes s upload)) }
-    ensures assembled { Tells (state S.Store tx.old.conn.now) (state S.Store tx.new.conn.now) result
+    ensures assembled { Tells (T.state tx.old) (T.state tx.new) result
         (λ s digest. (it : Upload) → finmap.get s.uploads upload ≡ Some it → HasSegmentsWithin it
         → digest ≡ sha256 (assembled it)) }
-    ensures same { ReadsOnly (state S.Store tx.old.conn.now) (state S.Store tx.new.conn.now) result }
-    ensures cause { HasCleanDisk (state S.Store tx.new.conn.now)
-        → IsOurs (state S.Store tx.old.conn.now)
-        → (s : State) → TablesAre (tables_of (state S.Store tx.old.conn.now)) s
+    ensures same { ReadsOnly (T.state tx.old) (T.state tx.new) result }
+    ensures cause { HasCleanDisk (T.state tx.new)
+        → IsOurs (T.state tx.old)
+        → (s : State) → TablesAre (tables_of (T.state tx.old)) s
         → HasStorableSegments s upload
-        → IfErr result (FailsSince S.Store (FailsToHash upload) tx.old.conn.now tx.new.conn.now) }
-    ensures err { FailsReading (state S.Store tx.old.conn.now) (state S.Store tx.new.conn.now) result }
-    ensures stays { StaysWithin S.Store tx.old.conn tx.new.conn result }
+        → IfErr result (FailsSince T.state (FailsToHash upload) tx.old tx.new) }
+    ensures err { FailsReading (T.state tx.old) (T.state tx.new) result }
+    ensures stays { StaysWithin T.lenders T.state tx.old tx.new result }
 {
     let rows = segments_of(tx, alloc, upload)?;
     let mut hasher = Sha256::new();

@@ -1,15 +1,13 @@
 //! What is known at the number of an upload.
 
 ghost use Rattle.std.specs.Prelude.{◌≡◌};
-ghost use Rattle.sqlite.specs.Held.{state};
 ghost use Rattle.dep_tables.specs.Clauses.{ReadsOnly, FailsReading, StaysWithin};
 ghost use Rattle.dep_row_maps.specs.Clauses.{KeepsOurs};
 ghost use Rattle.dep_files.specs.Reading.{Tells};
 ghost use Rattle.dep_staging.specs.Found.{IsFound, gone_upload};
 
-use dep_tables::{SegmentRow, find_timed_out, find_upload, segments_of};
+use dep_tables::{SegmentRow, Statements, find_timed_out, find_upload, segments_of};
 use dep_types::{StoreFault, UploadRow};
-use sqlite::{Alter, Transaction};
 use std::alloc::Global;
 
 /// An upload that is there.
@@ -32,13 +30,13 @@ pub enum FoundUpload {
     Unknown,
 }
 
-fn load_gone<S: Alter>(tx: &mut Transaction<'_, S>, upload: u64) -> Result<FoundUpload, StoreFault>
-    ensures map { Tells (state S.Store tx.old.conn.now) (state S.Store tx.new.conn.now) result
+fn load_gone<T: Statements>(tx: &mut T, upload: u64) -> Result<FoundUpload, StoreFault>
+    ensures map { Tells (T.state tx.old) (T.state tx.new) result
         (λ s found. found ≡ gone_upload s upload) }
-    ensures same { ReadsOnly (state S.Store tx.old.conn.now) (state S.Store tx.new.conn.now) result }
-    ensures ours { KeepsOurs (state S.Store tx.old.conn.now) (state S.Store tx.new.conn.now) result }
-    ensures err { FailsReading (state S.Store tx.old.conn.now) (state S.Store tx.new.conn.now) result }
-    ensures stays { StaysWithin S.Store tx.old.conn tx.new.conn result }
+    ensures same { ReadsOnly (T.state tx.old) (T.state tx.new) result }
+    ensures ours { KeepsOurs (T.state tx.old) (T.state tx.new) result }
+    ensures err { FailsReading (T.state tx.old) (T.state tx.new) result }
+    ensures stays { StaysWithin T.lenders T.state tx.old tx.new result }
 {
     if find_timed_out(tx, upload)? {
         Ok(FoundUpload::TimedOut)
@@ -49,17 +47,17 @@ fn load_gone<S: Alter>(tx: &mut Transaction<'_, S>, upload: u64) -> Result<Found
 
 /// What is known at the number of an upload: its row and the segments that were received, or that it
 /// timed out, or nothing. A number of 2^63 or more is a fault of the store.
-pub fn load_upload<S: Alter>(
-    tx: &mut Transaction<'_, S>,
+pub fn load_upload<T: Statements>(
+    tx: &mut T,
     alloc: Global,
     upload: u64,
 ) -> Result<FoundUpload, StoreFault>
-    ensures map { Tells (state S.Store tx.old.conn.now) (state S.Store tx.new.conn.now) result
+    ensures map { Tells (T.state tx.old) (T.state tx.new) result
         (λ s found. IsFound s upload found) }
-    ensures same { ReadsOnly (state S.Store tx.old.conn.now) (state S.Store tx.new.conn.now) result }
-    ensures ours { KeepsOurs (state S.Store tx.old.conn.now) (state S.Store tx.new.conn.now) result }
-    ensures err { FailsReading (state S.Store tx.old.conn.now) (state S.Store tx.new.conn.now) result }
-    ensures stays { StaysWithin S.Store tx.old.conn tx.new.conn result }
+    ensures same { ReadsOnly (T.state tx.old) (T.state tx.new) result }
+    ensures ours { KeepsOurs (T.state tx.old) (T.state tx.new) result }
+    ensures err { FailsReading (T.state tx.old) (T.state tx.new) result }
+    ensures stays { StaysWithin T.lenders T.state tx.old tx.new result }
 {
     match find_upload(tx, upload)? {
         Some(row) => Ok(FoundUpload::Live(StagedUpload {

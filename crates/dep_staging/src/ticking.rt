@@ -3,7 +3,6 @@
 ghost use Rattle.std.specs.Prelude.{◌≡◌, ◌<◌, ◌^◌, None, OnOk, IfOk, IfErr, nat_lt, ◌-◌, false};
 ghost use Rattle.std.specs.Option.{option_map_or};
 ghost use Rattle.std.specs.FinMap as finmap;
-ghost use Rattle.sqlite.specs.Held.{state};
 ghost use Rattle.dep_types.specs.Sound.{IsSound};
 ghost use Rattle.dep_types.specs.State as machine;
 ghost use Rattle.dep_tables.specs.Tables.{tables_of};
@@ -17,9 +16,10 @@ ghost use Rattle.dep_staging.specs.Expiring.{timed_out, expired_at, expired_all}
 ghost use Rattle.dep_staging.specs.Causes.{FailsByOne, FailsSince, FailsToExpire, FailsToExpireAll, FailsToTick, HasStorableNumbers};
 
 use crate::uploads::drop_upload;
-use dep_tables::{StateRow, find_upload, insert_timed_out, next_upload, read_state, write_state};
+use dep_tables::{
+    StateRow, Statements, find_upload, insert_timed_out, next_upload, read_state, write_state,
+};
 use dep_types::{Config, GREATEST_MOMENT, StoreFault, UploadRow};
-use sqlite::{Alter, Transaction};
 
 /// Whether the upload was left alone for longer than is allowed.
 fn is_idle(config: &Config, clock: u64, found: &Option<UploadRow>) -> bool
@@ -32,38 +32,35 @@ fn is_idle(config: &Config, clock: u64, found: &Option<UploadRow>) -> bool
     }
 }
 
-fn expire<S: Alter>(tx: &mut Transaction<'_, S>, upload: u64) -> Result<(), StoreFault>
-    ensures map { FromMaps (state S.Store tx.old.conn.now) (state S.Store tx.new.conn.now)
-        (λ s. OnOk result (TablesAre (tables_of (state S.Store tx.new.conn.now))
-        (timed_out upload s))) }
-    ensures ours { KeepsOurs (state S.Store tx.old.conn.now) (state S.Store tx.new.conn.now) result }
-    ensures cause { FailsByOne S.Store tx.old.conn.now tx.new.conn.now result
+fn expire<T: Statements>(tx: &mut T, upload: u64) -> Result<(), StoreFault>
+    ensures map { FromMaps (T.state tx.old) (T.state tx.new)
+        (λ s. OnOk result (TablesAre (tables_of (T.state tx.new)) (timed_out upload s))) }
+    ensures ours { KeepsOurs (T.state tx.old) (T.state tx.new) result }
+    ensures cause { FailsByOne T.state tx.old tx.new result
         (upload < 2 ^ 63) (FailsToExpire upload) }
-    ensures err { FailsUncommitted
-        (state S.Store tx.old.conn.now) (state S.Store tx.new.conn.now) result }
-    ensures stays { StaysWithin S.Store tx.old.conn tx.new.conn result }
+    ensures err { FailsUncommitted (T.state tx.old) (T.state tx.new) result }
+    ensures stays { StaysWithin T.lenders T.state tx.old tx.new result }
 {
     drop_upload(tx, upload)?;
     insert_timed_out(tx, upload)
 }
 
-fn expire_if_idle<S: Alter>(
-    tx: &mut Transaction<'_, S>,
+fn expire_if_idle<T: Statements>(
+    tx: &mut T,
     config: &Config,
     clock: u64,
     upload: u64,
 ) -> Result<(), StoreFault>
-    ensures map { FromMaps (state S.Store tx.old.conn.now) (state S.Store tx.new.conn.now)
-        (λ s. OnOk result (TablesAre (tables_of (state S.Store tx.new.conn.now))
+    ensures map { FromMaps (T.state tx.old) (T.state tx.new)
+        (λ s. OnOk result (TablesAre (tables_of (T.state tx.new))
         (expired_at config.now clock upload s))) }
-    ensures ours { KeepsOurs (state S.Store tx.old.conn.now) (state S.Store tx.new.conn.now) result }
-    ensures cause { FromMaps (state S.Store tx.old.conn.now) (state S.Store tx.new.conn.now)
+    ensures ours { KeepsOurs (T.state tx.old) (T.state tx.new) result }
+    ensures cause { FromMaps (T.state tx.old) (T.state tx.new)
         (λ s. upload < 2 ^ 63
-        → IfErr result (FailsSince S.Store (FailsToExpireAll config.now clock s.uploads)
-        tx.old.conn.now tx.new.conn.now)) }
-    ensures err { FailsReadingUncommitted
-        (state S.Store tx.old.conn.now) (state S.Store tx.new.conn.now) result }
-    ensures stays { StaysWithin S.Store tx.old.conn tx.new.conn result }
+        → IfErr result (FailsSince T.state (FailsToExpireAll config.now clock s.uploads)
+        tx.old tx.new)) }
+    ensures err { FailsReadingUncommitted (T.state tx.old) (T.state tx.new) result }
+    ensures stays { StaysWithin T.lenders T.state tx.old tx.new result }
 {
     let found = find_upload(tx, upload)?;
     if is_idle(config, clock, &found) {
@@ -73,23 +70,17 @@ fn expire_if_idle<S: Alter>(
     }
 }
 
-fn expire_idle<S: Alter>(
-    tx: &mut Transaction<'_, S>,
-    config: &Config,
-    clock: u64,
-) -> Result<(), StoreFault>
-    ensures map { FromMaps (state S.Store tx.old.conn.now) (state S.Store tx.new.conn.now)
+fn expire_idle<T: Statements>(tx: &mut T, config: &Config, clock: u64) -> Result<(), StoreFault>
+    ensures map { FromMaps (T.state tx.old) (T.state tx.new)
         (λ s. finmap.get s.uploads 0 ≡ None
-        → OnOk result (TablesAre (tables_of (state S.Store tx.new.conn.now))
-        (expired_all config.now clock s))) }
-    ensures ours { KeepsOurs (state S.Store tx.old.conn.now) (state S.Store tx.new.conn.now) result }
-    ensures cause { FromMaps (state S.Store tx.old.conn.now) (state S.Store tx.new.conn.now)
+        → OnOk result (TablesAre (tables_of (T.state tx.new)) (expired_all config.now clock s))) }
+    ensures ours { KeepsOurs (T.state tx.old) (T.state tx.new) result }
+    ensures cause { FromMaps (T.state tx.old) (T.state tx.new)
         (λ s. finmap.get s.uploads 0 ≡ None → HasStorableNumbers s.uploads
-        → IfErr result (FailsSince S.Store (FailsToExpireAll config.now clock s.uploads)
-        tx.old.conn.now tx.new.conn.now)) }
-    ensures err { FailsReadingUncommitted
-        (state S.Store tx.old.conn.now) (state S.Store tx.new.conn.now) result }
-    ensures stays { StaysWithin S.Store tx.old.conn tx.new.conn result }
+        → IfErr result (FailsSince T.state (FailsToExpireAll config.now clock s.uploads)
+        tx.old tx.new)) }
+    ensures err { FailsReadingUncommitted (T.state tx.old) (T.state tx.new) result }
+    ensures stays { StaysWithin T.lenders T.state tx.old tx.new result }
 {
     let mut last = 0;
     'uploads: for passed in 0..u64::MAX {
@@ -103,22 +94,16 @@ fn expire_idle<S: Alter>(
 }
 
 // Writes the clock where it moves: a tick within the same second writes nothing.
-fn set_clock<S: Alter>(
-    tx: &mut Transaction<'_, S>,
-    row: &StateRow,
-    clock: u64,
-) -> Result<(), StoreFault>
-    ensures map { FromMaps (state S.Store tx.old.conn.now) (state S.Store tx.new.conn.now)
+fn set_clock<T: Statements>(tx: &mut T, row: &StateRow, clock: u64) -> Result<(), StoreFault>
+    ensures map { FromMaps (T.state tx.old) (T.state tx.new)
         (λ s. row.now ≡ state_row s
-        → OnOk result (TablesAre (tables_of (state S.Store tx.new.conn.now))
-        (with_counters s clock s.next))) }
-    ensures ours { KeepsOurs (state S.Store tx.old.conn.now) (state S.Store tx.new.conn.now) result }
-    ensures cause { FailsByRunning
-        (state S.Store tx.old.conn.now) (state S.Store tx.new.conn.now) result
+        → OnOk result (TablesAre (tables_of (T.state tx.new)) (with_counters s clock s.next))) }
+    ensures ours { KeepsOurs (T.state tx.old) (T.state tx.new) result }
+    ensures cause { FailsByRunning (T.state tx.old) (T.state tx.new) result
         (IsStorableState (record row.now { clock = clock }))
         write_state_text (state_values (record row.now { clock = clock })) }
-    ensures err { FailsWhole (state S.Store tx.old.conn.now) (state S.Store tx.new.conn.now) result }
-    ensures stays { StaysWithin S.Store tx.old.conn tx.new.conn result }
+    ensures err { FailsWhole (T.state tx.old) (T.state tx.new) result }
+    ensures stays { StaysWithin T.lenders T.state tx.old tx.new result }
 {
     if clock == row.clock {
         return Ok(());
@@ -135,24 +120,17 @@ fn set_clock<S: Alter>(
 /// Moves the clock to the moment, in seconds of Unix time, and never back, and ends each upload that
 /// was left idle: its row, its segments and their bytes go, and its number is remembered. It answers
 /// the clock. No upload has the number 0. A number of 2^63 or more is a fault of the store.
-pub fn tick<S: Alter>(
-    tx: &mut Transaction<'_, S>,
-    config: &Config,
-    moment: u64,
-) -> Result<u64, StoreFault>
-    ensures map { FromMaps (state S.Store tx.old.conn.now) (state S.Store tx.new.conn.now)
+pub fn tick<T: Statements>(tx: &mut T, config: &Config, moment: u64) -> Result<u64, StoreFault>
+    ensures map { FromMaps (T.state tx.old) (T.state tx.new)
         (λ s. finmap.get s.uploads 0 ≡ None
         → IfOk result (λ clock. (clock ≡ (machine.tick config.now s moment).clock)
-        × TablesAre (tables_of (state S.Store tx.new.conn.now))
-        (machine.tick config.now s moment))) }
-    ensures ours { KeepsOurs (state S.Store tx.old.conn.now) (state S.Store tx.new.conn.now) result }
-    ensures cause { FromMaps (state S.Store tx.old.conn.now) (state S.Store tx.new.conn.now)
+        × TablesAre (tables_of (T.state tx.new)) (machine.tick config.now s moment))) }
+    ensures ours { KeepsOurs (T.state tx.old) (T.state tx.new) result }
+    ensures cause { FromMaps (T.state tx.old) (T.state tx.new)
         (λ s. IsSound s
-        → IfErr result (FailsSince S.Store (FailsToTick config.now s moment)
-        tx.old.conn.now tx.new.conn.now)) }
-    ensures err { FailsReadingUncommitted
-        (state S.Store tx.old.conn.now) (state S.Store tx.new.conn.now) result }
-    ensures stays { StaysWithin S.Store tx.old.conn tx.new.conn result }
+        → IfErr result (FailsSince T.state (FailsToTick config.now s moment) tx.old tx.new)) }
+    ensures err { FailsReadingUncommitted (T.state tx.old) (T.state tx.new) result }
+    ensures stays { StaysWithin T.lenders T.state tx.old tx.new result }
 {
     let row = read_state(tx)?;
     let clock = row.clock.max(moment.min(GREATEST_MOMENT));

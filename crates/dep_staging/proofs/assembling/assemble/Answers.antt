@@ -1,6 +1,5 @@
 use Rattle.dep_tables.proofs.Results.{if_failed}
 use Rattle.dep_tables.proofs.Chains.{clean_before, stays_then, stays_err}
-use Rattle.sqlite.specs.Held.{state}
 use Rattle.dep_tables.specs.Tables.{tables_of}
 use Rattle.dep_files.proofs.Results.{ok_both, fails_behind}
 use Rattle.dep_staging.proofs.Moved.{made}
@@ -8,11 +7,11 @@ use Rattle.dep_staging.proofs.assembling.assemble.Goals as goal
 
 pub returns-clause-map : goal.returns-clause-map
 returns-clause-map g c clean inside ours s are o it file there held whole upload_is row_is content =
-    let old = state g.S.Store c.args.tx.now.conn.now in
-    let one = state g.S.Store c.move_parts.new.tx.conn.now in
-    let two = state g.S.Store c.delete_segments.new.tx.conn.now in
-    let three = state g.S.Store c.delete_upload.new.tx.conn.now in
-    let new = state g.S.Store c.insert_file.new.tx.conn.now in
+    let old = g.T.Statements.state c.args.tx.now in
+    let one = g.T.Statements.state c.move_parts.new.tx in
+    let two = g.T.Statements.state c.delete_segments.new.tx in
+    let three = g.T.Statements.state c.delete_upload.new.tx in
+    let new = g.T.Statements.state c.insert_file.new.tx in
     let clean_three = clean_before c.insert_file.ensures.stays clean in
     let clean_two = clean_before c.delete_upload.ensures.stays clean_three in
     let clean_one = clean_before c.delete_segments.ensures.stays clean_two in

@@ -1,4 +1,3 @@
-use Rattle.sqlite.specs.Held.{state}
 use Rattle.dep_tables.proofs.Results.{if_failed}
 use Rattle.dep_tables.proofs.Chains.{clean_before, stays_then, stays_ok, stays_err}
 use Rattle.dep_tables.specs.Tables.{tables_of}
@@ -8,9 +7,9 @@ use Rattle.dep_staging.proofs.assembling.move_parts.Goals as goal
 
 pub loop-before-preserved : goal.loop-before-preserved
 loop-before-preserved g c =
-    let old = state g.S.Store c.args.tx.now.conn.now in
-    let mid = state g.S.Store c.loop-before.tx.conn.now in
-    let new = state g.S.Store c.move_part.new.tx.conn.now in
+    let old = g.T.Statements.state c.args.tx.now in
+    let mid = g.T.Statements.state c.loop-before.tx in
+    let new = g.T.Statements.state c.move_part.new.tx in
     let inv = c.loop-before.invariant in (
       stays_ok (stays_then inv.0 c.in_ok-move_part.ensures.stays),
       λ clean inside ours.

@@ -1,6 +1,5 @@
 use Rattle.std.proofs.Common.{◌<◌, ◌≤◌, ◌++◌, length, rules, sym, ap, subst, ◌∙◌, append-nil, append_assoc}
 use Rattle.sha2.specs.Hashers.{Holds256}
-use Rattle.sqlite.specs.Held.{state}
 use Rattle.sqlite.proofs.StateLemmas.{unchanged}
 use Rattle.sqlite.proofs.Callers.{unchanged_then}
 use Rattle.dep_tables.proofs.Results.{if_failed}
@@ -20,15 +19,15 @@ pub loop-place-init : goal.loop-place-init
 loop-place-init g c = (
   c.div_ceil-place-end.ensures,
   search rules,
-  λ is_open clean ours. unchanged (state g.S.Store c.args.tx.now.conn.now) is_open,
+  λ is_open clean ours. unchanged (g.T.Statements.state c.args.tx.now) is_open,
   λ is_open clean ours s are bytes message its holds. subst (Holds256 c.args.hasher.now) (sym (append-nil message)) holds,
 )
 
 pub loop-place-preserved : goal.loop-place-preserved
 loop-place-preserved g c =
-    let old = state g.S.Store c.args.tx.now.conn.now in
-    let mid = state g.S.Store c.loop-place.tx.conn.now in
-    let new = state g.S.Store c.segment_block.new.tx.conn.now in
+    let old = g.T.Statements.state c.args.tx.now in
+    let mid = g.T.Statements.state c.loop-place.tx in
+    let new = g.T.Statements.state c.segment_block.new.tx in
     let inv = c.loop-place.invariant in
     let earlier = clean_before c.segment_block.ensures.stays in (
       inv.0,
@@ -56,9 +55,9 @@ returns-in_err-block-clause-stays g c = stays_err c.from_residual.ensures.0 (sta
 
 pub returns-in_err-block-clause-err : goal.returns-in_err-block-clause-err
 returns-in_err-block-clause-err g c clean inside ours is_open =
-    let old = state g.S.Store c.args.tx.now.conn.now in
-    let mid = state g.S.Store c.loop-place.tx.conn.now in
-    let new = state g.S.Store c.segment_block.new.tx.conn.now in
+    let old = g.T.Statements.state c.args.tx.now in
+    let mid = g.T.Statements.state c.loop-place.tx in
+    let new = g.T.Statements.state c.segment_block.new.tx in
     let inv = c.loop-place.invariant in
     let before = clean_before c.segment_block.ensures.stays clean in
     let within = inv.1.inside before inside in
@@ -68,14 +67,14 @@ returns-in_err-block-clause-err g c clean inside ours is_open =
 
 pub returns-in_err-block-clause-cause : goal.returns-in_err-block-clause-cause
 returns-in_err-block-clause-cause g c clean ours is_open s are bytes its storable =
-    let old = c.args.tx.now.conn.now in
-    let mid = c.loop-place.tx.conn.now in
-    let new = c.segment_block.new.tx.conn.now in
+    let old = c.args.tx.now in
+    let mid = c.loop-place.tx in
+    let new = c.segment_block.new.tx in
     let inv = c.loop-place.invariant in
     let same = inv.2 is_open (clean_before c.segment_block.ensures.stays clean) ours in
-    let are_mid = subst (λ (t : Tables). TablesAre t s) (sym (same_tables (state g.S.Store old) (state g.S.Store mid) same)) are in
+    let are_mid = subst (λ (t : Tables). TablesAre t s) (sym (same_tables (g.T.Statements.state old) (g.T.Statements.state mid) same)) are in
     let within : c.loop-place.place < length (blocks_of bytes) = subst (λ n. c.loop-place.place < n) (inv.0 ∙ counted s c.args.segment.now bytes its) c.loop-place-test.true in
     let key = storable_key c.args.segment.now c.loop-place.place storable (subst (λ n. c.loop-place.place < n) inv.0 c.loop-place-test.true) in
-    let known = fails_later g.S.Store old mid new inv.1.survives (FailsToHash c.args.segment.now.upload) (FailsToHash c.args.segment.now.upload) (λ at now fault failed. failed) _
-    (c.in_err-block.ensures.cause clean (still_ours (state g.S.Store old) (state g.S.Store mid) same ours) s are_mid bytes its within key) in
+    let known = fails_later g.T.Statements.state old mid new inv.1.survives (FailsToHash c.args.segment.now.upload) (FailsToHash c.args.segment.now.upload) (λ at now fault failed. failed) _
+    (c.in_err-block.ensures.cause clean (still_ours (g.T.Statements.state old) (g.T.Statements.state mid) same ours) s are_mid bytes its within key) in
     search rules

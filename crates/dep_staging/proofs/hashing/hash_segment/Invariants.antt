@@ -3,7 +3,6 @@ use Rattle.std.specs.Int.{div_ceil}
 use Rattle.std.specs.List.{flat_map}
 use Rattle.sha2.specs.Hashers.{Holds256}
 use Rattle.sqlite.specs.State.{HasCleanDisk, IsUnchanged}
-use Rattle.sqlite.specs.Held.{state}
 use Rattle.dep_types.specs.State.{State}
 use Rattle.dep_tables.specs.Tables.{tables_of, IsOurs}
 use Rattle.dep_tables.proofs.Chains.{Stays}
@@ -14,10 +13,10 @@ use Rattle.dep_staging.proofs.hashing.hash_segment.Given as goal
 
 abbrev pub invariant-loop-place : goal.invariant-loop-place
 invariant-loop-place g l =
-    let old = state g.S.Store l.fn.tx.conn.now in
-    let now = state g.S.Store l.tx.conn.now in
+    let old = g.T.Statements.state l.fn.tx in
+    let now = g.T.Statements.state l.tx in
     (l.place-end ≡ div_ceil l.segment.size 65536)
-    × Stays g.S.Store l.fn.tx.conn l.tx.conn
+    × Stays g.T.Statements.lenders g.T.Statements.state l.fn.tx l.tx
     × (IsTrue old.is_open → HasCleanDisk now → IsOurs old → IsUnchanged old now)
     × (IsTrue old.is_open → HasCleanDisk now → IsOurs old → (s : State) → TablesAre (tables_of old) s
     → (bytes message : List ℕ) → IsSegmentOf s l.segment bytes → Holds256 l.fn.hasher message

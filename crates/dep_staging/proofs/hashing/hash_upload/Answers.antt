@@ -4,7 +4,6 @@ use Rattle.std.specs.List.{flat_map}
 use Rattle.std.proofs.lemmas.List.{take_all, length-map}
 use Rattle.sha2.specs.Sha256.{sha256}
 use Rattle.sha2.specs.Hashers.{Holds256}
-use Rattle.sqlite.specs.Held.{state}
 use Rattle.sqlite.proofs.Callers.{unchanged_then}
 use Rattle.dep_tables.proofs.Results.{if_failed}
 use Rattle.dep_tables.proofs.Chains.{clean_before, stays_then, stays_ok, stays_err}
@@ -14,11 +13,11 @@ use Rattle.dep_row_maps.specs.TablesAre.{TablesAre, segments_at, joined}
 use Rattle.dep_row_maps.proofs.Pieces.{assembled-joined}
 use Rattle.dep_row_maps.proofs.Readings.{segments_read}
 use Rattle.dep_row_maps.proofs.Whole.{segments_there}
-use Rattle.dep_files.proofs.Results.{still_ours, same_tables}
+use Rattle.dep_files.proofs.Results.{still_ours, same_tables, survives_itself}
 use Rattle.dep_staging.proofs.Chains.{fails_reading}
 use Rattle.dep_staging.specs.Causes.{FailsToHash}
 use Rattle.dep_staging.specs.Causes.FailsToHash.{segments}
-use Rattle.dep_staging.proofs.Causes.{fails_then, fails_later, survives_itself, if_err_is}
+use Rattle.dep_staging.proofs.Causes.{fails_then, fails_later, if_err_is}
 use Rattle.dep_staging.proofs.Hashed.{of_entry, entry_of, segment_is, storable_segment}
 use Rattle.dep_staging.proofs.hashing.hash_upload.Goals as goal
 
@@ -31,9 +30,9 @@ rows-init g c = (
 
 pub rows-preserved : goal.rows-preserved
 rows-preserved g c =
-    let old = state g.S.Store c.args.tx.now.conn.now in
-    let mid = state g.S.Store c.rows.tx.conn.now in
-    let new = state g.S.Store c.hash_segment.new.tx.conn.now in
+    let old = g.T.Statements.state c.args.tx.now in
+    let mid = g.T.Statements.state c.rows.tx in
+    let new = g.T.Statements.state c.hash_segment.new.tx in
     let u = c.args.upload in
     let inv = c.rows.invariant in
     let earlier = clean_before c.hash_segment.ensures.stays in (
@@ -57,7 +56,7 @@ rows-preserved g c =
 
 pub returns-clause-map : goal.returns-clause-map
 returns-clause-map g c clean ours s are =
-    let old = state g.S.Store c.args.tx.now.conn.now in
+    let old = g.T.Statements.state c.args.tx.now in
     let u = c.args.upload in
     let inv = c.rows.invariant in
     let es = finmap.entries (segments_at s.uploads u) in
@@ -80,33 +79,33 @@ returns-in_err-hash_segment-clause-err g c clean inside ours is_open =
 
 pub returns-in_err-rows-clause-cause : goal.returns-in_err-rows-clause-cause
 returns-in_err-rows-clause-cause g c clean ours s are storable =
-    let old = c.args.tx.now.conn.now in
+    let old = c.args.tx.now in
     if_err_is _ c.from_residual.result c.in_err-rows.field-0.0 c.from_residual.ensures.1
-    (fails_then g.S.Store old old c.segments_of.new.tx.conn.now (survives_itself (state g.S.Store old)) (FailsToHash c.args.upload) _
+    (fails_then g.T.Statements.state old old c.segments_of.new.tx (survives_itself (g.T.Statements.state old)) (FailsToHash c.args.upload) _
     (segments (c.in_err-rows.ensures.cause storable.upload clean)))
 
 pub returns-in_err-hash_segment-clause-cause : goal.returns-in_err-hash_segment-clause-cause
 returns-in_err-hash_segment-clause-cause g c clean ours s are storable =
-    let old = c.args.tx.now.conn.now in
-    let mid = c.rows.tx.conn.now in
-    let new = c.hash_segment.new.tx.conn.now in
+    let old = c.args.tx.now in
+    let mid = c.rows.tx in
+    let new = c.hash_segment.new.tx in
     let u = c.args.upload in
     let inv = c.rows.invariant in
     let before = clean_before c.hash_segment.ensures.stays clean in
     let same = inv.1 before ours in
-    let are_mid = subst (λ (t : Tables). TablesAre t s) (sym (same_tables (state g.S.Store old) (state g.S.Store mid) same)) are in
+    let are_mid = subst (λ (t : Tables). TablesAre t s) (sym (same_tables (g.T.Statements.state old) (g.T.Statements.state mid) same)) are in
     let es = finmap.entries (segments_at s.uploads u) in
     let listed : c.in_ok-rows.rows.items ≡ map (of_entry u) es =
-    segments_read (tables_of (state g.S.Store old)) s are u c.in_ok-rows.rows.items (c.in_ok-rows.ensures.ok (clean_before inv.0 before) ours) in
+    segments_read (tables_of (g.T.Statements.state old)) s are u c.in_ok-rows.rows.items (c.in_ok-rows.ensures.ok (clean_before inv.0 before) ours) in
     let none : SegmentRow = record { upload = 0; number = 0; size = 0 } in
     let e = entry_of u es c.as_slice-row-items.result.now (finmap.entries_sorted (segments_at s.uploads u)) c.rows.row-index none
     (c.as_slice-row-items.ensures.value ∙ listed) c.rows-test.true in
     let its = segment_is s u c.rows.row-index _ e in
     let stays = stays_then c.in_ok-rows.ensures.stays inv.0 in
     if_err_is _ c.from_residual-in_err-hash_segment.result c.in_err-hash_segment.field-0.0 c.from_residual-in_err-hash_segment.ensures.1
-    (fails_later g.S.Store old mid new stays.survives _ (FailsToHash u)
+    (fails_later g.T.Statements.state old mid new stays.survives _ (FailsToHash u)
     (λ at now fault failed. subst (λ k. FailsToHash k at now fault) (ap (λ (r : SegmentRow). r.upload) e.is) failed) _
-    (c.in_err-hash_segment.ensures.cause clean (still_ours (state g.S.Store old) (state g.S.Store mid) same ours) same.0.is_open
+    (c.in_err-hash_segment.ensures.cause clean (still_ours (g.T.Statements.state old) (g.T.Statements.state mid) same ours) same.0.is_open
     s are_mid e.bytes its (storable_segment s u c.rows.row-index _ storable e)))
 
 pub returns-clause-stays : goal.returns-clause-stays

@@ -1,5 +1,4 @@
 use Rattle.std.proofs.Common.{sym, subst}
-use Rattle.sqlite.specs.Held.{state}
 use Rattle.dep_tables.specs.Tables.{Tables, tables_of}
 use Rattle.dep_tables.proofs.Results.{if_then, if_failed}
 use Rattle.dep_tables.proofs.Chains.{clean_before, stays_then, stays_ok, stays_err}
@@ -11,8 +10,8 @@ use Rattle.dep_staging.proofs.loading.load_upload.Goals as goal
 
 pub returns-in_ok-segments_of-in-Some-clause-map : goal.returns-in_ok-segments_of-in-Some-clause-map
 returns-in_ok-segments_of-in-Some-clause-map g c clean ours s are =
-    let old = state g.S.Store c.args.tx.now.conn.now in
-    let mid = state g.S.Store c.find_upload.new.tx.conn.now in
+    let old = g.T.Statements.state c.args.tx.now in
+    let mid = g.T.Statements.state c.find_upload.new.tx in
     let before = clean_before c.segments_of.ensures.stays clean in
     let same = c.in_ok-row.ensures.same before ours in
     found_live (tables_of old) (tables_of mid) s c.args.upload c.in_ok-row.field-0 c.in-Some.row _ are c.in-Some.is (c.in_ok-row.ensures.ok before ours) (same_tables old mid same)
@@ -20,8 +19,8 @@ returns-in_ok-segments_of-in-Some-clause-map g c clean ours s are =
 
 pub returns-in-None-clause-map : goal.returns-in-None-clause-map
 returns-in-None-clause-map g c clean ours s are =
-    let old = state g.S.Store c.args.tx.now.conn.now in
-    let mid = state g.S.Store c.find_upload.new.tx.conn.now in
+    let old = g.T.Statements.state c.args.tx.now in
+    let mid = g.T.Statements.state c.find_upload.new.tx in
     let before = clean_before c.load_gone.ensures.stays clean in
     let same = c.in_ok-row.ensures.same before ours in
     if_then c.load_gone.result (c.load_gone.ensures.map clean (still_ours old mid same ours) s (subst (λ (t : Tables). TablesAre t s) (sym (same_tables old mid same)) are))

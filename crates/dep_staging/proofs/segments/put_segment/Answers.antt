@@ -1,4 +1,3 @@
-use Rattle.sqlite.specs.Held.{state}
 use Rattle.dep_tables.specs.Tables.{tables_of}
 use Rattle.dep_tables.proofs.Results.{ok_then, if_failed}
 use Rattle.dep_tables.proofs.Chains.{clean_before, stays_then, stays_err}
@@ -8,10 +7,10 @@ use Rattle.dep_staging.proofs.segments.put_segment.Goals as goal
 
 pub returns-clause-map : goal.returns-clause-map
 returns-clause-map g c clean inside ours s are was it there none is its grown =
-    let old = state g.S.Store c.args.tx.now.conn.now in
-    let one = state g.S.Store c.put_blocks.new.tx.conn.now in
-    let two = state g.S.Store c.insert_segment.new.tx.conn.now in
-    let new = state g.S.Store c.write_upload.new.tx.conn.now in
+    let old = g.T.Statements.state c.args.tx.now in
+    let one = g.T.Statements.state c.put_blocks.new.tx in
+    let two = g.T.Statements.state c.insert_segment.new.tx in
+    let new = g.T.Statements.state c.write_upload.new.tx in
     let clean_two = clean_before c.write_upload.ensures.stays clean in
     let clean_one = clean_before c.insert_segment.ensures.stays clean_two in
     let first = c.in_ok-put_blocks.ensures.ok clean_one inside ours in

@@ -1,5 +1,4 @@
 use Rattle.std.proofs.Common.{sym, subst, ◌∙◌, arith, rules}
-use Rattle.sqlite.specs.Held.{state}
 use Rattle.dep_types.specs.State.{State}
 use Rattle.dep_tables.specs.Tables.{Tables, tables_of}
 use Rattle.dep_tables.proofs.Results.{if_failed}
@@ -17,9 +16,9 @@ use Rattle.dep_staging.proofs.ticking.expire_idle.Goals as goal
 
 pub uploads-preserved : goal.uploads-preserved
 uploads-preserved g c =
-    let mid = state g.S.Store c.uploads.tx.conn.now in
-    let seen = state g.S.Store c.next_upload.new.tx.conn.now in
-    let new = state g.S.Store c.expire_if_idle.new.tx.conn.now in
+    let mid = g.T.Statements.state c.uploads.tx in
+    let seen = g.T.Statements.state c.next_upload.new.tx in
+    let new = g.T.Statements.state c.expire_if_idle.new.tx in
     let inv = c.uploads.invariant in
     let looked = stays_then inv.0 c.in_ok-upload.ensures.stays in
     let clean_seen = clean_before c.expire_if_idle.ensures.stays in
@@ -51,8 +50,8 @@ uploads-preserved g c =
 
 pub returns-in_default-clause-map : goal.returns-in_default-clause-map
 returns-in_default-clause-map g c clean inside ours s are zero_free =
-    let mid = state g.S.Store c.uploads.tx.conn.now in
-    let seen = state g.S.Store c.next_upload.new.tx.conn.now in
+    let mid = g.T.Statements.state c.uploads.tx in
+    let seen = g.T.Statements.state c.next_upload.new.tx in
     let inv = c.uploads.invariant in
     let before = clean_before c.next_upload.ensures.stays clean in
     let ours_mid = inv.1 before inside ours in
@@ -66,28 +65,28 @@ pub uploads-init : goal.uploads-init
 uploads-init g c = (
   search rules,
   λ clean inside ours. ours,
-  λ clean inside ours s are zero_free. none_expired c.args.config.now c.args.clock s (tables_of (state g.S.Store c.args.tx.now.conn.now)) are zero_free,
+  λ clean inside ours s are zero_free. none_expired c.args.config.now c.args.clock s (tables_of (g.T.Statements.state c.args.tx.now)) are zero_free,
   λ clean inside ours s are zero_free storable. (omega arith, omega arith),
 )
 
 pub returns-in_err-upload-clause-cause : goal.returns-in_err-upload-clause-cause
 returns-in_err-upload-clause-cause g c clean inside ours s are zero_free storable =
-    let old = c.args.tx.now.conn.now in
-    let mid = c.uploads.tx.conn.now in
-    let new = c.next_upload.new.tx.conn.now in
+    let old = c.args.tx.now in
+    let mid = c.uploads.tx in
+    let new = c.next_upload.new.tx in
     let inv = c.uploads.invariant in
     let before = clean_before c.next_upload.ensures.stays clean in
     let last = inv.3 before inside ours s are zero_free storable in
-    if_err_is _ c.from_residual.result c.in_err-upload.field-0.0 c.from_residual.ensures.1 (fails_then g.S.Store old mid new inv.0.survives (FailsToExpireAll c.args.config.now c.args.clock s.uploads) _ (next c.uploads.last (c.in_err-upload.ensures.cause last.0 clean)))
+    if_err_is _ c.from_residual.result c.in_err-upload.field-0.0 c.from_residual.ensures.1 (fails_then g.T.Statements.state old mid new inv.0.survives (FailsToExpireAll c.args.config.now c.args.clock s.uploads) _ (next c.uploads.last (c.in_err-upload.ensures.cause last.0 clean)))
 
 pub returns-in_err-expire_if_idle-clause-cause : goal.returns-in_err-expire_if_idle-clause-cause
 returns-in_err-expire_if_idle-clause-cause g c clean inside ours s are zero_free storable =
     let config = c.args.config.now in
     let clock = c.args.clock in
-    let old = c.args.tx.now.conn.now in
-    let mid = c.uploads.tx.conn.now in
-    let seen = c.next_upload.new.tx.conn.now in
-    let new = c.expire_if_idle.new.tx.conn.now in
+    let old = c.args.tx.now in
+    let mid = c.uploads.tx in
+    let seen = c.next_upload.new.tx in
+    let new = c.expire_if_idle.new.tx in
     let inv = c.uploads.invariant in
     let clean_seen = clean_before c.expire_if_idle.ensures.stays clean in
     let clean_mid = clean_before c.next_upload.ensures.stays clean_seen in
@@ -96,12 +95,12 @@ returns-in_err-expire_if_idle-clause-cause g c clean inside ours s are zero_free
     let z = inv.2 clean_mid inside ours s are zero_free in
     let same = c.in_ok-upload.ensures.same clean_seen ours_mid in
     let was : State = record s { uploads = z.uploads; timed_out = z.numbers } in
-    let after = next_of z.uploads c.uploads.last c.in-Some.upload (sym c.in-Some.is ∙ next_upload_read (tables_of (state g.S.Store mid)) was z.are c.uploads.last c.in_ok-upload.field-0 (c.in_ok-upload.ensures.ok clean_seen ours_mid)) in
-    let it = next_there config clock c.uploads.last c.in-Some.upload s (tables_of (state g.S.Store mid)) z after in
-    if_err_is _ c.from_residual-in_err-expire_if_idle.result c.in_err-expire_if_idle.field-0.0 c.from_residual-in_err-expire_if_idle.ensures.1 (fails_later g.S.Store old seen new looked.survives (FailsToExpireAll config clock z.uploads) (FailsToExpireAll config clock s.uploads)
-    (λ at now fault failed. expire_fails config clock c.uploads.last s (tables_of (state g.S.Store mid)) z at now fault failed) _
-    (c.in_err-expire_if_idle.ensures.cause clean (looked.inside clean_seen inside) (still_ours (state g.S.Store mid) (state g.S.Store seen) same ours_mid) was
-    (subst (λ (t : Tables). TablesAre t was) (sym (same_tables (state g.S.Store mid) (state g.S.Store seen) same)) z.are) (storable c.in-Some.upload it.0 it.1)))
+    let after = next_of z.uploads c.uploads.last c.in-Some.upload (sym c.in-Some.is ∙ next_upload_read (tables_of (g.T.Statements.state mid)) was z.are c.uploads.last c.in_ok-upload.field-0 (c.in_ok-upload.ensures.ok clean_seen ours_mid)) in
+    let it = next_there config clock c.uploads.last c.in-Some.upload s (tables_of (g.T.Statements.state mid)) z after in
+    if_err_is _ c.from_residual-in_err-expire_if_idle.result c.in_err-expire_if_idle.field-0.0 c.from_residual-in_err-expire_if_idle.ensures.1 (fails_later g.T.Statements.state old seen new looked.survives (FailsToExpireAll config clock z.uploads) (FailsToExpireAll config clock s.uploads)
+    (λ at now fault failed. expire_fails config clock c.uploads.last s (tables_of (g.T.Statements.state mid)) z at now fault failed) _
+    (c.in_err-expire_if_idle.ensures.cause clean (looked.inside clean_seen inside) (still_ours (g.T.Statements.state mid) (g.T.Statements.state seen) same ours_mid) was
+    (subst (λ (t : Tables). TablesAre t was) (sym (same_tables (g.T.Statements.state mid) (g.T.Statements.state seen) same)) z.are) (storable c.in-Some.upload it.0 it.1)))
 
 pub returns-clause-cause : goal.returns-clause-cause
 returns-clause-cause g c clean inside ours s are zero_free storable =
@@ -125,8 +124,8 @@ returns-in_err-expire_if_idle-clause-stays g c =
 
 pub returns-in_err-expire_if_idle-clause-err : goal.returns-in_err-expire_if_idle-clause-err
 returns-in_err-expire_if_idle-clause-err g c ours clean inside is_open =
-    let mid = state g.S.Store c.uploads.tx.conn.now in
-    let seen = state g.S.Store c.next_upload.new.tx.conn.now in
+    let mid = g.T.Statements.state c.uploads.tx in
+    let seen = g.T.Statements.state c.next_upload.new.tx in
     let clean_seen = clean_before c.expire_if_idle.ensures.stays clean in
     let ours_mid = c.uploads.invariant.1 (clean_before c.next_upload.ensures.stays clean_seen) inside ours in
     let ours_seen = still_ours mid seen (c.in_ok-upload.ensures.same clean_seen ours_mid) ours_mid in

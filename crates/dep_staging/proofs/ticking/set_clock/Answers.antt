@@ -1,5 +1,4 @@
 use Rattle.std.proofs.Common.{◌≡◌, ap, sym, subst, ◌∙◌}
-use Rattle.sqlite.specs.Held.{state}
 use Rattle.dep_tables.specs.Tables.{Tables, tables_of}
 use Rattle.dep_tables.specs.declared.state.StateRow.{StateRow}
 use Rattle.dep_tables.proofs.Results.{ok_then}
@@ -10,12 +9,12 @@ use Rattle.dep_staging.proofs.ticking.set_clock.Goals as goal
 pub returns-then-clock-row-clause-map : goal.returns-then-clock-row-clause-map
 returns-then-clock-row-clause-map g c clean inside ours s are is =
     let same : c.args.clock ≡ s.clock = c.if-clock-row.true ∙ ap (λ (r : StateRow). r.clock) is in
-    subst (λ k. TablesAre (tables_of (state g.S.Store c.args.tx.now.conn.now)) (with_counters s k s.next)) (sym same) are
+    subst (λ k. TablesAre (tables_of (g.T.Statements.state c.args.tx.now)) (with_counters s k s.next)) (sym same) are
 
 pub returns-clause-map : goal.returns-clause-map
 returns-clause-map g c clean inside ours s are is =
-    let old = state g.S.Store c.args.tx.now.conn.now in
-    let new = state g.S.Store c.write_state.new.tx.conn.now in
+    let old = g.T.Statements.state c.args.tx.now in
+    let new = g.T.Statements.state c.write_state.new.tx in
     ok_then c.write_state.result (c.write_state.ensures.ok clean inside ours)
     (λ wrote. subst (λ k. TablesAre (tables_of new) (with_counters s c.args.clock k)) (ap (λ (r : StateRow). r.next) is)
     (subst (λ (t : Tables). TablesAre t (with_counters s c.args.clock c.args.row.now.next)) (sym wrote.rows) (state_written (tables_of old) s are c.args.clock c.args.row.now.next)))

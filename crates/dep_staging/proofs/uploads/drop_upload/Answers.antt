@@ -1,20 +1,19 @@
-use Rattle.sqlite.specs.Held.{state}
 use Rattle.dep_tables.specs.Tables.{tables_of}
 use Rattle.dep_tables.proofs.Results.{ok_then, if_failed}
 use Rattle.dep_tables.proofs.Chains.{clean_before, stays_then, stays_err}
-use Rattle.dep_files.proofs.Results.{fails_behind}
+use Rattle.dep_files.proofs.Results.{fails_behind, survives_itself}
 use Rattle.dep_staging.proofs.UploadCalls.{dropped}
 use Rattle.dep_staging.specs.Causes.{FailsToDrop}
 use Rattle.dep_staging.specs.Causes.FailsToDrop.{blocks, segments, row}
-use Rattle.dep_staging.proofs.Causes.{fails_then, if_err_then, survives_itself, if_err_is, never_failed}
+use Rattle.dep_staging.proofs.Causes.{fails_then, if_err_then, if_err_is, never_failed}
 use Rattle.dep_staging.proofs.uploads.drop_upload.Goals as goal
 
 pub returns-clause-map : goal.returns-clause-map
 returns-clause-map g c clean inside ours s are =
-    let old = state g.S.Store c.args.tx.now.conn.now in
-    let one = state g.S.Store c.delete_blocks.new.tx.conn.now in
-    let two = state g.S.Store c.delete_segments.new.tx.conn.now in
-    let new = state g.S.Store c.delete_upload.new.tx.conn.now in
+    let old = g.T.Statements.state c.args.tx.now in
+    let one = g.T.Statements.state c.delete_blocks.new.tx in
+    let two = g.T.Statements.state c.delete_segments.new.tx in
+    let new = g.T.Statements.state c.delete_upload.new.tx in
     let clean_two = clean_before c.delete_upload.ensures.stays clean in
     let clean_one = clean_before c.delete_segments.ensures.stays clean_two in
     let first = c.in_ok-delete_blocks.ensures.ok clean_one inside ours in
@@ -24,28 +23,28 @@ returns-clause-map g c clean inside ours s are =
 
 pub returns-in_err-delete_blocks-clause-cause : goal.returns-in_err-delete_blocks-clause-cause
 returns-in_err-delete_blocks-clause-cause g c storable clean inside =
-    let old = c.args.tx.now.conn.now in
-    if_err_is _ c.from_residual.result c.in_err-delete_blocks.field-0.0 c.from_residual.ensures.1 (fails_then g.S.Store old old c.delete_blocks.new.tx.conn.now (survives_itself (state g.S.Store old)) (FailsToDrop c.args.upload) _
+    let old = c.args.tx.now in
+    if_err_is _ c.from_residual.result c.in_err-delete_blocks.field-0.0 c.from_residual.ensures.1 (fails_then g.T.Statements.state old old c.delete_blocks.new.tx (survives_itself (g.T.Statements.state old)) (FailsToDrop c.args.upload) _
     (blocks (c.in_err-delete_blocks.ensures.cause storable clean inside)))
 
 pub returns-in_err-delete_segments-clause-cause : goal.returns-in_err-delete_segments-clause-cause
 returns-in_err-delete_segments-clause-cause g c storable clean inside =
-    let old = c.args.tx.now.conn.now in
-    let one = c.delete_blocks.new.tx.conn.now in
-    let new = c.delete_segments.new.tx.conn.now in
+    let old = c.args.tx.now in
+    let one = c.delete_blocks.new.tx in
+    let new = c.delete_segments.new.tx in
     let before = clean_before c.delete_segments.ensures.stays clean in
-    if_err_is _ c.from_residual-in_err-delete_segments.result c.in_err-delete_segments.field-0.0 c.from_residual-in_err-delete_segments.ensures.1 (fails_then g.S.Store old one new c.delete_blocks.ensures.stays.survives (FailsToDrop c.args.upload) _
+    if_err_is _ c.from_residual-in_err-delete_segments.result c.in_err-delete_segments.field-0.0 c.from_residual-in_err-delete_segments.ensures.1 (fails_then g.T.Statements.state old one new c.delete_blocks.ensures.stays.survives (FailsToDrop c.args.upload) _
     (segments (c.in_err-delete_segments.ensures.cause storable clean (c.in_ok-delete_blocks.ensures.stays.inside before inside))))
 
 pub returns-clause-cause : goal.returns-clause-cause
 returns-clause-cause g c storable clean inside =
-    let old = c.args.tx.now.conn.now in
-    let two = c.delete_segments.new.tx.conn.now in
-    let new = c.delete_upload.new.tx.conn.now in
+    let old = c.args.tx.now in
+    let two = c.delete_segments.new.tx in
+    let new = c.delete_upload.new.tx in
     let stays = stays_then c.in_ok-delete_blocks.ensures.stays c.in_ok-delete_segments.ensures.stays in
     let within = stays.inside (clean_before c.delete_upload.ensures.stays clean) inside in
     if_err_then c.delete_upload.result (c.delete_upload.ensures.cause storable clean within)
-    (λ fault failed. fails_then g.S.Store old two new stays.survives (FailsToDrop c.args.upload) fault (row failed))
+    (λ fault failed. fails_then g.T.Statements.state old two new stays.survives (FailsToDrop c.args.upload) fault (row failed))
 
 pub returns-in_err-delete_segments-clause-numbers : goal.returns-in_err-delete_segments-clause-numbers
 returns-in_err-delete_segments-clause-numbers g c great = never_failed _ _ (c.in_ok-delete_blocks.ensures.numbers great).0
