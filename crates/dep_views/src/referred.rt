@@ -1,7 +1,6 @@
 //! Uploads that references name. Each is read once, however often it is named.
 
 ghost use Rattle.std.specs.Prelude.{◌≡◌, IfOk, IsTrue};
-ghost use Rattle.sqlite.specs.Held.{state};
 ghost use Rattle.dep_types.specs.State.{Upload};
 ghost use Rattle.dep_types.specs.Sound.{IsSound};
 ghost use Rattle.dep_rulings.specs.Views.{assembled_digests};
@@ -14,8 +13,8 @@ use crate::segments::is_complete;
 use dep_fixity::Digests;
 use dep_rulings::{LiveUpload, Numbers, UploadState};
 use dep_staging::{FoundUpload, StagedUpload, hash_upload, load_upload};
+use dep_tables::Statements;
 use dep_types::{StoreFault, UploadRow};
-use sqlite::{Alter, Transaction};
 use std::alloc::Global;
 use std::collections::BTreeMap;
 
@@ -51,18 +50,18 @@ pub(crate) fn state_of(alloc: Global, referred: Referred) -> UploadState
     }
 }
 
-fn load_digests<S: Alter>(
-    tx: &mut Transaction<'_, S>,
+fn load_digests<T: Statements>(
+    tx: &mut T,
     alloc: Global,
     staged: &StagedUpload,
 ) -> Result<Option<Digests>, StoreFault>
-    ensures map { FromMaps (state S.Store tx.old.conn.now) (state S.Store tx.new.conn.now)
+    ensures map { FromMaps (T.state tx.old) (T.state tx.new)
         (λ s. IsSound s → (it : Upload) → IsLiveAs s staged.now it
         → IfOk result (λ digests. digests ≡ assembled_digests it)) }
-    ensures same { IsTrue (state S.Store tx.old.conn.now).is_open
-        → ReadsOnly (state S.Store tx.old.conn.now) (state S.Store tx.new.conn.now) result }
-    ensures err { FailsReading (state S.Store tx.old.conn.now) (state S.Store tx.new.conn.now) result }
-    ensures stays { StaysWithin S.Store tx.old.conn tx.new.conn result }
+    ensures same { IsTrue (T.state tx.old).is_open
+        → ReadsOnly (T.state tx.old) (T.state tx.new) result }
+    ensures err { FailsReading (T.state tx.old) (T.state tx.new) result }
+    ensures stays { StaysWithin T.lenders T.state tx.old tx.new result }
 {
     if !is_complete(&staged.row, staged.received.as_slice()) {
         return Ok(None);
@@ -71,16 +70,16 @@ fn load_digests<S: Alter>(
     Ok(Some(Digests { sha256 }))
 }
 
-fn load_referred<S: Alter>(
-    tx: &mut Transaction<'_, S>,
+fn load_referred<T: Statements>(
+    tx: &mut T,
     alloc: Global,
     upload: u64,
 ) -> Result<Referred, StoreFault>
-    ensures map { FromMaps (state S.Store tx.old.conn.now) (state S.Store tx.new.conn.now)
+    ensures map { FromMaps (T.state tx.old) (T.state tx.new)
         (λ s. IsSound s → IfOk result (λ found. found ≡ referred s upload)) }
-    ensures same { ReadsOnly (state S.Store tx.old.conn.now) (state S.Store tx.new.conn.now) result }
-    ensures err { FailsReading (state S.Store tx.old.conn.now) (state S.Store tx.new.conn.now) result }
-    ensures stays { StaysWithin S.Store tx.old.conn tx.new.conn result }
+    ensures same { ReadsOnly (T.state tx.old) (T.state tx.new) result }
+    ensures err { FailsReading (T.state tx.old) (T.state tx.new) result }
+    ensures stays { StaysWithin T.lenders T.state tx.old tx.new result }
 {
     match load_upload(tx, alloc, upload)? {
         FoundUpload::Live(staged) => {
@@ -96,19 +95,19 @@ fn load_referred<S: Alter>(
 }
 
 /// What became of the number of an upload, read where it isn't known yet, and known from then on.
-pub(crate) fn recall<S: Alter>(
-    tx: &mut Transaction<'_, S>,
+pub(crate) fn recall<T: Statements>(
+    tx: &mut T,
     alloc: Global,
     known: &mut BTreeMap<u64, Referred>,
     upload: u64,
 ) -> Result<Referred, StoreFault>
-    ensures map { FromMaps (state S.Store tx.old.conn.now) (state S.Store tx.new.conn.now)
+    ensures map { FromMaps (T.state tx.old) (T.state tx.new)
         (λ s. IsSound s → AreKnown s known.old
         → IfOk result (λ found. (found ≡ referred s upload) × AreKnown s known.new)) }
-    ensures same { IsTrue (state S.Store tx.old.conn.now).is_open
-        → ReadsOnly (state S.Store tx.old.conn.now) (state S.Store tx.new.conn.now) result }
-    ensures err { FailsReading (state S.Store tx.old.conn.now) (state S.Store tx.new.conn.now) result }
-    ensures stays { StaysWithin S.Store tx.old.conn tx.new.conn result }
+    ensures same { IsTrue (T.state tx.old).is_open
+        → ReadsOnly (T.state tx.old) (T.state tx.new) result }
+    ensures err { FailsReading (T.state tx.old) (T.state tx.new) result }
+    ensures stays { StaysWithin T.lenders T.state tx.old tx.new result }
 {
     if let Some(found) = known.get(&upload) {
         return Ok(*found);

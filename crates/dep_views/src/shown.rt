@@ -2,7 +2,6 @@
 
 ghost use Rattle.std.specs.Prelude.{◌≡◌, IfOk, OnOk, IsTrue};
 ghost use Rattle.sqlite.specs.State.{HasCleanDisk};
-ghost use Rattle.sqlite.specs.Held.{state};
 ghost use Rattle.dep_types.specs.Sound.{IsSound};
 ghost use Rattle.dep_answers.specs.Subjects.{shown_at};
 ghost use Rattle.dep_answers.specs.declared.subject.Subject.TheVariants as subject;
@@ -16,20 +15,16 @@ use dep_answers::{FileId, Shown, Subject};
 use dep_files::find_file;
 use dep_objects::{find_object, load_object};
 use dep_staging::{FoundUpload, load_upload};
+use dep_tables::Statements;
 use dep_types::StoreFault;
-use sqlite::{Alter, Transaction};
 use std::alloc::Global;
 
-fn show_object<S: Alter>(
-    tx: &mut Transaction<'_, S>,
-    alloc: Global,
-    object: u64,
-) -> Result<Shown, StoreFault>
-    ensures map { FromMaps (state S.Store tx.old.conn.now) (state S.Store tx.new.conn.now)
+fn show_object<T: Statements>(tx: &mut T, alloc: Global, object: u64) -> Result<Shown, StoreFault>
+    ensures map { FromMaps (T.state tx.old) (T.state tx.new)
         (λ s. IsSound s → IfOk result (λ shown. shown ≡ shown_at s (subject.Object object))) }
-    ensures same { ReadsOnly (state S.Store tx.old.conn.now) (state S.Store tx.new.conn.now) result }
-    ensures err { FailsReading (state S.Store tx.old.conn.now) (state S.Store tx.new.conn.now) result }
-    ensures stays { StaysWithin S.Store tx.old.conn tx.new.conn result }
+    ensures same { ReadsOnly (T.state tx.old) (T.state tx.new) result }
+    ensures err { FailsReading (T.state tx.old) (T.state tx.new) result }
+    ensures stays { StaysWithin T.lenders T.state tx.old tx.new result }
 {
     match load_object_view(tx, alloc, object)? {
         Some(view) => Ok(Shown::Object(view)),
@@ -37,12 +32,12 @@ fn show_object<S: Alter>(
     }
 }
 
-fn show_row<S: Alter>(tx: &mut Transaction<'_, S>, object: u64) -> Result<Shown, StoreFault>
-    ensures map { FromMaps (state S.Store tx.old.conn.now) (state S.Store tx.new.conn.now)
+fn show_row<T: Statements>(tx: &mut T, object: u64) -> Result<Shown, StoreFault>
+    ensures map { FromMaps (T.state tx.old) (T.state tx.new)
         (λ s. IfOk result (λ shown. shown ≡ shown_at s (subject.ObjectRow object))) }
-    ensures same { ReadsOnly (state S.Store tx.old.conn.now) (state S.Store tx.new.conn.now) result }
-    ensures err { FailsReading (state S.Store tx.old.conn.now) (state S.Store tx.new.conn.now) result }
-    ensures stays { StaysWithin S.Store tx.old.conn tx.new.conn result }
+    ensures same { ReadsOnly (T.state tx.old) (T.state tx.new) result }
+    ensures err { FailsReading (T.state tx.old) (T.state tx.new) result }
+    ensures stays { StaysWithin T.lenders T.state tx.old tx.new result }
 {
     match find_object(tx, object)? {
         Some(row) => Ok(Shown::ObjectRow(row)),
@@ -50,16 +45,12 @@ fn show_row<S: Alter>(tx: &mut Transaction<'_, S>, object: u64) -> Result<Shown,
     }
 }
 
-fn show_metadata<S: Alter>(
-    tx: &mut Transaction<'_, S>,
-    alloc: Global,
-    object: u64,
-) -> Result<Shown, StoreFault>
-    ensures map { FromMaps (state S.Store tx.old.conn.now) (state S.Store tx.new.conn.now)
+fn show_metadata<T: Statements>(tx: &mut T, alloc: Global, object: u64) -> Result<Shown, StoreFault>
+    ensures map { FromMaps (T.state tx.old) (T.state tx.new)
         (λ s. IsSound s → IfOk result (λ shown. shown ≡ shown_at s (subject.Metadata object))) }
-    ensures same { ReadsOnly (state S.Store tx.old.conn.now) (state S.Store tx.new.conn.now) result }
-    ensures err { FailsReading (state S.Store tx.old.conn.now) (state S.Store tx.new.conn.now) result }
-    ensures stays { StaysWithin S.Store tx.old.conn tx.new.conn result }
+    ensures same { ReadsOnly (T.state tx.old) (T.state tx.new) result }
+    ensures err { FailsReading (T.state tx.old) (T.state tx.new) result }
+    ensures stays { StaysWithin T.lenders T.state tx.old tx.new result }
 {
     match load_object(tx, alloc, object)? {
         Some(described) => Ok(Shown::Metadata {
@@ -70,12 +61,12 @@ fn show_metadata<S: Alter>(
     }
 }
 
-fn show_file<S: Alter>(tx: &mut Transaction<'_, S>, id: FileId) -> Result<Shown, StoreFault>
-    ensures map { FromMaps (state S.Store tx.old.conn.now) (state S.Store tx.new.conn.now)
+fn show_file<T: Statements>(tx: &mut T, id: FileId) -> Result<Shown, StoreFault>
+    ensures map { FromMaps (T.state tx.old) (T.state tx.new)
         (λ s. IfOk result (λ shown. shown ≡ shown_at s (subject.File id))) }
-    ensures same { ReadsOnly (state S.Store tx.old.conn.now) (state S.Store tx.new.conn.now) result }
-    ensures err { FailsReading (state S.Store tx.old.conn.now) (state S.Store tx.new.conn.now) result }
-    ensures stays { StaysWithin S.Store tx.old.conn tx.new.conn result }
+    ensures same { ReadsOnly (T.state tx.old) (T.state tx.new) result }
+    ensures err { FailsReading (T.state tx.old) (T.state tx.new) result }
+    ensures stays { StaysWithin T.lenders T.state tx.old tx.new result }
 {
     match find_file(tx, id.object, id.file)? {
         Some(row) => Ok(Shown::File(row)),
@@ -83,16 +74,12 @@ fn show_file<S: Alter>(tx: &mut Transaction<'_, S>, id: FileId) -> Result<Shown,
     }
 }
 
-fn show_upload<S: Alter>(
-    tx: &mut Transaction<'_, S>,
-    alloc: Global,
-    upload: u64,
-) -> Result<Shown, StoreFault>
-    ensures map { FromMaps (state S.Store tx.old.conn.now) (state S.Store tx.new.conn.now)
+fn show_upload<T: Statements>(tx: &mut T, alloc: Global, upload: u64) -> Result<Shown, StoreFault>
+    ensures map { FromMaps (T.state tx.old) (T.state tx.new)
         (λ s. IfOk result (λ shown. shown ≡ shown_at s (subject.Upload upload))) }
-    ensures same { ReadsOnly (state S.Store tx.old.conn.now) (state S.Store tx.new.conn.now) result }
-    ensures err { FailsReading (state S.Store tx.old.conn.now) (state S.Store tx.new.conn.now) result }
-    ensures stays { StaysWithin S.Store tx.old.conn tx.new.conn result }
+    ensures same { ReadsOnly (T.state tx.old) (T.state tx.new) result }
+    ensures err { FailsReading (T.state tx.old) (T.state tx.new) result }
+    ensures stays { StaysWithin T.lenders T.state tx.old tx.new result }
 {
     match load_upload(tx, alloc, upload)? {
         FoundUpload::Live(staged) => Ok(Shown::Upload {
@@ -106,21 +93,21 @@ fn show_upload<S: Alter>(
 
 /// What a reply shows, read of the archive; nothing where nothing is there. No content is read. A number of
 /// 2^63 or more is a fault of the store.
-pub fn load_shown<S: Alter>(
-    tx: &mut Transaction<'_, S>,
+pub fn load_shown<T: Statements>(
+    tx: &mut T,
     alloc: Global,
     subject: &Subject,
 ) -> Result<Shown, StoreFault>
-    ensures map { FromMaps (state S.Store tx.old.conn.now) (state S.Store tx.new.conn.now)
+    ensures map { FromMaps (T.state tx.old) (T.state tx.new)
         (λ s. IsSound s → IfOk result (λ shown. shown ≡ shown_at s subject.now)) }
-    ensures same { IsTrue (state S.Store tx.old.conn.now).is_open
-        → ReadsOnly (state S.Store tx.old.conn.now) (state S.Store tx.new.conn.now) result }
-    ensures still { HasCleanDisk (state S.Store tx.new.conn.now)
-        → IsOurs (state S.Store tx.old.conn.now)
-        → OnOk result ((state S.Store tx.new.conn.now).now ≡ (state S.Store tx.old.conn.now).now) }
-    ensures ours { KeepsOurs (state S.Store tx.old.conn.now) (state S.Store tx.new.conn.now) result }
-    ensures err { FailsReading (state S.Store tx.old.conn.now) (state S.Store tx.new.conn.now) result }
-    ensures stays { StaysWithin S.Store tx.old.conn tx.new.conn result }
+    ensures same { IsTrue (T.state tx.old).is_open
+        → ReadsOnly (T.state tx.old) (T.state tx.new) result }
+    ensures still { HasCleanDisk (T.state tx.new)
+        → IsOurs (T.state tx.old)
+        → OnOk result ((T.state tx.new).now ≡ (T.state tx.old).now) }
+    ensures ours { KeepsOurs (T.state tx.old) (T.state tx.new) result }
+    ensures err { FailsReading (T.state tx.old) (T.state tx.new) result }
+    ensures stays { StaysWithin T.lenders T.state tx.old tx.new result }
 {
     match *subject {
         Subject::Nothing => Ok(Shown::Nothing),

@@ -2,7 +2,6 @@
 
 ghost use Rattle.std.specs.Prelude.{◌≡◌, IfOk, IsTrue};
 ghost use Rattle.std.specs.Option.{option_copied};
-ghost use Rattle.sqlite.specs.Held.{state};
 ghost use Rattle.dep_rulings.specs.Views.{has_path, touched_file, touched_object};
 ghost use Rattle.dep_tables.specs.Clauses.{ReadsOnly, FailsReading, StaysWithin};
 ghost use Rattle.dep_row_maps.specs.Clauses.{FromMaps};
@@ -11,21 +10,21 @@ use dep_bag::has_bag_path;
 use dep_files::{find_file, load_files};
 use dep_objects::find_object;
 use dep_rulings::Touched;
+use dep_tables::Statements;
 use dep_types::{FileRow, ObjectRow, StoreFault};
-use sqlite::{Alter, Transaction};
 use std::alloc::Global;
 
 /// The row of the object.
-pub(crate) fn find_touched_object<S: Alter>(
-    tx: &mut Transaction<'_, S>,
+pub(crate) fn find_touched_object<T: Statements>(
+    tx: &mut T,
     touched: &Touched,
 ) -> Result<Option<ObjectRow>, StoreFault>
-    ensures map { FromMaps (state S.Store tx.old.conn.now) (state S.Store tx.new.conn.now)
+    ensures map { FromMaps (T.state tx.old) (T.state tx.new)
         (λ s. IfOk result (λ found. found ≡ touched_object s touched.now)) }
-    ensures same { IsTrue (state S.Store tx.old.conn.now).is_open
-        → ReadsOnly (state S.Store tx.old.conn.now) (state S.Store tx.new.conn.now) result }
-    ensures err { FailsReading (state S.Store tx.old.conn.now) (state S.Store tx.new.conn.now) result }
-    ensures stays { StaysWithin S.Store tx.old.conn tx.new.conn result }
+    ensures same { IsTrue (T.state tx.old).is_open
+        → ReadsOnly (T.state tx.old) (T.state tx.new) result }
+    ensures err { FailsReading (T.state tx.old) (T.state tx.new) result }
+    ensures stays { StaysWithin T.lenders T.state tx.old tx.new result }
 {
     match touched.object {
         Some(object) => find_object(tx, object),
@@ -34,16 +33,16 @@ pub(crate) fn find_touched_object<S: Alter>(
 }
 
 /// The row of the file.
-pub(crate) fn find_touched_file<S: Alter>(
-    tx: &mut Transaction<'_, S>,
+pub(crate) fn find_touched_file<T: Statements>(
+    tx: &mut T,
     touched: &Touched,
 ) -> Result<Option<FileRow>, StoreFault>
-    ensures map { FromMaps (state S.Store tx.old.conn.now) (state S.Store tx.new.conn.now)
+    ensures map { FromMaps (T.state tx.old) (T.state tx.new)
         (λ s. IfOk result (λ found. found ≡ touched_file s touched.now)) }
-    ensures same { IsTrue (state S.Store tx.old.conn.now).is_open
-        → ReadsOnly (state S.Store tx.old.conn.now) (state S.Store tx.new.conn.now) result }
-    ensures err { FailsReading (state S.Store tx.old.conn.now) (state S.Store tx.new.conn.now) result }
-    ensures stays { StaysWithin S.Store tx.old.conn tx.new.conn result }
+    ensures same { IsTrue (T.state tx.old).is_open
+        → ReadsOnly (T.state tx.old) (T.state tx.new) result }
+    ensures err { FailsReading (T.state tx.old) (T.state tx.new) result }
+    ensures stays { StaysWithin T.lenders T.state tx.old tx.new result }
 {
     match (touched.object, touched.file) {
         (Some(object), Some(file)) => find_file(tx, object, file),
@@ -52,19 +51,19 @@ pub(crate) fn find_touched_file<S: Alter>(
 }
 
 /// Whether the object, which was found so, has the path in its bag.
-pub(crate) fn find_touched_path<S: Alter>(
-    tx: &mut Transaction<'_, S>,
+pub(crate) fn find_touched_path<T: Statements>(
+    tx: &mut T,
     alloc: Global,
     touched: &Touched,
     object: Option<&ObjectRow>,
 ) -> Result<bool, StoreFault>
-    ensures map { FromMaps (state S.Store tx.old.conn.now) (state S.Store tx.new.conn.now)
+    ensures map { FromMaps (T.state tx.old) (T.state tx.new)
         (λ s. option_copied object.entry ≡ touched_object s touched.now
         → IfOk result (λ has. has ≡ has_path s touched.now)) }
-    ensures same { IsTrue (state S.Store tx.old.conn.now).is_open
-        → ReadsOnly (state S.Store tx.old.conn.now) (state S.Store tx.new.conn.now) result }
-    ensures err { FailsReading (state S.Store tx.old.conn.now) (state S.Store tx.new.conn.now) result }
-    ensures stays { StaysWithin S.Store tx.old.conn tx.new.conn result }
+    ensures same { IsTrue (T.state tx.old).is_open
+        → ReadsOnly (T.state tx.old) (T.state tx.new) result }
+    ensures err { FailsReading (T.state tx.old) (T.state tx.new) result }
+    ensures stays { StaysWithin T.lenders T.state tx.old tx.new result }
 {
     match (object, &touched.path) {
         (Some(object), Some(path)) => {

@@ -1,7 +1,6 @@
 //! The uploads that are touched.
 
 ghost use Rattle.std.specs.Prelude.{◌≡◌, false, IfOk, IsTrue, map};
-ghost use Rattle.sqlite.specs.Held.{state};
 ghost use Rattle.dep_types.specs.Sound.{IsSound};
 ghost use Rattle.dep_rulings.specs.Views.{upload_state, upload_view};
 ghost use Rattle.dep_rulings.specs.declared.view.UploadState.TheVariants.{Live};
@@ -14,8 +13,8 @@ use crate::referred::{Referred, recall, state_of};
 use crate::segments::numbers_of;
 use dep_rulings::{LiveUpload, UploadState, UploadView, UploadViews};
 use dep_staging::{FoundUpload, StagedUpload, load_upload};
+use dep_tables::Statements;
 use dep_types::StoreFault;
-use sqlite::{Alter, Transaction};
 use std::alloc::Global;
 use std::collections::BTreeMap;
 
@@ -30,16 +29,16 @@ fn live_state(alloc: Global, staged: &StagedUpload) -> Result<UploadState, Store
 }
 
 // What became of the number of an upload, with the segments that were received.
-fn load_received<S: Alter>(
-    tx: &mut Transaction<'_, S>,
+fn load_received<T: Statements>(
+    tx: &mut T,
     alloc: Global,
     upload: u64,
 ) -> Result<UploadState, StoreFault>
-    ensures map { FromMaps (state S.Store tx.old.conn.now) (state S.Store tx.new.conn.now)
+    ensures map { FromMaps (T.state tx.old) (T.state tx.new)
         (λ s. IfOk result (λ state. state ≡ upload_state false s upload)) }
-    ensures same { ReadsOnly (state S.Store tx.old.conn.now) (state S.Store tx.new.conn.now) result }
-    ensures err { FailsReading (state S.Store tx.old.conn.now) (state S.Store tx.new.conn.now) result }
-    ensures stays { StaysWithin S.Store tx.old.conn tx.new.conn result }
+    ensures same { ReadsOnly (T.state tx.old) (T.state tx.new) result }
+    ensures err { FailsReading (T.state tx.old) (T.state tx.new) result }
+    ensures stays { StaysWithin T.lenders T.state tx.old tx.new result }
 {
     match load_upload(tx, alloc, upload)? {
         FoundUpload::Live(staged) => live_state(alloc, &staged),
@@ -48,20 +47,20 @@ fn load_received<S: Alter>(
     }
 }
 
-fn load_state<S: Alter>(
-    tx: &mut Transaction<'_, S>,
+fn load_state<T: Statements>(
+    tx: &mut T,
     alloc: Global,
     known: &mut BTreeMap<u64, Referred>,
     by_reference: bool,
     upload: u64,
 ) -> Result<UploadState, StoreFault>
-    ensures map { FromMaps (state S.Store tx.old.conn.now) (state S.Store tx.new.conn.now)
+    ensures map { FromMaps (T.state tx.old) (T.state tx.new)
         (λ s. IsSound s → AreKnown s known.old → IfOk result (λ state.
         (state ≡ upload_state by_reference s upload) × AreKnown s known.new)) }
-    ensures same { IsTrue (state S.Store tx.old.conn.now).is_open
-        → ReadsOnly (state S.Store tx.old.conn.now) (state S.Store tx.new.conn.now) result }
-    ensures err { FailsReading (state S.Store tx.old.conn.now) (state S.Store tx.new.conn.now) result }
-    ensures stays { StaysWithin S.Store tx.old.conn tx.new.conn result }
+    ensures same { IsTrue (T.state tx.old).is_open
+        → ReadsOnly (T.state tx.old) (T.state tx.new) result }
+    ensures err { FailsReading (T.state tx.old) (T.state tx.new) result }
+    ensures stays { StaysWithin T.lenders T.state tx.old tx.new result }
 {
     if by_reference {
         let found = recall(tx, alloc, known, upload)?;
@@ -73,20 +72,20 @@ fn load_state<S: Alter>(
 
 /// What is known at the numbers of uploads: for a deposit by reference their digests, else the numbers
 /// of their segments.
-pub(crate) fn load_uploads<S: Alter>(
-    tx: &mut Transaction<'_, S>,
+pub(crate) fn load_uploads<T: Statements>(
+    tx: &mut T,
     alloc: Global,
     by_reference: bool,
     uploads: &[u64],
 ) -> Result<UploadViews, StoreFault>
-    ensures map { IsTrue (state S.Store tx.old.conn.now).is_open
-        → FromMaps (state S.Store tx.old.conn.now) (state S.Store tx.new.conn.now)
+    ensures map { IsTrue (T.state tx.old).is_open
+        → FromMaps (T.state tx.old) (T.state tx.new)
         (λ s. IsSound s → IfOk result (λ views.
         views ≡ map (upload_view by_reference s) uploads.now)) }
-    ensures same { IsTrue (state S.Store tx.old.conn.now).is_open
-        → ReadsOnly (state S.Store tx.old.conn.now) (state S.Store tx.new.conn.now) result }
-    ensures err { FailsReading (state S.Store tx.old.conn.now) (state S.Store tx.new.conn.now) result }
-    ensures stays { StaysWithin S.Store tx.old.conn tx.new.conn result }
+    ensures same { IsTrue (T.state tx.old).is_open
+        → ReadsOnly (T.state tx.old) (T.state tx.new) result }
+    ensures err { FailsReading (T.state tx.old) (T.state tx.new) result }
+    ensures stays { StaysWithin T.lenders T.state tx.old tx.new result }
 {
     let mut known = BTreeMap::new(alloc);
     let mut views = Vec::new(alloc);

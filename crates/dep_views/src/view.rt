@@ -1,7 +1,6 @@
 //! The view that a ruling looks at.
 
 ghost use Rattle.std.specs.Prelude.{◌≡◌, IfOk};
-ghost use Rattle.sqlite.specs.Held.{state};
 ghost use Rattle.dep_types.specs.Sound.{IsSound};
 ghost use Rattle.dep_rulings.specs.Views.{seen_at};
 ghost use Rattle.dep_tables.specs.Clauses.{ReadsOnly, FailsReading, StaysWithin};
@@ -12,9 +11,8 @@ use crate::touched::{find_touched_file, find_touched_object, find_touched_path};
 use crate::uploads::load_uploads;
 use dep_objects::counters;
 use dep_rulings::{Touched, UploadViews, View};
-use dep_tables::StateRow;
+use dep_tables::{StateRow, Statements};
 use dep_types::{FileRow, ObjectRow, StoreFault};
-use sqlite::{Alter, Transaction};
 use std::alloc::Global;
 
 // The clock and the counters, and what is told of the object.
@@ -25,17 +23,17 @@ struct ObjectSeen {
     has_path: bool,
 }
 
-fn load_object_seen<S: Alter>(
-    tx: &mut Transaction<'_, S>,
+fn load_object_seen<T: Statements>(
+    tx: &mut T,
     alloc: Global,
     touched: &Touched,
 ) -> Result<ObjectSeen, StoreFault>
-    ensures map { FromMaps (state S.Store tx.old.conn.now) (state S.Store tx.new.conn.now)
+    ensures map { FromMaps (T.state tx.old) (T.state tx.new)
         (λ s. IfOk result (λ seen. seen ≡ object_seen s touched.now)) }
-    ensures same { ReadsOnly (state S.Store tx.old.conn.now) (state S.Store tx.new.conn.now) result }
-    ensures ours { KeepsOurs (state S.Store tx.old.conn.now) (state S.Store tx.new.conn.now) result }
-    ensures err { FailsReading (state S.Store tx.old.conn.now) (state S.Store tx.new.conn.now) result }
-    ensures stays { StaysWithin S.Store tx.old.conn tx.new.conn result }
+    ensures same { ReadsOnly (T.state tx.old) (T.state tx.new) result }
+    ensures ours { KeepsOurs (T.state tx.old) (T.state tx.new) result }
+    ensures err { FailsReading (T.state tx.old) (T.state tx.new) result }
+    ensures stays { StaysWithin T.lenders T.state tx.old tx.new result }
 {
     let row = counters(tx)?;
     let object = find_touched_object(tx, touched)?;
@@ -55,17 +53,17 @@ struct AllSeen {
     uploads: UploadViews,
 }
 
-fn load_all_seen<S: Alter>(
-    tx: &mut Transaction<'_, S>,
+fn load_all_seen<T: Statements>(
+    tx: &mut T,
     alloc: Global,
     touched: &Touched,
 ) -> Result<AllSeen, StoreFault>
-    ensures map { FromMaps (state S.Store tx.old.conn.now) (state S.Store tx.new.conn.now)
+    ensures map { FromMaps (T.state tx.old) (T.state tx.new)
         (λ s. IsSound s → IfOk result (λ seen. seen ≡ all_seen s touched.now)) }
-    ensures same { ReadsOnly (state S.Store tx.old.conn.now) (state S.Store tx.new.conn.now) result }
-    ensures ours { KeepsOurs (state S.Store tx.old.conn.now) (state S.Store tx.new.conn.now) result }
-    ensures err { FailsReading (state S.Store tx.old.conn.now) (state S.Store tx.new.conn.now) result }
-    ensures stays { StaysWithin S.Store tx.old.conn tx.new.conn result }
+    ensures same { ReadsOnly (T.state tx.old) (T.state tx.new) result }
+    ensures ours { KeepsOurs (T.state tx.old) (T.state tx.new) result }
+    ensures err { FailsReading (T.state tx.old) (T.state tx.new) result }
+    ensures stays { StaysWithin T.lenders T.state tx.old tx.new result }
 {
     let object = load_object_seen(tx, alloc, touched)?;
     let by_reference = touched.references.is_some();
@@ -81,17 +79,17 @@ fn load_all_seen<S: Alter>(
 /// What is there at the numbers that a request touches. An upload's bytes are read, one block at a time,
 /// only where references name it and none of its segments is missing, and once however often it is
 /// named. A number of 2^63 or more is a fault of the store.
-pub fn load_view<S: Alter>(
-    tx: &mut Transaction<'_, S>,
+pub fn load_view<T: Statements>(
+    tx: &mut T,
     alloc: Global,
     touched: Touched,
 ) -> Result<View, StoreFault>
-    ensures map { FromMaps (state S.Store tx.old.conn.now) (state S.Store tx.new.conn.now)
+    ensures map { FromMaps (T.state tx.old) (T.state tx.new)
         (λ s. IsSound s → IfOk result (λ view. view ≡ seen_at s touched)) }
-    ensures same { ReadsOnly (state S.Store tx.old.conn.now) (state S.Store tx.new.conn.now) result }
-    ensures ours { KeepsOurs (state S.Store tx.old.conn.now) (state S.Store tx.new.conn.now) result }
-    ensures err { FailsReading (state S.Store tx.old.conn.now) (state S.Store tx.new.conn.now) result }
-    ensures stays { StaysWithin S.Store tx.old.conn tx.new.conn result }
+    ensures same { ReadsOnly (T.state tx.old) (T.state tx.new) result }
+    ensures ours { KeepsOurs (T.state tx.old) (T.state tx.new) result }
+    ensures err { FailsReading (T.state tx.old) (T.state tx.new) result }
+    ensures stays { StaysWithin T.lenders T.state tx.old tx.new result }
 {
     let seen = load_all_seen(tx, alloc, &touched)?;
     Ok(View {

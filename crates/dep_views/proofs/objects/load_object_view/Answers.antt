@@ -1,7 +1,6 @@
 use Rattle.dep_tables.proofs.Results.{if_failed}
 use Rattle.dep_tables.proofs.Chains.{clean_before, stays_then, stays_ok, stays_err}
 use Rattle.std.proofs.Common.{sym, ◌∙◌}
-use Rattle.sqlite.specs.Held.{state}
 use Rattle.dep_staging.proofs.Chains.{fails_reading, reads_ours, reads_then}
 use Rattle.dep_files.proofs.Results.{still_ours}
 use Rattle.dep_views.proofs.Chains.{still_seen}
@@ -14,9 +13,9 @@ returns-in_default-clause-map g c clean inside ours s are sound =
 
 pub returns-clause-map : goal.returns-clause-map
 returns-clause-map g c clean inside ours s are sound =
-    let old = state g.S.Store c.args.tx.now.conn.now in
-    let mid = state g.S.Store c.load_object.new.tx.conn.now in
-    let new = state g.S.Store c.load_files.new.tx.conn.now in
+    let old = g.T.Statements.state c.args.tx.now in
+    let mid = g.T.Statements.state c.load_object.new.tx in
+    let new = g.T.Statements.state c.load_files.new.tx in
     let before = clean_before c.load_files.ensures.stays clean in
     let same = c.in_ok-described.ensures.same before ours in
     viewed s c.args.object c.in-Some.described c.in_ok-files.files (sym c.in-Some.is ∙ c.in_ok-described.ensures.map before inside ours s are sound)

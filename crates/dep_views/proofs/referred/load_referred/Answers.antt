@@ -1,7 +1,6 @@
 use Rattle.dep_tables.proofs.Results.{if_failed}
 use Rattle.dep_tables.proofs.Chains.{clean_before, stays_then, stays_ok, stays_err}
 use Rattle.std.proofs.Common.{subst}
-use Rattle.sqlite.specs.Held.{state}
 use Rattle.dep_staging.proofs.Chains.{fails_reading, reads_then}
 use Rattle.dep_staging.specs.Found.{IsFound}
 use Rattle.dep_files.proofs.Results.{still_ours}
@@ -13,9 +12,9 @@ use Rattle.dep_views.proofs.referred.load_referred.Goals as goal
 
 pub returns-in_ok-digests-in-Live-clause-map : goal.returns-in_ok-digests-in-Live-clause-map
 returns-in_ok-digests-in-Live-clause-map g c clean inside ours s are sound =
-    let old = state g.S.Store c.args.tx.now.conn.now in
-    let mid = state g.S.Store c.load_upload.new.tx.conn.now in
-    let new = state g.S.Store c.load_digests.new.tx.conn.now in
+    let old = g.T.Statements.state c.args.tx.now in
+    let mid = g.T.Statements.state c.load_upload.new.tx in
+    let new = g.T.Statements.state c.load_digests.new.tx in
     let u = c.args.upload in
     let before = clean_before c.load_digests.ensures.stays clean in
     let same = c.in_ok-staged.ensures.same before ours in

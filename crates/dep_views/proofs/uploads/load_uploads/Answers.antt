@@ -1,6 +1,5 @@
 use Rattle.std.proofs.Common.{Ok, inl, ◌≡◌, ◌∙◌, ◌++◌, [], ◌∷◌, map, take, get_or, sym, ap}
 use Rattle.std.proofs.lemmas.List.{map_more, take_all}
-use Rattle.sqlite.specs.Held.{state}
 use Rattle.sqlite.proofs.Callers.{unchanged_then}
 use Rattle.dep_objects.proofs.Named.{pushed}
 use Rattle.dep_files.proofs.Results.{still_ours}
@@ -14,9 +13,9 @@ use Rattle.dep_views.proofs.uploads.load_uploads.Goals as goal
 
 pub uploads-preserved : goal.uploads-preserved
 uploads-preserved g c =
-    let old = state g.S.Store c.args.tx.now.conn.now in
-    let mid = state g.S.Store c.uploads.tx.conn.now in
-    let new = state g.S.Store c.load_state.new.tx.conn.now in
+    let old = g.T.Statements.state c.args.tx.now in
+    let mid = g.T.Statements.state c.uploads.tx in
+    let new = g.T.Statements.state c.load_state.new.tx in
     let inv = c.uploads.invariant in
     let earlier = clean_before c.load_state.ensures.stays in (
       stays_ok (stays_then {r = Ok c.in_ok-state.state} inv.0 c.in_ok-state.ensures.stays),
@@ -46,9 +45,9 @@ returns-in_err-state-clause-stays g c = stays_err c.from_residual.ensures.0 (sta
 
 pub returns-in_err-state-clause-err : goal.returns-in_err-state-clause-err
 returns-in_err-state-clause-err g c clean inside ours is_open =
-    let old = state g.S.Store c.args.tx.now.conn.now in
-    let mid = state g.S.Store c.uploads.tx.conn.now in
-    let new = state g.S.Store c.load_state.new.tx.conn.now in
+    let old = g.T.Statements.state c.args.tx.now in
+    let mid = g.T.Statements.state c.uploads.tx in
+    let new = g.T.Statements.state c.load_state.new.tx in
     let inv = c.uploads.invariant in
     let before = clean_before c.load_state.ensures.stays clean in
     let opened = (inv.0.kept before inside).was_open ((c.load_state.ensures.stays.kept clean (inv.0.inside before inside)).was_open is_open) in
@@ -60,9 +59,9 @@ returns-then-is_err-clause-stays g c = stays_ok (stays_then c.uploads.invariant.
 
 pub returns-then-is_err-clause-err : goal.returns-then-is_err-clause-err
 returns-then-is_err-clause-err g c clean inside ours is_open =
-    let old = state g.S.Store c.args.tx.now.conn.now in
-    let mid = state g.S.Store c.uploads.tx.conn.now in
-    let new = state g.S.Store c.load_state.new.tx.conn.now in
+    let old = g.T.Statements.state c.args.tx.now in
+    let mid = g.T.Statements.state c.uploads.tx in
+    let new = g.T.Statements.state c.load_state.new.tx in
     let inv = c.uploads.invariant in
     let before = clean_before c.load_state.ensures.stays clean in
     let opened = (inv.0.kept before inside).was_open ((c.load_state.ensures.stays.kept clean (inv.0.inside before inside)).was_open is_open) in

@@ -1,6 +1,5 @@
 use Rattle.std.proofs.Common.{◌≡◌, map, take, IsTrue}
 use Rattle.sqlite.specs.State.{HasCleanDisk, IsUnchanged}
-use Rattle.sqlite.specs.Held.{state}
 use Rattle.dep_types.specs.State.{State}
 use Rattle.dep_types.specs.Sound.{IsSound}
 use Rattle.dep_tables.specs.Tables.{tables_of, IsOurs}
@@ -13,9 +12,9 @@ use Rattle.dep_views.proofs.uploads.load_uploads.Given as goal
 -- the views so far are those of the uploads so far, and what is known is so
 abbrev pub invariant-uploads : goal.invariant-uploads
 invariant-uploads g l =
-    let old = state g.S.Store l.fn.tx.conn.now in
-    let now = state g.S.Store l.tx.conn.now in
-    Stays g.S.Store l.fn.tx.conn l.tx.conn
+    let old = g.T.Statements.state l.fn.tx in
+    let now = g.T.Statements.state l.tx in
+    Stays g.T.Statements.lenders g.T.Statements.state l.fn.tx l.tx
     × (IsTrue old.is_open → HasCleanDisk now → IsOurs old → IsUnchanged old now)
     × (IsTrue old.is_open → HasCleanDisk now → IsTrue old.in_transaction → IsOurs old → (s : State) → TablesAre (tables_of old) s → IsSound s
     → AreKnown s l.known × (l.views.items ≡ map (upload_view l.by_reference s) (take l.upload-index l.uploads)))
