@@ -1,7 +1,6 @@
 //! What a decision makes of the tables.
 
 ghost use Rattle.std.specs.Prelude.{◌≡◌, OnOk, IsTrue};
-ghost use Rattle.sqlite.specs.Held.{state};
 ghost use Rattle.dep_types.specs.Numbers.{room_for};
 ghost use Rattle.dep_types.specs.Sound.{IsSound};
 ghost use Rattle.dep_types.specs.declared.config.Config.{Config};
@@ -25,29 +24,28 @@ use dep_decisions::{Decision, numbers_for};
 use dep_objects::set_counters;
 use dep_rulings::View;
 use dep_staging::drop_upload;
-use dep_tables::StateRow;
+use dep_tables::{StateRow, Statements};
 use dep_types::{Octets, StoreFault};
-use sqlite::{Alter, Transaction};
 use std::alloc::Global;
 
 /// Makes of the tables what an accepted request's decision makes of the state. The view tells the state where the
 /// request touches it, and the content is that of the request. Nothing is hashed: the digests of a posted content
 /// stand in the decision, and those of uploads in the view. A number of 2^63 or more is a fault of the store, and so is
 /// that something is not there which the rules have seen.
-pub fn carry_out<S: Alter>(
-    tx: &mut Transaction<'_, S>,
+pub fn carry_out<T: Statements>(
+    tx: &mut T,
     alloc: Global,
     view: &View,
     decision: &Decision,
     content: &Octets,
 ) -> Result<(), StoreFault>
     requires { IsTrue (room_for view.now.next (numbers_for decision.now)) }
-    ensures map { FromMaps (state S.Store tx.old.conn.now) (state S.Store tx.new.conn.now)
+    ensures map { FromMaps (T.state tx.old) (T.state tx.new)
         (λ s. (config : Config) (op : Operation) → IsSound s → view.now ≡ true_view config s op
         → IsRuling config s op (Do decision.now) → content.now ≡ op.content
-        → OnOk result (SeesState (state S.Store tx.new.conn.now) (effect config s op))) }
-    ensures ours { KeepsOurs (state S.Store tx.old.conn.now) (state S.Store tx.new.conn.now) result }
-    ensures stays { StaysWithin S.Store tx.old.conn tx.new.conn result }
+        → OnOk result (SeesState (T.state tx.new) (effect config s op))) }
+    ensures ours { KeepsOurs (T.state tx.old) (T.state tx.new) result }
+    ensures stays { StaysWithin T.lenders T.state tx.old tx.new result }
 {
     let change = Change {
         alloc,
@@ -69,19 +67,19 @@ pub fn carry_out<S: Alter>(
 }
 
 // What becomes of the objects and the uploads.
-fn change_maps<S: Alter>(
-    tx: &mut Transaction<'_, S>,
+fn change_maps<T: Statements>(
+    tx: &mut T,
     change: &Change<'_>,
     decision: &Decision,
 ) -> Result<(), StoreFault>
     requires { IsTrue (room_for change.now.view.now.next (numbers_for decision.now)) }
-    ensures map { FromMaps (state S.Store tx.old.conn.now) (state S.Store tx.new.conn.now)
+    ensures map { FromMaps (T.state tx.old) (T.state tx.new)
         (λ s. TellsNumbers change.now.view.now s
         → TellsFor change.now.view.now s change.now.content.now decision.now
-        → OnOk result (SeesState (state S.Store tx.new.conn.now)
+        → OnOk result (SeesState (T.state tx.new)
         (with_maps s change.now.content.now decision.now))) }
-    ensures ours { KeepsOurs (state S.Store tx.old.conn.now) (state S.Store tx.new.conn.now) result }
-    ensures stays { StaysWithin S.Store tx.old.conn tx.new.conn result }
+    ensures ours { KeepsOurs (T.state tx.old) (T.state tx.new) result }
+    ensures stays { StaysWithin T.lenders T.state tx.old tx.new result }
 {
     match decision {
         Decision::Show => Ok(()),

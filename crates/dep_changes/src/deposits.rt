@@ -2,7 +2,6 @@
 
 ghost use Rattle.std.specs.Prelude.{◌≡◌, ◌||◌, ℕ, Bool, Some, None, OnOk, IsTrue, length};
 ghost use Rattle.std.specs.FinMap as map;
-ghost use Rattle.sqlite.specs.Held.{state};
 ghost use Rattle.dep_types.specs.State.{Object};
 ghost use Rattle.dep_types.specs.Rows.{object_row};
 ghost use Rattle.dep_types.specs.Numbers.{has_room};
@@ -21,8 +20,8 @@ use dep_decisions::{Deposit, NewFile};
 use dep_files::delete_files;
 use dep_objects::{append_metadata, set_metadata};
 use dep_rulings::View;
+use dep_tables::Statements;
 use dep_types::{Metadata, ObjectRow, StoreFault};
-use sqlite::{Alter, Transaction};
 use std::alloc::Global;
 
 // An ingested object never goes back.
@@ -57,21 +56,21 @@ fn blank_row(view: &View, object: u64, ingested: bool) -> ObjectRow
 }
 
 // Puts a deposit in an object that has nothing.
-fn fill<S: Alter>(
-    tx: &mut Transaction<'_, S>,
+fn fill<T: Statements>(
+    tx: &mut T,
     change: &Change<'_>,
     object: u64,
     deposit: &Deposit,
 ) -> Result<(), StoreFault>
     requires { IsTrue (has_room change.now.view.now.next.file (count_of deposit.now)) }
-    ensures map { FromMaps (state S.Store tx.old.conn.now) (state S.Store tx.new.conn.now)
+    ensures map { FromMaps (T.state tx.old) (T.state tx.new)
         (λ s. (ingested : Bool) → TellsNumbers change.now.view.now s
         → map.get s.objects object ≡ Some (blank s ingested)
         → HasSources s change.now.content.now change.now.view.now.uploads deposit.now
-        → OnOk result (SeesState (state S.Store tx.new.conn.now)
+        → OnOk result (SeesState (T.state tx.new)
         (with_deposit s change.now.content.now object deposit.now ingested))) }
-    ensures ours { KeepsOurs (state S.Store tx.old.conn.now) (state S.Store tx.new.conn.now) result }
-    ensures stays { StaysWithin S.Store tx.old.conn tx.new.conn result }
+    ensures ours { KeepsOurs (T.state tx.old) (T.state tx.new) result }
+    ensures stays { StaysWithin T.lenders T.state tx.old tx.new result }
 {
     match deposit {
         Deposit::Files(files) => put_new_files(tx, change, object, files.as_slice()),
@@ -80,20 +79,20 @@ fn fill<S: Alter>(
 }
 
 /// A new object with a deposit alone, under the next number.
-pub(crate) fn create<S: Alter>(
-    tx: &mut Transaction<'_, S>,
+pub(crate) fn create<T: Statements>(
+    tx: &mut T,
     change: &Change<'_>,
     deposit: &Deposit,
     ingests: bool,
 ) -> Result<(), StoreFault>
     requires { IsTrue (has_room change.now.view.now.next.file (count_of deposit.now)) }
-    ensures map { FromMaps (state S.Store tx.old.conn.now) (state S.Store tx.new.conn.now)
+    ensures map { FromMaps (T.state tx.old) (T.state tx.new)
         (λ s. TellsNumbers change.now.view.now s → map.get s.objects s.next.object ≡ None
         → HasSources s change.now.content.now change.now.view.now.uploads deposit.now
-        → OnOk result (SeesState (state S.Store tx.new.conn.now)
+        → OnOk result (SeesState (T.state tx.new)
         (with_deposit s change.now.content.now s.next.object deposit.now ingests))) }
-    ensures ours { KeepsOurs (state S.Store tx.old.conn.now) (state S.Store tx.new.conn.now) result }
-    ensures stays { StaysWithin S.Store tx.old.conn tx.new.conn result }
+    ensures ours { KeepsOurs (T.state tx.old) (T.state tx.new) result }
+    ensures stays { StaysWithin T.lenders T.state tx.old tx.new result }
 {
     let object = change.view.next.object;
     write_row(tx, &blank_row(change.view, object, ingests))?;
@@ -101,17 +100,13 @@ pub(crate) fn create<S: Alter>(
 }
 
 // The object has no metadata.
-fn clear_metadata<S: Alter>(
-    tx: &mut Transaction<'_, S>,
-    alloc: Global,
-    object: u64,
-) -> Result<(), StoreFault>
-    ensures map { FromMaps (state S.Store tx.old.conn.now) (state S.Store tx.new.conn.now)
+fn clear_metadata<T: Statements>(tx: &mut T, alloc: Global, object: u64) -> Result<(), StoreFault>
+    ensures map { FromMaps (T.state tx.old) (T.state tx.new)
         (λ s. (o : Object) → map.get s.objects object ≡ Some o
-        → OnOk result (SeesState (state S.Store tx.new.conn.now)
+        → OnOk result (SeesState (T.state tx.new)
         (with_object s object (with_metadata o map.empty)))) }
-    ensures ours { KeepsOurs (state S.Store tx.old.conn.now) (state S.Store tx.new.conn.now) result }
-    ensures stays { StaysWithin S.Store tx.old.conn tx.new.conn result }
+    ensures ours { KeepsOurs (T.state tx.old) (T.state tx.new) result }
+    ensures stays { StaysWithin T.lenders T.state tx.old tx.new result }
 {
     let none = Metadata::new(alloc);
     let cleared = set_metadata(tx, alloc, object, &none);
@@ -120,21 +115,21 @@ fn clear_metadata<S: Alter>(
 }
 
 /// The deposit takes the place of all that the object has.
-pub(crate) fn replace<S: Alter>(
-    tx: &mut Transaction<'_, S>,
+pub(crate) fn replace<T: Statements>(
+    tx: &mut T,
     change: &Change<'_>,
     deposit: &Deposit,
     ingests: bool,
 ) -> Result<(), StoreFault>
     requires { IsTrue (has_room change.now.view.now.next.file (count_of deposit.now)) }
-    ensures map { FromMaps (state S.Store tx.old.conn.now) (state S.Store tx.new.conn.now)
+    ensures map { FromMaps (T.state tx.old) (T.state tx.new)
         (λ s. (n : ℕ) (o : Object) → TellsNumbers change.now.view.now s
         → TellsObject change.now.view.now s n o
         → HasSources s change.now.content.now change.now.view.now.uploads deposit.now
-        → OnOk result (SeesState (state S.Store tx.new.conn.now)
+        → OnOk result (SeesState (T.state tx.new)
         (with_deposit s change.now.content.now n deposit.now (o.ingested || ingests)))) }
-    ensures ours { KeepsOurs (state S.Store tx.old.conn.now) (state S.Store tx.new.conn.now) result }
-    ensures stays { StaysWithin S.Store tx.old.conn tx.new.conn result }
+    ensures ours { KeepsOurs (T.state tx.old) (T.state tx.new) result }
+    ensures stays { StaysWithin T.lenders T.state tx.old tx.new result }
 {
     let row = ingested_by(touched(change.view)?, ingests);
     write_row(tx, &blank_row(change.view, row.object, row.ingested))?;
@@ -143,64 +138,64 @@ pub(crate) fn replace<S: Alter>(
     fill(tx, change, row.object, deposit)
 }
 
-fn append_files<S: Alter>(
-    tx: &mut Transaction<'_, S>,
+fn append_files<T: Statements>(
+    tx: &mut T,
     change: &Change<'_>,
     row: ObjectRow,
     files: &[NewFile],
 ) -> Result<(), StoreFault>
     requires { IsTrue (has_room change.now.view.now.next.file (length files.now)) }
-    ensures map { FromMaps (state S.Store tx.old.conn.now) (state S.Store tx.new.conn.now)
+    ensures map { FromMaps (T.state tx.old) (T.state tx.new)
         (λ s. (o it : Object) → TellsNumbers change.now.view.now s
         → map.get s.objects row.object ≡ Some o → row ≡ object_row row.object it
         → it.metadata ≡ o.metadata → it.files ≡ o.files
         → AreSources s change.now.content.now change.now.view.now.uploads files.now
-        → OnOk result (SeesState (state S.Store tx.new.conn.now)
+        → OnOk result (SeesState (T.state tx.new)
         (with_new_files s change.now.content.now row.object
         (with_files s it.files it) files.now))) }
-    ensures ours { KeepsOurs (state S.Store tx.old.conn.now) (state S.Store tx.new.conn.now) result }
-    ensures stays { StaysWithin S.Store tx.old.conn tx.new.conn result }
+    ensures ours { KeepsOurs (T.state tx.old) (T.state tx.new) result }
+    ensures stays { StaysWithin T.lenders T.state tx.old tx.new result }
 {
     write_row(tx, &files_changed(change.view, row))?;
     put_new_files(tx, change, row.object, files)
 }
 
-fn append_texts<S: Alter>(
-    tx: &mut Transaction<'_, S>,
+fn append_texts<T: Statements>(
+    tx: &mut T,
     change: &Change<'_>,
     row: ObjectRow,
     metadata: &Metadata,
 ) -> Result<(), StoreFault>
-    ensures map { FromMaps (state S.Store tx.old.conn.now) (state S.Store tx.new.conn.now)
+    ensures map { FromMaps (T.state tx.old) (T.state tx.new)
         (λ s. (o it : Object) → TellsNumbers change.now.view.now s
         → map.get s.objects row.object ≡ Some o → row ≡ object_row row.object it
         → it.metadata ≡ o.metadata → it.files ≡ o.files
-        → OnOk result (SeesState (state S.Store tx.new.conn.now)
+        → OnOk result (SeesState (T.state tx.new)
         (with_object s row.object
         (with_texts s (joined (map.entries metadata.now) it.metadata) it)))) }
-    ensures ours { KeepsOurs (state S.Store tx.old.conn.now) (state S.Store tx.new.conn.now) result }
-    ensures stays { StaysWithin S.Store tx.old.conn tx.new.conn result }
+    ensures ours { KeepsOurs (T.state tx.old) (T.state tx.new) result }
+    ensures stays { StaysWithin T.lenders T.state tx.old tx.new result }
 {
     write_row(tx, &texts_changed(change.view, row))?;
     append_metadata(tx, change.alloc, row.object, metadata)
 }
 
 /// The deposit is added to what the object has.
-pub(crate) fn append<S: Alter>(
-    tx: &mut Transaction<'_, S>,
+pub(crate) fn append<T: Statements>(
+    tx: &mut T,
     change: &Change<'_>,
     deposit: &Deposit,
     ingests: bool,
 ) -> Result<(), StoreFault>
     requires { IsTrue (has_room change.now.view.now.next.file (count_of deposit.now)) }
-    ensures map { FromMaps (state S.Store tx.old.conn.now) (state S.Store tx.new.conn.now)
+    ensures map { FromMaps (T.state tx.old) (T.state tx.new)
         (λ s. (n : ℕ) (o : Object) → TellsNumbers change.now.view.now s
         → TellsObject change.now.view.now s n o
         → HasSources s change.now.content.now change.now.view.now.uploads deposit.now
-        → OnOk result (SeesState (state S.Store tx.new.conn.now)
+        → OnOk result (SeesState (T.state tx.new)
         (with_appended s change.now.content.now n o deposit.now ingests))) }
-    ensures ours { KeepsOurs (state S.Store tx.old.conn.now) (state S.Store tx.new.conn.now) result }
-    ensures stays { StaysWithin S.Store tx.old.conn tx.new.conn result }
+    ensures ours { KeepsOurs (T.state tx.old) (T.state tx.new) result }
+    ensures stays { StaysWithin T.lenders T.state tx.old tx.new result }
 {
     let row = ingested_by(touched(change.view)?, ingests);
     match deposit {

@@ -2,7 +2,6 @@
 
 ghost use Rattle.std.specs.Prelude.{◌≡◌, ◌+◌, ℕ, length, slice_get, Some, None, IfOk, OnOk, IsTrue};
 ghost use Rattle.std.specs.FinMap as map;
-ghost use Rattle.sqlite.specs.Held.{state};
 ghost use Rattle.dep_types.specs.State.{Object, File, Upload};
 ghost use Rattle.dep_types.specs.Rows.{upload_row};
 ghost use Rattle.dep_types.specs.Numbers.{has_room};
@@ -25,8 +24,8 @@ use dep_files::{delete_file, delete_files, put_file};
 use dep_fixity::Digests;
 use dep_rulings::{UploadState, UploadView, View};
 use dep_staging::assemble;
+use dep_tables::Statements;
 use dep_types::{FileRow, StoreFault, Text, UploadRow};
-use sqlite::{Alter, Transaction};
 use std::alloc::Global;
 
 // The numbers of a file and of its object.
@@ -104,21 +103,21 @@ fn new_row(
 }
 
 // A file of the content of the request.
-fn put_posted<S: Alter>(
-    tx: &mut Transaction<'_, S>,
+fn put_posted<T: Statements>(
+    tx: &mut T,
     change: &Change<'_>,
     numbers: FileNumbers,
     new: &NewFile,
     digests: Digests,
 ) -> Result<(), StoreFault>
-    ensures map { FromMaps (state S.Store tx.old.conn.now) (state S.Store tx.new.conn.now)
+    ensures map { FromMaps (T.state tx.old) (T.state tx.new)
         (λ s. (o : Object) → TellsNumbers change.now.view.now s
         → map.get s.objects numbers.object ≡ Some o
         → digests ≡ digests_of change.now.content.now
-        → OnOk result (SeesState (state S.Store tx.new.conn.now)
+        → OnOk result (SeesState (T.state tx.new)
         (with_file s numbers.object o numbers.file (made_file s new.now change.now.content.now)))) }
-    ensures ours { KeepsOurs (state S.Store tx.old.conn.now) (state S.Store tx.new.conn.now) result }
-    ensures stays { StaysWithin S.Store tx.old.conn tx.new.conn result }
+    ensures ours { KeepsOurs (T.state tx.old) (T.state tx.new) result }
+    ensures stays { StaysWithin T.lenders T.state tx.old tx.new result }
 {
     let extent = Extent {
         size: change.content.as_slice().len() as u64,
@@ -158,21 +157,21 @@ fn whole_upload(view: &View, index: usize) -> Result<WholeUpload, StoreFault>
 }
 
 // A file of the bytes of an upload, which goes.
-fn put_assembled<S: Alter>(
-    tx: &mut Transaction<'_, S>,
+fn put_assembled<T: Statements>(
+    tx: &mut T,
     change: &Change<'_>,
     numbers: FileNumbers,
     new: &NewFile,
     index: usize,
 ) -> Result<(), StoreFault>
-    ensures map { FromMaps (state S.Store tx.old.conn.now) (state S.Store tx.new.conn.now)
+    ensures map { FromMaps (T.state tx.old) (T.state tx.new)
         (λ s. (o : Object) (u : ℕ) (it : Upload) → TellsNumbers change.now.view.now s
         → map.get s.objects numbers.object ≡ Some o → map.get s.uploads u ≡ Some it → IsWhole it
         → slice_get change.now.view.now.uploads index ≡ Some (whole_view u it)
-        → OnOk result (SeesState (state S.Store tx.new.conn.now)
+        → OnOk result (SeesState (T.state tx.new)
         (deposited s numbers.object o numbers.file (made_file s new.now (assembled it)) u))) }
-    ensures ours { KeepsOurs (state S.Store tx.old.conn.now) (state S.Store tx.new.conn.now) result }
-    ensures stays { StaysWithin S.Store tx.old.conn tx.new.conn result }
+    ensures ours { KeepsOurs (T.state tx.old) (T.state tx.new) result }
+    ensures stays { StaysWithin T.lenders T.state tx.old tx.new result }
 {
     let upload = whole_upload(change.view, index)?;
     let extent = Extent {
@@ -183,22 +182,22 @@ fn put_assembled<S: Alter>(
 }
 
 // One of the new files of an object, in their order.
-fn put_new_file<S: Alter>(
-    tx: &mut Transaction<'_, S>,
+fn put_new_file<T: Statements>(
+    tx: &mut T,
     change: &Change<'_>,
     numbers: FileNumbers,
     new: &NewFile,
     index: usize,
 ) -> Result<(), StoreFault>
-    ensures map { FromMaps (state S.Store tx.old.conn.now) (state S.Store tx.new.conn.now)
+    ensures map { FromMaps (T.state tx.old) (T.state tx.new)
         (λ s. (o : Object) → TellsNumbers change.now.view.now s
         → map.get s.objects numbers.object ≡ Some o
         → IsSource s change.now.content.now (slice_get change.now.view.now.uploads index) new.now.source
-        → OnOk result (SeesState (state S.Store tx.new.conn.now)
+        → OnOk result (SeesState (T.state tx.new)
         (with_new_file s numbers.object o numbers.file
         (file_from s change.now.content.now new.now) new.now.source))) }
-    ensures ours { KeepsOurs (state S.Store tx.old.conn.now) (state S.Store tx.new.conn.now) result }
-    ensures stays { StaysWithin S.Store tx.old.conn tx.new.conn result }
+    ensures ours { KeepsOurs (T.state tx.old) (T.state tx.new) result }
+    ensures stays { StaysWithin T.lenders T.state tx.old tx.new result }
 {
     match new.source {
         Source::Posted(digests) => put_posted(tx, change, numbers, new, digests),
@@ -207,20 +206,20 @@ fn put_new_file<S: Alter>(
 }
 
 /// Adds new files to an object that is there, under the next numbers in their order.
-pub(crate) fn put_new_files<S: Alter>(
-    tx: &mut Transaction<'_, S>,
+pub(crate) fn put_new_files<T: Statements>(
+    tx: &mut T,
     change: &Change<'_>,
     object: u64,
     files: &[NewFile],
 ) -> Result<(), StoreFault>
     requires { IsTrue (has_room change.now.view.now.next.file (length files.now)) }
-    ensures map { FromMaps (state S.Store tx.old.conn.now) (state S.Store tx.new.conn.now)
+    ensures map { FromMaps (T.state tx.old) (T.state tx.new)
         (λ s. (o : Object) → TellsNumbers change.now.view.now s → map.get s.objects object ≡ Some o
         → AreSources s change.now.content.now change.now.view.now.uploads files.now
-        → OnOk result (SeesState (state S.Store tx.new.conn.now)
+        → OnOk result (SeesState (T.state tx.new)
         (with_new_files s change.now.content.now object o files.now))) }
-    ensures ours { KeepsOurs (state S.Store tx.old.conn.now) (state S.Store tx.new.conn.now) result }
-    ensures stays { StaysWithin S.Store tx.old.conn tx.new.conn result }
+    ensures ours { KeepsOurs (T.state tx.old) (T.state tx.new) result }
+    ensures stays { StaysWithin T.lenders T.state tx.old tx.new result }
 {
     'files: for (index, new) in files.iter().enumerate() {
         let numbers = FileNumbers {
@@ -233,20 +232,20 @@ pub(crate) fn put_new_files<S: Alter>(
 }
 
 /// The object has these files alone.
-pub(crate) fn set_files<S: Alter>(
-    tx: &mut Transaction<'_, S>,
+pub(crate) fn set_files<T: Statements>(
+    tx: &mut T,
     change: &Change<'_>,
     files: &[NewFile],
 ) -> Result<(), StoreFault>
     requires { IsTrue (has_room change.now.view.now.next.file (length files.now)) }
-    ensures map { FromMaps (state S.Store tx.old.conn.now) (state S.Store tx.new.conn.now)
+    ensures map { FromMaps (T.state tx.old) (T.state tx.new)
         (λ s. (n : ℕ) (o : Object) → TellsNumbers change.now.view.now s
         → TellsObject change.now.view.now s n o
         → AreSources s change.now.content.now change.now.view.now.uploads files.now
-        → OnOk result (SeesState (state S.Store tx.new.conn.now)
+        → OnOk result (SeesState (T.state tx.new)
         (with_new_files s change.now.content.now n (with_files s map.empty o) files.now))) }
-    ensures ours { KeepsOurs (state S.Store tx.old.conn.now) (state S.Store tx.new.conn.now) result }
-    ensures stays { StaysWithin S.Store tx.old.conn tx.new.conn result }
+    ensures ours { KeepsOurs (T.state tx.old) (T.state tx.new) result }
+    ensures stays { StaysWithin T.lenders T.state tx.old tx.new result }
 {
     let row = touched(change.view)?;
     write_row(tx, &files_changed(change.view, row))?;
@@ -255,21 +254,21 @@ pub(crate) fn set_files<S: Alter>(
 }
 
 /// The file of the object becomes the content of the request, under its number. No other source is asked for.
-pub(crate) fn set_file<S: Alter>(
-    tx: &mut Transaction<'_, S>,
+pub(crate) fn set_file<T: Statements>(
+    tx: &mut T,
     change: &Change<'_>,
     file: u64,
     new: &NewFile,
 ) -> Result<(), StoreFault>
-    ensures map { FromMaps (state S.Store tx.old.conn.now) (state S.Store tx.new.conn.now)
+    ensures map { FromMaps (T.state tx.old) (T.state tx.new)
         (λ s. (n : ℕ) (o : Object) (it : File) → TellsNumbers change.now.view.now s
         → TellsFile change.now.view.now s n o file it
         → new.now.source ≡ Posted (digests_of change.now.content.now)
-        → OnOk result (SeesState (state S.Store tx.new.conn.now)
+        → OnOk result (SeesState (T.state tx.new)
         (with_object s n
         (with_files s (map.insert o.files file (made_file s new.now change.now.content.now)) o)))) }
-    ensures ours { KeepsOurs (state S.Store tx.old.conn.now) (state S.Store tx.new.conn.now) result }
-    ensures stays { StaysWithin S.Store tx.old.conn tx.new.conn result }
+    ensures ours { KeepsOurs (T.state tx.old) (T.state tx.new) result }
+    ensures stays { StaysWithin T.lenders T.state tx.old tx.new result }
 {
     let Source::Posted(digests) = new.source else {
         return Err(StoreFault::Store);

@@ -2,7 +2,6 @@
 
 ghost use Rattle.std.specs.Prelude.{◌≡◌, ℕ, Some, OnOk, true};
 ghost use Rattle.std.specs.FinMap as map;
-ghost use Rattle.sqlite.specs.Held.{state};
 ghost use Rattle.dep_types.specs.State.{Object, File};
 ghost use Rattle.dep_types.specs.Rows.{object_row};
 ghost use Rattle.dep_tables.specs.Clauses.{StaysWithin};
@@ -15,34 +14,31 @@ use crate::change::touched;
 use dep_files::{delete_file, delete_files};
 use dep_objects::{delete_object, put_object};
 use dep_rulings::View;
+use dep_tables::Statements;
 use dep_types::{Metadata, ObjectRow, StoreFault};
-use sqlite::{Alter, Transaction};
 use std::alloc::Global;
 
 /// Writes the row of an object that keeps its metadata and files, or that is new.
-pub(crate) fn write_row<S: Alter>(
-    tx: &mut Transaction<'_, S>,
-    row: &ObjectRow,
-) -> Result<(), StoreFault>
-    ensures map { FromMaps (state S.Store tx.old.conn.now) (state S.Store tx.new.conn.now)
+pub(crate) fn write_row<T: Statements>(tx: &mut T, row: &ObjectRow) -> Result<(), StoreFault>
+    ensures map { FromMaps (T.state tx.old) (T.state tx.new)
         (λ s. (o : Object) → row.now ≡ object_row row.now.object o
         → o.metadata ≡ metadata_at s.objects row.now.object
         → o.files ≡ files_at s.objects row.now.object
-        → OnOk result (SeesState (state S.Store tx.new.conn.now) (with_object s row.now.object o))) }
-    ensures ours { KeepsOurs (state S.Store tx.old.conn.now) (state S.Store tx.new.conn.now) result }
-    ensures stays { StaysWithin S.Store tx.old.conn tx.new.conn result }
+        → OnOk result (SeesState (T.state tx.new) (with_object s row.now.object o))) }
+    ensures ours { KeepsOurs (T.state tx.old) (T.state tx.new) result }
+    ensures stays { StaysWithin T.lenders T.state tx.old tx.new result }
 {
     put_object(tx, row)
 }
 
 /// The object becomes ingested.
-pub(crate) fn complete<S: Alter>(tx: &mut Transaction<'_, S>, view: &View) -> Result<(), StoreFault>
-    ensures map { FromMaps (state S.Store tx.old.conn.now) (state S.Store tx.new.conn.now)
+pub(crate) fn complete<T: Statements>(tx: &mut T, view: &View) -> Result<(), StoreFault>
+    ensures map { FromMaps (T.state tx.old) (T.state tx.new)
         (λ s. (n : ℕ) (o : Object) → TellsNumbers view.now s → TellsObject view.now s n o
-        → OnOk result (SeesState (state S.Store tx.new.conn.now)
+        → OnOk result (SeesState (T.state tx.new)
         (with_object s n (ingested_by true (changed s o))))) }
-    ensures ours { KeepsOurs (state S.Store tx.old.conn.now) (state S.Store tx.new.conn.now) result }
-    ensures stays { StaysWithin S.Store tx.old.conn tx.new.conn result }
+    ensures ours { KeepsOurs (T.state tx.old) (T.state tx.new) result }
+    ensures stays { StaysWithin T.lenders T.state tx.old tx.new result }
 {
     let row = touched(view)?;
     write_row(
@@ -73,18 +69,18 @@ pub(crate) fn texts_changed(view: &View, row: ObjectRow) -> ObjectRow
 }
 
 /// The object has this metadata alone.
-pub(crate) fn set_texts<S: Alter>(
-    tx: &mut Transaction<'_, S>,
+pub(crate) fn set_texts<T: Statements>(
+    tx: &mut T,
     alloc: Global,
     view: &View,
     metadata: &Metadata,
 ) -> Result<(), StoreFault>
-    ensures map { FromMaps (state S.Store tx.old.conn.now) (state S.Store tx.new.conn.now)
+    ensures map { FromMaps (T.state tx.old) (T.state tx.new)
         (λ s. (n : ℕ) (o : Object) → TellsNumbers view.now s → TellsObject view.now s n o
-        → OnOk result (SeesState (state S.Store tx.new.conn.now)
+        → OnOk result (SeesState (T.state tx.new)
         (with_object s n (with_texts s metadata.now o)))) }
-    ensures ours { KeepsOurs (state S.Store tx.old.conn.now) (state S.Store tx.new.conn.now) result }
-    ensures stays { StaysWithin S.Store tx.old.conn tx.new.conn result }
+    ensures ours { KeepsOurs (T.state tx.old) (T.state tx.new) result }
+    ensures stays { StaysWithin T.lenders T.state tx.old tx.new result }
 {
     let row = touched(view)?;
     write_row(tx, &texts_changed(view, row))?;
@@ -108,18 +104,14 @@ pub(crate) fn files_changed(view: &View, row: ObjectRow) -> ObjectRow
 }
 
 /// The file goes from the object.
-pub(crate) fn drop_file<S: Alter>(
-    tx: &mut Transaction<'_, S>,
-    view: &View,
-    file: u64,
-) -> Result<(), StoreFault>
-    ensures map { FromMaps (state S.Store tx.old.conn.now) (state S.Store tx.new.conn.now)
+pub(crate) fn drop_file<T: Statements>(tx: &mut T, view: &View, file: u64) -> Result<(), StoreFault>
+    ensures map { FromMaps (T.state tx.old) (T.state tx.new)
         (λ s. (n : ℕ) (o : Object) (it : File) → TellsNumbers view.now s
         → TellsFile view.now s n o file it
-        → OnOk result (SeesState (state S.Store tx.new.conn.now)
+        → OnOk result (SeesState (T.state tx.new)
         (with_object s n (with_files s (map.remove o.files file) o)))) }
-    ensures ours { KeepsOurs (state S.Store tx.old.conn.now) (state S.Store tx.new.conn.now) result }
-    ensures stays { StaysWithin S.Store tx.old.conn tx.new.conn result }
+    ensures ours { KeepsOurs (T.state tx.old) (T.state tx.new) result }
+    ensures stays { StaysWithin T.lenders T.state tx.old tx.new result }
 {
     let row = touched(view)?;
     write_row(tx, &files_changed(view, row))?;
@@ -127,16 +119,16 @@ pub(crate) fn drop_file<S: Alter>(
 }
 
 /// The object goes, with its metadata and files.
-pub(crate) fn drop_object<S: Alter>(
-    tx: &mut Transaction<'_, S>,
+pub(crate) fn drop_object<T: Statements>(
+    tx: &mut T,
     alloc: Global,
     object: u64,
 ) -> Result<(), StoreFault>
-    ensures map { FromMaps (state S.Store tx.old.conn.now) (state S.Store tx.new.conn.now)
+    ensures map { FromMaps (T.state tx.old) (T.state tx.new)
         (λ s. (o : Object) → map.get s.objects object ≡ Some o
-        → OnOk result (SeesState (state S.Store tx.new.conn.now) (without_object s object))) }
-    ensures ours { KeepsOurs (state S.Store tx.old.conn.now) (state S.Store tx.new.conn.now) result }
-    ensures stays { StaysWithin S.Store tx.old.conn tx.new.conn result }
+        → OnOk result (SeesState (T.state tx.new) (without_object s object))) }
+    ensures ours { KeepsOurs (T.state tx.old) (T.state tx.new) result }
+    ensures stays { StaysWithin T.lenders T.state tx.old tx.new result }
 {
     delete_files(tx, alloc, object)?;
     delete_object(tx, object)

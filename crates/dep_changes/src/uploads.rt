@@ -1,7 +1,6 @@
 //! Changes of staged uploads.
 
 ghost use Rattle.std.specs.Prelude.{◌≡◌, ℕ, [], ◌∷◌, IfOk, OnOk};
-ghost use Rattle.sqlite.specs.Held.{state};
 ghost use Rattle.dep_types.specs.State.{Upload};
 ghost use Rattle.dep_tables.specs.Clauses.{StaysWithin};
 ghost use Rattle.dep_row_maps.specs.TablesAre.{with_upload};
@@ -15,21 +14,20 @@ use crate::change::Change;
 use dep_fields::Opening;
 use dep_rulings::{LiveUpload, UploadState, UploadView, View};
 use dep_staging::{open_upload, put_segment};
-use dep_tables::SegmentRow;
+use dep_tables::{SegmentRow, Statements};
 use dep_types::{StoreFault, UploadRow};
-use sqlite::{Alter, Transaction};
 
 /// An upload begins, under the next number.
-pub(crate) fn open<S: Alter>(
-    tx: &mut Transaction<'_, S>,
+pub(crate) fn open<T: Statements>(
+    tx: &mut T,
     view: &View,
     opening: &Opening,
 ) -> Result<(), StoreFault>
-    ensures map { FromMaps (state S.Store tx.old.conn.now) (state S.Store tx.new.conn.now)
-        (λ s. TellsNumbers view.now s → OnOk result (SeesState (state S.Store tx.new.conn.now)
+    ensures map { FromMaps (T.state tx.old) (T.state tx.new)
+        (λ s. TellsNumbers view.now s → OnOk result (SeesState (T.state tx.new)
         (with_upload s s.next.upload (fresh s opening.now)))) }
-    ensures ours { KeepsOurs (state S.Store tx.old.conn.now) (state S.Store tx.new.conn.now) result }
-    ensures stays { StaysWithin S.Store tx.old.conn tx.new.conn result }
+    ensures ours { KeepsOurs (T.state tx.old) (T.state tx.new) result }
+    ensures stays { StaysWithin T.lenders T.state tx.old tx.new result }
 {
     open_upload(
         tx,
@@ -62,18 +60,18 @@ fn live_upload(view: &View) -> Result<&LiveUpload, StoreFault>
 }
 
 /// The content is received as a segment of the upload that is touched.
-pub(crate) fn receive<S: Alter>(
-    tx: &mut Transaction<'_, S>,
+pub(crate) fn receive<T: Statements>(
+    tx: &mut T,
     change: &Change<'_>,
     segment: u64,
 ) -> Result<(), StoreFault>
-    ensures map { FromMaps (state S.Store tx.old.conn.now) (state S.Store tx.new.conn.now)
+    ensures map { FromMaps (T.state tx.old) (T.state tx.new)
         (λ s. (u : ℕ) (it : Upload) → TellsNumbers change.now.view.now s
         → TellsUpload change.now.view.now s u it segment
-        → OnOk result (SeesState (state S.Store tx.new.conn.now)
+        → OnOk result (SeesState (T.state tx.new)
         (with_upload s u (with_segment s segment change.now.content.now it)))) }
-    ensures ours { KeepsOurs (state S.Store tx.old.conn.now) (state S.Store tx.new.conn.now) result }
-    ensures stays { StaysWithin S.Store tx.old.conn tx.new.conn result }
+    ensures ours { KeepsOurs (T.state tx.old) (T.state tx.new) result }
+    ensures stays { StaysWithin T.lenders T.state tx.old tx.new result }
 {
     let live = live_upload(change.view)?;
     let row = UploadRow {

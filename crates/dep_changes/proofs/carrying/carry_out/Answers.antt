@@ -1,5 +1,4 @@
 use Rattle.std.proofs.Common.{◌≡◌, ◌∙◌, refl, sym, ap}
-use Rattle.sqlite.specs.Held.{state}
 use Rattle.dep_types.specs.Numbers.{counters_after}
 use Rattle.dep_types.specs.declared.counters.Counters.{Counters}
 use Rattle.dep_tables.proofs.Chains.{clean_before, stays_then}
@@ -20,11 +19,11 @@ returns-then-eq-clause-map g c clean inside ours s are config op sound seen ruli
     let made = c.in_ok-change_maps.ensures.map clean inside ours s are numbers (told config s op view content d seen ruling.1 same sound ruling.0) in
     let after : c.after_taking-next.result ≡ counters_after s.next (numbers_for d) = c.after_taking-next.ensures ∙ ap (λ (next : Counters). counters_after next c.numbers_for.result) numbers.1 ∙ ap (counters_after s.next) c.numbers_for.ensures in
     let stays : c.after_taking-next.result ≡ view.next = same_counters c.after_taking-next.result view.next (sym c.eq.ensures ∙ c.if-eq.true) in
-    carried config s op view content d seen ruling.1 same (tables_of (state g.S.Store c.change_maps.new.tx.conn.now)) s.clock s.next refl (sym numbers.1 ∙ sym stays ∙ after) made
+    carried config s op view content d seen ruling.1 same (tables_of (g.T.Statements.state c.change_maps.new.tx)) s.clock s.next refl (sym numbers.1 ∙ sym stays ∙ after) made
 
 pub returns-clause-map : goal.returns-clause-map
 returns-clause-map g c clean inside ours s are config op sound seen ruling same =
-    let new = state g.S.Store c.set_counters.new.tx.conn.now in
+    let new = g.T.Statements.state c.set_counters.new.tx in
     let before = clean_before c.set_counters.ensures.stays clean in
     let view = c.args.view.now in
     let d = c.args.decision.now in

@@ -2,7 +2,6 @@ use Rattle.std.proofs.Common.{◌||◌, true, length, ap, sym, ◌∙◌}
 use Rattle.dep_decisions.specs.Decisions.{numbers_for}
 use Rattle.dep_decisions.specs.declared.decision.Decision.{Decision}
 use Rattle.std.specs.FinMap as finmap
-use Rattle.sqlite.specs.Held.{state}
 use Rattle.dep_decisions.specs.Effects.{appended, changed, filled, ingested_by, uploads_in, with_files, with_texts, without}
 use Rattle.dep_changes.proofs.Carried.{room_of_files, carried_as, at_object}
 use Rattle.dep_changes.proofs.carrying.change_maps.Goals as goal
@@ -27,7 +26,7 @@ returns-in-Create-clause-stays g c = c.create.ensures.stays
 
 pub returns-in-Create-clause-map : goal.returns-in-Create-clause-map
 returns-in-Create-clause-map g c =
-    carried_as c.args.change.now.view.now c.args.change.now.content.now (state g.S.Store c.args.tx.now.conn.now) (state g.S.Store c.create.new.tx.conn.now) c.args.decision.now _ c.create.result c.in-Create.is
+    carried_as c.args.change.now.view.now c.args.change.now.content.now (g.T.Statements.state c.args.tx.now) (g.T.Statements.state c.create.new.tx) c.args.decision.now _ c.create.result c.in-Create.is
     (λ clean inside ours s are numbers told. c.create.ensures.map clean inside ours s are numbers told.0 told.1)
 
 pub returns-in-Append-clause-ours : goal.returns-in-Append-clause-ours
@@ -38,9 +37,9 @@ returns-in-Append-clause-stays g c = c.append.ensures.stays
 
 pub returns-in-Append-clause-map : goal.returns-in-Append-clause-map
 returns-in-Append-clause-map g c =
-    carried_as c.args.change.now.view.now c.args.change.now.content.now (state g.S.Store c.args.tx.now.conn.now) (state g.S.Store c.append.new.tx.conn.now) c.args.decision.now _ c.append.result c.in-Append.is
+    carried_as c.args.change.now.view.now c.args.change.now.content.now (g.T.Statements.state c.args.tx.now) (g.T.Statements.state c.append.new.tx) c.args.decision.now _ c.append.result c.in-Append.is
     (λ clean inside ours s are numbers told.
-    at_object s (without s.uploads (uploads_in c.in-Append.deposit)) (state g.S.Store c.append.new.tx.conn.now) c.append.result c.in-Append.object told.0 (λ o. ingested_by c.in-Append.ingests (appended s c.args.change.now.content.now c.in-Append.deposit o)) told.1.1
+    at_object s (without s.uploads (uploads_in c.in-Append.deposit)) (g.T.Statements.state c.append.new.tx) c.append.result c.in-Append.object told.0 (λ o. ingested_by c.in-Append.ingests (appended s c.args.change.now.content.now c.in-Append.deposit o)) told.1.1
     (c.append.ensures.map clean inside ours s are _ told.0 numbers told.1 told.2))
 
 pub returns-in-Replace-clause-ours : goal.returns-in-Replace-clause-ours
@@ -51,9 +50,9 @@ returns-in-Replace-clause-stays g c = c.replace.ensures.stays
 
 pub returns-in-Replace-clause-map : goal.returns-in-Replace-clause-map
 returns-in-Replace-clause-map g c =
-    carried_as c.args.change.now.view.now c.args.change.now.content.now (state g.S.Store c.args.tx.now.conn.now) (state g.S.Store c.replace.new.tx.conn.now) c.args.decision.now _ c.replace.result c.in-Replace.is
+    carried_as c.args.change.now.view.now c.args.change.now.content.now (g.T.Statements.state c.args.tx.now) (g.T.Statements.state c.replace.new.tx) c.args.decision.now _ c.replace.result c.in-Replace.is
     (λ clean inside ours s are numbers told.
-    at_object s (without s.uploads (uploads_in c.in-Replace.deposit)) (state g.S.Store c.replace.new.tx.conn.now) c.replace.result c.in-Replace.object told.0 (λ o. filled s c.args.change.now.content.now c.in-Replace.deposit (o.ingested || c.in-Replace.ingests)) told.1.1
+    at_object s (without s.uploads (uploads_in c.in-Replace.deposit)) (g.T.Statements.state c.replace.new.tx) c.replace.result c.in-Replace.object told.0 (λ o. filled s c.args.change.now.content.now c.in-Replace.deposit (o.ingested || c.in-Replace.ingests)) told.1.1
     (c.replace.ensures.map clean inside ours s are _ told.0 numbers told.1 told.2))
 
 pub returns-in-Complete-clause-ours : goal.returns-in-Complete-clause-ours
@@ -64,9 +63,9 @@ returns-in-Complete-clause-stays g c = c.complete.ensures.stays
 
 pub returns-in-Complete-clause-map : goal.returns-in-Complete-clause-map
 returns-in-Complete-clause-map g c =
-    carried_as c.args.change.now.view.now c.args.change.now.content.now (state g.S.Store c.args.tx.now.conn.now) (state g.S.Store c.complete.new.tx.conn.now) c.args.decision.now _ c.complete.result c.in-Complete.is
+    carried_as c.args.change.now.view.now c.args.change.now.content.now (g.T.Statements.state c.args.tx.now) (g.T.Statements.state c.complete.new.tx) c.args.decision.now _ c.complete.result c.in-Complete.is
     (λ clean inside ours s are numbers told.
-    at_object s s.uploads (state g.S.Store c.complete.new.tx.conn.now) c.complete.result c.in-Complete.object told.0 (λ o. ingested_by true (changed s o)) told.1.1
+    at_object s s.uploads (g.T.Statements.state c.complete.new.tx) c.complete.result c.in-Complete.object told.0 (λ o. ingested_by true (changed s o)) told.1.1
     (c.complete.ensures.map clean inside ours s are _ told.0 numbers told.1))
 
 pub returns-in-SetMetadata-clause-ours : goal.returns-in-SetMetadata-clause-ours
@@ -77,9 +76,9 @@ returns-in-SetMetadata-clause-stays g c = c.set_texts.ensures.stays
 
 pub returns-in-SetMetadata-clause-map : goal.returns-in-SetMetadata-clause-map
 returns-in-SetMetadata-clause-map g c =
-    carried_as c.args.change.now.view.now c.args.change.now.content.now (state g.S.Store c.args.tx.now.conn.now) (state g.S.Store c.set_texts.new.tx.conn.now) c.args.decision.now _ c.set_texts.result c.in-SetMetadata.is
+    carried_as c.args.change.now.view.now c.args.change.now.content.now (g.T.Statements.state c.args.tx.now) (g.T.Statements.state c.set_texts.new.tx) c.args.decision.now _ c.set_texts.result c.in-SetMetadata.is
     (λ clean inside ours s are numbers told.
-    at_object s s.uploads (state g.S.Store c.set_texts.new.tx.conn.now) c.set_texts.result c.in-SetMetadata.object told.0 (with_texts s c.in-SetMetadata.metadata) told.1.1
+    at_object s s.uploads (g.T.Statements.state c.set_texts.new.tx) c.set_texts.result c.in-SetMetadata.object told.0 (with_texts s c.in-SetMetadata.metadata) told.1.1
     (c.set_texts.ensures.map clean inside ours s are _ told.0 numbers told.1))
 
 pub returns-in-SetFiles-clause-ours : goal.returns-in-SetFiles-clause-ours
@@ -126,22 +125,22 @@ returns-in-DropUpload-clause-stays g c = c.drop_upload.ensures.stays
 
 pub returns-in-DropFile-clause-map : goal.returns-in-DropFile-clause-map
 returns-in-DropFile-clause-map g c =
-    carried_as c.args.change.now.view.now c.args.change.now.content.now (state g.S.Store c.args.tx.now.conn.now) (state g.S.Store c.drop_file.new.tx.conn.now) c.args.decision.now _ c.drop_file.result c.in-DropFile.is
+    carried_as c.args.change.now.view.now c.args.change.now.content.now (g.T.Statements.state c.args.tx.now) (g.T.Statements.state c.drop_file.new.tx) c.args.decision.now _ c.drop_file.result c.in-DropFile.is
     (λ clean inside ours s are numbers told.
-    at_object s s.uploads (state g.S.Store c.drop_file.new.tx.conn.now) c.drop_file.result c.in-DropFile.object told.0 (λ o. with_files s (finmap.remove o.files c.in-DropFile.file) o) told.2.0.1
+    at_object s s.uploads (g.T.Statements.state c.drop_file.new.tx) c.drop_file.result c.in-DropFile.object told.0 (λ o. with_files s (finmap.remove o.files c.in-DropFile.file) o) told.2.0.1
     (c.drop_file.ensures.map clean inside ours s are _ told.0 told.1 numbers told.2))
 
 pub returns-in-DropObject-clause-map : goal.returns-in-DropObject-clause-map
 returns-in-DropObject-clause-map g c =
-    carried_as c.args.change.now.view.now c.args.change.now.content.now (state g.S.Store c.args.tx.now.conn.now) (state g.S.Store c.drop_object.new.tx.conn.now) c.args.decision.now _ c.drop_object.result c.in-DropObject.is
+    carried_as c.args.change.now.view.now c.args.change.now.content.now (g.T.Statements.state c.args.tx.now) (g.T.Statements.state c.drop_object.new.tx) c.args.decision.now _ c.drop_object.result c.in-DropObject.is
     (λ clean inside ours s are numbers told. c.drop_object.ensures.map clean inside ours s are told.0 told.1.1)
 
 pub returns-in-Open-clause-map : goal.returns-in-Open-clause-map
 returns-in-Open-clause-map g c =
-    carried_as c.args.change.now.view.now c.args.change.now.content.now (state g.S.Store c.args.tx.now.conn.now) (state g.S.Store c.open.new.tx.conn.now) c.args.decision.now _ c.open.result c.in-Open.is
+    carried_as c.args.change.now.view.now c.args.change.now.content.now (g.T.Statements.state c.args.tx.now) (g.T.Statements.state c.open.new.tx) c.args.decision.now _ c.open.result c.in-Open.is
     (λ clean inside ours s are numbers told. c.open.ensures.map clean inside ours s are numbers)
 
 pub returns-in-DropUpload-clause-map : goal.returns-in-DropUpload-clause-map
 returns-in-DropUpload-clause-map g c =
-    carried_as c.args.change.now.view.now c.args.change.now.content.now (state g.S.Store c.args.tx.now.conn.now) (state g.S.Store c.drop_upload.new.tx.conn.now) c.args.decision.now _ c.drop_upload.result c.in-DropUpload.is
+    carried_as c.args.change.now.view.now c.args.change.now.content.now (g.T.Statements.state c.args.tx.now) (g.T.Statements.state c.drop_upload.new.tx) c.args.decision.now _ c.drop_upload.result c.in-DropUpload.is
     (λ clean inside ours s are numbers told. c.drop_upload.ensures.map clean inside ours s are)

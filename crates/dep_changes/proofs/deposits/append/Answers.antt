@@ -1,5 +1,4 @@
 use Rattle.std.proofs.Common.{refl}
-use Rattle.sqlite.specs.Held.{state}
 use Rattle.dep_types.specs.State.{Object}
 use Rattle.dep_tables.specs.Tables.{tables_of}
 use Rattle.dep_tables.proofs.Results.{ok_then}
@@ -19,7 +18,7 @@ returns-in-Files-clause-map g c clean inside ours s are n o numbers told sources
     let files = c.as_slice.result.now in
     ok_then c.append_files.result
     (c.append_files.ensures.map clean inside ours s are o it numbers (there_at s.objects row.object n o number told.1) (its_own n it row is) refl refl (files_have s content view.uploads c.args.deposit.now c.in-Files.files files c.in-Files.is c.as_slice.ensures sources))
-    (λ added. files_appended (tables_of (state g.S.Store c.append_files.new.tx.conn.now)) s content n c.args.deposit.now o c.args.ingests row.object number c.in-Files.files files c.in-Files.is c.as_slice.ensures added)
+    (λ added. files_appended (tables_of (g.T.Statements.state c.append_files.new.tx)) s content n c.args.deposit.now o c.args.ingests row.object number c.in-Files.files files c.in-Files.is c.as_slice.ensures added)
 
 pub returns-in-Metadata-clause-map : goal.returns-in-Metadata-clause-map
 returns-in-Metadata-clause-map g c clean inside ours s are n o numbers told sources =
@@ -30,4 +29,4 @@ returns-in-Metadata-clause-map g c clean inside ours s are n o numbers told sour
     let number = its_number n it row is in
     ok_then c.append_texts.result
     (c.append_texts.ensures.map clean inside ours s are o it numbers (there_at s.objects row.object n o number told.1) (its_own n it row is) refl refl)
-    (λ added. texts_appended (tables_of (state g.S.Store c.append_texts.new.tx.conn.now)) s c.args.change.now.content.now n c.args.deposit.now o c.args.ingests row.object number c.in-Metadata.metadata c.in-Metadata.is added)
+    (λ added. texts_appended (tables_of (g.T.Statements.state c.append_texts.new.tx)) s c.args.change.now.content.now n c.args.deposit.now o c.args.ingests row.object number c.in-Metadata.metadata c.in-Metadata.is added)

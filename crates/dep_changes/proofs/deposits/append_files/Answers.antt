@@ -1,5 +1,4 @@
 use Rattle.std.proofs.Common.{refl}
-use Rattle.sqlite.specs.Held.{state}
 use Rattle.dep_types.specs.State.{State, Object}
 use Rattle.dep_tables.proofs.Chains.{clean_before, stays_then}
 use Rattle.dep_tables.specs.Tables.{tables_of}
@@ -15,8 +14,8 @@ use Rattle.dep_changes.proofs.deposits.append_files.Goals as goal
 pub returns-clause-map : goal.returns-clause-map
 returns-clause-map g c clean inside ours s are o it numbers there its texts files sources =
     let view = c.args.change.now.view.now in
-    let mid = state g.S.Store c.write_row.new.tx.conn.now in
-    let new = state g.S.Store c.put_new_files.new.tx.conn.now in
+    let mid = g.T.Statements.state c.write_row.new.tx in
+    let new = g.T.Statements.state c.put_new_files.new.tx in
     let before = clean_before c.put_new_files.ensures.stays clean in
     let n = c.args.row.object in
     let now = c.files_changed.result in

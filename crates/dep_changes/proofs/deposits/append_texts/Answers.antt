@@ -1,5 +1,4 @@
 use Rattle.std.specs.FinMap as finmap
-use Rattle.sqlite.specs.Held.{state}
 use Rattle.dep_types.specs.State.{State, Object}
 use Rattle.dep_tables.proofs.Chains.{clean_before, stays_then}
 use Rattle.dep_tables.specs.Tables.{tables_of}
@@ -14,8 +13,8 @@ use Rattle.dep_changes.proofs.deposits.append_texts.Goals as goal
 pub returns-clause-map : goal.returns-clause-map
 returns-clause-map g c clean inside ours s are o it numbers there its texts files =
     let view = c.args.change.now.view.now in
-    let mid = state g.S.Store c.write_row.new.tx.conn.now in
-    let new = state g.S.Store c.append_metadata.new.tx.conn.now in
+    let mid = g.T.Statements.state c.write_row.new.tx in
+    let new = g.T.Statements.state c.append_metadata.new.tx in
     let before = clean_before c.append_metadata.ensures.stays clean in
     let n = c.args.row.object in
     let now = c.texts_changed.result in

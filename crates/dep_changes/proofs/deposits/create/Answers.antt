@@ -1,5 +1,4 @@
 use Rattle.std.proofs.Common.{ap, ◌∙◌}
-use Rattle.sqlite.specs.Held.{state}
 use Rattle.dep_types.specs.State.{State, Object}
 use Rattle.dep_types.specs.declared.counters.Counters.{Counters}
 use Rattle.dep_tables.proofs.Chains.{clean_before, stays_then}
@@ -17,8 +16,8 @@ pub returns-clause-map : goal.returns-clause-map
 returns-clause-map g c clean inside ours s are numbers none sources =
     let view = c.args.change.now.view.now in
     let content = c.args.change.now.content.now in
-    let mid = state g.S.Store c.write_row.new.tx.conn.now in
-    let new = state g.S.Store c.fill.new.tx.conn.now in
+    let mid = g.T.Statements.state c.write_row.new.tx in
+    let new = g.T.Statements.state c.fill.new.tx in
     let before = clean_before c.fill.ensures.stays clean in
     let k = view.next.object in
     let n = s.next.object in

@@ -1,5 +1,4 @@
 use Rattle.std.proofs.Common.{◌≡◌, ◌+◌, ◌<◌, List, length, slice_get, Some, Ok, refl, ap, subst, arith, rules}
-use Rattle.sqlite.specs.Held.{state}
 use Rattle.dep_types.specs.declared.counters.Counters.{Counters}
 use Rattle.dep_row_maps.proofs.Lens.{get_here}
 use Rattle.dep_tables.proofs.Chains.{clean_before, stays_err, stays_ok, stays_then}
@@ -14,7 +13,7 @@ use Rattle.dep_changes.proofs.new_files.put_new_files.Goals as goal
 
 pub files-preserved : goal.files-preserved
 files-preserved g c =
-    let new = state g.S.Store c.put_new_file.new.tx.conn.now in
+    let new = g.T.Statements.state c.put_new_file.new.tx in
     let inv = c.files.invariant in
     let clean_mid = clean_before c.put_new_file.ensures.stays in (
       stays_ok (stays_then {r = Ok tt} inv.0 c.in_ok-put_new_file.ensures.stays),
@@ -41,11 +40,11 @@ pub files-init : goal.files-init
 files-init g c = (
   record { same_reference = refl; survives = search rules; inside = λ clean inside. inside; kept = search rules },
   λ clean inside ours. ours,
-  λ clean inside ours s are o numbers there sources. none_yet (tables_of (state g.S.Store c.args.tx.now.conn.now)) s c.args.change.now.content.now c.args.object o there are,
+  λ clean inside ours s are o numbers there sources. none_yet (tables_of (g.T.Statements.state c.args.tx.now)) s c.args.change.now.content.now c.args.object o there are,
 )
 
 pub returns-clause-map : goal.returns-clause-map
 returns-clause-map g c clean inside ours s are o numbers there sources =
-    let now = state g.S.Store c.files.tx.conn.now in
+    let now = g.T.Statements.state c.files.tx in
     subst (λ (new : List NewFile). TablesAre (tables_of now) (with_new_files s c.args.change.now.content.now c.args.object o new)) (take_all c.files.index c.args.files.now c.files-test.false)
     (c.files.invariant.2 clean inside ours s are o numbers there sources)

@@ -1,7 +1,6 @@
 use Rattle.std.proofs.Common.{◌≡◌, Some, take, IsTrue}
 use Rattle.std.specs.FinMap as map
 use Rattle.sqlite.specs.State.{HasCleanDisk}
-use Rattle.sqlite.specs.Held.{state}
 use Rattle.dep_types.specs.State.{State, Object}
 use Rattle.dep_tables.proofs.Chains.{Stays}
 use Rattle.dep_tables.specs.Tables.{IsOurs}
@@ -12,9 +11,9 @@ use Rattle.dep_changes.proofs.new_files.put_new_files.Given as goal
 
 abbrev pub invariant-files : goal.invariant-files
 invariant-files g l =
-    let old = state g.S.Store l.fn.tx.conn.now in
-    let now = state g.S.Store l.tx.conn.now in
-    Stays g.S.Store l.fn.tx.conn l.tx.conn
+    let old = g.T.Statements.state l.fn.tx in
+    let now = g.T.Statements.state l.tx in
+    Stays g.T.Statements.lenders g.T.Statements.state l.fn.tx l.tx
     × (HasCleanDisk now → IsTrue old.in_transaction → IsOurs old → IsOurs now)
     × (HasCleanDisk now → IsTrue old.in_transaction → IsOurs old
     → (s : State) → SeesState old s → (o : Object) → TellsNumbers l.change.view.now s → map.get s.objects l.object ≡ Some o

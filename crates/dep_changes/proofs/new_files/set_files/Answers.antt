@@ -1,6 +1,5 @@
 use Rattle.std.proofs.Common.{Ok, refl}
 use Rattle.std.specs.FinMap as finmap
-use Rattle.sqlite.specs.Held.{state}
 use Rattle.dep_types.specs.State.{State, Object}
 use Rattle.dep_tables.proofs.Chains.{clean_before, stays_err, stays_then}
 use Rattle.dep_tables.specs.Tables.{tables_of}
@@ -17,9 +16,9 @@ pub returns-clause-map : goal.returns-clause-map
 returns-clause-map g c clean inside ours s are n o numbers told sources =
     let view = c.args.change.now.view.now in
     let content = c.args.change.now.content.now in
-    let one = state g.S.Store c.write_row.new.tx.conn.now in
-    let two = state g.S.Store c.delete_files.new.tx.conn.now in
-    let new = state g.S.Store c.put_new_files.new.tx.conn.now in
+    let one = g.T.Statements.state c.write_row.new.tx in
+    let two = g.T.Statements.state c.delete_files.new.tx in
+    let new = g.T.Statements.state c.put_new_files.new.tx in
     let clean_two = clean_before c.put_new_files.ensures.stays clean in
     let clean_one = clean_before c.delete_files.ensures.stays clean_two in
     let inside_one = c.in_ok-write_row.ensures.stays.inside clean_one inside in

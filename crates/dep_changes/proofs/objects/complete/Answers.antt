@@ -1,5 +1,4 @@
 use Rattle.std.proofs.Common.{true, refl}
-use Rattle.sqlite.specs.Held.{state}
 use Rattle.dep_types.specs.State.{Object}
 use Rattle.dep_tables.specs.Tables.{tables_of}
 use Rattle.dep_tables.proofs.Results.{ok_then}
@@ -17,4 +16,4 @@ returns-clause-map g c clean inside ours s are n o numbers told =
     let number = number_is s n o view.object told.0 row found in
     ok_then c.write_row.result
     (c.write_row.ensures.map clean inside ours s are it (its_own n it _ is) (texts_at s row.object n o it number told.1 refl) (files_kept_at s row.object n o it number told.1 refl))
-    (λ put. at_number (tables_of (state g.S.Store c.write_row.new.tx.conn.now)) s row.object n it number put)
+    (λ put. at_number (tables_of (g.T.Statements.state c.write_row.new.tx)) s row.object n it number put)

@@ -1,6 +1,5 @@
 use Rattle.std.proofs.Common.{refl}
 use Rattle.std.specs.FinMap as finmap
-use Rattle.sqlite.specs.Held.{state}
 use Rattle.dep_types.specs.State.{State, Object}
 use Rattle.dep_tables.proofs.Chains.{clean_before, stays_then}
 use Rattle.dep_tables.specs.Tables.{tables_of}
@@ -15,8 +14,8 @@ use Rattle.dep_changes.proofs.objects.drop_file.Goals as goal
 pub returns-clause-map : goal.returns-clause-map
 returns-clause-map g c clean inside ours s are n o file numbers told =
     let view = c.args.view.now in
-    let mid = state g.S.Store c.write_row.new.tx.conn.now in
-    let new = state g.S.Store c.delete_file.new.tx.conn.now in
+    let mid = g.T.Statements.state c.write_row.new.tx in
+    let new = g.T.Statements.state c.delete_file.new.tx in
     let before = clean_before c.delete_file.ensures.stays clean in
     let row = c.in_ok-row.row in
     let now = c.files_changed.result in

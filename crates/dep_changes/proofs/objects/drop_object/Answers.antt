@@ -1,4 +1,3 @@
-use Rattle.sqlite.specs.Held.{state}
 use Rattle.dep_tables.proofs.Chains.{clean_before, stays_then}
 use Rattle.dep_tables.specs.Tables.{tables_of}
 use Rattle.dep_tables.proofs.Results.{ok_then}
@@ -8,7 +7,7 @@ use Rattle.dep_changes.proofs.objects.drop_object.Goals as goal
 
 pub returns-clause-map : goal.returns-clause-map
 returns-clause-map g c clean inside ours s are o there =
-    let new = state g.S.Store c.delete_object.new.tx.conn.now in
+    let new = g.T.Statements.state c.delete_object.new.tx in
     let before = clean_before c.delete_object.ensures.stays clean in
     let none = c.in_ok-delete_files.ensures.map before inside ours s are o there in
     ok_then c.delete_object.result

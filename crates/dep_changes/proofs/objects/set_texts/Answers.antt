@@ -1,5 +1,4 @@
 use Rattle.std.proofs.Common.{refl}
-use Rattle.sqlite.specs.Held.{state}
 use Rattle.dep_types.specs.State.{State, Object}
 use Rattle.dep_tables.proofs.Chains.{clean_before, stays_then}
 use Rattle.dep_tables.specs.Tables.{tables_of}
@@ -14,8 +13,8 @@ use Rattle.dep_changes.proofs.objects.set_texts.Goals as goal
 pub returns-clause-map : goal.returns-clause-map
 returns-clause-map g c clean inside ours s are n o numbers told =
     let view = c.args.view.now in
-    let mid = state g.S.Store c.write_row.new.tx.conn.now in
-    let new = state g.S.Store c.set_metadata.new.tx.conn.now in
+    let mid = g.T.Statements.state c.write_row.new.tx in
+    let new = g.T.Statements.state c.set_metadata.new.tx in
     let before = clean_before c.set_metadata.ensures.stays clean in
     let row = c.in_ok-row.row in
     let number = number_is s n o view.object told.0 row c.in_ok-row.ensures in

@@ -1,5 +1,4 @@
 use Rattle.std.proofs.Common.{refl, ap}
-use Rattle.sqlite.specs.Held.{state}
 use Rattle.dep_types.specs.declared.counters.Counters.{Counters}
 use Rattle.dep_tables.specs.Tables.{tables_of}
 use Rattle.dep_tables.proofs.Results.{ok_then}
@@ -13,4 +12,4 @@ returns-clause-map g c clean inside ours s are numbers =
     let it = fresh s c.args.opening.now in
     ok_then c.open_upload.result
     (c.open_upload.ensures.map clean inside ours s are it (opened_row s c.args.opening.now view.clock view.next.upload numbers.0) refl)
-    (λ opened. upload_at (tables_of (state g.S.Store c.open_upload.new.tx.conn.now)) s view.next.upload s.next.upload it (ap (λ (next : Counters). next.upload) numbers.1) opened.1)
+    (λ opened. upload_at (tables_of (g.T.Statements.state c.open_upload.new.tx)) s view.next.upload s.next.upload it (ap (λ (next : Counters). next.upload) numbers.1) opened.1)
