@@ -1,3 +1,4 @@
+pub mod Asking
 pub mod Missing
 pub mod MadeTables
 pub mod BesideRows

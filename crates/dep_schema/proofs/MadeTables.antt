@@ -11,9 +11,7 @@ use Rattle.sqlite.specs.Listing.{understood, listing_schema, misses_table, if_se
 use Rattle.sqlite.specs.Command.{Command}
 use Rattle.sqlite.specs.Command.TheVariants.{CreateTable, Nothing}
 use Rattle.sqlite.specs.State.{State, HasCleanDisk, ExecutesInside}
-use Rattle.sqlite.specs.Held.{Held, state}
-use Rattle.std.specs.Borrow.{Bor, MutBor}
-use Rattle.sqlite_trees.specs.declared.store.Store.{Ghosts}
+use Rattle.std.specs.Borrow.{Bor}
 use Rattle.sqlite.proofs.Callers.{IsPlain, command_of, statement_of}
 use Rattle.sqlite_schema.specs.Names.{table_named, index_named, view_named}
 use Rattle.sqlite_resolve.specs.declared.error.CompileError.TheVariants.{Unsupported, Exists}
@@ -154,13 +152,13 @@ makes_at (m ∷ makings) each zero _ _ below = each.0
 makes_at (m ∷ makings) each (suc n) text table below = makes_at makings each.1 n text table (omega arith)
 
 -- the tables of the first of these texts are made, in a transaction that goes on
-pub record AreMadeTo {S : Type 0} (g : Ghosts S) (texts : List (Bor (List ℕ))) (n : ℕ) (old new : MutBor (Held S)) : Type 0 where
+pub record AreMadeTo {T L : Type 0} (lenders : T → L) (state : T → State) (texts : List (Bor (List ℕ))) (n : ℕ) (old new : T) : Type 0 where
   pub texts_are : map (λ t. t.now) texts ≡ create_texts
-  pub adds : HasCleanDisk (state g new.now) → IsTrue (state g old.now).in_transaction → AddsAll (take n our_tables) (state g old.now).now (state g new.now).now
-  pub stays : Stays g old new
+  pub adds : HasCleanDisk (state new) → IsTrue (state old).in_transaction → AddsAll (take n our_tables) (state old).now (state new).now
+  pub stays : Stays lenders state old new
 
-module _ {S : Type 0} (g : Ghosts S) (texts : List (Bor (List ℕ))) where
-  pub none_made : (old : MutBor (Held S)) → map (λ t. t.now) texts ≡ create_texts → AreMadeTo g texts 0 old old
+module _ {T L : Type 0} (lenders : T → L) (state : T → State) (texts : List (Bor (List ℕ))) where
+  pub none_made : (old : T) → map (λ t. t.now) texts ≡ create_texts → AreMadeTo lenders state texts 0 old old
   none_made old are = record {
     texts_are = are;
     adds = λ clean inside. refl;
@@ -179,11 +177,11 @@ module _ {S : Type 0} (g : Ghosts S) (texts : List (Bor (List ℕ))) where
     };
   }
 
-  module _ (n : ℕ) (old new : MutBor (Held S)) where
+  module _ (n : ℕ) (old new : T) where
     -- one more, by its text
-    pub one_made : (mid : MutBor (Held S)) (text : Bor (List ℕ)) → n < 9 → AreMadeTo g texts n old mid → {A E : Type 0} {x : A} → StaysWithin {A = A} {E = E} g mid new (Ok x)
-        → (HasCleanDisk (state g new.now) → IsTrue (state g mid.now).in_transaction → (count : ℕ) × ExecutesInside 0 (get_or texts n text).now [] (state g mid.now) (state g new.now) (Ok count))
-        → AreMadeTo g texts (n + 1) old new
+    pub one_made : (mid : T) (text : Bor (List ℕ)) → n < 9 → AreMadeTo lenders state texts n old mid → {A E : Type 0} {x : A} → StaysWithin {A = A} {E = E} lenders state mid new (Ok x)
+        → (HasCleanDisk (state new) → IsTrue (state mid).in_transaction → (count : ℕ) × ExecutesInside 0 (get_or texts n text).now [] (state mid) (state new) (Ok count))
+        → AreMadeTo lenders state texts (n + 1) old new
     one_made mid text below made stays runs =
         let count = simp length-map at (ap length made.texts_are) in
         let is : (get_or texts n text).now ≡ get_or create_texts n [] = sym (get_or-map (λ t. t.now) texts n text [] (omega arith)) ∙ ap (λ ts. get_or ts n []) made.texts_are in
@@ -192,14 +190,14 @@ module _ {S : Type 0} (g : Ghosts S) (texts : List (Bor (List ℕ))) where
           adds = λ clean inside.
               let before = clean_before stays clean in
               let ran = runs clean (made.stays.inside before inside) in
-              let added = adds_table _ _ (makes_at all_makings each_makes n [] format_table below) (state g mid.now) (state g new.now) ran.0
-              (subst (λ t. ExecutesInside 0 t [] (state g mid.now) (state g new.now) (Ok ran.0)) is ran.1) in
-              subst (λ tables. AddsAll tables (state g old.now).now (state g new.now).now) (sym (take_more our_tables n format_table below))
-              (adds_append (take n our_tables) (get_or our_tables n format_table ∷ []) (state g old.now).now (state g mid.now).now (state g new.now).now (made.adds before inside)
-              ((state g new.now).now, added, refl));
+              let added = adds_table _ _ (makes_at all_makings each_makes n [] format_table below) (state mid) (state new) ran.0
+              (subst (λ t. ExecutesInside 0 t [] (state mid) (state new) (Ok ran.0)) is ran.1) in
+              subst (λ tables. AddsAll tables (state old).now (state new).now) (sym (take_more our_tables n format_table below))
+              (adds_append (take n our_tables) (get_or our_tables n format_table ∷ []) (state old).now (state mid).now (state new).now (made.adds before inside)
+              ((state new).now, added, refl));
           stays = stays_ok (stays_then made.stays stays);
         }
 
     -- no text is behind the ninth
-    pub all_made : n ≤ 9 → 9 ≤ n → AreMadeTo g texts n old new → AreMadeTo g texts 9 old new
-    all_made within ended made = let is : n ≡ 9 = omega arith in subst (λ k. AreMadeTo g texts k old new) is made
+    pub all_made : n ≤ 9 → 9 ≤ n → AreMadeTo lenders state texts n old new → AreMadeTo lenders state texts 9 old new
+    all_made within ended made = let is : n ≡ 9 = omega arith in subst (λ k. AreMadeTo lenders state texts k old new) is made

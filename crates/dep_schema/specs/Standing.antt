@@ -1,5 +1,6 @@
 -- What an open, a transaction and a crash leave of the tables.
 use Rattle.std.specs.Prelude.{◌≡◌, ◌⊎◌, true, false, IsTrue, Result, OnOk, [], ◌∷◌}
+use Rattle.std.specs.Borrow.{GName, MutBor}
 use Rattle.sqlite.specs.Schema.{Schema}
 use Rattle.sqlite.specs.Tree.{Trees}
 use Rattle.sqlite.specs.Effect.{Database}
@@ -14,8 +15,9 @@ use Rattle.dep_statements.specs.Adding.{HasCounters}
 use Rattle.dep_tables.specs.declared.state.StateRow.{StateRow}
 use Rattle.dep_tables.specs.Rows.{stored_format, stored_state}
 use Rattle.dep_tables.specs.Tables.{Tables, tables_from, tables_in, tables_of, AreOurs, IsOurs}
-use Rattle.dep_tables.specs.Clauses.{StaysInside}
+use Rattle.dep_tables.specs.Clauses.{StaysInside, StaysWithin}
 use Rattle.dep_tables.specs.Versions.{our_version, HasVersion}
+use Rattle.dep_schema.specs.declared.lending.Lent.{Lent}
 use Rattle.dep_schema.specs.Beside.{LacksFormat, AreFree, with_ours}
 
 -- what a crash may leave, and the next `open` find
@@ -114,6 +116,20 @@ HasOtherVersion s = (s.now.schema ≡ no_schema → ⊥)
 abbrev pub Turns : {A E : Type 0} → State → State → Result A E → (Database → Database → Type 0) → Type 0
 Turns old new result does = HasCleanDisk new → IsTrue old.in_transaction
     → OnOk result (does old.now new.now)
+
+-- what every call on a transaction of this connection keeps
+abbrev pub StaysOn : {S A E : Type 0} (g : Ghosts S) (old new : MutBor (Held S))
+    → Result A E → Type 0
+StaysOn {S} g old new =
+    StaysWithin (λ (conn : MutBor (Held S)). conn.ghost_name)
+    (λ (conn : MutBor (Held S)). state g conn.now) old new
+
+-- the same of one that is lent
+abbrev pub LentStays : {S A E : Type 0} (g : Ghosts S) (old new : Lent S) → Result A E → Type 0
+LentStays {S} g old new =
+    StaysWithin {L = GName × GName}
+    (λ (lent : Lent S). (lent.tx.ghost_name, lent.tx.now.conn.ghost_name))
+    (λ (lent : Lent S). state g lent.tx.now.conn.now) old new
 
 -- how a transaction ends: committed, by a commit that failed, or given up
 abbrev pub EndsTransaction : State → State → Type 0

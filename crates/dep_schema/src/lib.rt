@@ -2,8 +2,10 @@
 #![tactic(auto)]
 
 mod crashes;
+mod lending;
 mod making;
 mod opening;
 
 pub use crashes::{began_open, settled};
+pub use lending::Lent;
 pub use opening::{OpenFault, Schema, open};

@@ -2,7 +2,6 @@
 
 ghost use Rattle.std.specs.Prelude.{◌≡◌, ◌∷◌, [], IsTrue, OnOk};
 ghost use Rattle.sqlite.specs.State.{HasCleanDisk};
-ghost use Rattle.sqlite.specs.Held.{state};
 ghost use Rattle.sqlite.specs.Schema.{Schema};
 ghost use Rattle.sqlite.specs.Effect.{Database};
 ghost use Rattle.sqlite_catalog.specs.Change.{created, next_tree};
@@ -14,9 +13,8 @@ ghost use Rattle.dep_schema.specs.Beside.{AreFree, with_ours};
 ghost use Rattle.dep_tables.specs.Versions.{our_version};
 ghost use Rattle.dep_schema.specs.Standing.{Turns, Sees, GainsOurs, no_schema, first_tables, first_state};
 
-use dep_tables::run;
+use dep_tables::Statements;
 use dep_types::StoreFault;
-use sqlite::{Alter, Transaction};
 
 /// The texts that make the tables, in the order of their trees.
 const TABLES: [&str; 9] = [
@@ -41,72 +39,69 @@ const TABLES: [&str; 9] = [
 ];
 
 /// Version 1.
-fn add_format<S: Alter>(tx: &mut Transaction<'_, S>) -> Result<(), StoreFault>
-    ensures beside { HasCleanDisk (state S.Store tx.new.conn.now)
-        → IsTrue (state S.Store tx.old.conn.now).in_transaction
+fn add_format<T: Statements>(tx: &mut T) -> Result<(), StoreFault>
+    ensures beside { HasCleanDisk (T.state tx.new)
+        → IsTrue (T.state tx.old).in_transaction
         → (others : Schema) → AreFree others
-        → (state S.Store tx.old.conn.now).now.schema ≡ with_ours others
+        → (T.state tx.old).now.schema ≡ with_ours others
         → OnOk result (Puts (next_tree others) (stored_format our_version)
-        (state S.Store tx.old.conn.now).now (state S.Store tx.new.conn.now).now) }
-    ensures stays { StaysWithin S.Store tx.old.conn tx.new.conn result }
+        (T.state tx.old).now (T.state tx.new).now) }
+    ensures stays { StaysWithin T.lenders T.state tx.old tx.new result }
 {
-    run(tx, "INSERT INTO format (id, version) VALUES (1, 1)", &[])
+    tx.run("INSERT INTO format (id, version) VALUES (1, 1)", &[])
 }
 
 /// The clock at 0, and each counter at 1.
-fn add_state<S: Alter>(tx: &mut Transaction<'_, S>) -> Result<(), StoreFault>
-    ensures beside { HasCleanDisk (state S.Store tx.new.conn.now)
-        → IsTrue (state S.Store tx.old.conn.now).in_transaction
+fn add_state<T: Statements>(tx: &mut T) -> Result<(), StoreFault>
+    ensures beside { HasCleanDisk (T.state tx.new)
+        → IsTrue (T.state tx.old).in_transaction
         → (others : Schema) → AreFree others
-        → (state S.Store tx.old.conn.now).now.schema ≡ with_ours others
+        → (T.state tx.old).now.schema ≡ with_ours others
         → OnOk result (Puts (next_tree (created others format_table)) (stored_state first_state)
-        (state S.Store tx.old.conn.now).now (state S.Store tx.new.conn.now).now) }
-    ensures stays { StaysWithin S.Store tx.old.conn tx.new.conn result }
+        (T.state tx.old).now (T.state tx.new).now) }
+    ensures stays { StaysWithin T.lenders T.state tx.old tx.new result }
 {
-    run(
-        tx,
+    tx.run(
         "INSERT INTO state (id, clock, next_object, next_file, next_upload, next_change) VALUES (1, 0, 1, 1, 1, 1)",
         &[],
     )
 }
 
 /// All tables, one after another.
-fn create_tables<S: Alter>(tx: &mut Transaction<'_, S>) -> Result<(), StoreFault>
-    ensures adds { Turns (state S.Store tx.old.conn.now) (state S.Store tx.new.conn.now) result
-        (AddsAll our_tables) }
-    ensures stays { StaysWithin S.Store tx.old.conn tx.new.conn result }
+fn create_tables<T: Statements>(tx: &mut T) -> Result<(), StoreFault>
+    ensures adds { Turns (T.state tx.old) (T.state tx.new) result (AddsAll our_tables) }
+    ensures stays { StaysWithin T.lenders T.state tx.old tx.new result }
 {
     for text in &TABLES {
-        run(tx, text, &[])?;
+        tx.run(text, &[])?;
     }
     Ok(())
 }
 
 /// The rows of a new store.
-fn add_rows<S: Alter>(tx: &mut Transaction<'_, S>) -> Result<(), StoreFault>
-    ensures beside { HasCleanDisk (state S.Store tx.new.conn.now)
-        → IsTrue (state S.Store tx.old.conn.now).in_transaction
+fn add_rows<T: Statements>(tx: &mut T) -> Result<(), StoreFault>
+    ensures beside { HasCleanDisk (T.state tx.new)
+        → IsTrue (T.state tx.old).in_transaction
         → (others : Schema) → AreFree others
-        → (state S.Store tx.old.conn.now).now.schema ≡ with_ours others
+        → (T.state tx.old).now.schema ≡ with_ours others
         → OnOk result ((next : Database)
-        × Puts (next_tree others) (stored_format our_version) (state S.Store tx.old.conn.now).now next
+        × Puts (next_tree others) (stored_format our_version) (T.state tx.old).now next
         × Puts (next_tree (created others format_table)) (stored_state first_state) next
-        (state S.Store tx.new.conn.now).now) }
-    ensures stays { StaysWithin S.Store tx.old.conn tx.new.conn result }
+        (T.state tx.new).now) }
+    ensures stays { StaysWithin T.lenders T.state tx.old tx.new result }
 {
     add_format(tx)?;
     add_state(tx)
 }
 
 /// The tables of a new store, where their names are free.
-pub(crate) fn make_tables<S: Alter>(tx: &mut Transaction<'_, S>) -> Result<(), StoreFault>
-    ensures ok { HasCleanDisk (state S.Store tx.new.conn.now)
-        → IsTrue (state S.Store tx.old.conn.now).in_transaction
-        → (state S.Store tx.old.conn.now).now.schema ≡ no_schema
-        → OnOk result (Sees (state S.Store tx.new.conn.now) first_tables) }
-    ensures gains { Turns (state S.Store tx.old.conn.now) (state S.Store tx.new.conn.now) result
-        GainsOurs }
-    ensures stays { StaysWithin S.Store tx.old.conn tx.new.conn result }
+pub(crate) fn make_tables<T: Statements>(tx: &mut T) -> Result<(), StoreFault>
+    ensures ok { HasCleanDisk (T.state tx.new)
+        → IsTrue (T.state tx.old).in_transaction
+        → (T.state tx.old).now.schema ≡ no_schema
+        → OnOk result (Sees (T.state tx.new) first_tables) }
+    ensures gains { Turns (T.state tx.old) (T.state tx.new) result GainsOurs }
+    ensures stays { StaysWithin T.lenders T.state tx.old tx.new result }
 {
     create_tables(tx)?;
     add_rows(tx)

@@ -6,12 +6,12 @@ ghost use Rattle.sqlite.specs.Order.{column};
 ghost use Rattle.sqlite.specs.State.{HasCleanDisk, IsUnchanged, Survives};
 ghost use Rattle.sqlite.specs.Held.{state};
 ghost use Rattle.dep_tables.specs.Tables.{Tables, tables_of, IsOurs};
-ghost use Rattle.dep_tables.specs.Clauses.{StaysWithin};
 ghost use Rattle.dep_tables.specs.Versions.{our_version, HasVersion};
-ghost use Rattle.dep_schema.specs.Standing.{no_schema, Holds, HoldsNone, Sees, Stands, IsOpenable, CommitsBySchema, CommitsOpen, IsBack, HasOtherVersion, GainsOurs, StandsBeside, first_tables};
+ghost use Rattle.dep_schema.specs.Standing.{no_schema, Holds, HoldsNone, Sees, Stands, IsOpenable, CommitsBySchema, CommitsOpen, IsBack, HasOtherVersion, GainsOurs, StandsBeside, StaysOn, first_tables};
 ghost use Rattle.dep_statements.specs.Adding.{HasCounters};
 ghost use Rattle.dep_schema.specs.Beside.{LacksFormat, AreFree};
 
+use crate::lending::Lent;
 use crate::making::make_tables;
 use dep_tables::fault_of;
 use dep_types::StoreFault;
@@ -110,7 +110,7 @@ fn find_format<S: Alter>(tx: &mut Transaction<'_, S>) -> Result<bool, OpenFault>
     ensures left { HasCleanDisk (state S.Store tx.new.conn.now)
         → LacksFormat (state S.Store tx.old.conn.now).now.schema
         → OnOk result (IsUnchanged (state S.Store tx.old.conn.now) (state S.Store tx.new.conn.now)) }
-    ensures stays { StaysWithin S.Store tx.old.conn tx.new.conn result }
+    ensures stays { StaysOn S.Store tx.old.conn tx.new.conn result }
 {
     match tx.query_all("SELECT id, version FROM format", &[]) {
         Ok(rows) => {
@@ -151,12 +151,12 @@ fn find_or_make<S: Alter>(tx: &mut Transaction<'_, S>) -> Result<(), OpenFault>
     ensures lacking { HasCleanDisk (state S.Store tx.new.conn.now)
         → result ≡ Err OpenFault.UnknownVersion
         → LacksFormat (state S.Store tx.old.conn.now).now.schema → ⊥ }
-    ensures stays { StaysWithin S.Store tx.old.conn tx.new.conn result }
+    ensures stays { StaysOn S.Store tx.old.conn tx.new.conn result }
 {
     if find_format(tx)? {
         return Ok(());
     }
-    match make_tables(tx) {
+    match make_tables(&mut Lent { tx }) {
         Ok(()) => Ok(()),
         Err(fault) => Err(OpenFault::from(fault)),
     }

@@ -5,11 +5,11 @@ use Rattle.dep_schema.proofs.MadeTables.{none_made, one_made, all_made}
 use Rattle.dep_schema.proofs.making.create_tables.Goals as goal
 
 pub loop-text-init : goal.loop-text-init
-loop-text-init g c = none_made g.S.Store _ c.args.tx.now.conn refl
+loop-text-init g c = none_made g.T.Statements.lenders g.T.Statements.state _ c.args.tx.now refl
 
 pub loop-text-preserved : goal.loop-text-preserved
 loop-text-preserved g c =
-    one_made g.S.Store _ c.loop-text.text-index c.args.tx.now.conn c.run.new.tx.conn c.loop-text.tx.conn _ c.loop-text-test.true c.loop-text.invariant
+    one_made g.T.Statements.lenders g.T.Statements.state _ c.loop-text.text-index c.args.tx.now c.run.new.self c.loop-text.tx _ c.loop-text-test.true c.loop-text.invariant
     c.in_ok-run.ensures.stays c.in_ok-run.ensures.runs
 
 -- where one was not made, nothing is said of an Ok
@@ -23,5 +23,5 @@ returns-in_err-run g c =
 
 pub returns : goal.returns
 returns g c =
-    let made = all_made g.S.Store _ c.loop-text.text-index c.args.tx.now.conn c.loop-text.tx.conn c.loop-text.auto.text-index-end c.loop-text-test.false c.loop-text.invariant in
+    let made = all_made g.T.Statements.lenders g.T.Statements.state _ c.loop-text.text-index c.args.tx.now c.loop-text.tx c.loop-text.auto.text-index-end c.loop-text-test.false c.loop-text.invariant in
     record { adds = made.adds; stays = stays_ok made.stays }

@@ -3,4 +3,4 @@ use Rattle.dep_schema.proofs.making.create_tables.Given as goal
 
 -- the tables before this text are made
 abbrev pub invariant-loop-text : goal.invariant-loop-text
-invariant-loop-text g l = AreMadeTo g.S.Store l.text-items l.text-index l.fn.tx.conn l.tx.conn
+invariant-loop-text g l = AreMadeTo g.T.Statements.lenders g.T.Statements.state l.text-items l.text-index l.fn.tx l.tx

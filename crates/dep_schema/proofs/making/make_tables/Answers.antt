@@ -1,22 +1,21 @@
 use Rattle.std.proofs.Common.{Err}
 use Rattle.std.proofs.lemmas.Result.{IfOk-from_err}
-use Rattle.sqlite.specs.Held.{state}
 use Rattle.dep_tables.proofs.Chains.{clean_before, stays_then, stays_err}
 use Rattle.dep_schema.proofs.BesideRows.{gains, first_seen}
 use Rattle.dep_schema.proofs.making.make_tables.Goals as goal
 
 pub returns-clause-gains : goal.returns-clause-gains
 returns-clause-gains g c clean inside =
-    let old = state g.S.Store c.args.tx.now.conn.now in
-    let mid = state g.S.Store c.create_tables.new.tx.conn.now in
-    let new = state g.S.Store c.add_rows.new.tx.conn.now in
+    let old = g.T.Statements.state c.args.tx.now in
+    let mid = g.T.Statements.state c.create_tables.new.tx in
+    let new = g.T.Statements.state c.add_rows.new.tx in
     let made = c.in_ok-create_tables.ensures in
     let before = clean_before c.add_rows.ensures.stays clean in
     gains c.add_rows.result old.now mid.now new.now (made.adds before inside) (c.add_rows.ensures.beside clean (made.stays.inside before inside))
 
 pub returns-clause-ok : goal.returns-clause-ok
 returns-clause-ok g c clean inside empty =
-    first_seen c.add_rows.result (state g.S.Store c.args.tx.now.conn.now) (state g.S.Store c.add_rows.new.tx.conn.now) empty (returns-clause-gains g c clean inside)
+    first_seen c.add_rows.result (g.T.Statements.state c.args.tx.now) (g.T.Statements.state c.add_rows.new.tx) empty (returns-clause-gains g c clean inside)
 
 pub returns-clause-stays : goal.returns-clause-stays
 returns-clause-stays g c = stays_then c.in_ok-create_tables.ensures.stays c.add_rows.ensures.stays

@@ -2,8 +2,8 @@ use Rattle.std.proofs.Common.{inl, inr, refl, subst, sym}
 use Rattle.std.proofs.lemmas.Bool.{both_ways}
 use Rattle.sqlite.specs.Held.{state}
 use Rattle.dep_statements.proofs.Asked.{asks_on}
-use Rattle.dep_tables.proofs.Asking.{same_stays, shown_stays, asks_stay}
 use Rattle.dep_schema.specs.Texts.{find_format_text}
+use Rattle.dep_schema.proofs.Asking.{same_stays, shown_stays, asks_stay}
 use Rattle.dep_schema.proofs.Version.{IsKnown, found_version, find_stays, none_shown, ours_asked, missing_only, named_fault, empty_lacks}
 use Rattle.dep_schema.proofs.opening.find_format.Goals as goal
 

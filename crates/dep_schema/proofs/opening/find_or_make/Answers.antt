@@ -1,10 +1,11 @@
-use Rattle.std.proofs.Common.{Err, inl, inr, ap, refl, subst, ◌∙◌}
+use Rattle.std.proofs.Common.{◌≡◌, Err, inl, inr, ap, refl, rules, subst, ◌∙◌}
 use Rattle.std.proofs.lemmas.Bool.{both_ways}
 use Rattle.std.proofs.lemmas.Result.{IfOk-from_err}
 use Rattle.sqlite.specs.Effect.{Database}
 use Rattle.sqlite.specs.Held.{state}
 use Rattle.dep_tables.proofs.Chains.{clean_before, stays_then, stays_ok, stays_err}
 use Rattle.dep_schema.specs.Standing.{GainsOurs}
+use Rattle.dep_schema.proofs.Asking.{stays_on}
 use Rattle.dep_schema.proofs.Version.{never_named, never_refused, told_as}
 use Rattle.dep_schema.proofs.opening.find_or_make.Goals as goal
 
@@ -43,28 +44,34 @@ returns-then-branch g c =
 pub returns-in-Ok : goal.returns-in-Ok
 returns-in-Ok g c =
     let told = c.in_ok-find_format.ensures in
-    let made = c.in-Ok.ensures in
-    let new = state g.S.Store c.make_tables.new.tx.conn.now in
+    let last = c.tx-1.given.0 in
+    let same : c.make_tables.new.tx.tx.now ≡ last = search rules in
+    let made = rw same at c.in-Ok.ensures in
+    let stays = rw same at (stays_on g.S.Store c.in-Ok.ensures.stays) in
+    let new = state g.S.Store last.conn.now in
     record {
       empty = λ clean inside empty.
-          let before = clean_before made.stays clean in
+          let before = clean_before stays clean in
           made.ok clean (told.stays.inside before inside) (ap (λ (d : Database). d.schema) (told.same before (inr empty)).0.now_is ∙ empty);
-      ours = λ clean ours. absurd (both_ways c.in_ok-find_format.field-0 c.if-branch.false (told.ours (clean_before made.stays clean) ours).0);
+      ours = λ clean ours. absurd (both_ways c.in_ok-find_format.field-0 c.if-branch.false (told.ours (clean_before stays clean) ours).0);
       version = λ clean said. absurd (never_refused _ _ said);
       gains = λ clean inside lacks.
-          let before = clean_before made.stays clean in
+          let before = clean_before stays clean in
           subst (λ (d : Database). GainsOurs d new.now) (told.left before lacks).0.now_is (made.gains clean (told.stays.inside before inside));
       lacking = λ clean said lacks. never_refused _ _ said;
-      stays = stays_ok (stays_then told.stays made.stays);
+      stays = stays_ok (stays_then told.stays stays);
     }
 
 -- where they were not made, nothing is said of an Ok, and the fault tells no version
 pub returns-in-Err : goal.returns-in-Err
-returns-in-Err g c = record {
-  empty = λ clean inside empty. tt;
-  ours = λ clean ours. tt;
-  version = λ clean said. absurd (never_named c.in-Err.fault c.from.result c.from.ensures said);
-  gains = λ clean inside lacks. tt;
-  lacking = λ clean said lacks. never_named c.in-Err.fault c.from.result c.from.ensures said;
-  stays = stays_err refl (stays_then {r = Err c.in-Err.fault} c.in_ok-find_format.ensures.stays c.in-Err.ensures.stays);
-}
+returns-in-Err g c =
+    let same : c.make_tables.new.tx.tx.now ≡ c.tx-1.given.0 = search rules in
+    let stays = rw same at (stays_on g.S.Store c.in-Err.ensures.stays) in
+    record {
+      empty = λ clean inside empty. tt;
+      ours = λ clean ours. tt;
+      version = λ clean said. absurd (never_named c.in-Err.fault c.from.result c.from.ensures said);
+      gains = λ clean inside lacks. tt;
+      lacking = λ clean said lacks. never_named c.in-Err.fault c.from.result c.from.ensures said;
+      stays = stays_err refl (stays_then {r = Err c.in-Err.fault} c.in_ok-find_format.ensures.stays stays);
+    }

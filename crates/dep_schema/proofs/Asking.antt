@@ -1,0 +1,62 @@
+-- What a query inside a transaction keeps, whatever its text is.
+use Rattle.std.proofs.Common.{◌≡◌, ◌⊎◌, inl, ℕ, List, Result, Err, ap, ◌∙◌}
+use Rattle.std.specs.Borrow.{GName, MutBor}
+use Rattle.sqlite_trees.specs.declared.store.Store.{Ghosts}
+use Rattle.sqlite.specs.Order.{Row}
+use Rattle.sqlite.specs.declared.error.Error.{Error}
+use Rattle.sqlite.specs.Held.{Held, state}
+use Rattle.sqlite.specs.State.{HasCleanDisk, Survives, IsUnchanged, Shown, FailsToQuery, IsTooLate}
+use Rattle.sqlite.proofs.InsideLemmas.{unchanged_keeps}
+use Rattle.dep_statements.proofs.Asked.{shown_keeps, shown_mode, asks_keep}
+use Rattle.dep_tables.proofs.Results.{if_ok}
+use Rattle.dep_schema.specs.Standing.{StaysOn, LentStays}
+use Rattle.dep_schema.specs.declared.lending.Lent.{Lent}
+
+module _ {S : Type 0} (g : Ghosts S) (old new : MutBor (Held S)) (same_reference : new.ghost_name ≡ old.ghost_name) (survives : Survives (state g old.now) (state g new.now) (λ _. ⊥)) where
+  -- it has changed nothing
+  pub same_stays : {A E : Type 0} {r : Result A E} → (HasCleanDisk (state g new.now) → IsUnchanged (state g old.now) (state g new.now)) → StaysOn g old new r
+  same_stays {r = r} same = record {
+    same_reference = same_reference;
+    survives = survives;
+    inside = λ clean inside. if_ok r ((same clean).0.mode ∙ inside);
+    kept = λ clean inside. unchanged_keeps (state g old.now) (state g new.now) (inl (same clean));
+  }
+
+  module _ (sql : List ℕ) (params : Row) where
+    -- it has shown these rows
+    pub shown_stays : (rows : List Row) {A E : Type 0} {r : Result A E} → (HasCleanDisk (state g new.now) → Shown sql params (state g old.now) (state g new.now) rows) → StaysOn g old new r
+    shown_stays rows {r = r} shown = record {
+      same_reference = same_reference;
+      survives = survives;
+      inside = λ clean inside. if_ok r (shown_mode sql params (state g old.now) (state g new.now) rows (shown clean) ∙ inside);
+      kept = λ clean inside. shown_keeps sql params (state g old.now) (state g new.now) inside rows (shown clean);
+    }
+
+    -- it has failed
+    pub asks_stay : (e : Error) {A E : Type 0} {fault : E}
+        → (HasCleanDisk (state g new.now) → FailsToQuery sql params (state g old.now) (state g new.now) e ⊎ IsTooLate sql params (state g old.now) (state g new.now) e)
+        → StaysOn {A = A} g old new (Err fault)
+    asks_stay e failed = record {
+      same_reference = same_reference;
+      survives = survives;
+      inside = λ clean inside. tt;
+      kept = λ clean inside. asks_keep sql params (state g old.now) (state g new.now) inside e (failed clean);
+    }
+
+-- the same of a transaction that is lent
+module _ {S : Type 0} (g : Ghosts S) {old new : Lent S} {A E : Type 0} {r : Result A E} where
+  pub lent_stays : new.tx.ghost_name ≡ old.tx.ghost_name → StaysOn g old.tx.now.conn new.tx.now.conn r → LentStays g old new r
+  lent_stays same stays = record {
+    same_reference = λ i. (same i, stays.same_reference i);
+    survives = stays.survives;
+    inside = stays.inside;
+    kept = stays.kept;
+  }
+
+  pub stays_on : LentStays g old new r → StaysOn g old.tx.now.conn new.tx.now.conn r
+  stays_on stays = record {
+    same_reference = ap (λ (names : GName × GName). names.1) stays.same_reference;
+    survives = stays.survives;
+    inside = stays.inside;
+    kept = stays.kept;
+  }
