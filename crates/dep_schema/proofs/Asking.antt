@@ -8,8 +8,9 @@ use Rattle.sqlite.specs.Held.{Held, state}
 use Rattle.sqlite.specs.State.{HasCleanDisk, Survives, IsUnchanged, Shown, FailsToQuery, IsTooLate}
 use Rattle.sqlite.proofs.InsideLemmas.{unchanged_keeps}
 use Rattle.dep_statements.proofs.Asked.{shown_keeps, shown_mode, asks_keep}
+use Rattle.dep_tables.specs.Clauses.{StaysWithin}
 use Rattle.dep_tables.proofs.Results.{if_ok}
-use Rattle.dep_schema.specs.Standing.{StaysOn, LentStays}
+use Rattle.dep_schema.specs.Standing.{StaysOn}
 use Rattle.dep_schema.specs.declared.lending.Lent.{Lent}
 
 module _ {S : Type 0} (g : Ghosts S) (old new : MutBor (Held S)) (same_reference : new.ghost_name ≡ old.ghost_name) (survives : Survives (state g old.now) (state g new.now) (λ _. ⊥)) where
@@ -44,6 +45,10 @@ module _ {S : Type 0} (g : Ghosts S) (old new : MutBor (Held S)) (same_reference
     }
 
 -- the same of a transaction that is lent
+abbrev pub LentStays : {S A E : Type 0} (g : Ghosts S) (old new : Lent S) → Result A E → Type 0
+LentStays {S} g old new =
+    StaysWithin {L = GName × GName} (λ (lent : Lent S). (lent.tx.ghost_name, lent.tx.now.conn.ghost_name)) (λ (lent : Lent S). state g lent.tx.now.conn.now) old new
+
 module _ {S : Type 0} (g : Ghosts S) {old new : Lent S} {A E : Type 0} {r : Result A E} where
   pub lent_stays : new.tx.ghost_name ≡ old.tx.ghost_name → StaysOn g old.tx.now.conn new.tx.now.conn r → LentStays g old new r
   lent_stays same stays = record {

@@ -1,6 +1,6 @@
 -- What an open, a transaction and a crash leave of the tables.
 use Rattle.std.specs.Prelude.{◌≡◌, ◌⊎◌, true, false, IsTrue, Result, OnOk, [], ◌∷◌}
-use Rattle.std.specs.Borrow.{GName, MutBor}
+use Rattle.std.specs.Borrow.{MutBor}
 use Rattle.sqlite.specs.Schema.{Schema}
 use Rattle.sqlite.specs.Tree.{Trees}
 use Rattle.sqlite.specs.Effect.{Database}
@@ -17,7 +17,6 @@ use Rattle.dep_tables.specs.Rows.{stored_format, stored_state}
 use Rattle.dep_tables.specs.Tables.{Tables, tables_from, tables_in, tables_of, AreOurs, IsOurs}
 use Rattle.dep_tables.specs.Clauses.{StaysInside, StaysWithin}
 use Rattle.dep_tables.specs.Versions.{our_version, HasVersion}
-use Rattle.dep_schema.specs.declared.lending.Lent.{Lent}
 use Rattle.dep_schema.specs.Beside.{LacksFormat, AreFree, with_ours}
 
 -- what a crash may leave, and the next `open` find
@@ -123,13 +122,6 @@ abbrev pub StaysOn : {S A E : Type 0} (g : Ghosts S) (old new : MutBor (Held S))
 StaysOn {S} g old new =
     StaysWithin (λ (conn : MutBor (Held S)). conn.ghost_name)
     (λ (conn : MutBor (Held S)). state g conn.now) old new
-
--- the same of one that is lent
-abbrev pub LentStays : {S A E : Type 0} (g : Ghosts S) (old new : Lent S) → Result A E → Type 0
-LentStays {S} g old new =
-    StaysWithin {L = GName × GName}
-    (λ (lent : Lent S). (lent.tx.ghost_name, lent.tx.now.conn.ghost_name))
-    (λ (lent : Lent S). state g lent.tx.now.conn.now) old new
 
 -- how a transaction ends: committed, by a commit that failed, or given up
 abbrev pub EndsTransaction : State → State → Type 0
