@@ -1,6 +1,5 @@
 -- What a request's step is, by the ruling on it.
 use Rattle.std.proofs.Common.{◌≡◌, ℕ, Option, Some, None, Result, Ok, Err, IfOk, OnOk, IsTrue, true, min, refl, sym, ap, subst, ◌∙◌, arith}
-use Rattle.std.specs.Borrow.{MutBor}
 use Rattle.sqlite.specs.Effect.{Database}
 use Rattle.sqlite.specs.State as db
 use Rattle.sqlite.specs.State.{HasCleanDisk, IsUnchanged}
@@ -36,7 +35,7 @@ use Rattle.dep_tables.specs.Tables.{tables_in, IsOurs}
 use Rattle.dep_tables.proofs.Results.{if_ok}
 use Rattle.dep_row_maps.specs.TablesAre.{TablesAre}
 use Rattle.dep_row_maps.specs.Clauses.{FromMaps, SeesState}
-use Rattle.dep_staging.proofs.Causes.{survives_itself}
+use Rattle.dep_files.proofs.Results.{survives_itself}
 use Rattle.dep_requests.specs.Standing.{StandsFor}
 use Rattle.dep_requests.specs.Performing.{Performs}
 use Rattle.dep_requests.specs.Transactions.{OverStates}
@@ -52,10 +51,10 @@ step_sound config s op fit sound = either (refusal config s op) refl
     either (Some r) e = sound
 
 -- nothing was done in the transaction
-pub stays_put : {S A E : Type 0} (g : Ghosts S) (conn : MutBor (Held S)) (r : Result A E) → StaysWithin g conn conn r
-stays_put g conn r = record {
+pub stays_put : {T L A E : Type 0} (lenders : T → L) (state : T → db.State) (tx : T) (r : Result A E) → StaysWithin lenders state tx tx r
+stays_put lenders state tx r = record {
   same_reference = refl;
-  survives = survives_itself (state g conn.now);
+  survives = survives_itself (state tx);
   inside = λ clean inside. if_ok r inside;
   kept = λ clean inside. record { was_open = λ is_open. is_open; committed = λ is_open. refl };
 }

@@ -1,6 +1,5 @@
 -- One transaction from its beginning to its end, over whatever tables the store has.
 use Rattle.std.proofs.Common.{◌≡◌, ◌⊎◌, ℕ, List, inl, inr, true, false, Result, Ok, Err, IfOk, OnOk, OnErr, IsErr, IsTrue, refl, sym, ap, subst, ◌∙◌, arith}
-use Rattle.std.specs.Borrow.{MutBor}
 use Rattle.sqlite.specs.Effect.{Database}
 use Rattle.sqlite.specs.Order.{Row}
 use Rattle.sqlite.specs.State.{IsNotRun, IsUnchanged, HasCleanDisk, IsRolledBack, Commits, Shows, Survives}
@@ -9,11 +8,14 @@ use Rattle.sqlite.specs.Held.{Held, state}
 use Rattle.sqlite.specs.Steps.{FailsToCommit}
 use Rattle.sqlite.specs.Tree.{Trees}
 use Rattle.sqlite.specs.declared.error.Error.{Error}
+use Rattle.sqlite.specs.declared.transaction.Transaction.{Transaction}
 use Rattle.sqlite_trees.specs.declared.store.Store.{Ghosts}
 use Rattle.dep_types.specs.State.{State}
 use Rattle.dep_tables.specs.Tables.{Tables, tables_in, tables_of, AreOurs, HasOurTables, IsOurs}
-use Rattle.dep_tables.specs.Clauses.{CommitsNothing, StaysInside, StaysWithin}
+use Rattle.dep_tables.specs.Clauses.{CommitsNothing, StaysInside}
 use Rattle.dep_schema.specs.Standing.{Holds, Stands, EndsTransaction}
+use Rattle.dep_schema.specs.declared.lending.Lent.{Lent}
+use Rattle.dep_schema.proofs.Asking.{LentStays}
 use Rattle.dep_schema.proofs.Transactions.{begins_open, stands_left}
 use Rattle.dep_requests.specs.Standing.{TablesStandFor, StandsFor, Leaves}
 use Rattle.dep_requests.specs.Transactions.{Transacts, OnlyTells, OverStates, IsBackAt}
@@ -199,21 +201,25 @@ module _ {S : Type 0} (g : Ghosts S) (old inside new : Held S) where
           undone : HasCleanDisk (state g new) → IsRolledBack (state g inside) (state g new)
           undone clean = undone_by_commit (state g inside) (state g new) error (goes_on (clean_inside (λ trees. trees ≡ (state g inside).now.trees) survives clean)) (fails clean)
 
--- a call on the transaction that was begun does such work
-pub works_within : {S A E : Type 0} {begun inside : MutBor (Held S)} {r : Result A E} (g : Ghosts S) (old new : Held S) → StaysWithin g begun inside r
-    → begun.now ≡ record old { in_transaction = true } → (IsTrue (state g old).is_open → IsSettled (state g old)) → (IsTrue (state g new).is_open → HasCleanDisk (state g new))
-    → Works g old inside.now new
-works_within {S = S} {inside = inside} g old new stays is settled shut = record {
-  settled = settled;
-  shut = shut;
-  kept = subst (λ (h : Held S). StaysInside (state g h) (state g inside.now)) is stays.kept;
-  survives = subst (λ (h : Held S). CommitsNothing (state g h) (state g inside.now)) is stays.survives;
-}
+-- a call on the transaction that was begun, and lent to it, does such work
+module _ {S : Type 0} {begun inside : Lent S} {last : Transaction S} (g : Ghosts S) (old : Held S) where
+  pub works_within : {A E : Type 0} {r : Result A E} (new : Held S) → LentStays g begun inside r
+      → begun.tx.now.conn.now ≡ record old { in_transaction = true } → inside.tx.now ≡ last
+      → (IsTrue (state g old).is_open → IsSettled (state g old)) → (IsTrue (state g new).is_open → HasCleanDisk (state g new))
+      → Works g old last.conn.now new
+  works_within new stays is left settled shut = subst (λ (tx : Transaction S). Works g old tx.conn.now new) left (record {
+    settled = settled;
+    shut = shut;
+    kept = subst (λ (h : Held S). StaysInside (state g h) (state g inside.tx.now.conn.now)) is stays.kept;
+    survives = subst (λ (h : Held S). CommitsNothing (state g h) (state g inside.tx.now.conn.now)) is stays.survives;
+  })
 
--- and after an Ok the transaction goes on
-pub still_inside : {S A E : Type 0} {begun inside : MutBor (Held S)} {x : A} (g : Ghosts S) (old : Held S) → StaysWithin {A = A} {E = E} g begun inside (Ok x)
-    → begun.now ≡ record old { in_transaction = true } → HasCleanDisk (state g inside.now) → IsTrue (state g inside.now).in_transaction
-still_inside {S = S} g old stays is clean = stays.inside clean (subst (λ (h : Held S). IsTrue h.in_transaction) (sym is) refl)
+  -- and after an Ok the transaction goes on
+  pub still_inside : {A E : Type 0} {x : A} → LentStays {A = A} {E = E} g begun inside (Ok x)
+      → begun.tx.now.conn.now ≡ record old { in_transaction = true } → inside.tx.now ≡ last
+      → HasCleanDisk (state g last.conn.now) → IsTrue (state g last.conn.now).in_transaction
+  still_inside stays is left = subst (λ (tx : Transaction S). HasCleanDisk (state g tx.conn.now) → IsTrue (state g tx.conn.now).in_transaction) left
+      (λ clean. stays.inside clean (subst (λ (h : Held S). IsTrue h.in_transaction) (sym is) refl))
 
 -- ---- what it says of states
 

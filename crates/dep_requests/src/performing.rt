@@ -27,10 +27,11 @@ use dep_changes::carry_out;
 use dep_decisions::{Decision, Operation, numbers_for};
 use dep_moment::Moment;
 use dep_rulings::{Ruling, View, decide, touches};
-use dep_tables::fault_of;
+use dep_schema::Lent;
+use dep_tables::{Statements, fault_of};
 use dep_types::{Config, Method, Refusal, StoreFault};
 use dep_views::{load_shown, load_view};
-use sqlite::{Alter, Connection, Transaction};
+use sqlite::{Alter, Connection};
 use std::alloc::{AllocError, Global};
 
 /// A ruling, with the view of the archive that it looked at.
@@ -40,18 +41,18 @@ pub(crate) struct Ruled {
     pub(crate) ruling: Ruling,
 }
 
-fn rule<S: Alter>(
-    tx: &mut Transaction<'_, S>,
+fn rule<T: Statements>(
+    tx: &mut T,
     alloc: Global,
     config: &Config,
     operation: &Operation<'_>,
 ) -> Result<Ruled, StoreFault>
-    ensures map { FromMaps (state S.Store tx.old.conn.now) (state S.Store tx.new.conn.now)
+    ensures map { FromMaps (T.state tx.old) (T.state tx.new)
         (λ s. IsSound s → IfOk result (Rules config.now s operation.now)) }
     ensures room { IfOk result (λ ruled. HasRoomFor ruled.view.next ruled.ruling) }
-    ensures same { ReadsOnly (state S.Store tx.old.conn.now) (state S.Store tx.new.conn.now) result }
-    ensures ours { KeepsOurs (state S.Store tx.old.conn.now) (state S.Store tx.new.conn.now) result }
-    ensures stays { StaysWithin S.Store tx.old.conn tx.new.conn result }
+    ensures same { ReadsOnly (T.state tx.old) (T.state tx.new) result }
+    ensures ours { KeepsOurs (T.state tx.old) (T.state tx.new) result }
+    ensures stays { StaysWithin T.lenders T.state tx.old tx.new result }
 {
     let touched = match touches(alloc, config, operation) {
         Ok(touched) => touched,
@@ -114,25 +115,24 @@ pub fn accept(
 }
 
 /// Carries out what is asked for, and reads what the reply shows of that.
-fn carry<S: Alter>(
-    tx: &mut Transaction<'_, S>,
+fn carry<T: Statements>(
+    tx: &mut T,
     alloc: Global,
     operation: &Operation<'_>,
     view: &View,
     decision: &Decision,
 ) -> Result<Shown, StoreFault>
     requires { IsTrue (room_for view.now.next (numbers_for decision.now)) }
-    ensures map { FromMaps (state S.Store tx.old.conn.now) (state S.Store tx.new.conn.now)
+    ensures map { FromMaps (T.state tx.old) (T.state tx.new)
         (λ s. (config : Config) → IsSound s → AreFit operation.now.fields
         → view.now ≡ true_view config s operation.now
         → IsRuling config s operation.now (Do decision.now)
-        → IfOk result (λ shown.
-        SeesState (state S.Store tx.new.conn.now) (effect config s operation.now)
+        → IfOk result (λ shown. SeesState (T.state tx.new) (effect config s operation.now)
         × (shown ≡ shown_at (effect config s operation.now)
         (subject_of (effect config s operation.now).next
         operation.now.target.resource operation.now.target.method)))) }
-    ensures ours { KeepsOurs (state S.Store tx.old.conn.now) (state S.Store tx.new.conn.now) result }
-    ensures stays { StaysWithin S.Store tx.old.conn tx.new.conn result }
+    ensures ours { KeepsOurs (T.state tx.old) (T.state tx.new) result }
+    ensures stays { StaysWithin T.lenders T.state tx.old tx.new result }
 {
     carry_out(tx, alloc, view, decision, &operation.content)?;
     let next = view.next.after_taking(&numbers_for(decision));
@@ -141,21 +141,20 @@ fn carry<S: Alter>(
 }
 
 /// Does what was ruled, and spells the reply.
-fn follow<S: Alter>(
-    tx: &mut Transaction<'_, S>,
+fn follow<T: Statements>(
+    tx: &mut T,
     alloc: Global,
     service: &Service,
     operation: &Operation<'_>,
     ruled: &Ruled,
 ) -> Result<Performed, StoreFault>
     requires { HasRoomFor ruled.now.view.next ruled.now.ruling }
-    ensures map { FromMaps (state S.Store tx.old.conn.now) (state S.Store tx.new.conn.now)
+    ensures map { FromMaps (T.state tx.old) (T.state tx.new)
         (λ s. IsSound s → AreFit operation.now.fields → Rules service.now s operation.now ruled.now
         → IfOk result (λ p. IsReady (operation_step service.now s operation.now) p
-        × SeesState (state S.Store tx.new.conn.now)
-        (operation_step service.now s operation.now).state)) }
-    ensures ours { KeepsOurs (state S.Store tx.old.conn.now) (state S.Store tx.new.conn.now) result }
-    ensures stays { StaysWithin S.Store tx.old.conn tx.new.conn result }
+        × SeesState (T.state tx.new) (operation_step service.now s operation.now).state)) }
+    ensures ours { KeepsOurs (T.state tx.old) (T.state tx.new) result }
+    ensures stays { StaysWithin T.lenders T.state tx.old tx.new result }
 {
     let delivery = delivery_at(ruled.view.clock, operation);
     match &ruled.ruling {
@@ -170,19 +169,18 @@ fn follow<S: Alter>(
 }
 
 /// Does what a request asks for, and spells the reply.
-fn answer<S: Alter>(
-    tx: &mut Transaction<'_, S>,
+fn answer<T: Statements>(
+    tx: &mut T,
     alloc: Global,
     service: &Service,
     operation: &Operation<'_>,
 ) -> Result<Performed, StoreFault>
-    ensures map { FromMaps (state S.Store tx.old.conn.now) (state S.Store tx.new.conn.now)
+    ensures map { FromMaps (T.state tx.old) (T.state tx.new)
         (λ s. IsSound s → AreFit operation.now.fields
         → IfOk result (λ p. IsReady (operation_step service.now s operation.now) p
-        × SeesState (state S.Store tx.new.conn.now)
-        (operation_step service.now s operation.now).state)) }
-    ensures ours { KeepsOurs (state S.Store tx.old.conn.now) (state S.Store tx.new.conn.now) result }
-    ensures stays { StaysWithin S.Store tx.old.conn tx.new.conn result }
+        × SeesState (T.state tx.new) (operation_step service.now s operation.now).state)) }
+    ensures ours { KeepsOurs (T.state tx.old) (T.state tx.new) result }
+    ensures stays { StaysWithin T.lenders T.state tx.old tx.new result }
 {
     let ruled = rule(tx, alloc, service.config(), operation)?;
     let performed = follow(tx, alloc, service, operation, &ruled);
@@ -205,7 +203,7 @@ pub fn perform_request<S: Alter>(
         (λ s. (operation_step service.now s operation.now).state) t p after) }
 {
     let mut tx = connection.transaction();
-    let performed = answer(&mut tx, alloc, service, operation)?;
+    let performed = answer(&mut Lent { tx: &mut tx }, alloc, service, operation)?;
     match tx.commit() {
         Ok(()) => Ok(performed),
         Err(error) => Err(fault_of(error)),

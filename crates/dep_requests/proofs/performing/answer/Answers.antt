@@ -1,4 +1,3 @@
-use Rattle.sqlite.specs.Held.{state}
 use Rattle.dep_tables.proofs.Chains.{clean_before, stays_then}
 use Rattle.dep_changes.proofs.Chains.{ours_then}
 use Rattle.dep_requests.proofs.Stepping.{sees_still}
@@ -6,8 +5,8 @@ use Rattle.dep_requests.proofs.performing.answer.Goals as goal
 
 pub returns-clause-map : goal.returns-clause-map
 returns-clause-map g c clean within ours s are sound fit =
-    let old = state g.S.Store c.args.tx.now.conn.now in
-    let mid = state g.S.Store c.rule.new.tx.conn.now in
+    let old = g.T.Statements.state c.args.tx.now in
+    let mid = g.T.Statements.state c.rule.new.tx in
     let before = clean_before c.follow-performed.ensures.stays clean in
     let rules = rw c.config.ensures at (c.in_ok-ruled.ensures.map before within ours s are sound) in
     c.follow-performed.ensures.map clean (c.in_ok-ruled.ensures.stays.inside before within) (c.in_ok-ruled.ensures.ours before within ours) s

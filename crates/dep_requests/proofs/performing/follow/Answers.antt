@@ -1,5 +1,4 @@
 use Rattle.std.proofs.Common.{ap, subst}
-use Rattle.sqlite.specs.Held.{state}
 use Rattle.dep_rulings.specs.Rulings.{IsRuling}
 use Rattle.dep_rulings.specs.declared.ruling.Ruling.{Ruling}
 use Rattle.dep_rulings.specs.declared.view.View.{View}
@@ -15,7 +14,7 @@ returns-in-Refuse-clause-map g c clean within ours s are sound fit rules =
     let config = c.args.service.now in
     let way = delivered s op c.args.ruled.now.view.clock c.delivery_at-delivery.result sound (ap (λ (v : View). v.clock) rules.view)
     c.delivery_at-delivery.ensures.clock c.delivery_at-delivery.ensures.bare c.delivery_at-delivery.ensures.closes in
-    refused_then config s op (SeesState (state g.S.Store c.args.tx.now.conn.now)) _ c.delivery_at-delivery.result c.refuse.result
+    refused_then config s op (SeesState (g.T.Statements.state c.args.tx.now)) _ c.delivery_at-delivery.result c.refuse.result
     (subst (λ (r : Ruling). IsRuling config s op r) c.in-Refuse.is rules.ruling) way are c.refuse.ensures
 
 pub returns-in_ok-shown-in-Do-clause-map : goal.returns-in_ok-shown-in-Do-clause-map
@@ -26,13 +25,13 @@ returns-in_ok-shown-in-Do-clause-map g c clean within ours s are sound fit rules
     c.delivery_at-delivery.ensures.clock c.delivery_at-delivery.ensures.bare c.delivery_at-delivery.ensures.closes in
     let ruling = subst (λ (r : Ruling). IsRuling config s op r) c.in-Do.is rules.ruling in
     let carried = c.in_ok-shown-in-Do.ensures.map clean within ours s are config sound fit rules.view ruling in
-    accepted_then config s op (SeesState (state g.S.Store c.carry.new.tx.conn.now)) c.delivery_at-delivery.result _ c.accept-performed.result fit sound ruling.0 way carried c.accept-performed.ensures
+    accepted_then config s op (SeesState (g.T.Statements.state c.carry.new.tx)) c.delivery_at-delivery.result _ c.accept-performed.result fit sound ruling.0 way carried c.accept-performed.ensures
 
 pub returns-in-Refuse-clause-ours : goal.returns-in-Refuse-clause-ours
 returns-in-Refuse-clause-ours g c clean within ours = if_ok c.refuse.result ours
 
 pub returns-in-Refuse-clause-stays : goal.returns-in-Refuse-clause-stays
-returns-in-Refuse-clause-stays g c = stays_put g.S.Store c.args.tx.now.conn c.refuse.result
+returns-in-Refuse-clause-stays g c = stays_put g.T.Statements.lenders g.T.Statements.state c.args.tx.now c.refuse.result
 
 pub returns-in_ok-shown-in-Do-clause-ours : goal.returns-in_ok-shown-in-Do-clause-ours
 returns-in_ok-shown-in-Do-clause-ours g c clean within ours = if_ok c.accept-performed.result (c.in_ok-shown-in-Do.ensures.ours clean within ours)

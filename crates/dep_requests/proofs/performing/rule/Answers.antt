@@ -19,7 +19,7 @@ pub returns-clause-stays : goal.returns-clause-stays
 returns-clause-stays g c = stays_ok c.in_ok-view.ensures.stays
 
 pub returns-in-Err-clause-stays : goal.returns-in-Err-clause-stays
-returns-in-Err-clause-stays g c = stays_put g.S.Store c.args.tx.now.conn _
+returns-in-Err-clause-stays g c = stays_put g.T.Statements.lenders g.T.Statements.state c.args.tx.now _
 
 pub returns-in-Err-decide-clause-stays : goal.returns-in-Err-decide-clause-stays
 returns-in-Err-decide-clause-stays g c = stays_ok c.in_ok-view.ensures.stays
