@@ -58,6 +58,13 @@ tells g old inside told answer read same clean are_ours =
       (read clean are_ours, ap (λ (d : Database). tables_in d.trees) still),
     )
 
+-- what it told of the state that the database stands for
+pub told_then : {S : Type 0} (g : Ghosts S) (old : Held S) (inside : db.State) (told : State → Type 0)
+    → FromMaps (state g (record old { in_transaction = true })) inside (λ s. IsSound s → told s)
+    → HasCleanDisk inside → (s : State) → StandsFor (state g old) s → told s
+told_then g old inside told reads clean s was =
+    reads clean refl was.stands.ours s (subst (λ (t : Tables). TablesAre t s) (sym was.stands.rows) was.means.are) was.means.sound
+
 -- ---- what reads alone, outside a transaction
 
 pub tables_kept : (old new : db.State) (t : Tables) → Stands old t → IsTrue new.is_open → IsKept old new → Stands new t

@@ -10,6 +10,7 @@ ghost use Rattle.dep_tables.specs.Edits.{AreFileRowsOf, IsObjectAfter};
 ghost use Rattle.dep_requests.specs.Standing.{TablesStandFor};
 ghost use Rattle.dep_requests.specs.Transactions.{Transacts, OnlyTells};
 
+use dep_schema::Lent;
 use dep_tables::{fault_of, files_of, next_object};
 use dep_types::{FileRow, ObjectView, StoreFault};
 use dep_views::load_object_view;
@@ -28,7 +29,7 @@ pub(crate) fn view_object<S: Alter>(
         → found ≡ option_map (object_view object) (finmap.get s.objects object))) }
 {
     let mut tx = connection.transaction();
-    let found = load_object_view(&mut tx, alloc, object)?;
+    let found = load_object_view(&mut Lent { tx: &mut tx }, alloc, object)?;
     match tx.commit() {
         Ok(()) => Ok(found),
         Err(error) => Err(fault_of(error)),
@@ -47,7 +48,7 @@ pub(crate) fn find_next<S: Alter>(
         → OnOk result (IsTrue (state S.Store connection.old).is_open) }
 {
     let mut tx = connection.transaction();
-    let found = next_object(&mut tx, after)?;
+    let found = next_object(&mut Lent { tx: &mut tx }, after)?;
     match tx.commit() {
         Ok(()) => Ok(found),
         Err(error) => Err(fault_of(error)),
@@ -67,7 +68,7 @@ pub(crate) fn list_files<S: Alter>(
         → OnOk result (IsTrue (state S.Store connection.old).is_open) }
 {
     let mut tx = connection.transaction();
-    let found = files_of(&mut tx, alloc, object)?;
+    let found = files_of(&mut Lent { tx: &mut tx }, alloc, object)?;
     match tx.commit() {
         Ok(()) => Ok(found),
         Err(error) => Err(fault_of(error)),

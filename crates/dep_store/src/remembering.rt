@@ -13,9 +13,10 @@ ghost use Rattle.dep_store.specs.Remembering.{Recalls, IsRecalled, is_left};
 ghost use Rattle.dep_requests.specs.Transactions.{IsBackAt};
 
 use dep_objects::counters;
-use dep_tables::{fault_of, find_upload, next_upload};
+use dep_schema::Lent;
+use dep_tables::{Statements, fault_of, find_upload, next_upload};
 use dep_types::{Config, Counters, StoreFault, UploadRow};
-use sqlite::{Alter, Connection, Transaction};
+use sqlite::{Alter, Connection};
 
 /// The clock and the counters, at which no upload is idle.
 #[derive(Clone, Copy)]
@@ -47,32 +48,28 @@ fn was_left(max_idle: u64, clock: u64, found: &Option<UploadRow>) -> bool
 }
 
 /// Whether the upload is there and was left alone for longer than this.
-fn is_idle<S: Alter>(
-    tx: &mut Transaction<'_, S>,
+fn is_idle<T: Statements>(
+    tx: &mut T,
     max_idle: u64,
     clock: u64,
     upload: u64,
 ) -> Result<bool, StoreFault>
-    ensures map { FromMaps (state S.Store tx.old.conn.now) (state S.Store tx.new.conn.now)
+    ensures map { FromMaps (T.state tx.old) (T.state tx.new)
         (λ s. IfOk result (λ idle. idle ≡ is_left max_idle clock s.uploads upload)) }
-    ensures same { ReadsOnly (state S.Store tx.old.conn.now) (state S.Store tx.new.conn.now) result }
-    ensures stays { StaysWithin S.Store tx.old.conn tx.new.conn result }
+    ensures same { ReadsOnly (T.state tx.old) (T.state tx.new) result }
+    ensures stays { StaysWithin T.lenders T.state tx.old tx.new result }
 {
     let found = find_upload(tx, upload)?;
     Ok(was_left(max_idle, clock, &found))
 }
 
 /// Whether some upload was left alone for longer than this.
-fn has_idle<S: Alter>(
-    tx: &mut Transaction<'_, S>,
-    max_idle: u64,
-    clock: u64,
-) -> Result<bool, StoreFault>
-    ensures map { FromMaps (state S.Store tx.old.conn.now) (state S.Store tx.new.conn.now)
+fn has_idle<T: Statements>(tx: &mut T, max_idle: u64, clock: u64) -> Result<bool, StoreFault>
+    ensures map { FromMaps (T.state tx.old) (T.state tx.new)
         (λ s. finmap.get s.uploads 0 ≡ None
         → IfOk result (λ idle. idle ≡ false
         → (u : ℕ) → is_left max_idle clock s.uploads u ≡ false)) }
-    ensures stays { StaysWithin S.Store tx.old.conn tx.new.conn result }
+    ensures stays { StaysWithin T.lenders T.state tx.old tx.new result }
 {
     let mut last = 0;
     'uploads: for _ in 0..u64::MAX {
@@ -88,16 +85,16 @@ fn has_idle<S: Alter>(
 }
 
 /// What may be remembered, where a tick at this moment changes nothing.
-fn read_still<S: Alter>(
-    tx: &mut Transaction<'_, S>,
+fn read_still<T: Statements>(
+    tx: &mut T,
     config: &Config,
     moment: u64,
 ) -> Result<Option<Remembered>, StoreFault>
-    ensures map { FromMaps (state S.Store tx.old.conn.now) (state S.Store tx.new.conn.now)
+    ensures map { FromMaps (T.state tx.old) (T.state tx.new)
         (λ s. IsSound s → IfOk result (λ found. (m : Remembered) → found ≡ Some m → Recalls m s)) }
     ensures covers { IfOk result (λ found. (m : Remembered) → found ≡ Some m
         → (moment ≤ m.clock) × (m.max_idle ≡ config.now.staging_max_idle)) }
-    ensures stays { StaysWithin S.Store tx.old.conn tx.new.conn result }
+    ensures stays { StaysWithin T.lenders T.state tx.old tx.new result }
 {
     let row = counters(tx)?;
     if row.clock < moment {
@@ -130,7 +127,7 @@ fn look_back<S: Alter>(
 {
     let _between = connection.is_autocommit();
     let mut tx = connection.transaction();
-    let found = read_still(&mut tx, config, moment)?;
+    let found = read_still(&mut Lent { tx: &mut tx }, config, moment)?;
     tx.rollback();
     Ok(found)
 }

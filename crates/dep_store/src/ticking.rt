@@ -8,6 +8,7 @@ ghost use Rattle.dep_store.specs.Remembering.{IsRecalled};
 
 use crate::remembering::{Remembered, look};
 use dep_moment::Moment;
+use dep_schema::Lent;
 use dep_tables::fault_of;
 use dep_types::{Config, StoreFault};
 use sqlite::{Alter, Connection};
@@ -25,7 +26,7 @@ fn move_clock<S: Alter>(
         (λ s. tick config.now s moment)) }
 {
     let mut tx = connection.transaction();
-    let moved = dep_staging::tick(&mut tx, config, moment)?;
+    let moved = dep_staging::tick(&mut Lent { tx: &mut tx }, config, moment)?;
     let clock = Moment::new(moved);
     match tx.commit() {
         Ok(()) => Ok(clock),

@@ -8,9 +8,10 @@ use Rattle.dep_store.proofs.reading.find_next.Goals as goal
 pub returns-in_err-found : goal.returns-in_err-found
 returns-in_err-found g c =
     let old = c.args.connection.now in
-    let inside = c.next_object.new.tx.conn.now in
+    let left : c.next_object.new.tx.tx.now ≡ c.tx-2-1.given.0 = search rules in
+    let inside = c.tx-2-1.given.0.conn.now in
     let new = c.drop-tx.new.self.0 in
-    let work = works_within g.S.Store old new c.in_err-found.ensures.stays c.transaction-tx.ensures.begun (λ is_open trees h. g.met.S.Store.settled old.store trees is_open h)
+    let work = works_within g.S.Store old new c.in_err-found.ensures.stays c.transaction-tx.ensures.begun left (λ is_open trees h. g.met.S.Store.settled old.store trees is_open h)
     (clean_if_open (g.S.Store.view new.store) (g.met.S.Store.shut_if_dirty new.store)) in
     let same : new ≡ c.connection-1.given.0 = search rules in
     record {
@@ -22,10 +23,11 @@ returns-in_err-found g c =
 pub returns-in-Ok : goal.returns-in-Ok
 returns-in-Ok g c =
     let old = c.args.connection.now in
-    let inside = c.next_object.new.tx.conn.now in
+    let left : c.next_object.new.tx.tx.now ≡ c.tx-2-1.given.0 = search rules in
+    let inside = c.tx-2-1.given.0.conn.now in
     let new = c.commit.new.self.0 in
-    let worked = rw c.transaction-tx.ensures.begun at c.in_ok-found.ensures in
-    let work = works_within g.S.Store old new c.in_ok-found.ensures.stays c.transaction-tx.ensures.begun (λ is_open trees h. g.met.S.Store.settled old.store trees is_open h)
+    let worked = rw (c.transaction-tx.ensures.begun, left) at c.in_ok-found.ensures in
+    let work = works_within g.S.Store old new c.in_ok-found.ensures.stays c.transaction-tx.ensures.begun left (λ is_open trees h. g.met.S.Store.settled old.store trees is_open h)
     (clean_if_open (g.S.Store.view new.store) (g.met.S.Store.shut_if_dirty new.store)) in
     let same : new ≡ c.connection-2-1.given.0 = search rules in
     record {
@@ -39,15 +41,16 @@ returns-in-Ok g c =
 pub returns-in-Err : goal.returns-in-Err
 returns-in-Err g c =
     let old = c.args.connection.now in
-    let inside = c.next_object.new.tx.conn.now in
+    let left : c.next_object.new.tx.tx.now ≡ c.tx-2-1.given.0 = search rules in
+    let inside = c.tx-2-1.given.0.conn.now in
     let new = c.commit.new.self.0 in
-    let worked = rw c.transaction-tx.ensures.begun at c.in_ok-found.ensures in
-    let work = works_within g.S.Store old new c.in_ok-found.ensures.stays c.transaction-tx.ensures.begun (λ is_open trees h. g.met.S.Store.settled old.store trees is_open h)
+    let worked = rw (c.transaction-tx.ensures.begun, left) at c.in_ok-found.ensures in
+    let work = works_within g.S.Store old new c.in_ok-found.ensures.stays c.transaction-tx.ensures.begun left (λ is_open trees h. g.met.S.Store.settled old.store trees is_open h)
     (clean_if_open (g.S.Store.view new.store) (g.met.S.Store.shut_if_dirty new.store)) in
     let same : new ≡ c.connection-2-1.given.0 = search rules in
     record {
       transacts = uncommitted g.S.Store old inside new _ c.in_ok-found.found _ c.in-Err.error work
           (tells g.S.Store old inside (IsObjectAfter c.args.after) c.in_ok-found.found worked.ok worked.same)
-          (still_inside g.S.Store old c.in_ok-found.ensures.stays c.transaction-tx.ensures.begun) (λ clean. c.in-Err.ensures.err clean) c.commit.ensures.survives _ same;
+          (still_inside g.S.Store old c.in_ok-found.ensures.stays c.transaction-tx.ensures.begun left) (λ clean. c.in-Err.ensures.err clean) c.commit.ensures.survives _ same;
       opened = λ clean. tt;
     }

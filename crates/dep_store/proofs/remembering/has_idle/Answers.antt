@@ -1,6 +1,5 @@
 use Rattle.std.proofs.Common.{sym, subst, ◌∙◌}
 use Rattle.sqlite.specs.Effect.{Database}
-use Rattle.sqlite.specs.Held.{state}
 use Rattle.dep_tables.specs.Tables.{tables_in, tables_of, HasOurTables}
 use Rattle.dep_tables.proofs.Chains.{clean_before, stays_then, stays_ok}
 use Rattle.dep_row_maps.specs.TablesAre.{TablesAre}
@@ -11,7 +10,7 @@ use Rattle.dep_store.proofs.remembering.has_idle.Goals as goal
 
 pub returns-in_default-clause-map : goal.returns-in_default-clause-map
 returns-in_default-clause-map g c clean inside ours s are zero_free none =
-    let mid = state g.S.Store c.uploads.tx.conn.now in
+    let mid = g.T.Statements.state c.uploads.tx in
     let inv = c.uploads.invariant in
     let before = clean_before c.next_upload.ensures.stays clean in
     let still = inv.1 before ours in
@@ -22,7 +21,7 @@ returns-in_default-clause-map g c clean inside ours s are zero_free none =
 
 pub uploads-preserved : goal.uploads-preserved
 uploads-preserved g c =
-    let mid = state g.S.Store c.uploads.tx.conn.now in
+    let mid = g.T.Statements.state c.uploads.tx in
     let inv = c.uploads.invariant in
     let clean_seen = clean_before c.is_idle.ensures.stays in
     let clean_mid = clean_before c.next_upload.ensures.stays in (
@@ -44,3 +43,6 @@ uploads-preserved g c =
           let told = c.in_ok-is_idle.ensures.map clean (c.in_ok-upload.ensures.stays.inside before within) (subst HasOurTables (sym seen_is) ours_mid) s (subst (λ (d : Database). TablesAre (tables_in d.trees) s) (sym seen_is) are_mid) in
           none_left_next c.args.max_idle c.args.clock c.uploads.last c.in-Some.upload s.uploads next (inv.2 (clean_mid before) inside ours s are zero_free) (sym told ∙ c.if-branch.false),
     )
+
+pub returns-in_default-clause-stays : goal.returns-in_default-clause-stays
+returns-in_default-clause-stays g c = stays_ok (stays_then c.uploads.invariant.0 c.in_ok-upload.ensures.stays)

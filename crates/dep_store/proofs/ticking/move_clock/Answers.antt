@@ -7,9 +7,10 @@ use Rattle.dep_store.proofs.ticking.move_clock.Goals as goal
 pub returns-in_err-moved : goal.returns-in_err-moved
 returns-in_err-moved g c =
     let old = c.args.connection.now in
-    let inside = c.tick.new.tx.conn.now in
+    let left : c.tick.new.tx.tx.now ≡ c.tx-2-1.given.0 = search rules in
+    let inside = c.tx-2-1.given.0.conn.now in
     let new = c.drop-tx.new.self.0 in
-    let work = works_within g.S.Store old new c.in_err-moved.ensures.stays c.transaction-tx.ensures.begun (λ is_open trees h. g.met.S.Store.settled old.store trees is_open h)
+    let work = works_within g.S.Store old new c.in_err-moved.ensures.stays c.transaction-tx.ensures.begun left (λ is_open trees h. g.met.S.Store.settled old.store trees is_open h)
     (clean_if_open (g.S.Store.view new.store) (g.met.S.Store.shut_if_dirty new.store)) in
     let same : new ≡ c.connection-1.given.0 = search rules in
     record {
@@ -20,10 +21,11 @@ returns-in_err-moved g c =
 pub returns-in-Ok : goal.returns-in-Ok
 returns-in-Ok g c =
     let old = c.args.connection.now in
-    let inside = c.tick.new.tx.conn.now in
+    let left : c.tick.new.tx.tx.now ≡ c.tx-2-1.given.0 = search rules in
+    let inside = c.tx-2-1.given.0.conn.now in
     let new = c.commit.new.self.0 in
-    let worked = rw c.transaction-tx.ensures.begun at c.in_ok-moved.ensures in
-    let work = works_within g.S.Store old new c.in_ok-moved.ensures.stays c.transaction-tx.ensures.begun (λ is_open trees h. g.met.S.Store.settled old.store trees is_open h)
+    let worked = rw (c.transaction-tx.ensures.begun, left) at c.in_ok-moved.ensures in
+    let work = works_within g.S.Store old new c.in_ok-moved.ensures.stays c.transaction-tx.ensures.begun left (λ is_open trees h. g.met.S.Store.settled old.store trees is_open h)
     (clean_if_open (g.S.Store.view new.store) (g.met.S.Store.shut_if_dirty new.store)) in
     let same : new ≡ c.connection-2-1.given.0 = search rules in
     record {
@@ -35,14 +37,15 @@ returns-in-Ok g c =
 pub returns-in-Err : goal.returns-in-Err
 returns-in-Err g c =
     let old = c.args.connection.now in
-    let inside = c.tick.new.tx.conn.now in
+    let left : c.tick.new.tx.tx.now ≡ c.tx-2-1.given.0 = search rules in
+    let inside = c.tx-2-1.given.0.conn.now in
     let new = c.commit.new.self.0 in
-    let worked = rw c.transaction-tx.ensures.begun at c.in_ok-moved.ensures in
-    let work = works_within g.S.Store old new c.in_ok-moved.ensures.stays c.transaction-tx.ensures.begun (λ is_open trees h. g.met.S.Store.settled old.store trees is_open h)
+    let worked = rw (c.transaction-tx.ensures.begun, left) at c.in_ok-moved.ensures in
+    let work = works_within g.S.Store old new c.in_ok-moved.ensures.stays c.transaction-tx.ensures.begun left (λ is_open trees h. g.met.S.Store.settled old.store trees is_open h)
     (clean_if_open (g.S.Store.view new.store) (g.met.S.Store.shut_if_dirty new.store)) in
     let same : new ≡ c.connection-2-1.given.0 = search rules in
     record {
       transacts = uncommitted g.S.Store old inside new _ c.new-clock.result _ c.in-Err.error work
           (ticks g.S.Store old inside c.args.config.now c.args.moment c.in_ok-moved.moved c.new-clock.result c.new-clock.ensures worked.map worked.ours)
-          (still_inside g.S.Store old c.in_ok-moved.ensures.stays c.transaction-tx.ensures.begun) (λ clean. c.in-Err.ensures.err clean) c.commit.ensures.survives _ same;
+          (still_inside g.S.Store old c.in_ok-moved.ensures.stays c.transaction-tx.ensures.begun left) (λ clean. c.in-Err.ensures.err clean) c.commit.ensures.survives _ same;
     }
