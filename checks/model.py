@@ -9,10 +9,12 @@ import binascii
 import calendar
 import copy
 import hashlib
+import ipaddress
 import json
 import re
 import time
 from dataclasses import dataclass, field
+from urllib.parse import unquote
 
 GREATEST = 4_000_000_000_000_000_000
 LAST_SECOND = 253_402_300_799
@@ -307,9 +309,21 @@ def no_constant(text):
     raise ValueError(text)
 
 
+def whole(text):
+    return -0.0 if text == "-0" else int(text)
+
+
+def finite(text):
+    value = float(text)
+    if value in (float("inf"), float("-inf")):
+        raise ValueError(text)
+    return value
+
+
 def read_json(content):
     try:
-        document = json.loads(content.decode(), parse_constant=no_constant)
+        document = json.loads(content.decode(), parse_constant=no_constant, parse_int=whole, parse_float=finite)
+        compact(document)  # no half of a surrogate pair
     except (ValueError, RecursionError):
         raise Refused("ContentMalformed") from None
     depth, deepest, inside = 0, 0, False
@@ -351,21 +365,62 @@ class Reference:
     sha256: bytes | None
 
 
+def ipv4_number(part):
+    """A part of an IPv4 address: decimal, octal behind 0, hexadecimal behind 0x."""
+    base, digits = 10, part
+    if part[:2].lower() == "0x":
+        base, digits = 16, part[2:]
+    elif part.startswith("0") and len(part) > 1:
+        base, digits = 8, part[1:]
+    try:
+        return int(digits or "0", base)
+    except ValueError:
+        raise Malformed from None
+
+
+def host_text(host):
+    """A host as the standard of URLs writes it; of IDNA no more than letter case."""
+    if host.startswith("["):
+        try:
+            return f"[{ipaddress.IPv6Address(host[1:-1] if host.endswith(']') else '')}]"
+        except ValueError:
+            raise Malformed from None
+    host = unquote(host).lower()
+    if not host or re.search(r"[\x00-\x20#/:<>?@\[\\\]^|%\x7f]", host):
+        raise Malformed
+    parts = host.removesuffix(".").split(".")
+    if not re.fullmatch(r"[0-9]+|0x[0-9a-f]*", parts[-1]):
+        return host
+    numbers = [ipv4_number(part) for part in parts]
+    if len(numbers) > 4 or any(number > 255 for number in numbers[:-1]) or numbers[-1] >= 256 ** (5 - len(numbers)):
+        raise Malformed
+    fronts = sum(number * 256 ** (3 - place) for place, number in enumerate(numbers[:-1]))
+    return str(ipaddress.IPv4Address(fronts + numbers[-1]))
+
+
 def url_text(text):
     """The text of an absolute URL as its standard writes it (url.spec.whatwg.org), as far as the examples go."""
+    text = re.sub(r"[\t\n\r]", "", text.strip("".join(map(chr, range(33)))))
     scheme = re.match(r"[A-Za-z][A-Za-z0-9+.\-]*:", text)
     if not scheme:
         raise Malformed
-    parts = re.fullmatch(r"http://([^/?#]+)([^?#]*)(.*)", scheme.group().lower() + text[scheme.end():])
-    if not parts:
+    if scheme.group().lower() not in ("http:", "https:"):
         return text
-    path = []
-    for step in parts.group(2).split("/")[1:]:
-        if step == "..":
-            path = path[:-1]
-        elif step != ".":
-            path.append(step)
-    return "http://" + re.sub(r":80$", "", parts.group(1).lower()) + "/" + "/".join(path) + parts.group(3)
+    authority, path, rest = re.fullmatch(r"[/\\]*([^/\\?#]*)([^?#]*)(.*)", text[scheme.end():]).groups()
+    user, _, place = authority.rpartition("@")
+    host, port = re.fullmatch(r"(\[.*\]|\[.*|[^:]*)(?::(.*))?", place).groups()
+    if port and (not re.fullmatch("[0-9]+", port) or int(port) > 65_535):
+        raise Malformed
+    standard = {"http:": 80, "https:": 443}[scheme.group().lower()]
+    port = f":{int(port)}" if port and int(port) != standard else ""
+    steps, listed = [], re.split(r"[/\\]", path)[1:] or [""]
+    for at, step in enumerate(listed):
+        plain = step.lower().replace("%2e", ".")
+        steps = steps[:-1] if plain == ".." else steps if plain == "." else [*steps, step]
+        if plain in (".", "..") and at == len(listed) - 1:
+            steps.append("")
+    user = user + "@" if user else ""
+    return f"{scheme.group().lower()}//{user}{host_text(host)}{port}/{'/'.join(steps)}{rest}"
 
 
 def read_reference(entry):
