@@ -3,8 +3,8 @@
 
     checks/examples.py crates/examples/data/texts.txt crates/examples/data/deposits.txt
 
-docs/EXAMPLES.md says how a file is written. Examples whose lines need the server of this repository itself (a call by
-itself, a reader or a writer that fails, a statement of SQL) are left out and counted. With `--lengths` in front, a
+docs/EXAMPLES.md says how a file is written. Examples whose lines need the server of this repository itself (an intake
+by itself, a reader or a writer that fails, a statement of SQL) are left out and counted. With `--lengths` in front, a
 `Content-Length: ?` that has to come back is taken as the length of what stands behind it, and told.
 """
 
@@ -17,10 +17,8 @@ MOMENT = 1_523_836_800
 WORDS = ("open", "closed", "cut", "gone", "ended", "served")
 CALLED = ("done", "damaged", "no-such-object", "transfer-fault")
 BLOCK = 65_536
-LEFT_OUT = {"intake", "fields", "if-match", "disposition", "digest", "hash", "route", "metadata", "references",
-            "metadata-prefixes", "reference-prefixes", "metadata-document", "bag-metadata-document",
-            "status-document", "upload-document", "reader-fails", "reads", "writer-takes", "writer-fails-after",
-            "unserved", "bound", "read-fault", "write-fault", "crowd", "full", "refused", "sql", "shut", "cut", "store-fault"}
+LEFT_OUT = {"intake", "reader-fails", "reads", "writer-takes", "writer-fails-after", "unserved", "bound", "read-fault",
+            "write-fault", "crowd", "full", "refused", "sql", "shut", "cut", "store-fault"}
 NAMES = {"base": "base", "title": "title", "abstract": "abstract", "depositor": "depositor",
          "on-behalf-of": "on_behalf_of", "require-if-match": "require_if_match", "max-upload": "max_upload",
          "max-assembled": "max_assembled", "max-segments": "max_segments", "staging-max-idle": "staging_max_idle"}

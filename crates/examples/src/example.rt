@@ -65,13 +65,6 @@ impl<'a> Example<'a> {
 
     /// Plays it for each of its rows, in each of its ways. Its texts end with it.
     pub fn plays(self, alloc: Global, words: &mut Words) -> Result<(), Wrong<'a>> {
-        let kept = words.count();
-        let played = self.in_all_rows(alloc, words);
-        words.forget(kept);
-        played
-    }
-
-    fn in_all_rows(self, alloc: Global, words: &mut Words) -> Result<(), Wrong<'a>> {
         let rows = self
             .lines
             .lines()
@@ -92,11 +85,12 @@ impl<'a> Example<'a> {
                     ..self
                 };
                 let kept = words.count();
-                if let Err(why) = add_cells(alloc, words, names, row) {
-                    return Err(example.wrong(i, Cut::Whole, why));
-                }
-                example.in_all_ways(alloc, words)?;
+                let played = match add_cells(alloc, words, names, row) {
+                    Ok(()) => example.in_all_ways(alloc, words),
+                    Err(why) => Err(example.wrong(i, Cut::Whole, why)),
+                };
                 words.forget(kept);
+                played?;
             }
         }
         Ok(())

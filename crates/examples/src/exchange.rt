@@ -5,7 +5,7 @@ use crate::cut::Cut;
 use crate::escapes::expand;
 use crate::page::Page;
 use crate::settings::number;
-use crate::trouble::{Trouble, came_to, differing};
+use crate::trouble::{Trouble, differing};
 use crate::words::Words;
 use std::alloc::{AllocError, Global};
 
@@ -22,6 +22,7 @@ pub struct Exchange {
     pub stream: Vec<u8>,
     pub want: Vec<u8>,
     pub cut: Cut,
+    /// It holds for the exchanges that follow too.
     pub moment: u64,
     pub reader_fails: bool,
     /// What is called of the archive itself, in place of a hub.
@@ -75,12 +76,6 @@ impl Exchange {
         }
     }
 
-    /// Sets the moment, for the exchanges that follow too.
-    pub fn comes_at(&mut self, moment: &str) -> Result<(), Trouble> {
-        self.moment = number(moment)?;
-        Ok(())
-    }
-
     /// A line of it was read, and not its answer yet.
     pub fn begin(&mut self) {
         self.is_begun = true;
@@ -104,8 +99,8 @@ impl Exchange {
         let value = number(value)?;
         match name {
             "reads" => self.reads = Some(value),
-            "writer-takes" => self.at_once = size(value)?,
-            "writer-fails-after" => self.most = size(value)?,
+            "writer-takes" => self.at_once = value as usize,
+            "writer-fails-after" => self.most = value as usize,
             _ => return Err(Trouble::Line("no line of an example begins so")),
         }
         Ok(())
@@ -142,7 +137,9 @@ impl Exchange {
         if want != sent {
             return Err(differing(alloc, want, sent)?);
         }
-        Err(came_to(alloc, answer, came)?)
+        Err(Trouble::Other(format!(in alloc;
+            "it is written to end as \"{answer}\", and came to \"{came}\""
+        )?))
     }
 
     // Whether the connection was given up for want of memory: behind whole replies the one that says so, or a reply
@@ -154,18 +151,9 @@ impl Exchange {
                 Some(front) => self.want.as_slice().starts_with(front),
                 None => false,
             },
-            "store-fault" => self.want.as_slice().starts_with(sent),
-            "cut" | "write-fault" => self.cut_front().starts_with(sent),
+            "cut" | "write-fault" if self.most < usize::MAX => WANT_OF_MEMORY.starts_with(sent),
+            "cut" | "write-fault" | "store-fault" => self.want.as_slice().starts_with(sent),
             _ => false,
-        }
-    }
-
-    // What may stand in front of a cut.
-    fn cut_front(&self) -> &[u8] {
-        if self.most == usize::MAX {
-            self.want.as_slice()
-        } else {
-            WANT_OF_MEMORY
         }
     }
 }
@@ -179,13 +167,6 @@ fn line_to(alloc: Global, words: &Words, text: &str, bytes: &mut Vec<u8>) -> Res
             bytes.extend_from_slice(b"\r\n")?;
             Ok(())
         }
-    }
-}
-
-fn size(value: u64) -> Result<usize, Trouble> {
-    match usize::try_from(value) {
-        Ok(size) => Ok(size),
-        Err(_) => Err(Trouble::Line("a size is wanted")),
     }
 }
 

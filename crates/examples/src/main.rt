@@ -5,13 +5,11 @@
 mod archive;
 mod archive_calls;
 mod cut;
-mod documents;
 mod escapes;
 mod example;
 mod exchange;
 mod file;
 mod intake;
-mod leaf;
 mod page;
 mod play;
 mod server;

@@ -37,22 +37,10 @@ impl Page {
         }
     }
 
-    /// There is no memory for something that is to be told.
-    pub fn lack_memory(&mut self) {
-        self.is_whole = false;
-    }
-
     /// Adds a line of a name and a number.
     pub fn tell_number(&mut self, name: &[u8], number: u64) {
-        self.put_number(name, number);
-        self.add(b"\r\n");
-    }
-
-    /// Adds a name and a number.
-    pub fn put_number(&mut self, name: &[u8], number: u64) {
         let mut digits = Buffer::new();
-        self.add(name);
-        self.add(digits.format(number).as_bytes());
+        self.tell(&[name, digits.format(number).as_bytes()]);
     }
 
     /// Adds a line of these parts.
@@ -70,7 +58,7 @@ impl Page {
 
     fn add(&mut self, part: &[u8]) {
         if self.bytes.extend_from_slice(part).is_err() {
-            self.lack_memory();
+            self.is_whole = false;
         }
     }
 }

@@ -2,10 +2,8 @@
 
 use crate::archive_calls::ArchiveCall;
 use crate::cut::Cut;
-use crate::documents::{Call, Documents};
 use crate::escapes::fill;
 use crate::exchange::{Exchange, blank};
-use crate::leaf::Leaf;
 use crate::settings::{Settings, number};
 use crate::side::Side;
 use crate::trouble::Trouble;
@@ -14,7 +12,7 @@ use dep_message::Intake;
 use std::alloc::{AllocError, Global};
 
 /// The words that say what an exchange comes to.
-const ANSWERS: [&str; 16] = [
+const ANSWERS: [&str; 15] = [
     "open",
     "closed",
     "cut",
@@ -30,7 +28,6 @@ const ANSWERS: [&str; 16] = [
     "no-such-object",
     "transfer-fault",
     "store-fault",
-    "told",
 ];
 
 /// An example that is played, its bytes cut in one way.
@@ -114,7 +111,10 @@ impl Play {
     fn between(&mut self, word: &str, rest: &str) -> Result<(), Trouble> {
         self.exchange.is_answered()?;
         match word {
-            "at" => self.exchange.comes_at(rest),
+            "at" => {
+                self.exchange.moment = number(rest)?;
+                Ok(())
+            }
             "config" => self.settings.configure(self.alloc, rest),
             "next" => self.number_next(rest),
             "sql" => self.side.change(self.alloc, rest),
@@ -153,43 +153,20 @@ impl Play {
 
     // It goes on with another side.
     fn turns(&mut self, word: &str, rest: &str) -> Result<(), Trouble> {
-        if word != "if-match" {
-            blank(rest)?;
-        }
+        blank(rest)?;
         match word {
-            "full" => self.is_full(),
+            "full" => self.side.server(self.alloc, &self.settings)?.is_full(),
             "restart" => self.side.leave(self.alloc),
             "reopen" => self.side.reopen(self.alloc),
             "refused" => self.side.refuse(self.alloc, &self.settings),
             "shut" => self.side.shut(),
             "intake" => {
-                self.takes_in();
+                let intake = Intake::new(self.alloc, self.settings.max_upload());
+                self.side.change_to(Side::Intake(intake));
                 Ok(())
             }
-            _ => self.alone(word, rest),
+            _ => Err(Trouble::Line("no line of an example begins so")),
         }
-    }
-
-    // There is room for no further connection.
-    fn is_full(&mut self) -> Result<(), Trouble> {
-        let server = self.side.server(self.alloc, &self.settings)?;
-        server.is_full()
-    }
-
-    // It goes on with an intake by itself.
-    fn takes_in(&mut self) {
-        let intake = Intake::new(self.alloc, self.settings.max_upload());
-        self.side.change_to(Side::Intake(intake));
-    }
-
-    // It goes on with a call by itself.
-    fn alone(&mut self, word: &str, rest: &str) -> Result<(), Trouble> {
-        let side = match Call::named(word) {
-            Some(call) => Side::Documents(Documents::new(self.settings.config(self.alloc)?, call)),
-            None => Side::Leaf(Leaf::named(word, rest)?),
-        };
-        self.side.change_to(side);
-        Ok(())
     }
 }
 

@@ -15,7 +15,7 @@ use std::alloc::{AllocError, Global};
 /// A hub and its connections, which have the numbers 1, 2 and so on.
 #[derive(Drop)]
 pub struct Server {
-    hub: Hub<MemStore>,
+    hub: Hub<Store<MemStore>>,
     connections: Vec<ConnId>,
     current: ConnId,
 }
@@ -160,7 +160,7 @@ fn hub(
     alloc: Global,
     settings: &Settings,
     store: Store<MemStore>,
-) -> Result<Hub<MemStore>, (HubFault, Store<MemStore>)> {
+) -> Result<Hub<Store<MemStore>>, (HubFault, Store<MemStore>)> {
     match settings.config(alloc) {
         Ok(config) => Hub::new(alloc, config, store),
         Err(AllocError) => Err((HubFault::Memory, store)),
@@ -171,7 +171,7 @@ fn opened(
     alloc: Global,
     settings: &Settings,
     store: Store<MemStore>,
-) -> Result<Hub<MemStore>, Trouble> {
+) -> Result<Hub<Store<MemStore>>, Trouble> {
     match hub(alloc, settings, store) {
         Ok(hub) => Ok(hub),
         Err((fault, store)) => {
@@ -204,12 +204,12 @@ pub fn refused(
 }
 
 // The numbers of the connections, of which there is one, and that one.
-fn first(alloc: Global, hub: &mut Hub<MemStore>) -> Result<(Vec<ConnId>, ConnId), Trouble> {
+fn first(alloc: Global, hub: &mut Hub<Store<MemStore>>) -> Result<(Vec<ConnId>, ConnId), Trouble> {
     let current = connected(hub)?;
     Ok(([current].to_vec(alloc)?, current))
 }
 
-fn connected(hub: &mut Hub<MemStore>) -> Result<ConnId, Trouble> {
+fn connected(hub: &mut Hub<Store<MemStore>>) -> Result<ConnId, Trouble> {
     match hub.connect() {
         Ok(connection) => Ok(connection),
         Err(ConnectFault::Memory) => Err(Trouble::Memory),

@@ -37,7 +37,8 @@ impl<'a> Shelf<'a> {
         ensures cause { OnErr result (HasRisen self.old.failures self.new.failures) }
     {
         if self.fails(call) {
-            return Err(self.failed());
+            self.failures = self.failures.saturating_add(1);
+            return Err(SinkFailed);
         }
         self.page.put(parts);
         Ok(())
@@ -54,13 +55,6 @@ impl<'a> Shelf<'a> {
         }
         self.failing = Some((failing, before.saturating_sub(1)));
         before == 0
-    }
-
-    fn failed(&mut self) -> SinkFailed
-        ensures { HasRisen self.old.failures self.new.failures }
-    {
-        self.failures = self.failures.saturating_add(1);
-        SinkFailed
     }
 }
 

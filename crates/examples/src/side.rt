@@ -1,10 +1,8 @@
 //! What an example is played against.
 
 use crate::archive::{changed, made, reopened};
-use crate::documents::Documents;
 use crate::exchange::Exchange;
 use crate::intake::takes;
-use crate::leaf::Leaf;
 use crate::page::Page;
 use crate::server::{Server, refused};
 use crate::settings::Settings;
@@ -24,8 +22,6 @@ pub enum Side {
     Archive(Store<MemStore>),
     Server(Server),
     Intake(Intake),
-    Leaf(Leaf),
-    Documents(Documents),
 }
 
 impl Side {
@@ -44,8 +40,6 @@ impl Side {
                 None => Err(Trouble::Line("no hub is there")),
             },
             Side::Intake(intake) => takes(intake, exchange, page),
-            Side::Leaf(leaf) => leaf.reads(alloc, exchange, page),
-            Side::Documents(documents) => documents.reads(alloc, exchange.stream.as_slice(), page),
             Side::Server(server) => server.plays(alloc, exchange, answer, page),
         }
     }

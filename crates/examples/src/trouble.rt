@@ -38,28 +38,17 @@ impl fmt::Display for Trouble {
 
 /// What is written and what was sent differ. It tells both from the first byte where they part.
 pub fn differing(alloc: Global, want: &[u8], sent: &[u8]) -> Result<Trouble, AllocError> {
-    let place = parting(want, sent);
+    let place = want
+        .iter()
+        .zip(sent.iter())
+        .take_while(|(left, right)| left == right)
+        .count();
     let want = shown(alloc, want, place)?;
     let sent = shown(alloc, sent, place)?;
     let what = format!(in alloc;
         "they part at byte {place}\n  written: {want}\n  sent:    {sent}"
     )?;
     Ok(Trouble::Other(what))
-}
-
-// How many bytes they have in common at their beginning.
-fn parting(left: &[u8], right: &[u8]) -> usize {
-    left.iter()
-        .zip(right.iter())
-        .take_while(|(left, right)| left == right)
-        .count()
-}
-
-/// The step came to something else.
-pub fn came_to(alloc: Global, want: &str, came: &str) -> Result<Trouble, AllocError> {
-    Ok(Trouble::Other(format!(in alloc;
-        "it is written to end as \"{want}\", and came to \"{came}\""
-    )?))
 }
 
 // Some bytes from a place on, as the files spell them.
