@@ -943,18 +943,18 @@ class Connection:
             at += size + 2
 
     def trailers(self, content, at):
-        start = at
-        while True:
-            end = self.rest.find(b"\r\n", at, start + 16384)
-            if end < 0:
-                if len(self.rest) - start >= 16384:
-                    raise Fault("BadRequest")
-                return None
-            if end == at:
-                return content, at + 2
-            if not re.fullmatch(TOKEN.pattern + rb":[^\x00\r\n]*", self.rest[at:end]):
+        """They end at CR LF where they begin so, and else at their first CR LF CR LF."""
+        if self.rest.startswith(b"\r\n", at):
+            return content, at + 2
+        end = self.rest.find(b"\r\n\r\n", at, at + 16384)
+        if end < 0:
+            if len(self.rest) - at >= 16384:
                 raise Fault("BadRequest")
-            at = end + 2
+            return None
+        lines = self.rest[at:end].split(b"\r\n")
+        if not all(re.fullmatch(TOKEN.pattern + rb":[^\x00\r\n]*", line) for line in lines):
+            raise Fault("BadRequest")
+        return content, end + 4
 
 
 def read_head(text):
