@@ -133,7 +133,7 @@ class Play:
             self.config = model.Config(**{**vars(self.config), NAMES[name]: new})
         elif word == "next":
             kind, _, value = rest.partition(" ")
-            self.archive.next[kind] = int(value)
+            self.archive.next[kind], self.server = int(value), None
         elif word in ("restart", "reopen"):
             self.server = None
         elif word == "audit":
@@ -224,9 +224,20 @@ def play_example(words, lines, lengths):
                 raise Wrong(f"row {cells}: {wrong}" if cells else str(wrong)) from None
 
 
-def play_file(words, path, lengths):
+def numbered_lines(path):
+    """The lines of a file with their numbers, and where its examples begin."""
     numbered = list(enumerate(open(path, encoding="utf-8").read().split("\n"), 1))
-    starts = [at for at, (_, line) in enumerate(numbered) if line.startswith("# ")]
+    return numbered, [at for at, (_, line) in enumerate(numbered) if line.startswith("# ")]
+
+
+def texts_of(path):
+    """The texts that stand in a file above its first example."""
+    numbered, starts = numbered_lines(path)
+    return played({}, numbered[:starts[0] if starts else None], "whole", False).words
+
+
+def play_file(words, path, lengths):
+    numbered, starts = numbered_lines(path)
     words.update(played(words, numbered[:starts[0] if starts else None], "whole", lengths).words)
     right, left_out, failed = 0, 0, 0
     for at, end in zip(starts, [*starts[1:], len(numbered)]):
