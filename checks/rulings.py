@@ -1,693 +1,710 @@
 #!/usr/bin/env python3
-"""Writes the table of rulings: crates/rulings/data/rulings.txt, on standard output.
+"""Writes the example files on the order of refusals: crates/examples/data/order-*.txt.
 
-    checks/rulings.py > crates/rulings/data/rulings.txt
-    checks/rulings.py --check        # says whether the file is as it would be written
+    checks/rulings.py
+    checks/rulings.py --check        # says whether the files are as they would be written
 
-It tells how many rulings the table has, which crates/rulings/stdout has to tell too.
+It tells how many cases each file has: requests, but those that only set something up, each once for each row.
 
-It shares no code with the server. `ruling` below is the order of refusals of docs/PROFILE.md, written
-from that page alone; each line of the table is looked up there, by itself and with each other one.
-The head of the table says how a line is read.
+It shares no code with the server. checks/order.py is the order of refusals, written from docs/PROFILE.md alone, and
+checks/order_cases.py has the requests; each one is looked up there before it is written. What the replies are made of
+stands in texts.txt, their numbers follow from docs/PROFILE.md, and a length is counted over the text.
 """
 
-import base64
-import hashlib
-import json
+import itertools
 import pathlib
 import re
 import sys
+from dataclasses import dataclass, field, replace
 
-TABLE = pathlib.Path(__file__).parent.parent / "crates/rulings/data/rulings.txt"
-GREATEST = 4_000_000_000_000_000_000
-BINARY = "http://purl.org/net/sword/3.0/package/Binary"
-FORMAT = "http://purl.org/net/sword/3.0/types/Metadata"
-ZIP = "http://purl.org/net/sword/3.0/package/SimpleZip"
-FIELDS = ["On-Behalf-Of", "Content-Disposition", "In-Progress", "Packaging", "Metadata-Format",
-          "Content-Type", "Content-Encoding", "Digest", "If-Match"]
+import examples
+import order_cases as cases
+from order import FIELDS, accepted, key_of, refusal, sha256, told, with_settings
 
-
-def sha256(text):
-    return hashlib.sha256(text.encode()).hexdigest()
-
-
-# ---- settings: each sets one thing of the archive, the configuration or the request
-
-def key_of(setting):
-    """What a setting sets: later ones take the place of earlier ones with the same key."""
-    for name in FIELDS:
-        if setting.startswith(name + ":") or setting == "no " + name:
-            return name
-    words = setting.removeprefix("no ").split()
-    if words[0] in ("upload", "entry", "next"):
-        return " ".join(words[:2])
-    return words[0]
+DATA = pathlib.Path(__file__).resolve().parent.parent / "crates/examples/data"
+WORDS = examples.texts_of(DATA / "texts.txt")
+MOMENT, AN_HOUR_AND_A_SECOND_BEFORE = 1_523_836_800, 1_523_833_199
+CONFIG = ["base http://127.0.0.1:8080", "on-behalf-of false", "require-if-match false", "max-upload 16777216",
+          "max-assembled 536870912", "max-segments 1000"]
+CONFIG_KEYS = {key_of(setting) for setting in CONFIG}
+KINDS = ("object", "file", "upload", "change")
 
 
-def with_settings(case, settings):
-    case = dict(case)
-    for setting in settings:
-        case[key_of(setting)] = setting
-    return case
+# ---- texts
+
+def as_text(name, text):
+    """The lines of a named text."""
+    *lines, last = text.split("\\r\\n")
+    return [f"text {name}", *(f"| {line}".rstrip() for line in lines), *([f"| {last}\\"] if last else [])]
 
 
-def told(case, key):
-    """The words behind the key, or nothing where it was taken away."""
-    setting = case.get(key)
-    if setting is None or setting.startswith("no "):
-        return None
-    return setting[len(key):].strip()
+def names_in(words, text):
+    """The names that stand in a text, and in the texts that these stand for."""
+    found = set()
+    for name in re.findall(r"\\\{([^}]*)\}", text):
+        found |= {name} | names_in(words, words.get(name, ""))
+    return found
 
 
-# ---- the rules, in their order
+@dataclass
+class Reply:
+    """A named text of texts.txt, and the names in it that stand for something else than there."""
+    text: str
+    names: dict = field(default_factory=dict)
 
-class Refused(Exception):
-    pass
+    def words(self):
+        return {**WORDS, **{name: str(value) for name, value in self.names.items()}}
 
+    def measured(self, name, document):
+        """The same, with the length of the document under the name."""
+        length = len(examples.expand(self.words(), f"\\{{{document}}}"))
+        return Reply(self.text, {**self.names, name: length})
 
-def refuse_if(broken, refusal):
-    if broken:
-        raise Refused(refusal)
+    def other_names(self):
+        """Those that it needs and that stand for something else."""
+        words = self.words()
+        return {name: words[name] for name in self.names
+                if words[name] != WORDS.get(name) and name in names_in(words, f"\\{{{self.text}}}")}
 
-
-def values(case, name):
-    """The values of a field's lines."""
-    text = told(case, name)
-    return None if text is None else [value.strip() for value in text[1:].split("|")]
-
-
-def listed(case, name):
-    lines = values(case, name)
-    return None if lines is None else [m.strip(" \t") for m in ",".join(lines).split(",") if m.strip(" \t")]
-
-
-def digest_read(members):
-    """The SHA-256 that a Digest text promises, None where it promises none, Refused where it's unreadable."""
-    promised = set()
-    for member in members:
-        refuse_if("=" not in member, "BadRequest")
-        name, value = member.split("=", 1)
-        if name.lower() != "sha-256":
-            continue
-        if re.fullmatch(r"[0-9a-fA-F]{64}", value):
-            promised.add(value.lower())
-            continue
-        try:
-            raw = base64.b64decode(value, validate=True)
-        except ValueError:
-            raise Refused("BadRequest")
-        refuse_if(len(raw) != 32, "BadRequest")
-        promised.add(raw.hex())
-    refuse_if(len(promised) > 1, "BadRequest")
-    return promised.pop() if promised else None
+    def filled(self):
+        return examples.fill(self.words(), f"\\{{{self.text}}}")
 
 
-def disposition_read(text):
-    """Type and parameters, or None. The table has no quoted strings."""
-    kind, *parts = [part.strip(" \t") for part in text.split(";")]
-    parameters = {}
-    for part in filter(None, parts):
-        if not re.fullmatch(r"[A-Za-z0-9_*-]+=[!-~]+", part):
-            return None
-        name, value = part.split("=", 1)
-        if name.lower() in parameters:
-            return None
-        parameters[name.lower()] = value
-    return (kind.lower(), parameters) if kind else None
-
-
-def good_name(name):
-    return name is not None and 1 <= len(name.encode()) <= 255 and not re.search(r"[/\\\x00-\x1f\x7f]", name) \
-        and name not in (".", "..")
-
-
-def number(text, least):
-    if text is None or not re.fullmatch(r"[0-9]+", text) or int(text) < least:
-        return None
-    return min(int(text), 2 ** 64 - 1)
-
-
-def kind_read(text):
-    """(kind, what it says), or None."""
-    read = disposition_read(text)
-    if read is None:
-        return None
-    form, given = read
-    if form == "attachment":
-        flags = [given.get(name, "false").lower() for name in ("metadata", "by-reference")]
-        if any(flag not in ("true", "false") for flag in flags) or flags == ["true", "true"]:
-            return None
-        if flags[0] == "true":
-            return ("metadata", None)
-        if flags[1] == "true":
-            return ("references", None)
-        return ("file", given["filename"]) if good_name(given.get("filename")) else None
-    if form == "segment-init":
-        sizes = [number(given.get(name), 1) for name in ("size", "segment_count", "segment_size")]
-        try:
-            promised = digest_read([m for m in given.get("digest", "").split(",") if m])
-        except Refused:
-            return None
-        return None if None in sizes else ("opening", (*sizes, promised))
-    if form == "segment":
-        segment = number(given.get("segment_number"), 0)
-        return None if segment is None else ("segment", segment)
-    return None
-
-
-KINDS = {
-    ("POST", "service"): {"file", "metadata", "references"},
-    ("PUT", "object"): {"file", "metadata", "references"},
-    ("POST", "object"): {"file", "metadata", "references"},
-    ("PUT", "metadata"): {"metadata"},
-    ("PUT", "files"): {"file", "references"},
-    ("PUT", "file"): {"file"},
-    ("POST", "staging"): {"opening"},
-    ("POST", "upload"): {"segment"},
+REFUSALS = {
+    "BadRequest": "bad-request", "ContentMalformed": "content-malformed", "InvalidSegmentSize": "invalid-segment-size",
+    "UnexpectedSegment": "unexpected-segment", "SegmentLimitExceeded": "segment-limit-exceeded",
+    "MaxAssembledSizeExceeded": "max-assembled-size-exceeded", "NotFound": "not-found", "SegmentedUploadTimedOut": "timed-out",
+    "DigestMismatch": "digest-mismatch", "ETagNotMatched": "tag-not-matched", "ETagRequired": "tag-required",
+    "OnBehalfOfNotAllowed": "on-behalf-of-not-allowed", "ByReferenceNotAllowed": "by-reference-not-allowed",
+    "ContentTypeNotAcceptable": "content-type-not-acceptable", "MetadataFormatNotAcceptable": "metadata-format-not-acceptable",
+    "PackagingFormatNotAcceptable": "packaging-format-not-acceptable", "StoreFull": "store-full",
 }
-RESOURCES = [
-    ("service", r"/service"), ("object", r"/objects/(\d+)"), ("metadata", r"/objects/(\d+)/metadata"),
-    ("files", r"/objects/(\d+)/files"), ("file", r"/objects/(\d+)/files/(\d+)"), ("staging", r"/staging"),
-    ("upload", r"/staging/(\d+)"), ("bag", r"/objects/(\d+)/bag"), ("bag file", r"/objects/(\d+)/bag/(.+)"),
-]
+HEADS = {"bad-request": "bad-request-head", "on-behalf-of-not-allowed": "on-behalf-of-not-allowed-head",
+         "not-found": "not-found-head", "timed-out": "timed-out-head"}
 
 
-class Upload:
-    def __init__(self, text):
-        parts = re.fullmatch(r"(\d+) (\d+) (\d+)(?: promised SHA-256=(\w+))? segments (.*)", text)
-        self.size, self.count, self.segment_size = (int(parts[i]) for i in (1, 2, 3))
-        self.promised = parts[4]
-        self.segments = [None if s == "-" else s for s in parts[5].split()]
-        assert len(self.segments) == self.count
+# ---- what a request is answered, by the profile's pages on what it does and on replies
 
-    def length(self, k):
-        return self.size - (self.count - 1) * self.segment_size if k == self.count else self.segment_size
+def status(text, names, links):
+    listed = ",".join(f"\\{{{link}}}" for link in links) or "\\{nothing}"
+    return Reply(text, {**names, "links": listed}).measured("document-length", "status-document")
 
 
-def upload_at(case, n):
-    text = told(case, f"upload {n}")
-    refuse_if(text is None, "NotFound")
-    refuse_if(text == "timed out", "SegmentedUploadTimedOut")
-    return Upload(text)
+def opened(upload, size, count, segment_size, **more):
+    expecting = ",".join(str(k) for k in range(1, count + 1))
+    names = {"upload": upload, "upload-size": size, "segment-size": segment_size, "expecting": expecting, **more}
+    return Reply("opened", names).measured("upload-length", "upload-document")
 
 
-def content_of(case):
-    entries = [told(case, f"entry {k}") for k in range(1, 13)]
-    entries = [entry for entry in entries if entry is not None]
-    if entries:
-        return '{"byReferenceFiles":[' + ",".join(entries) + "]}"
-    return told(case, "content") or ""
+def new_files(asked, first, change):
+    """The links of the files that are added, and what these tell."""
+    names, links = {}, ["link-b", "link-c"][:len(asked.files)]
+    for at, letter in enumerate("bc"[:len(asked.files)]):
+        names |= {f"file-{letter}": first + at, f"tag-{letter}": change}
+    for file in asked.files[:1]:
+        names |= {"media-b": file.media, "origin-b": "byReference" if file.by_reference else "original"}
+        if file.behalf is not None:
+            names["for-whom"] = f',"depositedOnBehalfOf":"{file.behalf}"'
+    return names, links
 
 
-def flag(case, key):
-    return told(case, key) == "true"
+def made(asked, case, change):
+    names, links = new_files(asked, int(told(case, "next file")), change)
+    names |= {"object": told(case, "next object"), "tag": change, "metadata-tag": change, "files-tag": change}
+    return status("made", {**names, "state": "inProgress" if asked.going_on else "ingested"}, links)
 
 
-def limit(case, key):
-    return int(told(case, key))
+def changed(asked, case, change):
+    """The reply to a POST or PUT on an object, which has file 1 and is ingested."""
+    names, links = new_files(asked, int(told(case, "next file")), change)
+    is_whole, number = asked.method == "PUT", asked.numbers[0]
+    _, _, metadata, files = told(case, f"object {number}").split()
+    names |= {"object": number, "tag": change, "metadata-tag": change if is_whole or asked.kind == "metadata" else metadata,
+              "files-tag": change if is_whole or asked.files else files}
+    return status("status", names, links if is_whole else ["link", *links])
 
 
-def behalf(case):
-    lines = values(case, "On-Behalf-Of")
-    if lines is None:
+def shown(asked, case):
+    """The reply to a GET: of object 1 and of upload 2 as the worlds below have them."""
+    if asked.resource == "service":
+        return Reply("service", {"on-behalf-of": told(case, "on-behalf-of")}).measured("service-length", "service-document")
+    if asked.resource == "upload":
+        return Reply("upload-reply", {"upload": 2, "expecting": "2", "received": "1,3"}).measured("upload-length", "upload-document")
+    if asked.resource == "object":
+        return status("status", {"tag": 5, "metadata-tag": 4, "files-tag": 3}, ["link"])
+    if asked.resource == "metadata":
+        return Reply("metadata-reply", {"metadata-tag": 4})
+    return Reply({"file": "file-reply", "bag": "bag-list", "bag file": "bag-file"}[asked.resource])
+
+
+def answer(asked, case):
+    change = int(told(case, "next change"))
+    if asked.method == "GET":
+        return shown(asked, case)
+    if asked.method == "HEAD":
+        reply = shown(asked, case)
+        return Reply(reply.text.removesuffix("-reply") + "-head", reply.names)
+    if asked.method == "DELETE" or asked.resource == "upload":
+        return Reply("no-content")
+    if asked.resource == "staging":
+        return opened(told(case, "next upload"), *asked.told[:3])
+    if asked.resource in ("metadata", "files", "file"):
+        return Reply("no-content-with-tag", {"tag": change})
+    return made(asked, case, change) if asked.resource == "service" else changed(asked, case, change)
+
+
+def reply_to(case):
+    """The reply by the order of refusals, and else by what the request asks for."""
+    refused = refusal(case)
+    if refused is None:
+        return answer(accepted(case), case)
+    text = REFUSALS[refused]
+    return Reply(HEADS[text] if told(case, "request").startswith("HEAD ") else text)
+
+
+# ---- the worlds: what is there before a request is played
+
+def asking(line, *fields, content=""):
+    """A request that sets something up, with the escapes of the files."""
+    sized = [f"Content-Length: {len(content)}"] if content else []
+    return "\\r\\n".join([f"{line} HTTP/1.1", "Host: 127.0.0.1:8080", *fields, *sized, "", content])
+
+
+@dataclass
+class SetUp:
+    """Requests with their replies, what a file says of them, and what the rules see of what is there then."""
+    says: str | None = None
+    requests: list = field(default_factory=list)
+    replies: list = field(default_factory=list)
+    seen: list = field(default_factory=list)
+
+    def add(self, request, reply):
+        self.requests.append(request)
+        self.replies.append(reply)
+
+    def texts(self, name):
+        replies = as_text(f"{name}-replies", "".join(reply.filled() for reply in self.replies))
+        if self.says is None:
+            return replies
+        return [f"// {self.says}", *as_text(name, "".join(self.requests)), "", *replies]
+
+
+def uploads(says, first, *rows):
+    """Uploads with these sizes and segments, None for one that isn't sent."""
+    made_up = SetUp(says)
+    for upload, (size, count, segment_size, promised, *segments) in enumerate(rows, first):
+        digest, promise = (f"; digest=SHA-256={promised}", f" promised SHA-256={promised}") if promised else ("", "")
+        sizes = f"size={size}; segment_count={count}; segment_size={segment_size}"
+        made_up.add(asking("POST /staging", f"Content-Disposition: segment-init; {sizes}{digest}"), opened(upload, size, count, segment_size))
+        for k, content in enumerate(segments, 1):
+            if content is not None:
+                where = f"Content-Disposition: segment; segment_number={k}"
+                made_up.add(asking(f"POST /staging/{upload}", where, content=content), Reply("no-content"))
+        kept = " ".join("-" if content is None else content for content in segments)
+        made_up.seen.append(f"upload {upload} {size} {count} {segment_size}{promise} segments {kept}")
+    return made_up
+
+
+SET_UPS = {
+    "an-object": SetUp(
+        "Object 1 with file 1: its own tag is 5, that of its metadata 4, of its files 3 and of file 1 still 1. File 2 was deleted.",
+        ["\\{deposit}", "\\{second-file}", asking("DELETE /objects/1/files/2"), asking("PUT /objects/1/metadata", content='{"dc:title":"T"}'),
+         asking("POST /objects/1")],
+        [Reply("created"), status("status", {"tag": 2, "files-tag": 2}, ["link", "link-b"]), Reply("no-content"),
+         Reply("no-content-with-tag", {"tag": 4}), status("status", {"tag": 5, "metadata-tag": 4, "files-tag": 3}, ["link"])],
+        ["object 1 tags 5 4 3", "file 1 1 tag 1", "path data/1/a.txt"]),
+    "others": SetUp(
+        "Object 2, which is deleted, and object 3 with file 3.",
+        ["\\{metadata-deposit}", asking("DELETE /objects/2"), "\\{deposit}"],
+        [status("made", {"object": 2, "tag": 6, "metadata-tag": 6, "files-tag": 6}, []), Reply("no-content"),
+         Reply("created", {"object": 3, "file": 3, "tag": 7})],
+        ["object 3 tags 7 7 7", "file 3 3 tag 7"]),
+    "deposit": SetUp(replies=[Reply("created")], seen=["object 1 tags 1 1 1", "file 1 1 tag 1"]),
+    "idle-upload": SetUp(
+        "Upload 1, which is left idle for an hour and a second.",
+        [asking("POST /staging", "Content-Disposition: segment-init; size=5; segment_count=3; segment_size=2")],
+        [opened(1, 5, 3, 2, date="Sun, 15 Apr 2018 22:59:59 GMT")], ["upload 1 timed out"]),
+    "whole-uploads": uploads(
+        "Uploads 2 to 8: `abcde`, `f`, `ab` without what follows, `abcd`, `gh`, `ijk`, and `f` though `g` was promised.", 2,
+        (5, 3, 2, sha256("abcde"), "ab", "cd", "e"), (1, 1, 1, None, "f"), (4, 2, 2, None, "ab", None), (4, 1, 4, None, "abcd"),
+        (2, 1, 2, None, "gh"), (3, 1, 3, None, "ijk"), (1, 1, 1, sha256("g"), "f")),
+    "begun-uploads": uploads(
+        "Uploads 2 and 3 of `abcde`: the segment in the middle and the last one are missing.", 2,
+        (5, 3, 2, None, "ab", None, "e"), (5, 3, 2, None, "ab", "cd", None)),
+}
+
+
+@dataclass
+class World:
+    """The names of set-ups, each at its moment, and the numbers that are given next."""
+    steps: list
+    following: dict
+
+    def settings(self):
+        numbers = [f"next {kind} {self.following.get(kind, 1)}" for kind in KINDS]
+        return [*CONFIG, *(setting for _, name in self.steps for setting in SET_UPS[name].seen), *numbers]
+
+    def lines(self):
+        lines, now = [], MOMENT
+        for moment, steps in itertools.groupby(self.steps, key=lambda step: step[0]):
+            names = [name for _, name in steps]
+            asked, replies = "".join(f"\\{{{name}}}" for name in names), "".join(f"\\{{{name}-replies}}" for name in names)
+            lines += [f"at {moment}"] * (moment != now) + [f"> {asked}\\", f"< {replies}\\", "open"]
+            now = moment
+        return lines
+
+
+IDLE = (AN_HOUR_AND_A_SECOND_BEFORE, "idle-upload")
+WORLDS = {
+    "service": World([], {}),
+    "object": World([(MOMENT, "an-object")], {"object": 2, "file": 3, "change": 6}),
+    "objects": World([(MOMENT, "an-object"), (MOMENT, "others")], {"object": 4, "file": 4, "change": 8}),
+    "uploads": World([IDLE, (MOMENT, "whole-uploads")], {"upload": 9}),
+    "object and uploads": World([IDLE, (MOMENT, "whole-uploads"), (MOMENT, "deposit")], {"object": 2, "file": 2, "upload": 9, "change": 2}),
+    "upload": World([IDLE, (MOMENT, "begun-uploads")], {"upload": 4}),
+}
+
+
+# ---- requests
+
+CELLS = {"On-Behalf-Of": "behalf", "Content-Disposition": "disposition", "In-Progress": "progress", "Packaging": "packaging",
+         "Metadata-Format": "format", "Content-Type": "type", "Content-Encoding": "encoding", "Digest": "digest", "If-Match": "tags",
+         "request": "line", "content": "sent"}
+ENTRY_KEYS = [f"entry {k}" for k in range(1, 13)]
+ENTRY_NAMES = ("a-number", "no-url", "no-name", "no-media-type", "no-length", "no-packaging", "no-digest", "another-host",
+               "another-number", "a-package", "abcde-again", "an-idle-upload", "an-unknown-upload", "a-missing-segment",
+               "a-smaller-length", "a-greater-length", "another-digest", "a-broken-promise")
+# What stands in many requests has a name.
+NAMES = {
+    "as-file": cases.AS_FILE, "as-metadata": cases.AS_METADATA, "as-references": cases.AS_REFERENCES, "as-opening": cases.OPENING,
+    "as-segment": cases.SEGMENT, "as-last-segment": cases.LAST, "sent-abc": "content abc", "dc-title": cases.TITLE, "sent-cd": "content cd",
+    "sent-e": "content e", "sent-nothing": "no content", "with-f": cases.ENTRIES[0], "and-abcde": cases.ENTRIES[1],
+    "named-twice": cases.NO_KIND[1][1], "both-kinds": cases.NO_KIND[4][1], "binary-twice": cases.PACKAGING[0][1],
+    "zip": cases.PACKAGING[1][1], "format-twice": cases.FORMATS[0][1], "other-format": cases.FORMATS[1][1],
+    "json-twice": cases.JSON_TYPE[0][1], "long-type": cases.TYPE[2][1], "digest-of-other": cases.DIGEST[2][1],
+    "two-digests": cases.DIGEST[3][1],
+    **{f"with-{name}": setting for name, (_, setting) in zip(ENTRY_NAMES, cases.REFERENCES, strict=True)},
+}
+NAME_OF = {setting: name for name, setting in NAMES.items()}
+
+
+def chunk(text):
+    return f"{len(text):x}\\r\\n{text}\\r\\n"
+
+
+# The document of references comes in chunks: its front, each entry, its end.
+FRONT, END = "Transfer-Encoding: chunked\\r\\n\\r\\n" + chunk('{"byReferenceFiles":['), chunk("]}") + "0\\r\\n\\r\\n"
+
+
+def spelled(setting):
+    """What a setting is in a request: its line, the lines of a field, a content, or the chunk of an entry."""
+    key = key_of(setting)
+    value = "" if setting.startswith("no ") else setting[len(key) + 1:].replace("\\", "\\x5C")
+    if key == "request":
+        return value
+    if key == "content":
+        return f"Content-Length: {len(value)}\\r\\n\\r\\n{value}"
+    if key in ENTRY_KEYS:
+        place = int(key[6:])
+        return chunk("," * (place > 7) + value + "," * (place < 7))
+    if setting.startswith("no "):
         return ""
-    refuse_if(not flag(case, "on-behalf-of"), "OnBehalfOfNotAllowed")
-    refuse_if(len(lines) != 1 or lines[0] == "", "BadRequest")
-    return " for " + lines[0]
+    return "".join(f"{key}: {line.strip()}".strip() + "\\r\\n" for line in value.split("|"))
 
 
-def presence(case, resource, numbers):
-    row = told(case, "object")
-    if resource in ("object", "metadata", "files", "bag"):
-        refuse_if(row is None or row.split()[0] != numbers[0], "NotFound")
-    if resource == "file":
-        file = told(case, "file")
-        refuse_if(file is None or file.split()[:2] != list(numbers), "NotFound")
-    if resource == "upload":
-        upload_at(case, numbers[0])
-    if resource == "bag file":
-        refuse_if(told(case, "path") != numbers[1], "NotFound")
+def short(setting):
+    """The same, by its name where it has one."""
+    return f"\\{{{NAME_OF[setting]}}}" if setting in NAME_OF else spelled(setting)
 
 
-def tag_held(case, resource):
-    """If-Match against the tag of the resource of the URL."""
-    places = {"object": ("object", 2), "metadata": ("object", 3), "files": ("object", 4), "file": ("file", 3)}
-    if resource not in places:
-        return
-    row, place = places[resource]
-    tag = told(case, row).split()[place]
-    members = listed(case, "If-Match")
-    refuse_if(members is None and flag(case, "require-if-match"), "ETagRequired")
-    refuse_if(members is not None and not {"*", tag, f'"{tag}"'} & set(members), "ETagNotMatched")
+def request_of(case, cells=()):
+    """The request of a case in one line. What a table tells stands there by the names of its cells."""
+    def part(key):
+        if key in cells:
+            return f"\\{{{cell_of(key)}}}"
+        return short(case[key]) if key in case else ""
+    front = part("request") + "\\{host}" + "".join(map(part, FIELDS))
+    if any(key in case or key in cells for key in ENTRY_KEYS):
+        return front + "\\{first-chunk}" + "".join(map(part, ENTRY_KEYS)) + "\\{last-chunk}"
+    return front + (part("content") or "\\r\\n")
 
 
-def once(case, name, accepts, refusal):
-    lines = values(case, name)
-    if lines is not None:
-        refuse_if(len(lines) != 1, "BadRequest")
-        refuse_if(not accepts(lines[0]), refusal)
+def cell_of(key):
+    return CELLS.get(key, "entry")
 
 
-def kind_of(case, method, resource):
-    lines = values(case, "Content-Disposition")
-    progress = values(case, "In-Progress") or [""]
-    if lines is None:
-        if (method, resource) == ("PUT", "metadata"):
-            return ("metadata", None)
-        whole = (method, resource) == ("POST", "object") and content_of(case) == "" \
-            and not (len(progress) == 1 and progress[0].lower() == "true")
-        refuse_if(not whole, "BadRequest")
-        return ("completion", None)
-    kind = kind_read(lines[0]) if len(lines) == 1 else None
-    refuse_if(kind is None or kind[0] not in KINDS[method, resource], "BadRequest")
-    refuse_if(kind[0] == "opening" and content_of(case) != "", "BadRequest")
-    return kind
+def without_line(case):
+    return request_of(case, {"request"}).removeprefix("\\{line}\\{host}")
 
 
-def is_media(text):
-    return re.fullmatch(r"[ -~]{1,255}", text) is not None
+# ---- sections
+
+def is_around(setting):
+    """Whether it isn't of the request: it is of the configuration, or a number that is given next."""
+    return key_of(setting) in CONFIG_KEYS or is_next(setting)
 
 
-def is_json(text):
-    return text.split(";")[0].strip(" \t").lower() in ("application/json", "application/ld+json")
+def is_next(setting):
+    return setting.startswith("next ")
 
 
-def metadata_read(content):
-    try:
-        document = json.loads(content)
-    except ValueError:
-        raise Refused("ContentMalformed")
-    refuse_if(not isinstance(document, dict) or document.get("@type", "Metadata") != "Metadata", "ContentMalformed")
-    kept = {}
-    for name, texts in document.items():
-        if name.startswith(("dc:", "dcterms:")):
-            texts = [texts] if isinstance(texts, str) else texts
-            refuse_if(not isinstance(texts, list) or not all(isinstance(t, str) for t in texts), "ContentMalformed")
-            if texts:
-                kept[name] = texts
-    return kept
+def parted(settings):
+    """The settings of the request, and those around it."""
+    return [s for s in settings if not is_around(s)], tuple(s for s in settings if is_around(s))
 
 
-class Entry:
-    def __init__(self, entry, base):
-        refuse_if(not isinstance(entry, dict), "ContentMalformed")
-        url = entry.get("@id")
-        refuse_if(not isinstance(url, str) or not re.fullmatch(r"[a-z]+://[^ ]+", url), "ContentMalformed")
-        text = entry.get("contentDisposition")
-        read = disposition_read(text) if isinstance(text, str) else None
-        refuse_if(read is None or read[0] != "attachment" or not good_name(read[1].get("filename")), "ContentMalformed")
-        self.name = read[1]["filename"]
-        self.media = entry.get("contentType", "application/octet-stream")
-        refuse_if(not isinstance(self.media, str) or not is_media(self.media), "ContentMalformed")
-        self.length = entry.get("contentLength")
-        refuse_if("contentLength" in entry and not isinstance(self.length, int), "ContentMalformed")
-        self.packaging = entry.get("packaging", BINARY)
-        refuse_if(not isinstance(self.packaging, str), "ContentMalformed")
-        try:
-            self.promised = digest_read(entry.get("digest", "").split(",") if entry.get("digest") else [])
-        except Refused:
-            raise Refused("ContentMalformed")
-        found = re.fullmatch(re.escape(base) + r"/staging/([1-9]\d*)", url)
-        self.upload = int(found[1]) if found and int(found[1]) <= GREATEST else None
+def keys_of(settings):
+    return {key_of(setting) for setting in settings}
 
 
-def references_read(case):
-    """The entries of a document that every rule on references passes."""
-    try:
-        document = json.loads(content_of(case))
-    except ValueError:
-        raise Refused("ContentMalformed")
-    refuse_if(not isinstance(document, dict) or document.get("@type", "ByReference") != "ByReference", "ContentMalformed")
-    listing = document.get("byReferenceFiles")
-    refuse_if(not isinstance(listing, list) or not listing, "ContentMalformed")
-    entries = [Entry(entry, told(case, "base")) for entry in listing]
-    refuse_if(any(e.upload is None for e in entries), "ByReferenceNotAllowed")
-    refuse_if(any(e.packaging != BINARY for e in entries), "PackagingFormatNotAcceptable")
-    refuse_if(len({e.upload for e in entries}) < len(entries), "BadRequest")
-    uploads = [(e, upload_at(case, e.upload)) for e in entries]
-    refuse_if(any(None in u.segments for _, u in uploads), "BadRequest")
-    refuse_if(any(e.length is not None and e.length != u.size for e, u in uploads), "BadRequest")
-    for e, u in uploads:
-        actual = sha256("".join(u.segments))
-        refuse_if(any(p is not None and p != actual for p in (u.promised, e.promised)), "DigestMismatch")
-    return entries
+# The replies to the requests as they stand that are told by names of their own.
+REPLY_NAMES = {
+    "a file, deposited at the service": "file-made", "metadata, deposited at the service": "metadata-made",
+    "uploads, deposited at the service": "uploads-made", "a file, added to an object": "file-added",
+    "metadata, added to an object": "metadata-added", "uploads, added to an object": "uploads-added",
+    "an object that is complete": "completed", "a file in place of all that an object has": "file-alone",
+    "metadata in place of all that an object has": "metadata-alone", "uploads in place of all that an object has": "uploads-alone",
+    "GET of an object": "object-shown", "GET of an upload": "upload-shown",
+}
 
 
-def sizes(case, kind, numbers, content):
-    if kind[0] == "opening":
-        size, count, segment_size, _ = kind[1]
-        refuse_if(size > limit(case, "max-assembled"), "MaxAssembledSizeExceeded")
-        refuse_if(count > limit(case, "max-segments"), "SegmentLimitExceeded")
-        refuse_if(segment_size > limit(case, "max-upload"), "InvalidSegmentSize")
-        refuse_if(not (count - 1) * segment_size < size <= count * segment_size, "InvalidSegmentSize")
-    if kind[0] == "segment":
-        upload, k = upload_at(case, numbers[0]), kind[1]
-        refuse_if(k < 1 or k > upload.count or upload.segments[k - 1] is not None, "UnexpectedSegment")
-        refuse_if(len(content) != upload.length(k), "InvalidSegmentSize")
+@dataclass
+class Section:
+    """An operation that is accepted as it stands, what breaks one rule of it, and what breaks none."""
+    title: str
+    base: list
+    broken: list
+    held: list
+    world: str
+
+    def case(self, settings=()):
+        line, *rest = self.base
+        return with_settings({}, [*WORLDS[self.world].settings(), f"request {line}", *rest, *settings])
+
+    def rules(self):
+        """What breaks a rule, with the rule, in the order of the rules."""
+        return [(rule, setting.split(" & ")) for rule, setting in sorted(self.broken, key=lambda b: b[0])]
+
+    def groups(self):
+        """What breaks one rule by the same part of a request and with the same settings around it, group by group."""
+        found = {}
+        for rule, settings in self.rules():
+            asked, around = parted(settings)
+            found.setdefault((rule, frozenset(keys_of(asked)), around), []).append(asked)
+        return [Group(self, *by, rows) for by, rows in found.items()]
 
 
-def deposit_of(case, kind, content, for_whom):
-    """What is deposited, and how many files it adds."""
-    if kind[0] == "file":
-        media = (values(case, "Content-Type") or ["application/octet-stream"])[0]
-        return f" {kind[1]} {media} posted{for_whom}", 1
-    if kind[0] == "metadata":
-        kept = metadata_read(content)
-        return "".join(f" {name}={','.join(kept[name])}" for name in sorted(kept)), 0
-    if kind[0] == "references":
-        entries = references_read(case)
-        return " +".join(f" {e.name} {e.media} upload {e.upload}{for_whom}" for e in entries), len(entries)
-    return "", 0
+RULES = {6: "what is there", 13: "the document", 13.1: "entries that can be read", 13.2: "uploads of this server",
+         13.3: "the packaging of entries", 13.4: "each upload once", 13.5: "uploads that are there", 13.6: "all segments",
+         13.7: "lengths", 13.8: "digests", 14.1: "the size of the whole", 14.2: "the number of segments",
+         14.3: "the size of the segments", 14.4: "which segment", 14.5: "the size of a segment"}
+AROUND = {"on-behalf-of true": ", where On-Behalf-Of is allowed", "require-if-match true": ", where If-Match is required"}
 
 
-def decision_of(case, target, kind, deposit, count):
-    """What is asked for, and how many numbers of objects, files, uploads and changes it takes."""
-    method, resource, numbers = target
-    going_on = (values(case, "In-Progress") or [""])[0].lower() == "true"
-    state = "in progress" if going_on else "ingested"
-    if (method, resource) == ("POST", "service"):
-        return f"new object, {state}:{deposit}", (1, count, 0, 1)
-    if (method, resource) == ("POST", "object"):
-        if kind[0] == "completion":
-            return f"complete {numbers[0]}", (0, 0, 0, 1)
-        return f"add to {numbers[0]}, {state}:{deposit}", (0, count, 0, 1)
-    if (method, resource) == ("PUT", "object"):
-        return f"replace {numbers[0]}, {state}:{deposit}", (0, count, 0, 1)
-    if resource == "metadata":
-        return f"metadata of {numbers[0]}:{deposit}", (0, 0, 0, 1)
-    if resource == "files":
-        return f"files of {numbers[0]}:{deposit}", (0, count, 0, 1)
-    if (method, resource) == ("PUT", "file"):
-        return f"file {numbers[1]} of {numbers[0]}:{deposit}", (0, 0, 0, 1)
-    if resource == "file":
-        return f"drop file {numbers[1]} of {numbers[0]}", (0, 0, 0, 1)
-    if resource == "object":
-        return f"drop object {numbers[0]}", (0, 0, 0, 0)
-    if resource == "staging":
-        return "open {} in {} of {}{}".format(*kind[1][:3], f" promised SHA-256={kind[1][3]}" if kind[1][3] else ""), (0, 0, 1, 0)
-    return f"segment {kind[1]} of {numbers[0]}", (0, 0, 0, 0)
+@dataclass
+class Group:
+    """Ways to break one rule by the same part of a request, with the same settings around it."""
+    section: Section
+    rule: float
+    keys: frozenset
+    around: tuple
+    rows: list
+
+    def title(self):
+        parts = sorted("a content" if key == "content" else key for key in self.keys)
+        return RULES.get(self.rule, " and ".join(parts)) + "".join(AROUND.get(setting, "") for setting in self.around)
+
+    def refusals(self):
+        return [refusal(self.section.case([*row, *self.around])) for row in self.rows]
+
+    def later(self):
+        """What breaks a later rule by another part, by the settings around it: all that breaks the rule that follows, and one of each
+        refusal of each further rule. It is left out where that refusal is the group's own, which shows no order."""
+        own, taken = set(self.refusals()), self.keys | keys_of(self.around)
+        found, following, seen = {}, None, set()
+        for rule, settings in self.section.rules():
+            asked, around = parted(settings)
+            came = refusal(self.section.case(settings))
+            if rule <= self.rule or rule == 15 or taken & keys_of(settings) or own == {came}:
+                continue
+            following = following or rule
+            if rule == following or (rule, around, came) not in seen:
+                found.setdefault(around, []).append(asked)
+            seen.add((rule, around, came))
+        return found
+
+    def check(self, others, around):
+        """Looks up that each row is the answer, with each of the others."""
+        for (row, came), other in itertools.product(zip(self.rows, self.refusals()), others):
+            both = refusal(self.section.case([*row, *self.around, *other, *around]))
+            assert both == came, (self.section.title, row, other, around, came, both)
 
 
-def room(case, taken):
-    for name, wanted in zip(("object", "file", "upload", "change"), taken):
-        refuse_if(wanted > 0 and int(told(case, "next " + name)) + wanted > GREATEST, "StoreFull")
+# ---- examples
 
+class Example:
+    """An example of a section that is written line by line. It counts its cases."""
 
-def accepted(case):
-    """What an accepted request asks for; Refused by the first rule that is broken."""
-    method, path = told(case, "request").split()
-    resource, found = next((r, m) for r, p in RESOURCES if (m := re.fullmatch(p, path)))
-    numbers = found.groups()
-    for_whom = behalf(case)
-    presence(case, resource, numbers)
-    if method in ("GET", "HEAD"):
-        return "nothing"
-    if (method, resource) == ("DELETE", "upload"):
-        return f"drop upload {numbers[0]}"
-    tag_held(case, resource)
-    kind, deposit, count = (None, None), "", 0
-    if method != "DELETE":
-        content = content_of(case)
-        once(case, "Content-Encoding", lambda v: v.lower() == "identity", "ContentTypeNotAcceptable")
-        kind = kind_of(case, method, resource)
-        if (method, resource) in (("POST", "service"), ("POST", "object"), ("PUT", "object")):
-            once(case, "In-Progress", lambda v: v.lower() in ("true", "false"), "BadRequest")
-        if kind[0] == "file":
-            once(case, "Packaging", lambda v: v == BINARY, "PackagingFormatNotAcceptable")
-        if kind[0] == "metadata":
-            once(case, "Metadata-Format", lambda v: v == FORMAT, "MetadataFormatNotAcceptable")
-        if kind[0] in ("file", "metadata", "references"):
-            once(case, "Content-Type", is_media, "BadRequest")
-        if kind[0] in ("metadata", "references"):
-            once(case, "Content-Type", is_json, "ContentTypeNotAcceptable")
-        promised = digest_read(listed(case, "Digest") or [])
-        refuse_if(promised not in (None, sha256(content)), "DigestMismatch")
-        deposit, count = deposit_of(case, kind, content, for_whom)
-        sizes(case, kind, numbers, content)
-    text, taken = decision_of(case, (method, resource, numbers), kind, deposit, count)
-    room(case, taken)
-    return text
+    def __init__(self, section, title):
+        self.section, self.title = section, f"{section.title}: {title}"
+        self.table, self.lines, self.replies = [], [], {}
+        self.rows, self.cases = 1, 0
+        self.around, self.is_open = with_settings({}, CONFIG), False
 
+    def text(self):
+        return [f"# {self.title}", *self.table, *self.lines]
 
-def ruling(case):
-    try:
-        return accepted(case)
-    except Refused as refused:
-        return refused.args[0]
+    def add_table(self, names, rows):
+        self.rows = len(rows)
+        self.table = ["each " + " | ".join(names)]
+        self.table += ["- " + " | ".join(cell.replace("|", "\\x7C") or "\\{nothing}" for cell in row) for row in rows]
 
+    def set_up(self):
+        self.lines += WORLDS[self.section.world].lines()
+        self.is_open = bool(self.lines)
 
-# ---- the table
+    def turn_to(self, settings=()):
+        """Sets what is around the requests: what the section has, and these settings."""
+        wanted = {key: s for key, s in self.section.case(settings).items() if is_around(s)}
+        changed_settings = [s for key, s in wanted.items() if self.around.get(key, self.section.case()[key]) != s]
+        self.lines += [f"config {s}" for s in changed_settings if not is_next(s)]
+        self.lines += [s for s in changed_settings if is_next(s)]
+        if self.is_open and changed_settings and not any(map(is_next, changed_settings)):
+            self.lines.append("restart")
+        self.around = wanted
 
-HEAD = """\
-// The table of rulings: what is decided of a request, by the order of refusals in docs/PROFILE.md.
-// checks/rulings.py writes it, and crates/rulings plays it.
-//
-// A line `# ` begins a section: one operation, which is accepted as it stands. A line with `=>` is played
-// by itself on top of the section's settings: what stands before `=>`, parted by ` & `, is set, and the
-// ruling is what stands behind it, a refusal or what is asked for. The refusals of a section stand in
-// the order of the rules, so each of them is played with each later one too, and the earlier one is the
-// answer; but where both set the same thing.
-//
-// Settings: the `request`, a field of it (its values parted by `|` where it stands more than once), its
-// `content`, or `entry K` (the content is then the document of references with these entries); `object N
-// tags` of the object, its metadata and its file set, `file OBJECT N tag`, the `path` that the bag has,
-// `upload N SIZE COUNT SEGMENT-SIZE segments` (`-` for one that isn't there), the `next` number of a
-// kind; and the configuration. `no` takes away what was set.
-"""
+    def send(self, *requests):
+        self.lines += [f"> {request}\\" for request in requests]
+        self.cases += len(requests) * self.rows
 
-WORLD = [
-    "base http://127.0.0.1:8080", "on-behalf-of true", "require-if-match false",
-    "max-upload 1000", "max-assembled 5000", "max-segments 5",
-    "next object 20", "next file 20", "next upload 20", "next change 20",
-    "object 1 tags 12 13 14", "file 1 2 tag 15", "path data/2/a.txt",
-    "upload 1 5 3 2 segments ab cd e", "upload 2 1 1 1 segments f", "upload 3 5 3 2 segments ab - e",
-    "upload 4 timed out", "upload 5 5 3 2 segments ab cd -", "upload 6 4 2 2 segments ab cd",
-    "upload 7 2 1 2 segments gh", "upload 8 3 1 3 segments ijk",
-]
+    def expect(self, text, count=1):
+        self.lines.append(f"< \\{{{text}}}\\" if count == 1 else f"< \\{{{count} {text}}}\\")
 
-BEHALF = [
-    (5, "On-Behalf-Of: ann & on-behalf-of false"), (5, "On-Behalf-Of: & on-behalf-of false"),
-    (5, "On-Behalf-Of: ann | ann"), (5, "On-Behalf-Of:"),
-]
-ENCODING = [(8, "Content-Encoding: identity | identity"), (8, "Content-Encoding: gzip"), (8, "Content-Encoding:"),
-            (8, "Content-Encoding: identity, identity")]
-PROGRESS = [(9.5, "In-Progress: yes"), (9.5, "In-Progress: true | true"), (9.5, "In-Progress:")]
-PACKAGING = [(10, f"Packaging: {BINARY} | {BINARY}"), (10, f"Packaging: {ZIP}"), (10, "Packaging:")]
-FORMATS = [(10, f"Metadata-Format: {FORMAT} | {FORMAT}"), (10, f"Metadata-Format: {FORMAT}/"), (10, "Metadata-Format:")]
-TYPE = [(11, "Content-Type: text/plain | text/plain"), (11, "Content-Type:"), (11, "Content-Type: " + 256 * "x")]
-JSON_TYPE = [(11, "Content-Type: application/json | application/json"), (11, "Content-Type:"),
-             (11, "Content-Type: text/plain"), (11, "Content-Type: application/jsonp")]
-DIGEST = [(12, "Digest: SHA-256"), (12, "Digest: SHA-256=x"), (12, "Digest: SHA-256=" + sha256("other")),
-          (12, f"Digest: SHA-256={sha256('a')}, SHA-256={sha256('b')}")]
-GIVEN = ["On-Behalf-Of: ann", "Content-Encoding: IDENTITY", "Digest: MD5=x", "Digest:"]
-NO_KIND = [(9, "Content-Disposition: attachment"), (9, "Content-Disposition: attachment; filename=a | attachment; filename=a"),
-           (9, "Content-Disposition: attachment; filename=.."), (9, "Content-Disposition: attachment; metadata=yes"),
-           (9, "Content-Disposition: attachment; metadata=true; by-reference=true"),
-           (9, "Content-Disposition: inline; filename=a")]
-OPENING = "Content-Disposition: segment-init; size=5; segment_count=3; segment_size=2"
-SEGMENT = "Content-Disposition: segment; segment_number=2"
-AS_FILE = "Content-Disposition: attachment; filename=a.txt"
-AS_METADATA = "Content-Disposition: attachment; metadata=true"
-AS_REFERENCES = "Content-Disposition: attachment; by-reference=true"
+    def expect_reply(self, reply, hidden=()):
+        """A reply, behind the names that it needs but those of the table."""
+        self.lines += [f"let {name} {value}" for name, value in reply.other_names().items() if name not in hidden]
+        self.expect(reply.text)
 
+    def end(self):
+        self.lines.append("open")
+        self.is_open = True
 
-def tags(tag, *others):
-    broken = [(7, "no If-Match & require-if-match true")]
-    broken += [(7, f"If-Match: {text}") for text in ('"9"', f'W/"{tag}"', '"*"', f"0{tag}", "", *(f'"{o}"' for o in others))]
-    held = [f"If-Match: {text} & require-if-match true" for text in ("*", f'"{tag}"', str(tag), f'"9", "{tag}"', f'"9" | "{tag}"')]
-    return broken, held
-
-
-def full(*kinds, count=1):
-    """StoreFull at the first number of each kind that can't be given, and the last that can."""
-    broken = [(15, f"next {kind} {GREATEST - (count if kind == 'file' else 1) + 1}") for kind in kinds]
-    held = [f"next {kind} {GREATEST - (count if kind == 'file' else 1)}" for kind in kinds]
-    held += [f"next {kind} {GREATEST}" for kind in ("object", "file", "upload", "change") if kind not in kinds]
-    return broken, held
-
-
-def entry(upload, name, **more):
-    return json.dumps({"@id": f"http://127.0.0.1:8080/staging/{upload}", "contentDisposition": f"attachment; filename={name}", **more},
-                      separators=(",", ":"))
-
-
-ENTRIES = [f"entry 6 {entry(2, 'f.bin')}", "entry 7 " + entry(1, "x.bin", contentLength=5, digest="SHA-256=" + sha256("abcde"))]
-# The entries of earlier rules stand behind those of later ones, so that no rule is met entry by entry.
-REFERENCES = [
-    (13.1, "entry 12 5"), (13.1, 'entry 11 {"@id":"x y","contentDisposition":"attachment; filename=a"}'),
-    (13.1, "entry 11 " + entry(7, "..")), (13.1, "entry 11 " + entry(7, "g", contentType="")),
-    (13.1, "entry 11 " + entry(7, "g", contentLength="2")), (13.1, "entry 11 " + entry(7, "g", packaging=1)),
-    (13.1, "entry 11 " + entry(7, "g", digest="SHA-256")),
-    (13.2, 'entry 10 {"@id":"http://example.org/a","contentDisposition":"attachment; filename=a"}'),
-    (13.2, "entry 10 " + entry("07", "g")),
-    (13.3, "entry 9 " + entry(7, "g", packaging=ZIP)),
-    (13.4, "entry 8 " + entry(1, "y.bin")),
-    (13.5, "entry 4 " + entry(4, "timed-out")), (13.5, "entry 5 " + entry(9, "unknown")),
-    (13.6, "entry 3 " + entry(3, "incomplete")),
-    (13.7, "entry 2 " + entry(6, "abcd", contentLength=2)), (13.7, "entry 2 " + entry(6, "abcd", contentLength=5)),
-    (13.8, "entry 1 " + entry(8, "ijk", digest="SHA-256=" + sha256("abc"))),
-    (13.8, "upload 2 1 1 1 promised SHA-256=" + sha256("g") + " segments f"),
-]
-REFERENCES_HELD = ["upload 2 1 1 1 promised SHA-256=" + sha256("f") + " segments f", "entry 1 " + entry(8, "ijk", contentLength=3, packaging=BINARY),
-                   "entry 6 " + entry(2, "f.bin", contentType="text/plain", ttl=None), "Content-Type: application/ld+json; charset=utf-8"]
-DOCUMENT = [(13, "content {"), (13, "content []"), (13, 'content {"@type":"ByReference"}'), (13, 'content {"dc:title":1}'),
-            (13, 'content {"dc:title":["T",null]}')]
-DOCUMENT_HELD = ["content {}", 'content {"dc:title":["U","V"],"dcterms:issued":"1999","x":1,"dc:date":[]}',
-                 'content {"@type":"Metadata","dc:title":"T"}']
-FILE_HELD = ["Content-Type: text/plain", f"Packaging: {BINARY}", "Digest: sha-256=" + sha256("abc"), "no content",
-             "Content-Disposition: attachment; filename=b; metadata=false", "Metadata-Format: x"]
-METADATA_HELD = [f"Metadata-Format: {FORMAT}", "Content-Type: Application/JSON ;x", f"Packaging: {ZIP}"]
-UNREAD = " & ".join(["require-if-match true", 'If-Match: "9"', "Content-Encoding: gzip", "Content-Disposition: x", "In-Progress: yes",
-                     f"Packaging: {ZIP}", "Metadata-Format: x", "Content-Type: text/plain", "Digest: x", "content {",
-                     f"next change {GREATEST}"])
-SINCE_TAG = " & ".join(["Content-Encoding: gzip", "Content-Disposition: x", "In-Progress: yes", f"Packaging: {ZIP}",
-                        "Metadata-Format: x", "Content-Type: text/plain", "Digest: x", "content {"])
-GOING_ON = ["In-Progress: TRUE", "In-Progress: false"]
-
-
-def flat(*groups):
-    """Broken rules and settings that break none, of groups of either or of pairs of both."""
-    broken, held = [], []
-    for group in groups:
-        if isinstance(group, tuple):
-            broken += group[0]
-            held += group[1]
-        elif group and isinstance(group[0], tuple):
-            broken += group
+    def stand(self, around=()):
+        """The request as it stands, and its reply, which may have a name of its own."""
+        reply, name = reply_to(self.section.case(around)), REPLY_NAMES.get(self.section.title)
+        self.send(request_of(self.section.case()))
+        if name is None or reply != reply_to(self.section.case()) or self.section.world == "objects":
+            self.expect_reply(reply)
         else:
-            held += group
-    return broken, held
+            self.replies[name] = reply.filled()
+            self.expect(name)
+        self.end()
 
 
-def absent(*texts):
-    return [(6, text) for text in texts]
+def table_of(example, group):
+    """Tells the rows of a group in a table where they are several. It returns the parts of the request that the table has, and
+    the name of the reply."""
+    replies = [reply_to(group.section.case([*row, *group.around])).text for row in group.rows]
+    if len(group.rows) == 1:
+        return (), replies[0]
+    keys, varies = sorted(group.keys), len(set(replies)) > 1
+    parts = [[short(next(s for s in row if key_of(s) == key)) for key in keys] for row in group.rows]
+    example.add_table([*map(cell_of, keys), *["reply"] * varies],
+                      [[*row, *[f"\\{{{reply}}}"] * varies] for row, reply in zip(parts, replies)])
+    return group.keys, "reply" if varies else replies[0]
 
 
-def sections():
-    yield "a file, deposited at the service", ["POST /service", AS_FILE, "content abc"], flat(
-        BEHALF, ENCODING, NO_KIND, [(9, "no Content-Disposition"), (9, OPENING), (9, SEGMENT)], PROGRESS, PACKAGING, TYPE, DIGEST,
-        full("object", "file", "change"), GIVEN, FILE_HELD, GOING_ON, ['If-Match: "9"', "require-if-match true"])
-    yield "metadata, deposited at the service", ["POST /service", AS_METADATA, 'content {"dc:title":"T"}'], flat(
-        BEHALF, ENCODING, NO_KIND, PROGRESS, FORMATS, JSON_TYPE, DIGEST, DOCUMENT, full("object", "change"), GIVEN,
-        METADATA_HELD, DOCUMENT_HELD, GOING_ON)
-    yield "uploads, deposited at the service", ["POST /service", AS_REFERENCES, *ENTRIES], flat(
-        BEHALF, ENCODING, NO_KIND, PROGRESS, JSON_TYPE, DIGEST, REFERENCES, full("object", "file", "change", count=2), GIVEN,
-        REFERENCES_HELD, GOING_ON, [f"Packaging: {ZIP}", "Metadata-Format: x"])
-    gone = absent("no object", "object 2 tags 12 13 14")
-    yield "a file, added to an object", ["POST /objects/1", AS_FILE, "content abc"], flat(
-        BEHALF, gone, tags(12, 13, 14, 15), ENCODING, NO_KIND, [(9, "no Content-Disposition")], PROGRESS, PACKAGING, TYPE, DIGEST,
-        full("file", "change"), FILE_HELD, GOING_ON)
-    yield "metadata, added to an object", ["POST /objects/1", AS_METADATA, 'content {"dc:title":"T"}'], flat(
-        BEHALF, gone, tags(12), ENCODING, PROGRESS, FORMATS, JSON_TYPE, DIGEST, DOCUMENT, full("change"), DOCUMENT_HELD)
-    yield "uploads, added to an object", ["POST /objects/1", AS_REFERENCES, *ENTRIES], flat(
-        BEHALF, gone, tags(12), ENCODING, PROGRESS, JSON_TYPE, DIGEST, REFERENCES, full("file", "change", count=2), REFERENCES_HELD)
-    yield "an object that is complete", ["POST /objects/1"], flat(
-        BEHALF, gone, tags(12), ENCODING, [(9, "In-Progress: true"), (9, "content a")], PROGRESS, DIGEST, full("change"), GIVEN,
-        ["In-Progress: false", "Content-Type: text/plain", f"Packaging: {ZIP}", "Digest: SHA-256=" + sha256("")])
-    yield "a file in place of all that an object has", ["PUT /objects/1", AS_FILE, "content abc"], flat(
-        BEHALF, gone, tags(12, 13, 14), ENCODING, NO_KIND, [(9, "no Content-Disposition"), (9, "no Content-Disposition & no content")],
-        PROGRESS, PACKAGING, TYPE, DIGEST, full("file", "change"), FILE_HELD, GOING_ON)
-    yield "metadata in place of all that an object has", ["PUT /objects/1", AS_METADATA, 'content {"dc:title":"T"}'], flat(
-        BEHALF, gone, tags(12), ENCODING, PROGRESS, FORMATS, JSON_TYPE, DIGEST, DOCUMENT, full("change"), DOCUMENT_HELD, GOING_ON)
-    yield "uploads in place of all that an object has", ["PUT /objects/1", AS_REFERENCES, *ENTRIES], flat(
-        BEHALF, gone, tags(12), ENCODING, PROGRESS, JSON_TYPE, DIGEST, REFERENCES, full("file", "change", count=2), GOING_ON)
-    yield "other metadata of an object", ["PUT /objects/1/metadata", AS_METADATA, 'content {"dc:title":"T"}'], flat(
-        BEHALF, gone, tags(13, 12, 14), ENCODING, NO_KIND, [(9, AS_FILE), (9, AS_REFERENCES)], FORMATS, JSON_TYPE, DIGEST, DOCUMENT,
-        full("change"), METADATA_HELD, DOCUMENT_HELD, ["no Content-Disposition", "In-Progress: yes"])
-    yield "a file in place of an object's files", ["PUT /objects/1/files", AS_FILE, "content abc"], flat(
-        BEHALF, gone, tags(14, 12, 13), ENCODING, NO_KIND, [(9, AS_METADATA), (9, "no Content-Disposition")], PACKAGING, TYPE, DIGEST,
-        full("file", "change"), FILE_HELD, ["In-Progress: yes"])
-    yield "uploads in place of an object's files", ["PUT /objects/1/files", AS_REFERENCES, *ENTRIES], flat(
-        BEHALF, gone, tags(14), ENCODING, JSON_TYPE, DIGEST, REFERENCES, full("file", "change", count=2), REFERENCES_HELD)
-    no_file = absent("no file", "file 1 3 tag 15", "file 2 2 tag 15")
-    yield "a file in place of a file", ["PUT /objects/1/files/2", AS_FILE, "content abc"], flat(
-        BEHALF, no_file, tags(15, 12, 14), ENCODING, NO_KIND, [(9, AS_METADATA), (9, AS_REFERENCES)], PACKAGING, TYPE, DIGEST,
-        full("change"), FILE_HELD, ["In-Progress: yes"])
-    for title, target, tag, there in (
-            ("no metadata", "/objects/1/metadata", 13, gone), ("no files", "/objects/1/files", 14, gone), ("no file", "/objects/1/files/2", 15, no_file)):
-        yield f"an object with {title} from now on", [f"DELETE {target}"], flat(
-            BEHALF, there, tags(tag, 12), full("change"), [SINCE_TAG])
-    yield "an object that is deleted", ["DELETE /objects/1"], flat(BEHALF, gone, tags(12, 13, 14), full(), [SINCE_TAG])
-    too_many = [
-        (14.1, "Content-Disposition: segment-init; size=5001; segment_count=6; segment_size=1"),
-        (14.1, "Content-Disposition: segment-init; size=18446744073709551616; segment_count=3; segment_size=2"),
-        (14.2, "Content-Disposition: segment-init; size=6; segment_count=6; segment_size=2"),
-        (14.3, "Content-Disposition: segment-init; size=2002; segment_count=2; segment_size=1001"),
-        (14.3, "Content-Disposition: segment-init; size=6; segment_count=2; segment_size=2"),
-        (14.3, "Content-Disposition: segment-init; size=4; segment_count=3; segment_size=2"),
-    ]
-    yield "an upload that is opened", ["POST /staging", OPENING], flat(
-        BEHALF, ENCODING, [(9, AS_FILE), (9, "no Content-Disposition"), (9, "content a"), (9, OPENING.replace("=5", "=0")),
-                           (9, OPENING + "; digest=x"), (9, OPENING.replace("; segment_size=2", ""))],
-        DIGEST, too_many, full("upload"), GIVEN, ["max-segments 3", "max-assembled 5", "max-upload 2", "require-if-match true",
-        "In-Progress: yes", f"Packaging: {ZIP}", "Content-Type:", OPENING + "; digest=SHA-256=" + sha256("abcde"),
-        OPENING.replace("size=5", "size=6")])
-    yield "an upload of smaller limits", ["POST /staging", OPENING], flat(
-        BEHALF, ENCODING, [(9, "content a")], DIGEST, [(14.1, "max-assembled 4"), (14.2, "max-segments 2"), (14.3, "max-upload 1")],
-        full("upload"))
-    gone = absent("upload 3 timed out", "no upload 3")
-    yield "a segment in the middle", ["POST /staging/3", SEGMENT, "content cd"], flat(
-        BEHALF, gone, ENCODING, [(9, AS_FILE), (9, OPENING), (9, "no Content-Disposition"), (9, SEGMENT.replace("=2", "=x"))], DIGEST,
-        [(14.4, SEGMENT.replace("=2", f"={k}")) for k in (0, 1, 3, 4, 18446744073709551616)],
-        [(14.5, "content c"), (14.5, "content cde"), (14.5, "no content")], full(), GIVEN,
-        ["require-if-match true", 'If-Match: "9"', "Content-Type:", "In-Progress: yes", "Digest: SHA-256=" + sha256("cd")])
-    yield "the last segment", ["POST /staging/5", SEGMENT.replace("=2", "=3"), "content e"], flat(
-        BEHALF, absent("upload 5 timed out"), [(14.4, SEGMENT)], [(14.5, "content ef"), (14.5, "no content")], full())
-    yield "an upload that is dropped", ["DELETE /staging/3"], flat(BEHALF, gone, [UNREAD], full())
-    for method in ("GET", "HEAD"):
-        for title, target, gone in (
-                ("the service", "/service", []), ("an object", "/objects/1", absent("no object")),
-                ("metadata", "/objects/1/metadata", absent("no object")), ("a file", "/objects/1/files/2", no_file),
-                ("an upload", "/staging/3", absent("upload 3 timed out", "no upload 3")), ("a bag", "/objects/1/bag", absent("no object")),
-                ("a file of a bag", "/objects/1/bag/data/2/a.txt", absent("no path", "path data/2/a.txtx", "path data/2/a"))):
-            yield f"{method} of {title}", [f"{method} {target}"], flat(BEHALF, gone, [UNREAD])
+def refused_example(group):
+    """What breaks a rule, alone and with what breaks a later one; in the end the request as it stands."""
+    section = group.section
+    example = Example(section, group.title())
+    cells, text = table_of(example, group)
+    later = group.later()
+    example.set_up()
+    for around in [*filter(None, later), ()]:
+        others = later[around] if around else [[], *later.get((), [])]
+        group.check(others, around)
+        example.turn_to([*group.around, *around])
+        example.send(*(request_of(section.case([*group.rows[0], *other]), cells) for other in others))
+        example.expect(text, len(others))
+        if around or refusal(section.case(group.around)) is not None:
+            example.end()
+    if refusal(section.case(group.around)) is None:
+        example.stand(group.around)
+    else:
+        example.turn_to()
+        example.stand()
+    return example
 
 
-def line(settings, outcome):
-    return f"{' & '.join(settings)} => {outcome}".strip()
+def add_replies(example, names, rows, replies):
+    """Tells requests with their replies in a table where they are several. It returns the names that the table has of the replies."""
+    if len(rows) == 1:
+        return []
+    told_names = dict.fromkeys(name for reply in replies for name in reply.other_names())
+    varying = [name for name in told_names if len({reply.words().get(name) for reply in replies}) > 1]
+    example.add_table([*names, *varying], [[*row, *(reply.words()[name] for name in varying)] for row, reply in zip(rows, replies)])
+    return varying
 
 
-def table():
-    """The lines of the table, how many rulings they are, and which pairs of rules are played."""
-    lines, played, pairs = [HEAD], 0, {}
-    lines += WORLD
-    world = with_settings({}, WORLD)
-    for title, base, (broken, held) in sections():
-        base = ["request " + base[0], *base[1:]]
-        start = with_settings(world, base)
-        lines += ["", f"# {title}", *base, line([], ruling(start))]
-        assert not ruling(start)[0].isupper(), (title, ruling(start))
-        played += 1
-        ordered = [(place, setting.split(" & ")) for place, setting in sorted(broken, key=lambda b: b[0])]
-        for i, (place, settings) in enumerate(ordered):
-            first = with_settings(start, settings)
-            outcome = ruling(first)
-            assert outcome[0].isupper(), (title, settings, outcome)
-            lines.append(line(settings, outcome))
-            played += 1
-            for later, others in ordered[i + 1:]:
-                if {key_of(s) for s in settings} & {key_of(s) for s in others}:
-                    continue
-                both = with_settings(first, others)
-                assert ruling(both) == outcome, (title, settings, others, outcome, ruling(both))
-                played += 1
-                pairs[place, later] = pairs.get((place, later), 0) + 1
-        for setting in held:
-            settings = setting.split(" & ")
-            outcome = ruling(with_settings(start, settings))
-            assert not outcome[0].isupper(), (title, settings, outcome)
-            lines.append(line(settings, outcome))
-            played += 1
-    return lines, played, pairs
+def held_example(section, around, rows):
+    """What breaks no rule, with the same settings around it."""
+    example = Example(section, "what breaks no rule" + "".join(AROUND.get(setting, "") for setting in around))
+    found = [section.case([*row, *around]) for row in rows]
+    assert all(refusal(case) is None for case in found), (section.title, rows, around)
+    replies = [reply_to(case) for case in found]
+    requests = [without_line(section.case(row)) for row in rows]
+    hidden = add_replies(example, ["request"], [[request] for request in requests], replies)
+    example.set_up()
+    example.turn_to(around)
+    example.send(section.base[0] + "\\{host}" + (requests[0] if len(rows) == 1 else "\\{request}"))
+    example.expect_reply(replies[0], hidden)
+    example.end()
+    return example
+
+
+def settings_example(section, title, settings):
+    """The request as it stands, with one setting around it in each row: a number that is given next, or of the configuration."""
+    example = Example(section, title)
+    word = "next" if is_next(settings[0]) else "config"
+    rows = [setting.removeprefix("next ").split(" ", 1) for setting in settings]
+    replies = [reply_to(section.case([setting])) for setting in settings]
+    assert len({reply.text for reply in replies}) == 1, (section.title, settings)
+    hidden = add_replies(example, ["kind", "number"], rows, replies)
+    example.set_up()
+    example.turn_to()
+    example.lines.append(f"{word} " + (" ".join(rows[0]) if len(rows) == 1 else "\\{kind} \\{number}"))
+    if example.is_open and word == "config":
+        example.lines.append("restart")
+    example.send(request_of(section.case()))
+    example.expect_reply(replies[0], hidden)
+    example.end()
+    return example
+
+
+def full_example(section, around):
+    """What breaks a rule where no number is left either."""
+    example = Example(section, "no number is left, and an earlier rule is broken")
+    rows = [settings for rule, settings in section.rules() if rule < 15 and not parted(settings)[1]]
+    replies = [reply_to(section.case(row)) for row in rows]
+    assert replies == [reply_to(section.case([*row, *around])) for row in rows], section.title
+    example.add_table(["request", "reply"], [[request_of(section.case(row)), f"\\{{{reply.text}}}"] for row, reply in zip(rows, replies)])
+    example.set_up()
+    example.turn_to(around)
+    example.send("\\{request}")
+    example.expect("reply")
+    example.end()
+    return example
+
+
+def held_examples(section):
+    """What breaks no rule, in the request and around it."""
+    held, alone = {(): [[]]}, {True: [], False: []}
+    for settings in section.held:
+        asked, around = parted(settings.split(" & "))
+        if asked:
+            held.setdefault(around, []).append(asked)
+        else:
+            alone[is_next(around[0])] += around
+    yield from (held_example(section, around, rows) for around, rows in held.items())
+    if alone[False]:
+        yield settings_example(section, "configurations that allow it", alone[False])
+    if alone[True]:
+        yield settings_example(section, "numbers that are left", alone[True])
+
+
+def examples_of(section):
+    """What breaks no rule, and then the rules in their order."""
+    yield from held_examples(section)
+    for group in (group for group in section.groups() if group.rule < 15):
+        among_others = group.rule == 6 and section.world == "object"
+        yield refused_example(replace(group, section=replace(section, world="objects")) if among_others else group)
+    used_up = [setting for rule, settings in section.rules() if rule == 15 for setting in settings]
+    if used_up:
+        yield settings_example(section, "no number is left", used_up)
+        yield full_example(section, used_up[-1:])
+
+
+# ---- files
+
+BAG = ("bagit.txt", "bag-info.txt", "manifest-sha256.txt", "metadata/sword.json", "tagmanifest-sha256.txt", "data/1/a.txt")
+FILES = {
+    "order-deposits.txt": ("deposits of files and metadata", {"service": [*cases.deposits()]}),
+    "order-deposits-by-reference.txt": ("deposits by reference", {"uploads": [*cases.deposits_by_reference()]}),
+    "order-additions.txt": ("files and metadata that are added to an object", {"object": [*cases.additions()]}),
+    "order-additions-by-reference.txt": ("uploads that are added to an object", {"object and uploads": [*cases.additions_by_reference()]}),
+    "order-replacements.txt": ("what takes the place of all that an object has", {"object": [*cases.replacements()]}),
+    "order-completions.txt": ("an object that is complete", {"object": [*cases.completions()]}),
+    "order-replacements-by-reference.txt": (
+        "uploads that take the place of all that an object has", {"object and uploads": [*cases.replacements_by_reference()]}),
+    "order-files-by-reference.txt": (
+        "uploads that take the place of an object's files", {"object and uploads": [*cases.files_by_reference()]}),
+    "order-metadata.txt": ("other metadata of an object", {"object": [*cases.metadata()]}),
+    "order-files.txt": ("what takes the place of the files of an object, or of one", {"object": [*cases.file_replacements()]}),
+    "order-deletions.txt": ("what is deleted of an object", {"object": [*cases.deletions()]}),
+    "order-openings.txt": ("uploads that are opened", {"service": [*cases.openings()]}),
+    "order-segments.txt": ("segments of uploads", {"upload": [*cases.segments()]}),
+    "order-gets.txt": ("GET", {world: [*cases.reads("GET", world)] for world in cases.READ}),
+    "order-heads.txt": ("HEAD", {world: [*cases.reads("HEAD", world)] for world in cases.READ}),
+}
+HEAD = """\
+// The order of refusals: {}. checks/rulings.py writes this file, from docs/PROFILE.md alone.
+//
+// First what breaks no rule: the request as it stands, and what it may have besides. Then the rules in their order: the rows are
+// ways to break one, which is the answer alone and together with what breaks a later one. What was refused has changed nothing:
+// behind it the request as it stands is accepted."""
+HOST = as_text("host", "\\x20HTTP/1.1\\r\\nHost: 127.0.0.1:8080\\r\\n")
+
+
+def reading_texts():
+    """Replies to GET and HEAD that no other file needs."""
+    for name, media, lines in (("bag-list", "text/plain; charset=utf-8", [line + "\\n" for line in BAG]), ("bag-file", "text/plain", ["abc"])):
+        length = len("".join(lines).replace("\\n", "\n"))
+        head = ["HTTP/1.1 200 OK", "Date: \\{date}", f"Content-Type: {media}", f"Content-Length: {length}", "", ""]
+        yield f"{name}-head", "\\r\\n".join(head)
+        yield name, f"\\{{{name}-head}}" + "".join(lines)
+    for text, head in HEADS.items():
+        if head not in WORDS:
+            yield head, WORDS[text].partition("\\r\\n\\r\\n")[0] + "\\r\\n\\r\\n"
+
+
+def named_texts(written, lines):
+    """The texts that the examples name and texts.txt hasn't, in the order in which a file has them."""
+    used, replies = set(re.findall(r"\\\{(?:\d+ )?([^ }]+)\}", "\n".join(lines))), {}
+    for example in written:
+        replies |= example.replies
+    lets = {**{name: spelled(setting) for name, setting in NAMES.items()}, "first-chunk": FRONT, "last-chunk": END}
+    yield [f"let {name} {text}" for name, text in lets.items() if name in used]
+    yield from (SET_UPS[name].texts(name) for name in SET_UPS if f"{name}-replies" in used)
+    reading = dict(reading_texts())
+    used |= {f"{name}-head" for name in used if name in reading}
+    yield from (as_text(name, text) for name, text in {**reading, **replies}.items() if name in used)
+
+
+def file_text(name):
+    """The text of a file, and how many cases it has."""
+    said, worlds = FILES[name]
+    sections = [Section(*titled, *what, world) for world, found in worlds.items() for *titled, what in found]
+    written = [example for section in sections for example in examples_of(section)]
+    parts = [HEAD.format(said).split("\n"), HOST]
+    bodies = [example.text() for example in written]
+    parts += [*filter(None, named_texts(written, itertools.chain(*bodies))), *bodies]
+    return "\n\n".join("\n".join(part) for part in parts) + "\n", sum(example.cases for example in written)
 
 
 def main():
-    lines, played, pairs = table()
-    text = "\n".join(lines) + "\n"
-    print(f"{played} rulings, {len(pairs)} pairs of rules", file=sys.stderr)
-    if "--check" in sys.argv:
-        sys.exit(0 if TABLE.read_text() == text else "the table isn't as it would be written")
-    sys.stdout.write(text)
+    is_other, count = False, 0
+    for name in FILES:
+        text, cases_there = file_text(name)
+        count += cases_there
+        print(f"{name}: {cases_there} cases, {text.count(chr(10))} lines, {len(text.encode())} bytes")
+        if "--check" in sys.argv:
+            is_other |= not (DATA / name).exists() or (DATA / name).read_text() != text
+        else:
+            (DATA / name).write_text(text)
+    print(f"{count} cases")
+    sys.exit("a file isn't as it would be written" if is_other else 0)
 
 
-main()
+if __name__ == "__main__":
+    main()
