@@ -2,10 +2,3 @@ pub mod Cuts
 pub mod Written
 pub mod FileCalls
 pub mod Results
-pub mod SizeFound
-pub mod SendingLemmas
-pub mod NextRow
-pub mod RowsSent
-pub mod FaultsTold
-pub mod OrderedBlocks
-pub mod Streams

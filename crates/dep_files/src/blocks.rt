@@ -1,25 +1,12 @@
-//! The blocks of a content, written and sent one at a time.
+//! The blocks of a content, written one at a time.
 
-ghost use Rattle.std.specs.Prelude.{◌≡◌, ◌≢◌, OnOk, Err, filter};
-ghost use Rattle.dep_types.specs.Writing.{HasRisen};
-ghost use Rattle.sqlite.specs.State.{HasCleanDisk};
-ghost use Rattle.sqlite.specs.Held.{state};
-ghost use Rattle.dep_tables.specs.Rows.{is_block_of};
-ghost use Rattle.dep_tables.specs.Tables.{tables_of, IsOurs};
-ghost use Rattle.dep_tables.specs.Clauses.{CommitsNothing, StaysWithin};
+ghost use Rattle.dep_tables.specs.Clauses.{StaysWithin};
 ghost use Rattle.dep_row_maps.specs.Stored.{blocks_of, put_blocks};
 ghost use Rattle.dep_row_maps.specs.Clauses.{Becomes, FailsUncommitted};
-ghost use Rattle.dep_files.specs.Clauses.{GivesBytes, LeavesOurs, FailsOverOurs};
-ghost use Rattle.dep_files.specs.Sent.{SendsBlocks};
 
 use crate::content::Content;
-use crate::fault::BlockFault;
-use crate::sending::stream_sized;
-use dep_tables::{
-    BlockKey, BlockOwner, BlockPlace, Statements, insert_block, is_storable_owner, owner_params,
-};
-use dep_types::{Outlet, StoreFault};
-use sqlite::{Alter, Connection};
+use dep_tables::{BlockKey, BlockOwner, BlockPlace, Statements, insert_block};
+use dep_types::StoreFault;
 
 /// Writes a content as a part of an owner, each byte once. It is a fault of the store where the
 /// owner has a block of this part at one of its places, and where a number is 2^63 or more.
@@ -44,42 +31,4 @@ pub fn put_blocks<T: Statements, C: Content>(
         insert_block(tx, &BlockKey { owner, at }, content.block(place))?;
     }
     Ok(())
-}
-
-/// Sends the blocks of an owner, by part and place, up to so many bytes in all. It holds one block at
-/// a time. A number of 2^63 or more is a fault of the store.
-pub fn stream_blocks<S: Alter, O: Outlet>(
-    connection: &mut Connection<S>,
-    owner: BlockOwner,
-    size: u64,
-    out: &mut O,
-) -> Result<(), BlockFault>
-    ensures streams { GivesBytes (O.taken out.old) (O.taken out.new) (λ sent.
-        HasCleanDisk (state S.Store connection.new) → IsOurs (state S.Store connection.old)
-        → SendsBlocks (filter (is_block_of owner) (tables_of (state S.Store connection.old)).blocks)
-        size sent result) }
-    ensures ok { LeavesOurs S.Store connection.old connection.new result }
-    ensures err { FailsOverOurs S.Store connection.old connection.new result }
-    ensures clean { HasCleanDisk (state S.Store connection.new)
-        → HasCleanDisk (state S.Store connection.old) }
-    ensures survives { IsOurs (state S.Store connection.old)
-        → CommitsNothing (state S.Store connection.old) (state S.Store connection.new) }
-    ensures kept { OnOk result (O.failures out.new ≡ O.failures out.old) }
-    ensures cause { result ≡ Err BlockFault.Writer
-        → HasRisen (O.failures out.old) (O.failures out.new) }
-    ensures others { result ≢ Err BlockFault.Writer → O.failures out.new ≡ O.failures out.old }
-{
-    if size == 0 {
-        return Ok(());
-    }
-    if !is_storable_owner(owner) {
-        return Err(BlockFault::Store);
-    }
-    stream_sized(
-        connection,
-        "SELECT part, place, bytes FROM blocks WHERE kind = ?1 AND owner = ?2 ORDER BY part, place",
-        &owner_params(owner),
-        size,
-        out,
-    )
 }

@@ -4,16 +4,10 @@
 
 mod blocks;
 mod content;
-mod fault;
 mod files;
 mod loading;
-mod sending;
-mod sizes;
-mod streaming;
 
-pub use blocks::{put_blocks, stream_blocks};
+pub use blocks::put_blocks;
 pub use content::{BLOCK_SIZE, Content, hash_content};
-pub use fault::BlockFault;
 pub use files::{delete_file, delete_files, put_file};
 pub use loading::{find_file, load_files};
-pub use streaming::{load_content, stream_content};

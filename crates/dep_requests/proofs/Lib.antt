@@ -1,2 +1,1 @@
-pub mod Transacting
 pub mod Stepping

@@ -2,9 +2,6 @@
 use Rattle.std.proofs.Common.{◌≡◌, ℕ, Option, Some, None, Result, Ok, Err, IfOk, OnOk, IsTrue, true, min, refl, sym, ap, subst, ◌∙◌, arith}
 use Rattle.sqlite.specs.Effect.{Database}
 use Rattle.sqlite.specs.State as db
-use Rattle.sqlite.specs.State.{HasCleanDisk, IsUnchanged}
-use Rattle.sqlite.specs.Held.{Held, state}
-use Rattle.sqlite_trees.specs.declared.store.Store.{Ghosts}
 use Rattle.dep_types.specs.Limits.{greatest_moment}
 use Rattle.dep_types.specs.Numbers.{counters_after}
 use Rattle.dep_types.specs.State.{State}
@@ -31,15 +28,11 @@ use Rattle.dep_answers.specs.declared.performed.Performed.{Performed}
 use Rattle.dep_answers.specs.declared.subject.Shown.{Shown}
 use Rattle.dep_answers.specs.declared.subject.Subject.{Subject}
 use Rattle.dep_tables.specs.Clauses.{StaysWithin}
-use Rattle.dep_tables.specs.Tables.{tables_in, IsOurs}
+use Rattle.dep_tables.specs.Tables.{tables_in}
 use Rattle.dep_tables.proofs.Results.{if_ok}
 use Rattle.dep_row_maps.specs.TablesAre.{TablesAre}
-use Rattle.dep_row_maps.specs.Clauses.{FromMaps, SeesState}
+use Rattle.dep_row_maps.specs.Clauses.{SeesState}
 use Rattle.dep_files.proofs.Results.{survives_itself}
-use Rattle.dep_requests.specs.Standing.{StandsFor}
-use Rattle.dep_requests.specs.Performing.{Performs}
-use Rattle.dep_requests.specs.Transactions.{OverStates}
-use Rattle.dep_requests.proofs.Transacting.{IsMade}
 
 -- a step leaves a sound state
 pub step_sound : (config : Config) (s : State) (op : Operation) → AreFit op.fields → IsSound s → IsSound (operation_step config s op).state
@@ -119,21 +112,3 @@ shown_after s op mid new next subject (Ok shown) made of same still told = (
   told ∙ ap (shown_at s) (of ∙ ap (λ (n : Counters). subject_of n op.target.resource op.target.method) same),
 )
 shown_after s op mid new next subject (Err e) made of same still told = tt
-
--- a request inside a transaction keeps the state sound
-pub works : {S : Type 0} (g : Ghosts S) (old inside : Held S) (config : Config) (op : Operation) (p : Performed)
-    → FromMaps (state g (record old { in_transaction = true })) (state g inside)
-    (λ s. IsSound s → AreFit op.fields → IsReady (operation_step config s op) p × SeesState (state g inside) (operation_step config s op).state)
-    → (HasCleanDisk (state g inside) → IsTrue true → IsOurs (state g (record old { in_transaction = true })) → IsOurs (state g inside))
-    → IsMade g old inside (λ t p after. AreFit op.fields → OverStates (λ s p. IsReady (operation_step config s op) p) (λ s. (operation_step config s op).state) t p after) p
-works g old inside config op p told ours clean are_ours = (
-  ours clean refl are_ours,
-  λ fit s means.
-      let it = told clean refl are_ours s means.are means.sound fit in
-      (it.0, record { are = it.1; sound = step_sound config s op fit means.sound }),
-)
-
-pub performs : {E : Type 0} (config : Config) (s : State) (op : Operation) (new : db.State) (result : Result Performed E)
-    → IfOk result (λ p. IsReady (operation_step config s op) p × StandsFor new (operation_step config s op).state) → IfOk result (Performs (operation_step config s op) new)
-performs config s op new (Ok p) it = record { state = it.1; ready = it.0 }
-performs config s op new (Err e) it = tt

@@ -1,3 +1,1 @@
-pub mod Standing
-pub mod Transactions
 pub mod Performing

@@ -1,6 +1,6 @@
-//! What a request comes to over the archive's tables, in one transaction, and what is known of any call that is one.
+//! What a request comes to over the archive's tables, inside one transaction.
 #![tactic(auto)]
 
 mod performing;
 
-pub use performing::{accept, delivery_at, perform_request, refuse};
+pub use performing::{accept, answer, delivery_at, refuse};

@@ -1,7 +1,6 @@
-//! What a request comes to, in a transaction of its own.
+//! What a request comes to, in the transaction that it is given.
 
-ghost use Rattle.std.specs.Prelude.{◌≡◌, false, min, None, IsTrue, IfOk};
-ghost use Rattle.sqlite.specs.Held.{state};
+ghost use Rattle.std.specs.Prelude.{◌≡◌, min, None, IsTrue, IfOk};
 ghost use Rattle.dep_types.specs.State.{State};
 ghost use Rattle.dep_types.specs.Sound.{IsSound};
 ghost use Rattle.dep_types.specs.Limits.{greatest_moment};
@@ -19,7 +18,6 @@ ghost use Rattle.dep_answers.specs.Performing.{IsReady, IsReply};
 ghost use Rattle.dep_answers.specs.Replies.{answer_to, refused_answer};
 ghost use Rattle.dep_answers.specs.Steps.{operation_step, is_head};
 ghost use Rattle.dep_answers.specs.Subjects.{shown_at, subject_of};
-ghost use Rattle.dep_requests.specs.Transactions.{Transacts, OverStates};
 ghost use Rattle.dep_requests.specs.Performing.{Rules};
 
 use dep_answers::{Delivery, Performed, Service, Shown, Subject, accepted, refused};
@@ -27,11 +25,9 @@ use dep_changes::carry_out;
 use dep_decisions::{Decision, Operation, numbers_for};
 use dep_moment::Moment;
 use dep_rulings::{Ruling, View, decide, touches};
-use dep_schema::Lent;
-use dep_tables::{Statements, fault_of};
+use dep_tables::Statements;
 use dep_types::{Config, Method, Refusal, StoreFault};
 use dep_views::{load_shown, load_view};
-use sqlite::{Alter, Connection};
 use std::alloc::{AllocError, Global};
 
 /// A ruling, with the view of the archive that it looked at.
@@ -168,8 +164,8 @@ fn follow<T: Statements>(
     }
 }
 
-/// Does what a request asks for, and spells the reply.
-fn answer<T: Statements>(
+/// Does what a request asks for, and spells the reply. After an Err the caller gives the transaction back.
+pub fn answer<T: Statements>(
     tx: &mut T,
     alloc: Global,
     service: &Service,
@@ -186,26 +182,4 @@ fn answer<T: Statements>(
     let performed = follow(tx, alloc, service, operation, &ruled);
     drop(ruled);
     performed
-}
-
-/// Does what a request asks for. The reply is made before the commit. A fault of the store, also of the commit, and want
-/// of memory leave the tables as they were.
-pub fn perform_request<S: Alter>(
-    connection: &mut Connection<S>,
-    alloc: Global,
-    service: &Service,
-    operation: &Operation<'_>,
-) -> Result<Performed, StoreFault>
-    requires settled { (state S.Store connection.old).in_transaction ≡ false }
-    ensures transacts { Transacts (state S.Store connection.old) (state S.Store connection.new) result
-        (λ t p after. AreFit operation.now.fields → OverStates
-        (λ s p. IsReady (operation_step service.now s operation.now) p)
-        (λ s. (operation_step service.now s operation.now).state) t p after) }
-{
-    let mut tx = connection.transaction();
-    let performed = answer(&mut Lent { tx: &mut tx }, alloc, service, operation)?;
-    match tx.commit() {
-        Ok(()) => Ok(performed),
-        Err(error) => Err(fault_of(error)),
-    }
 }

@@ -6,3 +6,5 @@ pub mod Version
 pub mod Again
 pub mod Transactions
 pub mod Prepared
+pub mod Transacting
+pub mod Performed

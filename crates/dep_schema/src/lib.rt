@@ -1,11 +1,14 @@
-//! Opening a database of the store, and what a transaction and a crash leave of its tables.
+//! A database of the store: it is opened, a request is done in one transaction of it, and what any call that is one
+//! transaction, and a crash, leave of its tables.
 #![tactic(auto)]
 
 mod crashes;
 mod lending;
 mod making;
 mod opening;
+mod performing;
 
 pub use crashes::{began_open, settled};
 pub use lending::Lent;
 pub use opening::{OpenFault, Schema, open};
+pub use performing::perform_request;

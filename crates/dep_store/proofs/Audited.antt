@@ -7,8 +7,8 @@ use Rattle.dep_types.specs.declared.store_fault.StoreFault.{StoreFault}
 use Rattle.dep_tables.specs.Tables.{Tables, tables_of}
 use Rattle.dep_tables.specs.Edits.{AreFileRowsOf}
 use Rattle.dep_schema.specs.Standing.{Stands}
-use Rattle.dep_audit.specs.Fixity.{IsAudited}
-use Rattle.dep_audit.specs.declared.auditing.Audit.{Audit}
+use Rattle.dep_streams.specs.Fixity.{IsAudited}
+use Rattle.dep_streams.specs.declared.auditing.Audit.{Audit}
 use Rattle.dep_store.specs.Auditing.{IsObjectAudited}
 use Rattle.dep_store.proofs.Carrying.{tables_kept}
 

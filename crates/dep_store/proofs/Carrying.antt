@@ -14,12 +14,12 @@ use Rattle.dep_types.proofs.TickSound.{keeps_sound}
 use Rattle.dep_tables.specs.Tables.{Tables, tables_in, tables_of, HasOurTables, IsOurs}
 use Rattle.dep_row_maps.specs.TablesAre.{TablesAre}
 use Rattle.dep_row_maps.specs.Clauses.{FromMaps}
-use Rattle.dep_files.specs.Reading.{IsKept}
+use Rattle.dep_streams.specs.Reading.{IsKept}
 use Rattle.dep_schema.specs.Standing.{Stands}
 use Rattle.dep_schema.proofs.Transactions.{stands_left}
-use Rattle.dep_requests.specs.Standing.{StandsFor}
-use Rattle.dep_requests.specs.Transactions.{OnlyTells, OverStates}
-use Rattle.dep_requests.proofs.Transacting.{IsMade}
+use Rattle.dep_schema.specs.States.{StandsFor}
+use Rattle.dep_schema.specs.Transactions.{OnlyTells, OverStates}
+use Rattle.dep_schema.proofs.Transacting.{IsMade}
 
 -- no upload of a sound state has the number 0
 pub none_at_0 : (s : State) → IsSound s → map.get s.uploads 0 ≡ None

@@ -11,9 +11,9 @@ use Rattle.dep_tables.specs.Versions.{our_version, HasVersion}
 use Rattle.dep_row_maps.proofs.Whole.{first_stands}
 use Rattle.dep_schema.specs.Standing.{HoldsNone, CommitsOpen, IsOpenable, first_tables}
 use Rattle.dep_schema.proofs.Again.{sees_trees}
-use Rattle.dep_requests.specs.Standing.{TablesStandFor, IsLeftAs}
+use Rattle.dep_schema.specs.States.{TablesStandFor, IsLeftAs}
 use Rattle.dep_store.specs.Opening.{OpenLeaves}
-use Rattle.dep_requests.proofs.Transacting.{IsSettled}
+use Rattle.dep_schema.proofs.Transacting.{IsSettled}
 
 -- the tables of a new store stand for the empty archive
 pub first_means : TablesStandFor first_tables empty_state

@@ -35,8 +35,8 @@ use Rattle.dep_schema.specs.Standing.{Stands}
 use Rattle.dep_answers.specs.Performing.{IsReady}
 use Rattle.dep_answers.specs.Steps.{operation_step}
 use Rattle.dep_answers.specs.declared.performed.Performed.{Performed}
-use Rattle.dep_requests.specs.Standing.{StandsFor, TablesStandFor}
-use Rattle.dep_requests.specs.Transactions.{OverStates}
+use Rattle.dep_schema.specs.States.{StandsFor, TablesStandFor}
+use Rattle.dep_schema.specs.Transactions.{OverStates}
 use Rattle.dep_store.proofs.Carrying.{shown_whole}
 use Rattle.dep_tables.specs.declared.state.StateRow.{StateRow}
 use Rattle.dep_row_maps.specs.Stored.{state_row}

@@ -4,7 +4,7 @@ use Rattle.sqlite.specs.Held.{Held, state}
 use Rattle.sqlite.specs.Tree.{Trees}
 use Rattle.sqlite_trees.specs.declared.store.Store.{Ghosts}
 use Rattle.dep_archive.specs.Conditions.{Condition}
-use Rattle.dep_requests.specs.Standing.{StandsFor, IsLeftAs}
+use Rattle.dep_schema.specs.States.{StandsFor, IsLeftAs}
 
 -- what its database shows
 abbrev pub shown_by : db.State → Condition

@@ -2,3 +2,8 @@ pub mod Auditing
 pub mod Remembering
 pub mod Opening
 pub mod Archive
+pub mod Outcomes
+pub mod Exports
+pub mod Audits
+pub mod Telling
+pub mod Starting

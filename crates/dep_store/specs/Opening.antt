@@ -5,7 +5,7 @@ use Rattle.sqlite.specs.State.{HasCleanDisk}
 use Rattle.sqlite.specs.Tree.{Trees}
 use Rattle.dep_types.specs.State.{State, empty_state}
 use Rattle.dep_schema.specs.Standing.{HoldsNone}
-use Rattle.dep_requests.specs.Standing.{IsLeftAs, Leaves}
+use Rattle.dep_schema.specs.States.{IsLeftAs, Leaves}
 
 -- a database with no table, as it was or as a new store; one that stood for a state, as that state
 pub record OpenLeaves (old new : db.State) : Type 0 where

@@ -11,7 +11,7 @@ use Rattle.dep_decisions.specs.declared.operation.Operation.{Operation}
 use Rattle.dep_rulings.specs.declared.view.View.{View}
 use Rattle.dep_soundness.specs.Laws.{is_read}
 use Rattle.dep_store.specs.declared.remembering.Remembered.{Remembered}
-use Rattle.dep_requests.specs.Standing.{StandsFor}
+use Rattle.dep_schema.specs.States.{StandsFor}
 
 -- there is such an upload, and it was left alone for longer than this
 abbrev pub is_left : (max_idle clock : ℕ) → Numbered Upload → ℕ → Bool

@@ -1,6 +1,6 @@
 //! The store, as those who serve it see it.
 ghost use Rattle.sqlite.proofs.StateLemmas.{clean_if_open};
-ghost use Rattle.dep_requests.proofs.Transacting.{leaves_as_was};
+ghost use Rattle.dep_schema.proofs.Transacting.{leaves_as_was};
 ghost use Rattle.dep_store.specs.Archive.{condition_of};
 
 use crate::store::Store;

@@ -9,7 +9,7 @@ ghost use Rattle.dep_schema.specs.Standing.{Holds, Stands};
 ghost use Rattle.dep_store.specs.Auditing.{IsObjectAudited};
 
 use crate::reading::list_files;
-use dep_audit::{Audit, Watch, audit_files};
+use dep_streams::{Audit, Watch, audit_files};
 use dep_types::StoreFault;
 use sqlite::{Alter, Connection};
 use std::alloc::Global;

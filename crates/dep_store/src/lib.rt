@@ -1,15 +1,28 @@
 //! The archive on SQLite: what requests and the clock make of it, in one transaction each, and what a
-//! crash leaves of that.
+//! crash leaves of that. And what is done with a whole one: a hub is opened over it, the bag of an object
+//! is given to a sink, and the files of all objects are checked.
 #![tactic(auto)]
 
 mod archive;
+mod audit_fault;
 mod auditing;
+mod exporting;
+mod lines;
 mod opening;
+mod outcome;
 mod reading;
 mod remembering;
 mod showing;
 mod source;
+mod starting;
 mod store;
+mod tally;
+mod telling;
 mod ticking;
 
+pub use dep_streams::{Unwatched, Watch};
+pub use exporting::export_object;
+pub use outcome::Outcome;
+pub use starting::{StartFault, open_hub};
 pub use store::Store;
+pub use telling::audit_all;

@@ -6,7 +6,7 @@ ghost use Rattle.sqlite.specs.Held.{state};
 ghost use Rattle.dep_types.specs.State.{State, empty_state};
 ghost use Rattle.dep_tables.specs.Tables.{Tables};
 ghost use Rattle.dep_schema.specs.Standing.{Holds, HoldsNone, IsOpenable, IsBack, Stands};
-ghost use Rattle.dep_requests.specs.Standing.{StandsFor, IsLeftAs};
+ghost use Rattle.dep_schema.specs.States.{StandsFor, IsLeftAs};
 ghost use Rattle.dep_store.specs.Opening.{OpenLeaves};
 
 use dep_schema::{OpenFault, Schema};

@@ -7,8 +7,8 @@ ghost use Rattle.sqlite.specs.Held.{state};
 ghost use Rattle.dep_types.specs.State.{State};
 ghost use Rattle.dep_types.specs.Rows.{object_view};
 ghost use Rattle.dep_tables.specs.Edits.{AreFileRowsOf, IsObjectAfter};
-ghost use Rattle.dep_requests.specs.Standing.{TablesStandFor};
-ghost use Rattle.dep_requests.specs.Transactions.{Transacts, OnlyTells};
+ghost use Rattle.dep_schema.specs.States.{TablesStandFor};
+ghost use Rattle.dep_schema.specs.Transactions.{Transacts, OnlyTells};
 
 use dep_schema::Lent;
 use dep_tables::{fault_of, files_of, next_object};

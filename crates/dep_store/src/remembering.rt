@@ -10,7 +10,7 @@ ghost use Rattle.dep_types.specs.Sound.{IsSound};
 ghost use Rattle.dep_tables.specs.Clauses.{ReadsOnly, StaysWithin};
 ghost use Rattle.dep_row_maps.specs.Clauses.{FromMaps};
 ghost use Rattle.dep_store.specs.Remembering.{Recalls, IsRecalled, is_left};
-ghost use Rattle.dep_requests.specs.Transactions.{IsBackAt};
+ghost use Rattle.dep_schema.specs.Transactions.{IsBackAt};
 
 use dep_objects::counters;
 use dep_schema::Lent;

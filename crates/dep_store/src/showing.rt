@@ -9,13 +9,14 @@ ghost use Rattle.dep_rulings.specs.Rulings.{IsRuling};
 ghost use Rattle.dep_answers.specs.Performing.{IsReady};
 ghost use Rattle.dep_answers.specs.Steps.{operation_step};
 ghost use Rattle.dep_store.specs.Remembering.{IsRecalled, Recalls, ReadsService, service_view};
-ghost use Rattle.dep_requests.specs.Transactions.{Transacts, OverStates};
+ghost use Rattle.dep_schema.specs.Transactions.{Transacts, OverStates};
 
 use crate::remembering::Remembered;
 use dep_answers::{Performed, Service, Shown};
 use dep_decisions::Operation;
-use dep_requests::{accept, delivery_at, perform_request, refuse};
+use dep_requests::{accept, delivery_at, refuse};
 use dep_rulings::{Ruling, UploadViews, View, decide};
+use dep_schema::perform_request;
 use dep_types::{Config, Method, Resource, StoreFault};
 use sqlite::{Alter, Connection};
 use std::alloc::{AllocError, Global};

@@ -8,7 +8,7 @@ use sqlite::Alter;
 impl<S: Alter> BagSource for Store<S> {
     ghost use Rattle.sqlite.specs.State.{HasCleanDisk};
     ghost use Rattle.sqlite.specs.Held.{state};
-    ghost use Rattle.dep_requests.specs.Standing.{StandsFor};
+    ghost use Rattle.dep_schema.specs.States.{StandsFor};
 
     ghost stands = { λ store s. StandsFor (state S.Store store) s };
 

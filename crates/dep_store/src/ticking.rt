@@ -3,7 +3,7 @@
 ghost use Rattle.std.specs.Prelude.{◌≡◌, ◌≤◌, ℕ, false, Some};
 ghost use Rattle.sqlite.specs.Held.{state};
 ghost use Rattle.dep_types.specs.State.{tick};
-ghost use Rattle.dep_requests.specs.Transactions.{Transacts, OverStates};
+ghost use Rattle.dep_schema.specs.Transactions.{Transacts, OverStates};
 ghost use Rattle.dep_store.specs.Remembering.{IsRecalled};
 
 use crate::remembering::{Remembered, look};

@@ -8,8 +8,8 @@ use Rattle.dep_server.specs.Conversation.{Wire, Transfers, Rests}
 use Rattle.dep_server.specs.declared.connection.Served.{Served}
 use Rattle.dep_server.specs.declared.connection.Served.TheVariants.{Ended, Closed, Unserved, ReadFault, WriteFault, Bound}
 use Rattle.swordd.specs.Setup.{program_config}
-use Rattle.dep_commands.specs.declared.outcome.Outcome.{Outcome}
-use Rattle.dep_commands.specs.declared.outcome.Outcome.TheVariants.{Done, Usage, StoreFault, TransferFault}
+use Rattle.dep_store.specs.declared.outcome.Outcome.{Outcome}
+use Rattle.dep_store.specs.declared.outcome.Outcome.TheVariants.{Done, Usage, StoreFault, TransferFault}
 
 -- what the program says of a connection
 abbrev pub outcome_of : Served → Outcome

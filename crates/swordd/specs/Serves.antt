@@ -7,8 +7,8 @@ use Rattle.dep_server.specs.Conversation.{Wire, session, AddsAll, Clocks, Conver
 use Rattle.dep_archive.specs.Conditions.{Condition}
 use Rattle.dep_server.specs.declared.hub.Hub.{Hub}
 use Rattle.dep_server.specs.declared.connection.Served.{Served}
-use Rattle.dep_commands.specs.declared.outcome.Outcome.{Outcome}
-use Rattle.dep_commands.specs.declared.outcome.Outcome.TheVariants.{Done, TransferFault}
+use Rattle.dep_store.specs.declared.outcome.Outcome.{Outcome}
+use Rattle.dep_store.specs.declared.outcome.Outcome.TheVariants.{Done, TransferFault}
 
 -- a connection that was opened: its number, and its turns
 pub record Conversation : Type 0 where

@@ -2,7 +2,10 @@
 #![tactic(auto)]
 
 mod command;
+mod folder;
+mod folder_sink;
 pub mod laws;
+mod progress;
 mod replay;
 mod serve;
 mod service;
@@ -14,8 +17,8 @@ pub use crate::replay::replay;
 pub use crate::serve::serve_on;
 use crate::service::Door;
 use crate::store_file::{Job, work_on};
-pub use dep_commands::{Outcome, audit_all, export_object};
 use dep_moment::Moment;
+pub use dep_store::{Outcome, audit_all, export_object};
 use dep_types::Through;
 use std::process::ExitCode;
 use std::{env, io};

@@ -3,16 +3,15 @@ ghost use Rattle.std.specs.Prelude.{◌≡◌, IfOk};
 ghost use Rattle.sqlite.specs.Held.{state};
 ghost use Rattle.sqlite.specs.Steps.{over_memory};
 ghost use Rattle.dep_types.specs.State.{empty_state};
-ghost use Rattle.dep_requests.specs.Standing.{StandsFor};
+ghost use Rattle.dep_schema.specs.States.{StandsFor};
 ghost use Rattle.dep_server.specs.Conversation.{wire};
 ghost use Rattle.swordd.specs.Replays.{Replays, outcome_of};
 
 use crate::setup::configuration;
-use dep_commands::Outcome;
 use dep_moment::Moment;
 use dep_schema::OpenFault;
 use dep_server::{Hub, HubFault, Served, serve_connection};
-use dep_store::Store;
+use dep_store::{Outcome, Store};
 use dep_types::Outlet;
 use sqlite::{Connection, MemStore};
 use std::alloc::Global;

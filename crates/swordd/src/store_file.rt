@@ -1,12 +1,12 @@
 //! What is done with the store in a file.
 
+use crate::folder::Folder;
+use crate::folder_sink::FolderSink;
+use crate::progress::Progress;
 use crate::service::{Door, serve_store};
-use dep_commands::{Outcome, Watch, audit_all, export_object};
-use dep_folder::{Folder, FolderSink, Progress};
 use dep_schema::OpenFault;
-use dep_store::Store;
+use dep_store::{Outcome, Store, audit_all, export_object};
 use dep_types::Through;
-use file_tasks::{Task, perform_over_files};
 use sqlite::{Alter, Connection};
 use std::io::ErrorKind;
 
@@ -21,42 +21,31 @@ pub enum Job<'a> {
     Audit,
 }
 
-/// A job, and what it came to.
-#[derive(Drop)]
-struct Work<'a> {
-    rt: &'a HostRuntime,
-    job: Job<'a>,
-    outcome: Outcome,
-}
-
 /// Opens the store in the file, which is made where it isn't there, and does the job. Then the log of the store is
 /// copied into its file.
 pub fn work_on(rt: &HostRuntime, file: &str, job: Job<'_>) -> Outcome {
     let Ok(connection) = Connection::open(rt, file) else {
         return Outcome::StoreFault;
     };
-    let mut work = Work {
-        rt,
-        job,
-        outcome: Outcome::StoreFault,
-    };
-    let connection = perform_over_files(&mut work, connection);
-    match (connection.close(), work.outcome) {
+    let (outcome, connection) = worked(rt, job, connection);
+    match (connection.close(), outcome) {
         (Err(_), Outcome::Done) => Outcome::StoreFault,
         (_, outcome) => outcome,
     }
 }
 
-impl Task for Work<'_> {
-    fn perform<S: Alter>(&mut self, connection: Connection<S>) -> Connection<S> {
-        match opened(self.rt, connection) {
-            Ok(store) => {
-                let (outcome, store) = done(self.rt, self.job, store);
-                self.outcome = outcome;
-                store.close()
-            }
-            Err((_, connection)) => connection,
+// Opens the store, does the job, and hands the connection back.
+fn worked<S: Alter>(
+    rt: &HostRuntime,
+    job: Job<'_>,
+    connection: Connection<S>,
+) -> (Outcome, Connection<S>) {
+    match opened(rt, connection) {
+        Ok(store) => {
+            let (outcome, store) = done(rt, job, store);
+            (outcome, store.close())
         }
+        Err((_, connection)) => (Outcome::StoreFault, connection),
     }
 }
 
@@ -95,16 +84,5 @@ fn export_into<S: Alter>(
 // The lines go to standard output, and how far it came to standard error.
 fn audit_here<S: Alter>(rt: &HostRuntime, store: &mut Store<S>) -> Outcome {
     let mut lines = Through::new(rt.stdout());
-    let mut told = Told(Progress::new(rt));
-    audit_all(rt.alloc(), store, &mut lines, &mut told)
-}
-
-// Tells the progress of an audit.
-#[derive(Drop)]
-struct Told<'a>(Progress<'a>);
-
-impl Watch for Told<'_> {
-    fn advance(&mut self, octets: u64) {
-        self.0.advance(octets);
-    }
+    audit_all(rt.alloc(), store, &mut lines, &mut Progress::new(rt))
 }

@@ -2,7 +2,7 @@ use Rattle.sqlite.specs.Held.{state}
 use Rattle.sqlite.proofs.StateLemmas.{clean_if_open}
 use Rattle.dep_store.proofs.Audited.{audited_of}
 use Rattle.dep_store.proofs.Carrying.{tables_kept}
-use Rattle.dep_requests.proofs.Transacting.{ok_tells, still_tells, left_tells, left_still}
+use Rattle.dep_schema.proofs.Transacting.{ok_tells, still_tells, left_tells, left_still}
 use Rattle.dep_store.proofs.auditing.audit_object.Goals as goal
 
 pub returns-in_err-files-clause-still : goal.returns-in_err-files-clause-still

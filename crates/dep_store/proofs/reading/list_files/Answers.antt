@@ -1,7 +1,7 @@
 use Rattle.std.proofs.Common.{rules, ◌≡◌}
 use Rattle.sqlite.proofs.StateLemmas.{clean_if_open}
 use Rattle.dep_tables.specs.Edits.{AreFileRowsOf}
-use Rattle.dep_requests.proofs.Transacting.{gave_up, committed, uncommitted, began_open, nothing_told, works_within, still_inside}
+use Rattle.dep_schema.proofs.Transacting.{gave_up, committed, uncommitted, began_open, nothing_told, works_within, still_inside}
 use Rattle.dep_store.proofs.Carrying.{tells}
 use Rattle.dep_store.proofs.reading.list_files.Goals as goal
 

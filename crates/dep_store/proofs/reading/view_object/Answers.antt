@@ -4,8 +4,8 @@ use Rattle.std.specs.Prelude.{option_map}
 use Rattle.std.specs.FinMap as finmap
 use Rattle.dep_types.specs.State.{State}
 use Rattle.dep_types.specs.Rows.{object_view}
-use Rattle.dep_requests.specs.Standing.{TablesStandFor}
-use Rattle.dep_requests.proofs.Transacting.{gave_up, committed, uncommitted, works_within, still_inside}
+use Rattle.dep_schema.specs.States.{TablesStandFor}
+use Rattle.dep_schema.proofs.Transacting.{gave_up, committed, uncommitted, works_within, still_inside}
 use Rattle.dep_store.proofs.Carrying.{tells}
 use Rattle.dep_store.proofs.reading.view_object.Goals as goal
 

@@ -1,7 +1,7 @@
 use Rattle.std.proofs.Common.{rules, inl, []}
 use Rattle.sqlite.specs.Held.{state}
 use Rattle.sqlite.proofs.StateLemmas.{clean_if_open}
-use Rattle.dep_requests.proofs.Transacting.{back_by_statement, not_run}
+use Rattle.dep_schema.proofs.Transacting.{back_by_statement, not_run}
 use Rattle.dep_store.proofs.remembering.check_open.Goals as goal
 use Rattle.dep_store.proofs.remembering.check_open.Goals.{in-Ok, in-Err}
 

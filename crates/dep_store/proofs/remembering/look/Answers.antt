@@ -1,5 +1,5 @@
 use Rattle.sqlite.specs.Held.{state}
-use Rattle.dep_requests.proofs.Transacting.{back_then, stood_before}
+use Rattle.dep_schema.proofs.Transacting.{back_then, stood_before}
 use Rattle.dep_store.proofs.remembering.look.Goals as goal
 
 pub returns-clause-recalls : goal.returns-clause-recalls

@@ -2,8 +2,8 @@ use Rattle.std.proofs.Common.{◌≡◌, Some, rules, refl, sym, subst}
 use Rattle.sqlite.specs.Held.{state}
 use Rattle.sqlite.proofs.StateLemmas.{clean_if_open}
 use Rattle.dep_tables.proofs.Chains.{was_clean}
-use Rattle.dep_requests.specs.Standing.{StandsFor}
-use Rattle.dep_requests.proofs.Transacting.{back_by_rollback, stood_before, works_within}
+use Rattle.dep_schema.specs.States.{StandsFor}
+use Rattle.dep_schema.proofs.Transacting.{back_by_rollback, stood_before, works_within}
 use Rattle.dep_store.specs.declared.remembering.Remembered.{Remembered}
 use Rattle.dep_store.specs.Remembering.{Recalls}
 use Rattle.dep_store.proofs.Carrying.{told_then}

@@ -1,6 +1,6 @@
 use Rattle.sqlite.specs.Held.{state}
 use Rattle.dep_store.proofs.Remembered.{service_made}
-use Rattle.dep_requests.proofs.Transacting.{unmoved}
+use Rattle.dep_schema.proofs.Transacting.{unmoved}
 use Rattle.dep_store.proofs.showing.serve.Goals as goal
 
 pub returns-in-Some-clause-transacts : goal.returns-in-Some-clause-transacts

@@ -3,7 +3,7 @@ use Rattle.sqlite.specs.Held.{state}
 use Rattle.sqlite.proofs.StateLemmas.{clean_if_open}
 use Rattle.dep_types.specs.Limits.{greatest_moment}
 use Rattle.dep_store.proofs.Remembered.{clock_made}
-use Rattle.dep_requests.proofs.Transacting.{unmoved, after_back}
+use Rattle.dep_schema.proofs.Transacting.{unmoved, after_back}
 use Rattle.dep_store.proofs.ticking.advance.Goals as goal
 
 pub returns-in-Some-clause-transacts : goal.returns-in-Some-clause-transacts

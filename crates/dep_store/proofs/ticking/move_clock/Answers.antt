@@ -1,6 +1,6 @@
 use Rattle.std.proofs.Common.{rules, ◌≡◌}
 use Rattle.sqlite.proofs.StateLemmas.{clean_if_open}
-use Rattle.dep_requests.proofs.Transacting.{gave_up, committed, uncommitted, works_within, still_inside}
+use Rattle.dep_schema.proofs.Transacting.{gave_up, committed, uncommitted, works_within, still_inside}
 use Rattle.dep_store.proofs.Carrying.{ticks}
 use Rattle.dep_store.proofs.ticking.move_clock.Goals as goal
 

@@ -4,7 +4,7 @@ use Rattle.dep_types.specs.declared.config.Config.{Config}
 use Rattle.sqlite.proofs.Callers.{memory_is_clean}
 use Rattle.dep_server.specs.Conversation.{wire, session}
 use Rattle.swordd.specs.Replays.{Replays, refused, not_begun}
-use Rattle.dep_commands.specs.declared.outcome.Outcome.{Outcome}
+use Rattle.dep_store.specs.declared.outcome.Outcome.{Outcome}
 use Rattle.swordd.proofs.ReplayLemmas.{comes_to, rests_same}
 use Rattle.swordd.proofs.replay.replay.Goals as goal
 

@@ -1,4 +1,4 @@
-use Rattle.dep_requests.proofs.Transacting.{told_alone, kept_alone}
+use Rattle.dep_schema.proofs.Transacting.{told_alone, kept_alone}
 use Rattle.dep_store.proofs.source.StoreBagSource.view.Goals as goal
 
 pub returns-clause-ok : goal.returns-clause-ok

@@ -4,7 +4,7 @@ use Rattle.sqlite.proofs.StateLemmas.{clean_if_open}
 use Rattle.dep_types.specs.State.{State}
 use Rattle.dep_row_maps.specs.Keyed.{next_entry}
 use Rattle.dep_row_maps.proofs.Readings.{next_object_read}
-use Rattle.dep_requests.proofs.Transacting.{ok_tells, still_tells, ok_tells_state, err_state, stop_tells_state}
+use Rattle.dep_schema.proofs.Transacting.{ok_tells, still_tells, ok_tells_state, err_state, stop_tells_state}
 use Rattle.dep_store.proofs.store.Store.next_object.Goals as goal
 
 pub returns-clause-ok : goal.returns-clause-ok

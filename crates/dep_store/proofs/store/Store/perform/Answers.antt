@@ -1,6 +1,6 @@
 use Rattle.sqlite.specs.Held.{state}
-use Rattle.dep_requests.proofs.Transacting.{ok_over_states, err_state, stop_over_states}
-use Rattle.dep_requests.proofs.Stepping.{performs}
+use Rattle.dep_schema.proofs.Transacting.{ok_over_states, err_state, stop_over_states}
+use Rattle.dep_schema.proofs.Performed.{performs}
 use Rattle.dep_store.proofs.store.Store.perform.Goals as goal
 
 pub returns-clause-ok : goal.returns-clause-ok

@@ -1,7 +1,7 @@
 use Rattle.std.proofs.Common.{rules, IsTrue}
 use Rattle.sqlite.specs.Held.{state}
 use Rattle.sqlite.proofs.StateLemmas.{clean_if_open}
-use Rattle.dep_requests.proofs.Transacting.{leaves_still}
+use Rattle.dep_schema.proofs.Transacting.{leaves_still}
 use Rattle.dep_store.proofs.Carrying.{ok_unchanged, err_kept}
 use Rattle.dep_store.proofs.store.Store.stream.Goals as goal
 

@@ -1,4 +1,4 @@
-use Rattle.dep_requests.proofs.Transacting.{ok_over_states, err_state, stop_over_states}
+use Rattle.dep_schema.proofs.Transacting.{ok_over_states, err_state, stop_over_states}
 use Rattle.dep_store.proofs.store.Store.tick.Goals as goal
 
 pub returns-clause-ok : goal.returns-clause-ok

@@ -5,7 +5,7 @@ use Rattle.sqlite.proofs.StateLemmas.{clean_if_open}
 use Rattle.dep_types.specs.State.{State}
 use Rattle.dep_types.specs.Rows.{object_view}
 use Rattle.dep_types.specs.declared.rows.ObjectView.{ObjectView}
-use Rattle.dep_requests.proofs.Transacting.{still_tells, ok_tells_state, err_state, stop_tells_state}
+use Rattle.dep_schema.proofs.Transacting.{still_tells, ok_tells_state, err_state, stop_tells_state}
 use Rattle.dep_store.proofs.store.Store.view.Goals as goal
 
 pub returns-clause-ok : goal.returns-clause-ok

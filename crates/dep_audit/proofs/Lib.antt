@@ -1,4 +1,0 @@
-pub mod Stills
-pub mod Digests
-pub mod ShownFrom
-pub mod RowByRow

@@ -1,4 +1,0 @@
-pub mod WalkLemmas
-pub mod TellLemmas
-pub mod LineLemmas
-pub mod OpeningLemmas

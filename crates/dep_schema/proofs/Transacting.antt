@@ -1,0 +1,385 @@
+-- One transaction from its beginning to its end, over whatever tables the store has.
+use Rattle.std.proofs.Common.{◌≡◌, ◌⊎◌, ℕ, List, inl, inr, true, false, Result, Ok, Err, IfOk, OnOk, OnErr, IsErr, IsTrue, refl, sym, ap, subst, ◌∙◌, arith}
+use Rattle.sqlite.specs.Effect.{Database}
+use Rattle.sqlite.specs.Order.{Row}
+use Rattle.sqlite.specs.State.{IsNotRun, IsUnchanged, HasCleanDisk, IsRolledBack, Commits, Shows, Survives}
+use Rattle.sqlite.specs.State as db
+use Rattle.sqlite.specs.Held.{Held, state}
+use Rattle.sqlite.specs.Steps.{FailsToCommit}
+use Rattle.sqlite.specs.Tree.{Trees}
+use Rattle.sqlite.specs.declared.error.Error.{Error}
+use Rattle.sqlite.specs.declared.transaction.Transaction.{Transaction}
+use Rattle.sqlite_trees.specs.declared.store.Store.{Ghosts}
+use Rattle.dep_types.specs.State.{State}
+use Rattle.dep_tables.specs.Tables.{Tables, tables_in, tables_of, AreOurs, HasOurTables, IsOurs}
+use Rattle.dep_tables.specs.Clauses.{CommitsNothing, StaysInside}
+use Rattle.dep_schema.specs.Standing.{Holds, Stands, EndsTransaction}
+use Rattle.dep_schema.specs.declared.lending.Lent.{Lent}
+use Rattle.dep_schema.proofs.Asking.{LentStays}
+use Rattle.dep_schema.proofs.Transactions.{begins_open, stands_left}
+use Rattle.dep_schema.specs.States.{TablesStandFor, StandsFor, Leaves}
+use Rattle.dep_schema.specs.Transactions.{Transacts, OnlyTells, OverStates, IsBackAt}
+
+-- what a crash leaves while nothing is left to be settled
+abbrev pub IsSettled : db.State → Type 0
+IsSettled d = (trees : Trees) → d.may_leave trees → trees ≡ d.committed.trees
+
+-- the last commit has what the tables do
+held_as_was : (d : db.State) (t : Tables) → Stands d t → (trees : Trees) → trees ≡ d.committed.trees → Holds trees t
+held_as_was d t stands trees e =
+    let same : trees ≡ d.now.trees = e ∙ ap (λ (b : Database). b.trees) (sym stands.committed) in
+    record { ours = subst AreOurs (sym same) stands.ours.trees; rows = ap tables_in same ∙ stands.rows }
+
+pub left_as_was : (d : db.State) (t : Tables) → IsSettled d → Stands d t → (trees : Trees) → d.may_leave trees → Holds trees t
+left_as_was d t settled stands trees h = held_as_was d t stands trees (settled trees h)
+
+-- nothing was committed since
+pub left_still : (old new : db.State) (t : Tables) → IsSettled old → Stands old t → Survives old new (λ _. ⊥) → HasCleanDisk new → (trees : Trees) → new.may_leave trees → Holds trees t
+left_still old new t settled stands survives clean trees h = elim (survives.crash clean trees h) [
+  | inl earlier ↦ left_as_was old t settled stands trees earlier
+  | inr none ↦ absurd none
+]
+
+pub leaves_as_was : (d : db.State) (s : State) → IsSettled d → StandsFor d s → Leaves d (λ left. left ≡ s)
+leaves_as_was d s settled stands trees h =
+    (s, record { tables = stands.tables; holds = left_as_was d stands.tables settled stands.stands trees h; means = stands.means }, refl)
+
+pub leaves_still : (old new : db.State) (s : State) → IsSettled old → StandsFor old s → Survives old new (λ _. ⊥) → HasCleanDisk new → Leaves new (λ left. left ≡ s)
+leaves_still old new s settled stands survives clean trees h =
+    (s, record { tables = stands.tables; holds = left_still old new stands.tables settled stands.stands survives clean trees h; means = stands.means }, refl)
+
+-- a commit that fails in a transaction has ended it as it began
+undone_by_commit : (inside new : db.State) (e : Error) → IsTrue inside.in_transaction → FailsToCommit inside new e → IsRolledBack inside new
+undone_by_commit inside new e within (inl fails) = fails.3
+undone_by_commit inside new e within (inr (_, ended, _)) = absurd (let it = (sym within) ∙ ended in cc)
+
+pub nothing_told : {A E : Type 0} (result : Result A E) (P : Type 0) → IsErr result → OnOk result P
+nothing_told (Ok answer) P failed = cc failed
+nothing_told (Err e) P failed = tt
+
+-- what an Ok inside has made of the tables
+abbrev pub IsMade : {S A : Type 0} (g : Ghosts S) (old inside : Held S) → (Tables → A → Tables → Type 0) → A → Type 0
+IsMade g old inside Makes answer =
+    HasCleanDisk (state g inside) → IsOurs (state g old) → IsOurs (state g inside) × Makes (tables_of (state g old)) answer (tables_of (state g inside))
+
+module _ {S : Type 0} (g : Ghosts S) (old inside new : Held S) where
+  -- what is known of its beginning and of the work inside
+  pub record Works : Type 0 where
+    pub settled : IsTrue (state g old).is_open → IsSettled (state g old)
+    pub shut : IsTrue (state g new).is_open → HasCleanDisk (state g new)
+    pub kept : StaysInside (state g (record old { in_transaction = true })) (state g inside)
+    pub survives : CommitsNothing (state g (record old { in_transaction = true })) (state g inside)
+
+  clean_inside : (P : Trees → Type 0) → Survives (state g inside) (state g new) P → HasCleanDisk (state g new) → HasCleanDisk (state g inside)
+  clean_inside P survives clean = omega (arith, clean, survives.clean)
+
+  was_honest : (P : Trees → Type 0) → Works → Survives (state g inside) (state g new) P → HasCleanDisk (state g new) → HasCleanDisk (state g old)
+  was_honest P it survives clean = omega (arith, clean, survives.clean, it.survives.clean)
+
+  was_open : Works → Survives (state g inside) (state g new) (λ trees. trees ≡ (state g inside).now.trees)
+      → (HasCleanDisk (state g new) → EndsTransaction (state g inside) (state g new)) → IsTrue (state g new).is_open → IsTrue (state g old).is_open
+  was_open it survives ends is_open =
+      begins_open g old inside new (record { kept = it.kept; survives = survives; ends = ends }) (it.shut is_open) is_open
+
+  -- it was given back
+  back_at : (P : Trees → Type 0) → Works → Survives (state g inside) (state g new) P → (HasCleanDisk (state g new) → IsRolledBack (state g inside) (state g new))
+      → IsTrue (state g new).is_open → (t : Tables) → Stands (state g old) t → Stands (state g new) t
+  back_at P it survives undone is_open t stands =
+      let clean = it.shut is_open in
+      let ended = undone clean in
+      let back = ended.undone is_open in
+      let kept = (it.kept (clean_inside P survives clean) refl).committed (ended.was_open is_open) in
+      stands_left (state g old) (state g new) t stands is_open ended.autocommit (back.0 ∙ kept) (back.1 ∙ kept)
+
+  -- a crash before its commit
+  left_before : Works → (t : Tables) → Stands (state g old) t → HasCleanDisk (state g inside) → (trees : Trees) → (state g inside).may_leave trees → Holds trees t
+  left_before it t stands clean trees earlier = elim (it.survives.crash clean trees earlier) [
+    | inl first ↦ left_as_was (state g old) t (it.settled stands.is_open) stands trees first
+    | inr none ↦ absurd none
+  ]
+
+  -- the same end, for what may leave more
+  wider : (P : Trees → Type 0) → Survives (state g inside) (state g new) (λ _. ⊥) → Survives (state g inside) (state g new) P
+  wider P survives = record {
+    clean = survives.clean;
+    shield = survives.shield;
+    counts = survives.counts;
+    limit = survives.limit;
+    closes = survives.closes;
+    crash = λ clean trees h. elim (survives.crash clean trees h) [ inl earlier ↦ inl earlier | inr none ↦ absurd none ];
+  }
+
+  -- it is as it was, where it was given back
+  pub back_by_rollback : Works → (HasCleanDisk (state g new) → IsRolledBack (state g inside) (state g new)) → Survives (state g inside) (state g new) (λ _. ⊥)
+      → (IsTrue (state g old).is_open → (state g old).now ≡ (state g old).committed) → (last : Held S) → new ≡ last → IsBackAt (state g old) (state g last)
+  back_by_rollback it undone survives between last same = subst (λ (h : Held S). IsBackAt (state g old) (state g h)) same (λ is_open.
+      let clean = it.shut is_open in
+      let ended = undone clean in
+      let back = ended.undone is_open in
+      let kept = it.kept (clean_inside (λ _. ⊥) survives clean) refl in
+      let was = kept.was_open (ended.was_open is_open) in
+      let committed = kept.committed (ended.was_open is_open) in
+      (was, back.0 ∙ committed ∙ sym (between was), back.1 ∙ committed, ended.autocommit))
+
+  -- so it began over an open store
+  pub began_open : Works → (HasCleanDisk (state g new) → Commits (state g inside) (state g new)) → Survives (state g inside) (state g new) (λ trees. trees ≡ (state g inside).now.trees)
+      → (last : Held S) → new ≡ last → HasCleanDisk (state g last) → IsTrue (state g old).is_open
+  began_open it commits survives last same = subst (λ (h : Held S). HasCleanDisk (state g h) → IsTrue (state g old).is_open) same
+      (λ clean. was_open it survives (λ clean. inl (commits clean)) (commits clean).0.is_open)
+
+  module _ {A : Type 0} (Makes : Tables → A → Tables → Type 0) where
+    -- the work failed, and the transaction was dropped
+    pub gave_up : {E : Type 0} (result : Result A E) → IsErr result → Works → (HasCleanDisk (state g new) → IsRolledBack (state g inside) (state g new)) → Survives (state g inside) (state g new) (λ _. ⊥)
+        → (last : Held S) → new ≡ last → Transacts (state g old) (state g last) result Makes
+    gave_up {E} (Ok answer) failed it undone survives last same = nothing_told {E = E} (Ok answer) _ failed
+    gave_up (Err fault) failed it undone survives last same = subst (λ (h : Held S). Transacts (state g old) (state g h) (Err fault) Makes) same (record {
+      ok = λ clean t stands. tt;
+      err = back_at (λ _. ⊥) it survives undone;
+      honest = was_honest (λ _. ⊥) it survives;
+      was_open = was_open it (wider (λ trees. trees ≡ (state g inside).now.trees) survives) (λ clean. inr (inr (undone clean)));
+      stop = λ clean t stands trees h. elim (survives.crash clean trees h) [
+        | inl earlier ↦ inl (left_before it t stands (clean_inside (λ _. ⊥) survives clean) trees earlier)
+        | inr none ↦ absurd none
+      ];
+    })
+
+    module _ (answer : A) where
+      made_of : IsMade g old inside Makes answer → HasCleanDisk (state g inside) → (t : Tables) → Stands (state g old) t → IsOurs (state g inside) × Makes t answer (tables_of (state g inside))
+      made_of made clean t stands =
+          let it = made clean stands.ours in
+          (it.0, subst (λ (was : Tables). Makes was answer (tables_of (state g inside))) stands.rows it.1)
+
+      left_after : Works → IsMade g old inside Makes answer → Survives (state g inside) (state g new) (λ trees. trees ≡ (state g inside).now.trees) → HasCleanDisk (state g new)
+          → (t : Tables) → Stands (state g old) t → (trees : Trees) → (state g new).may_leave trees
+          → Holds trees t ⊎ ((told : A) × (after : Tables) × Holds trees after × Makes t told after)
+      left_after it made survives clean t stands trees h =
+          let then = clean_inside (λ trees. trees ≡ (state g inside).now.trees) survives clean in
+          elim (survives.crash clean trees h) [
+            | inl earlier ↦ inl (left_before it t stands then trees earlier)
+            | inr same ↦
+                let now = made_of made then t stands in
+                inr (answer, tables_of (state g inside), record { ours = subst AreOurs (sym same) now.0.trees; rows = ap tables_in same }, now.1)
+          ]
+
+      -- it was committed
+      pub committed : {E : Type 0} → Works → IsMade g old inside Makes answer → (HasCleanDisk (state g new) → Commits (state g inside) (state g new)) → Survives (state g inside) (state g new) (λ trees. trees ≡ (state g inside).now.trees)
+          → (last : Held S) → new ≡ last → Transacts {E = E} (state g old) (state g last) (Ok answer) Makes
+      committed {E} it made commits survives last same = subst (λ (h : Held S). Transacts {E = E} (state g old) (state g h) (Ok answer) Makes) same (record {
+        ok = λ clean t stands.
+            let now = made_of made (clean_inside (λ trees. trees ≡ (state g inside).now.trees) survives clean) t stands in (
+              tables_of (state g inside),
+              stands_committed (commits clean).0 now.0,
+              now.1,
+            );
+        err = λ is_open t stands. tt;
+        honest = was_honest (λ trees. trees ≡ (state g inside).now.trees) it survives;
+        was_open = was_open it survives (λ clean. inl (commits clean));
+        stop = left_after it made survives;
+      })
+        where
+          stands_committed : Shows (state g inside) (state g new) (state g inside).now (state g inside).now false → IsOurs (state g inside) → Stands (state g new) (tables_of (state g inside))
+          stands_committed shows ours = record {
+            is_open = shows.is_open;
+            settled = shows.mode;
+            committed = shows.now_is ∙ sym shows.committed_is;
+            ours = subst HasOurTables (sym shows.now_is) ours;
+            rows = ap (λ (d : Database). tables_in d.trees) shows.now_is;
+          }
+
+      -- its commit failed
+      pub uncommitted : {E : Type 0} (fault : E) (error : Error) → Works → IsMade g old inside Makes answer → (HasCleanDisk (state g inside) → IsTrue (state g inside).in_transaction)
+          → (HasCleanDisk (state g new) → FailsToCommit (state g inside) (state g new) error) → Survives (state g inside) (state g new) (λ trees. trees ≡ (state g inside).now.trees)
+          → (last : Held S) → new ≡ last → Transacts (state g old) (state g last) (Err fault) Makes
+      uncommitted fault error it made goes_on fails survives last same = subst (λ (h : Held S). Transacts (state g old) (state g h) (Err fault) Makes) same (record {
+        ok = λ clean t stands. tt;
+        err = back_at (λ trees. trees ≡ (state g inside).now.trees) it survives undone;
+        honest = was_honest (λ trees. trees ≡ (state g inside).now.trees) it survives;
+        was_open = was_open it survives (λ clean. inr (inl (error, fails clean)));
+        stop = left_after it made survives;
+      })
+        where
+          undone : HasCleanDisk (state g new) → IsRolledBack (state g inside) (state g new)
+          undone clean = undone_by_commit (state g inside) (state g new) error (goes_on (clean_inside (λ trees. trees ≡ (state g inside).now.trees) survives clean)) (fails clean)
+
+-- a call on the transaction that was begun, and lent to it, does such work
+module _ {S : Type 0} {begun inside : Lent S} {last : Transaction S} (g : Ghosts S) (old : Held S) where
+  pub works_within : {A E : Type 0} {r : Result A E} (new : Held S) → LentStays g begun inside r
+      → begun.tx.now.conn.now ≡ record old { in_transaction = true } → inside.tx.now ≡ last
+      → (IsTrue (state g old).is_open → IsSettled (state g old)) → (IsTrue (state g new).is_open → HasCleanDisk (state g new))
+      → Works g old last.conn.now new
+  works_within new stays is left settled shut = subst (λ (tx : Transaction S). Works g old tx.conn.now new) left (record {
+    settled = settled;
+    shut = shut;
+    kept = subst (λ (h : Held S). StaysInside (state g h) (state g inside.tx.now.conn.now)) is stays.kept;
+    survives = subst (λ (h : Held S). CommitsNothing (state g h) (state g inside.tx.now.conn.now)) is stays.survives;
+  })
+
+  -- and after an Ok the transaction goes on
+  pub still_inside : {A E : Type 0} {x : A} → LentStays {A = A} {E = E} g begun inside (Ok x)
+      → begun.tx.now.conn.now ≡ record old { in_transaction = true } → inside.tx.now ≡ last
+      → HasCleanDisk (state g last.conn.now) → IsTrue (state g last.conn.now).in_transaction
+  still_inside stays is left = subst (λ (tx : Transaction S). HasCleanDisk (state g tx.conn.now) → IsTrue (state g tx.conn.now).in_transaction) left
+      (λ clean. stays.inside clean (subst (λ (h : Held S). IsTrue h.in_transaction) (sym is) refl))
+
+-- ---- what it says of states
+
+pub err_state : {A E : Type 0} (old new : db.State) (result : Result A E) (Makes : Tables → A → Tables → Type 0)
+    → Transacts old new result Makes → IsTrue new.is_open → (s : State) → StandsFor old s → OnErr result (StandsFor new s)
+err_state {A} {E} old new result Makes it is_open s stands = each result (it.err is_open stands.tables stands.stands)
+  where
+    each : (r : Result A E) → OnErr r (Stands new stands.tables) → OnErr r (StandsFor new s)
+    each (Ok answer) h = tt
+    each (Err e) stand = record { tables = stands.tables; stands = stand; means = stands.means }
+
+module _ {A E : Type 0} (old new : db.State) (result : Result A E) (Makes : Tables → A → Tables → Type 0)
+    (told : State → A → Type 0) (next : State → State) where
+  -- where it makes that of all states
+  abbrev pub IsOverStates : Type 0
+  IsOverStates = (t : Tables) (answer : A) (after : Tables) → Makes t answer after → OverStates told next t answer after
+
+  pub ok_over_states : Transacts old new result Makes → IsOverStates → HasCleanDisk new → (s : State) → StandsFor old s
+      → IfOk result (λ answer. told s answer × StandsFor new (next s))
+  ok_over_states it over clean s stands = each result (it.ok clean stands.tables stands.stands)
+    where
+      each : (r : Result A E) → IfOk r (λ answer. (after : Tables) × Stands new after × Makes stands.tables answer after)
+          → IfOk r (λ answer. told s answer × StandsFor new (next s))
+      each (Ok answer) (after, stand, makes) =
+          let made = over stands.tables answer after makes s stands.means in
+          (made.0, record { tables = after; stands = stand; means = made.1 })
+      each (Err e) h = tt
+
+  pub stop_over_states : Transacts old new result Makes → IsOverStates → HasCleanDisk new → (s : State) → StandsFor old s
+      → Leaves new (λ left. (left ≡ s) ⊎ (left ≡ next s))
+  stop_over_states it over clean s stands trees h = elim (it.stop clean stands.tables stands.stands trees h) [
+    | inl earlier ↦ (s, record { tables = stands.tables; holds = earlier; means = stands.means }, inl refl)
+    | inr (answer, after, holds, makes) ↦ (
+      next s,
+      record { tables = after; holds = holds; means = (over stands.tables answer after makes s stands.means).1 },
+      inr refl,
+    )
+  ]
+
+-- ---- where nothing was done
+
+-- the connection is as it was
+pub unmoved : {A E : Type 0} (d : db.State) (result : Result A E) (Makes : Tables → A → Tables → Type 0) → (IsTrue d.is_open → IsSettled d)
+    → ((t : Tables) → Stands d t → IfOk result (λ answer. Makes t answer t)) → Transacts d d result Makes
+unmoved {A} {E} d result Makes settled made = record {
+  ok = λ clean t stands. each result t stands (made t stands);
+  err = λ is_open t stands. kept result t stands;
+  honest = λ clean. clean;
+  was_open = λ is_open. is_open;
+  stop = λ clean t stands trees h. inl (left_as_was d t (settled stands.is_open) stands trees h);
+}
+  where
+    each : (r : Result A E) (t : Tables) → Stands d t → IfOk r (λ answer. Makes t answer t) → IfOk r (λ answer. (after : Tables) × Stands d after × Makes t answer after)
+    each (Ok answer) t stands it = (t, stands, it)
+    each (Err e) t stands it = tt
+
+    kept : (r : Result A E) (t : Tables) → Stands d t → OnErr r (Stands d t)
+    kept (Ok answer) t stands = tt
+    kept (Err e) t stands = stands
+
+-- all was given back before it
+pub after_back : {A E : Type 0} (old mid new : db.State) (result : Result A E) (Makes : Tables → A → Tables → Type 0) → (IsTrue old.is_open → IsSettled old)
+    → (IsTrue mid.is_open → HasCleanDisk mid) → IsBackAt old mid → Survives old mid (λ _. ⊥) → (HasCleanDisk mid → IsTrue mid.is_open)
+    → Transacts mid new result Makes → Transacts old new result Makes
+after_back old mid new result Makes settled shut back survives opened it = record {
+  ok = λ clean t stands. it.ok clean t (stands_mid (opened (it.honest clean)) t stands);
+  err = λ is_open t stands. it.err is_open t (stands_mid (it.was_open is_open) t stands);
+  honest = λ clean. let before = it.honest clean in omega (arith, before, survives.clean);
+  was_open = λ is_open. (back (it.was_open is_open)).0;
+  stop = λ clean t stands trees h. it.stop clean t (stands_mid (opened (it.honest clean)) t stands) trees h;
+}
+  where
+    stands_mid : IsTrue mid.is_open → (t : Tables) → Stands old t → Stands mid t
+    stands_mid is_open t stands =
+        let it = back is_open in
+        stands_left old mid t stands is_open it.3 (it.1 ∙ stands.committed) it.2
+
+-- what it stands for now, it stood for then
+pub stood_before : (old new : db.State) → IsBackAt old new → old.in_transaction ≡ false → (s : State) → StandsFor new s → StandsFor old s
+stood_before old new back settled s stands =
+    let it = back stands.stands.is_open in
+    record {
+      tables = stands.tables;
+      stands = record {
+        is_open = it.0;
+        settled = settled;
+        committed = sym it.1 ∙ stands.stands.committed ∙ it.2;
+        ours = subst HasOurTables it.1 stands.stands.ours;
+        rows = ap (λ (d : Database). tables_in d.trees) (sym it.1) ∙ stands.stands.rows;
+      };
+      means = stands.means;
+    }
+
+pub back_then : (old mid new : db.State) → IsBackAt old mid → IsBackAt mid new → IsBackAt old new
+back_then old mid new one two is_open =
+    let later = two is_open in
+    let first = one later.0 in
+    (first.0, later.1 ∙ first.1, later.2 ∙ first.2, later.3)
+
+-- nothing was done, or it was given back
+pub back_by_statement : (old new : db.State) → (IsTrue old.is_open → old.now ≡ old.committed) → old.in_transaction ≡ false
+    → IsUnchanged old new ⊎ IsRolledBack old new → IsBackAt old new
+back_by_statement old new between settled (inl still) is_open =
+    (still.0.was_open, still.0.now_is, still.0.committed_is, still.0.mode ∙ settled)
+back_by_statement old new between settled (inr undone) is_open =
+    let was = undone.was_open is_open in
+    let back = undone.undone is_open in
+    (was, back.0 ∙ sym (between was), back.1, undone.autocommit)
+
+pub not_run : (old new : db.State) (sql : List ℕ) (params : Row) (e : Error) → IsNotRun old new sql params e → IsUnchanged old new ⊎ IsRolledBack old new
+unfolding IsNotRun
+not_run old new sql params e (inl none) = inl none.1
+not_run old new sql params e (inr fails) = inr fails.3
+
+-- ---- what it says where it only tells
+
+module _ {A E : Type 0} (old new : db.State) (result : Result A E) (told : Tables → A → Type 0) where
+  pub ok_tells : Transacts old new result (OnlyTells told) → HasCleanDisk new → (t : Tables) → Stands old t
+      → IfOk result (λ answer. told t answer × Stands new t)
+  ok_tells it clean t stands = each result (it.ok clean t stands)
+    where
+      each : (r : Result A E) → IfOk r (λ answer. (after : Tables) × Stands new after × OnlyTells told t answer after) → IfOk r (λ answer. told t answer × Stands new t)
+      each (Ok answer) (after, stand, made) = (made.0, subst (Stands new) made.1 stand)
+      each (Err e) h = tt
+
+  pub still_tells : Transacts old new result (OnlyTells told) → (IsTrue new.is_open → HasCleanDisk new) → IsTrue new.is_open
+      → (t : Tables) → Stands old t → Stands new t
+  still_tells it shut is_open t stands = each result (ok_tells it (shut is_open) t stands) (it.err is_open t stands)
+    where
+      each : (r : Result A E) → IfOk r (λ answer. told t answer × Stands new t) → OnErr r (Stands new t) → Stands new t
+      each (Ok answer) h none = h.1
+      each (Err e) none h = h
+
+  pub left_tells : Transacts old new result (OnlyTells told) → HasCleanDisk new → (t : Tables) → Stands old t
+      → (trees : Trees) → new.may_leave trees → Holds trees t
+  left_tells it clean t stands trees h = elim (it.stop clean t stands trees h) [
+    | inl earlier ↦ earlier
+    | inr (answer, after, holds, made) ↦ subst (Holds trees) made.1 holds
+  ]
+
+  -- of a state that the tables stood for
+  pub ok_tells_state : (P : State → A → Type 0) → ((t : Tables) (answer : A) (s : State) → told t answer → TablesStandFor t s → P s answer)
+      → Transacts old new result (OnlyTells told) → HasCleanDisk new → (s : State) → StandsFor old s
+      → IfOk result (λ answer. P s answer × StandsFor new s)
+  ok_tells_state P means it clean s stands = each result (ok_tells it clean stands.tables stands.stands)
+    where
+      each : (r : Result A E) → IfOk r (λ answer. told stands.tables answer × Stands new stands.tables) → IfOk r (λ answer. P s answer × StandsFor new s)
+      each (Ok answer) h = (means stands.tables answer s h.0 stands.means, record { tables = stands.tables; stands = h.1; means = stands.means })
+      each (Err e) h = tt
+
+  pub stop_tells_state : Transacts old new result (OnlyTells told) → HasCleanDisk new → (s : State) → StandsFor old s → Leaves new (λ left. left ≡ s)
+  stop_tells_state it clean s stands trees h =
+      (s, record { tables = stands.tables; holds = left_tells it clean stands.tables stands.stands trees h; means = stands.means }, refl)
+
+-- ---- one part of what an Ok says
+
+pub told_alone : {A E : Type 0} (r : Result A E) (P : A → Type 0) (Q : Type 0) → IfOk r (λ answer. P answer × Q) → IfOk r P
+told_alone (Ok answer) P Q h = h.0
+told_alone (Err e) P Q h = tt
+
+pub kept_alone : {A E : Type 0} (r : Result A E) (P : A → Type 0) (Q : Type 0) → IfOk r (λ answer. P answer × Q) → OnOk r Q
+kept_alone (Ok answer) P Q h = h.1
+kept_alone (Err e) P Q h = tt

@@ -1,0 +1,51 @@
+use Rattle.std.proofs.Common.{rules, ◌≡◌}
+use Rattle.sqlite.proofs.StateLemmas.{clean_if_open}
+use Rattle.dep_schema.proofs.Transacting.{gave_up, committed, uncommitted, works_within, still_inside}
+use Rattle.dep_schema.proofs.Performed.{works}
+use Rattle.dep_schema.proofs.performing.perform_request.Goals as goal
+
+pub returns-in_err-performed : goal.returns-in_err-performed
+returns-in_err-performed g c =
+    let old = c.args.connection.now in
+    let left : c.answer.new.tx.tx.now ≡ c.tx-2-1.given.0 = search rules in
+    let inside = c.tx-2-1.given.0.conn.now in
+    let new = c.drop-tx.new.self.0 in
+    let work = works_within g.S.Store old new c.in_err-performed.ensures.stays c.transaction-tx.ensures.begun left (λ is_open trees h. g.met.S.Store.settled old.store trees is_open h)
+    (clean_if_open (g.S.Store.view new.store) (g.met.S.Store.shut_if_dirty new.store)) in
+    let same : new ≡ c.connection-1.given.0 = search rules in
+    record {
+      transacts = gave_up g.S.Store old inside new _ c.from_residual.result c.from_residual.ensures.0 work
+          c.drop-tx.ensures.undone c.drop-tx.ensures.survives _ same;
+    }
+
+pub returns-in-Ok : goal.returns-in-Ok
+returns-in-Ok g c =
+    let old = c.args.connection.now in
+    let left : c.answer.new.tx.tx.now ≡ c.tx-2-1.given.0 = search rules in
+    let inside = c.tx-2-1.given.0.conn.now in
+    let new = c.commit.new.self.0 in
+    let worked = rw (c.transaction-tx.ensures.begun, left) at c.in_ok-performed.ensures in
+    let work = works_within g.S.Store old new c.in_ok-performed.ensures.stays c.transaction-tx.ensures.begun left (λ is_open trees h. g.met.S.Store.settled old.store trees is_open h)
+    (clean_if_open (g.S.Store.view new.store) (g.met.S.Store.shut_if_dirty new.store)) in
+    let same : new ≡ c.connection-2-1.given.0 = search rules in
+    record {
+      transacts = committed g.S.Store old inside new _ _ work
+          (works g.S.Store old inside c.args.service.now c.args.operation.now c.in_ok-performed.performed worked.map worked.ours)
+          (λ clean. let ok = c.in-Ok.ensures.ok clean in (ok.1, ok.2, ok.3)) c.commit.ensures.survives _ same;
+    }
+
+pub returns-in-Err : goal.returns-in-Err
+returns-in-Err g c =
+    let old = c.args.connection.now in
+    let left : c.answer.new.tx.tx.now ≡ c.tx-2-1.given.0 = search rules in
+    let inside = c.tx-2-1.given.0.conn.now in
+    let new = c.commit.new.self.0 in
+    let worked = rw (c.transaction-tx.ensures.begun, left) at c.in_ok-performed.ensures in
+    let work = works_within g.S.Store old new c.in_ok-performed.ensures.stays c.transaction-tx.ensures.begun left (λ is_open trees h. g.met.S.Store.settled old.store trees is_open h)
+    (clean_if_open (g.S.Store.view new.store) (g.met.S.Store.shut_if_dirty new.store)) in
+    let same : new ≡ c.connection-2-1.given.0 = search rules in
+    record {
+      transacts = uncommitted g.S.Store old inside new _ c.in_ok-performed.performed _ c.in-Err.error work
+          (works g.S.Store old inside c.args.service.now c.args.operation.now c.in_ok-performed.performed worked.map worked.ours)
+          (still_inside g.S.Store old c.in_ok-performed.ensures.stays c.transaction-tx.ensures.begun left) (λ clean. c.in-Err.ensures.err clean) c.commit.ensures.survives _ same;
+    }

@@ -1,0 +1,30 @@
+-- What is written of lines, one after another.
+use Rattle.std.proofs.Common.{◌≡◌, ℕ, ◌<◌, List, ◌∷◌, ◌++◌, length, get_or, take, drop, flat_map, ◌+◌, Result, Ok, Err, sym, ap, ◌∙◌, append_assoc, add-one, take-append-drop, drop-cons}
+use Rattle.std.specs.Prelude.{IsErrAnd}
+use Rattle.std.proofs.lemmas.Grind.{flat_map-append}
+use Rattle.dep_types.specs.Sinks.{IsFront}
+use Rattle.dep_store.specs.Telling.{IsWritten}
+use Rattle.dep_store.specs.declared.audit_fault.AuditFault.{AuditFault}
+
+regrouped : (a part rest more : List ℕ) → a ++ ((part ++ rest) ++ more) ≡ (a ++ part) ++ (rest ++ more)
+regrouped a part rest more = ap (λ l. a ++ l) (append_assoc part rest more) ∙ sym (append_assoc a part (rest ++ more))
+
+-- the lines so far, and a front of the next one
+pub line_part : (line : ℕ → List ℕ) (files : List ℕ) (i d : ℕ) → i < length files → (written part : List ℕ)
+    → written ≡ flat_map line (take i files) → IsFront part (line (get_or files i d)) → IsFront (written ++ part) (flat_map line files)
+line_part line files i d less written part so_far front = record {
+  rest = front.rest ++ flat_map line (drop (i + 1) files);
+  joined =
+      let x = get_or files i d in
+      let later = flat_map line (drop (i + 1) files) in
+      let cut : files ≡ take i files ++ x ∷ drop (i + 1) files = sym (take-append-drop i files) ∙ ap (λ l. take i files ++ l) (drop-cons files i d less ∙ ap (λ n. x ∷ drop n files) (sym (add-one i))) in
+      ap (flat_map line) cut ∙ flat_map-append line (take i files) (x ∷ drop (i + 1) files)
+      ∙ ap (λ l. l ++ (line x ++ later)) (sym so_far)
+      ∙ ap (λ l. written ++ (l ++ later)) front.joined ∙ regrouped written part front.rest later;
+}
+
+pub line_fails : {X : Type 0} (line : ℕ → List ℕ) (files : List ℕ) (i d : ℕ) → i < length files → (written part : List ℕ)
+    → written ≡ flat_map line (take i files) → IsFront part (line (get_or files i d)) → (fault : AuditFault) (result : Result X AuditFault)
+    → IsErrAnd result (λ x. x ≡ fault) → IsWritten (flat_map line files) (written ++ part) result
+line_fails line files i d less written part so_far front fault (Ok x) err = absurd err
+line_fails line files i d less written part so_far front fault (Err e) err = line_part line files i d less written part so_far front

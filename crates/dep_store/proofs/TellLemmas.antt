@@ -1,0 +1,224 @@
+-- What was told of objects, one after another.
+use Rattle.std.proofs.Common.{◌≡◌, ◌⊎◌, inl, inr, ℕ, zero, suc, ◌<◌, ◌+◌, pos, List, [], ◌∷◌, ◌++◌, length, flat_map, Option, Some, None, option_map, refl, sym, ap, ap₂, subst, ◌∙◌, append_assoc, append-nil, arith}
+use Rattle.std.specs.Prelude.{find, filter, Result, Ok, Err, IsErrAnd}
+use Rattle.std.proofs.lemmas.List.Elements.{All-nil, All-cons, All-append}
+use Rattle.std.proofs.lemmas.List.{map-append}
+use Rattle.std.proofs.lemmas.List.Sums.{sum_by_push}
+use Rattle.std.proofs.lemmas.Grind.{flat_map-append}
+use Rattle.sqlite.specs.declared.types.Value.TheVariants.{Int}
+use Rattle.sqlite.specs.Order.{Row}
+use Rattle.sqlite_trees.specs.Tree.{rowid}
+use Rattle.dep_statements.specs.Rows.{is_after, IsOrdered}
+use Rattle.dep_tables.specs.Tables.{Tables}
+use Rattle.dep_tables.specs.Edits.{IsObjectAfter}
+use Rattle.sqlite.specs.State.{State}
+use Rattle.sqlite.specs.Tree.{Trees}
+use Rattle.dep_types.specs.State as archive
+use Rattle.dep_schema.specs.Standing.{Holds, Stands}
+use Rattle.dep_schema.specs.States.{TablesStandFor, StandsFor, Leaves}
+use Rattle.dep_types.specs.Sinks.{IsFront}
+use Rattle.dep_store.specs.Auditing.{IsObjectAudited}
+use Rattle.dep_store.specs.Audits.{Audited, AreAudits, object_rows, damaged_line, damaged_lines, lines_of, count_line, audit_text, outcome_of_audit, IsWhole, IsBegun, Audits}
+use Rattle.dep_store.specs.Telling.{IsToldObject, IsPartOfObject, IsTold, IsToldTo, TellsObject, TellsObjects, outcome_of_fault}
+use Rattle.dep_store.specs.declared.audit_fault.AuditFault.{AuditFault}
+use Rattle.dep_streams.specs.declared.auditing.Audit.{Audit}
+use Rattle.dep_store.specs.declared.tally.Tally.{Tally}
+use Rattle.dep_store.specs.declared.outcome.Outcome.{Outcome}
+use Rattle.dep_store.specs.declared.outcome.Outcome.TheVariants.{Damaged}
+use Rattle.dep_store.specs.declared.audit_fault.AuditFault.TheVariants.{Store, Writer}
+use Rattle.dep_store.proofs.WalkLemmas.{next_row, no_row}
+
+-- the rows of the objects rise
+pub objects_rise : {d : State} {t : Tables} → Stands d t → IsOrdered t.objects
+objects_rise stands = subst (λ (t : Tables). IsOrdered t.objects) stands.rows stands.ours.trees.ordered.1.1.0
+
+whole_front : (xs : List ℕ) → IsFront xs xs
+whole_front xs = record { rest = []; joined = sym (append-nil xs) }
+
+more_front : (xs part whole : List ℕ) → IsFront part whole → IsFront (xs ++ part) (xs ++ whole)
+more_front xs part whole f = record { rest = f.rest; joined = ap (λ l. xs ++ l) f.joined ∙ sym (append_assoc xs part f.rest) }
+
+lines_more : (found : List Audited) (a : Audited) → lines_of (found ++ a ∷ []) ≡ lines_of found ++ damaged_lines a
+lines_more found a = flat_map-append damaged_lines found (a ∷ []) ∙ ap (λ l. lines_of found ++ l) (append-nil (damaged_lines a))
+
+audits_more : (t : Tables) (rows : List Row) (found : List Audited) (r : Row) (a : Audited) → AreAudits t rows found
+    → Int (pos a.object) ≡ rowid r → IsObjectAudited t a.object a.audit → AreAudits t (rows ++ r ∷ []) (found ++ a ∷ [])
+audits_more t rows found r a h same audited = record {
+  objects = map-append (λ (b : Audited). Int (pos b.object)) found (a ∷ [])
+      ∙ ap₂ (λ xs v. xs ++ v ∷ []) h.objects same ∙ sym (map-append rowid rows (r ∷ []));
+  audits = All-append (λ (b : Audited). IsObjectAudited t b.object b.audit) found (a ∷ []) h.audits
+      (All-cons (λ (b : Audited). IsObjectAudited t b.object b.audit) a [] audited (All-nil (λ (b : Audited). IsObjectAudited t b.object b.audit)));
+}
+
+-- nothing was told yet
+pub told_none : (t : Tables) (tally : Tally) → tally.checked ≡ 0 → tally.damaged ≡ 0 → IsToldTo t 0 [] tally
+told_none t tally checked damaged = record {
+  rows = [];
+  first = refl;
+  told = record {
+    found = [];
+    are = record { objects = refl; audits = All-nil (λ (b : Audited). IsObjectAudited t b.object b.audit) };
+    lines = refl;
+    checked = checked;
+    damaged = damaged;
+  };
+}
+
+module _ (t : Tables) (ordered : IsOrdered t.objects) (after n : ℕ) (written : List ℕ) (tally : Tally)
+    (told : IsToldTo t after written tally) (next : IsObjectAfter after t (Some n)) where
+  behind : List Row
+  behind = filter (is_after after) t.objects
+
+  found_row : (r : Option Row) → find (is_after after) t.objects ≡ r → option_map (λ m. Int (pos m)) (Some n) ≡ option_map rowid r
+      → (row : Row) × (find (is_after after) t.objects ≡ Some row) × (Int (pos n) ≡ rowid row)
+  found_row None is e = cc
+  found_row (Some row) is e = (row, is, cc)
+
+  the_row : (row : Row) × (find (is_after after) t.objects ≡ Some row) × (Int (pos n) ≡ rowid row)
+  the_row = found_row (find (is_after after) t.objects) refl next
+
+  first_now : object_rows t ≡ (told.rows ++ the_row.0 ∷ []) ++ filter (is_after n) t.objects
+  first_now = told.first
+      ∙ ap (λ l. told.rows ++ l) (next_row after n the_row.0 t.objects ordered.0 the_row.1 (sym the_row.2))
+      ∙ sym (append_assoc told.rows (the_row.0 ∷ []) (filter (is_after n) t.objects))
+
+  same_id : (a : Audited) → a.object ≡ n → Int (pos a.object) ≡ rowid the_row.0
+  same_id a its = ap (λ m. Int (pos m)) its ∙ the_row.2
+
+  -- the lines of the next object were written too
+  pub told_more : (more : List ℕ) (its sum : Tally) → IsToldObject t n more its → sum.checked ≡ tally.checked + its.checked
+      → sum.damaged ≡ tally.damaged + its.damaged → IsToldTo t n (written ++ more) sum
+  told_more more its sum h checked damaged =
+      let all = told.told in
+      let a = h.told in record {
+        rows = told.rows ++ the_row.0 ∷ [];
+        first = first_now;
+        told = record {
+          found = all.found ++ a ∷ [];
+          are = audits_more t told.rows all.found the_row.0 a all.are (same_id a h.its) h.audited;
+          lines = ap₂ (λ xs ys. xs ++ ys) all.lines h.lines ∙ sym (lines_more all.found a);
+          checked = checked ∙ ap₂ (λ x y. x + y) all.checked h.counts.checked ∙ sym (sum_by_push (λ (b : Audited). b.audit.checked) all.found a);
+          damaged = damaged ∙ ap₂ (λ x y. x + y) all.damaged h.counts.damaged ∙ sym (sum_by_push (λ (b : Audited). length b.audit.damaged.items) all.found a);
+        };
+      }
+
+  -- a front of them was written
+  pub told_part : (part : List ℕ) → IsPartOfObject t n part → IsBegun t (written ++ part)
+  told_part part h =
+      let all = told.told in
+      let a = h.told in
+      let front : IsFront (written ++ part) (lines_of (all.found ++ a ∷ [])) = subst (IsFront (written ++ part)) (ap (λ l. l ++ damaged_lines a) all.lines ∙ sym (lines_more all.found a)) (more_front written part (damaged_lines a) h.front) in
+      record {
+        rows = told.rows ++ the_row.0 ∷ [];
+        others = filter (is_after n) t.objects;
+        first = first_now;
+        found = all.found ++ a ∷ [];
+        are = audits_more t told.rows all.found the_row.0 a all.are (same_id a h.its) h.audited;
+        front = inl front;
+      }
+
+-- it ended between two objects
+pub told_so_far : (t : Tables) (after : ℕ) (written : List ℕ) (tally : Tally) → IsToldTo t after written tally → IsBegun t written
+told_so_far t after written tally h = record {
+  rows = h.rows;
+  others = filter (is_after after) t.objects;
+  first = h.first;
+  found = h.told.found;
+  are = h.told.are;
+  front = inl (subst (λ l. IsFront l (lines_of h.told.found)) (sym h.told.lines) (whole_front (lines_of h.told.found)));
+}
+
+-- all objects were told
+pub told_all : (t : Tables) (after : ℕ) (written : List ℕ) (tally : Tally) → IsToldTo t after written tally → IsObjectAfter after t None
+    → IsTold t (object_rows t) written tally
+told_all t after written tally h none =
+    let rows_are : object_rows t ≡ h.rows = h.first ∙ ap (λ l. h.rows ++ l) (no_row after t.objects (go (find (is_after after) t.objects) refl none)) ∙ append-nil h.rows in
+    subst (λ (rows : List Row). IsTold t rows written tally) (sym rows_are) h.told
+  where
+    go : (r : Option Row) → find (is_after after) t.objects ≡ r → option_map (λ m. Int (pos m)) None ≡ option_map rowid r → find (is_after after) t.objects ≡ None
+    go None is e = is
+    go (Some row) is e = cc
+
+module _ (t : Tables) (written : List ℕ) (tally : Tally) (h : IsTold t (object_rows t) written tally) where
+  text_is : written ++ count_line tally.checked tally.damaged ≡ audit_text h.found
+  text_is = ap₂ (λ xs ys. xs ++ ys) h.lines (ap₂ count_line h.checked h.damaged)
+
+  pub all_whole : (outcome : Outcome) → outcome ≡ outcome_of_audit tally.damaged → IsWhole t (written ++ count_line tally.checked tally.damaged) outcome
+  all_whole outcome is = record { found = h.found; are = h.are; text = text_is; comes = is ∙ ap outcome_of_audit h.damaged }
+
+  pub all_begun : (part : List ℕ) → IsFront part (count_line tally.checked tally.damaged) → IsBegun t (written ++ part)
+  all_begun part f = record {
+    rows = object_rows t;
+    others = [];
+    first = sym (append-nil (object_rows t));
+    found = h.found;
+    are = h.are;
+    front = inr (refl, subst (IsFront (written ++ part)) text_is (more_front written part _ f));
+  }
+
+-- one object
+pub told_object : (t : Tables) (object : ℕ) (a : Audit) (files written : List ℕ) (tally : Tally) → IsObjectAudited t object a → files ≡ a.damaged.items
+    → written ≡ flat_map (damaged_line object) files → tally.checked ≡ a.checked → tally.damaged ≡ length a.damaged.items → IsToldObject t object written tally
+told_object t object a files written tally audited same is checked damaged = record {
+  told = record { object = object; audit = a };
+  its = refl;
+  audited = audited;
+  lines = is ∙ ap (flat_map (damaged_line object)) same;
+  counts = record { checked = checked; damaged = damaged };
+}
+
+pub object_fails : (t : Tables) (object : ℕ) (a : Audit) (files written : List ℕ) → IsObjectAudited t object a → files ≡ a.damaged.items
+    → IsFront written (flat_map (damaged_line object) files) → (fault : AuditFault) (result : Result Tally AuditFault) → IsErrAnd result (λ x. x ≡ fault)
+    → TellsObject t object written result
+object_fails t object a files written audited same front fault (Ok x) err = absurd err
+object_fails t object a files written audited same front fault (Err e) err = inr (record {
+  told = record { object = object; audit = a };
+  its = refl;
+  audited = audited;
+  front = subst (λ (l : List ℕ). IsFront written (flat_map (damaged_line object) l)) same front;
+})
+
+-- the lines of an object failed, or those of all so far but the sum
+module _ (t : Tables) (ordered : IsOrdered t.objects) (after n : ℕ) (written : List ℕ) (tally : Tally)
+    (told : IsToldTo t after written tally) (next : IsObjectAfter after t (Some n)) where
+  begun : (more : List ℕ) → ((more ≡ []) ⊎ IsPartOfObject t n more) → IsBegun t (written ++ more)
+  begun more (inl none) = subst (IsBegun t) (sym (ap (λ l. written ++ l) none ∙ append-nil written)) (told_so_far t after written tally told)
+  begun more (inr part) = told_part t ordered after n written tally told next more part
+
+  pub objects_fail : (more : List ℕ) (fault : AuditFault) → ((more ≡ []) ⊎ IsPartOfObject t n more) → (result : Result Tally AuditFault)
+      → IsErrAnd result (λ x. x ≡ fault) → TellsObjects t (written ++ more) result
+  objects_fail more fault part (Ok x) err = absurd err
+  objects_fail more fault part (Err e) err = begun more part
+
+  pub sum_fails : (more : List ℕ) (its : Tally) → IsToldObject t n more its → (fault : AuditFault) (result : Result Tally AuditFault)
+      → IsErrAnd result (λ x. x ≡ fault) → TellsObjects t (written ++ more) result
+  sum_fails more its h fault (Ok x) err = absurd err
+  sum_fails more its h fault (Err e) err = begun more (inr (record {
+    told = h.told;
+    its = h.its;
+    audited = h.audited;
+    front = record { rest = []; joined = sym h.lines ∙ sym (append-nil more) };
+  }))
+
+-- what the program says
+pub is_damaged : (damaged : ℕ) → 0 < damaged → Damaged ≡ outcome_of_audit damaged
+is_damaged zero some = absurd (omega arith)
+is_damaged (suc n) some = refl
+
+pub fault_begun : (t : Tables) (written : List ℕ) (fault : AuditFault) (outcome : Outcome) → outcome ≡ outcome_of_fault fault → IsBegun t written → Audits t written outcome
+fault_begun t written Store outcome is begun = subst (Audits t written) (sym is) begun
+fault_begun t written Writer outcome is begun = subst (Audits t written) (sym is) begun
+
+pub begun_fails : (t : Tables) (written : List ℕ) → IsBegun t written → (fault : AuditFault) (result : Result Tally AuditFault) → IsErrAnd result (λ x. x ≡ fault)
+    → TellsObjects t written result
+begun_fails t written begun fault (Ok x) err = absurd err
+begun_fails t written begun fault (Err e) err = begun
+
+-- what a stop leaves of a state whose tables stay
+pub leaves_held : (d : State) {tables : Tables} (s : archive.State) → TablesStandFor tables s
+    → ((trees : Trees) → d.may_leave trees → Holds trees tables) → Leaves d (λ left. left ≡ s)
+leaves_held d {tables = tables} s means holds trees may = (s, record { tables = tables; holds = holds trees may; means = means }, refl)
+
+-- tables that stay stand for the state still
+pub stands_still : {old new : State} (s : archive.State) (h : StandsFor old s) → Stands new h.tables → StandsFor new s
+stands_still s h stands = record { tables = h.tables; stands = stands; means = h.means }

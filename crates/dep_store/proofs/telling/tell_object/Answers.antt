@@ -1,0 +1,35 @@
+use Rattle.std.proofs.Common.{◌≡◌, length, refl, rules}
+use Rattle.sqlite.specs.Held.{state}
+use Rattle.dep_store.proofs.TellLemmas.{told_object, object_fails, leaves_held}
+use Rattle.dep_store.proofs.telling.tell_object.Goals as goal
+
+pub returns-in_err-tell_damaged-clause-writes : goal.returns-in_err-tell_damaged-clause-writes
+returns-in_err-tell_damaged-clause-writes g c =
+    let wrote = c.in_err-tell_damaged.ensures.writes in (
+      wrote.0,
+      wrote.1,
+      λ clean t at. object_fails t c.args.object c.in_ok-audit.audit c.as_slice.result.now wrote.0 (c.in_ok-audit.ensures.ok clean t at).0 c.as_slice.ensures.value
+          wrote.2 _ c.from_residual-in_err-tell_damaged.result c.from_residual-in_err-tell_damaged.ensures.1,
+    )
+
+pub returns-clause-writes : goal.returns-clause-writes
+returns-clause-writes g c =
+    let wrote = c.in_ok-tell_damaged.ensures.writes in
+    let counted : c.len.result ≡ length c.in_ok-audit.audit.damaged.items = search rules in (
+      wrote.0,
+      wrote.1,
+      λ clean t at. told_object t c.args.object c.in_ok-audit.audit c.as_slice.result.now wrote.0 _ (c.in_ok-audit.ensures.ok clean t at).0 c.as_slice.ensures.value
+          wrote.2 refl counted,
+    )
+
+pub returns-clause-kept : goal.returns-clause-kept
+returns-clause-kept g c clean t at = (c.in_ok-audit.ensures.ok clean t at).1
+
+pub returns-in_err-audit-clause-stop : goal.returns-in_err-audit-clause-stop
+returns-in_err-audit-clause-stop g c clean s h = leaves_held (state g.S.Store c.audit.new.self) s h.means (c.in_err-audit.ensures.stop clean h.tables h.stands)
+
+pub returns-in_err-tell_damaged-clause-stop : goal.returns-in_err-tell_damaged-clause-stop
+returns-in_err-tell_damaged-clause-stop g c clean s h = leaves_held (state g.S.Store c.audit.new.self) s h.means (c.in_ok-audit.ensures.stop clean h.tables h.stands)
+
+pub returns-clause-stop : goal.returns-clause-stop
+returns-clause-stop g c clean s h = leaves_held (state g.S.Store c.audit.new.self) s h.means (c.in_ok-audit.ensures.stop clean h.tables h.stands)

@@ -1,0 +1,73 @@
+-- Words of private functions: what was told so far.
+use Rattle.std.specs.Prelude.{◌≡◌, ◌⊎◌, ℕ, List, [], ◌++◌, length, filter, Result, Ok, Err}
+use Rattle.sqlite.specs.Order.{Row}
+use Rattle.dep_statements.specs.Rows.{is_after}
+use Rattle.dep_tables.specs.Tables.{Tables}
+use Rattle.dep_types.specs.Sinks.{IsFront}
+use Rattle.dep_types.specs.Writing.{HasRisen}
+use Rattle.dep_store.specs.Auditing.{IsObjectAudited}
+use Rattle.dep_store.specs.Audits.{Audited, AreAudits, object_rows, damaged_lines, lines_of, checked_in, damaged_in, IsBegun}
+use Rattle.dep_store.specs.declared.audit_fault.AuditFault.{AuditFault}
+use Rattle.dep_store.specs.declared.audit_fault.AuditFault.TheVariants.{Store, Writer}
+use Rattle.dep_store.specs.declared.outcome.Outcome.{Outcome}
+use Rattle.dep_store.specs.declared.outcome.Outcome.TheVariants.{StoreFault, TransferFault}
+use Rattle.dep_store.specs.declared.tally.Tally.{Tally}
+
+-- all of a text was written, or after a fault a front of it
+abbrev pub IsWritten : {X : Type 0} → (whole written : List ℕ) → Result X AuditFault → Type 0
+IsWritten whole written (Ok x) = written ≡ whole
+IsWritten whole written (Err fault) = IsFront written whole
+
+-- what the program says of it
+abbrev pub outcome_of_fault : AuditFault → Outcome
+outcome_of_fault Store = StoreFault
+outcome_of_fault Writer = TransferFault
+
+-- a fault of the writer comes only where its count of failures rose
+abbrev pub HasCause : {X : Type 0} → Result X AuditFault → (failures failures_after : ℕ) → Type 0
+HasCause result failures failures_after = result ≡ Err Writer → HasRisen failures failures_after
+
+-- a fault of the store leaves the writer's count of failures
+abbrev pub IsQuiet : {X : Type 0} → Result X AuditFault → (failures failures_after : ℕ) → Type 0
+IsQuiet result failures failures_after = result ≡ Err Store → failures_after ≡ failures
+
+-- how many files an audit checked, and how many are damaged
+pub record IsTallyOf (a : Audited) (tally : Tally) : Type 0 where
+  pub checked : tally.checked ≡ a.audit.checked
+  pub damaged : tally.damaged ≡ length a.audit.damaged.items
+
+-- the lines of an object were written
+pub record IsToldObject (t : Tables) (object : ℕ) (written : List ℕ) (tally : Tally) : Type 0 where
+  pub told : Audited
+  pub its : told.object ≡ object
+  pub audited : IsObjectAudited t told.object told.audit
+  pub lines : written ≡ damaged_lines told
+  pub counts : IsTallyOf told tally
+
+-- a front of them was
+pub record IsPartOfObject (t : Tables) (object : ℕ) (written : List ℕ) : Type 0 where
+  pub told : Audited
+  pub its : told.object ≡ object
+  pub audited : IsObjectAudited t told.object told.audit
+  pub front : IsFront written (damaged_lines told)
+
+abbrev pub TellsObject : Tables → (object : ℕ) → (written : List ℕ) → Result Tally AuditFault → Type 0
+TellsObject t object written (Ok tally) = IsToldObject t object written tally
+TellsObject t object written (Err fault) = (written ≡ []) ⊎ IsPartOfObject t object written
+
+-- the objects up to this number were audited, and their lines were written
+pub record IsTold (t : Tables) (rows : List Row) (written : List ℕ) (tally : Tally) : Type 0 where
+  pub found : List Audited
+  pub are : AreAudits t rows found
+  pub lines : written ≡ lines_of found
+  pub checked : tally.checked ≡ checked_in found
+  pub damaged : tally.damaged ≡ damaged_in found
+
+pub record IsToldTo (t : Tables) (after : ℕ) (written : List ℕ) (tally : Tally) : Type 0 where
+  pub rows : List Row
+  pub first : object_rows t ≡ rows ++ filter (is_after after) t.objects
+  pub told : IsTold t rows written tally
+
+abbrev pub TellsObjects : Tables → (written : List ℕ) → Result Tally AuditFault → Type 0
+TellsObjects t written (Ok tally) = IsTold t (object_rows t) written tally
+TellsObjects t written (Err fault) = IsBegun t written

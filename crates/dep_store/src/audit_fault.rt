@@ -1,0 +1,45 @@
+//! Why an audit ended before its last line.
+use dep_types::{StoreFault, WriteFailed};
+use std::alloc::AllocError;
+
+/// Why an audit ended before its last line.
+#[derive(Clone, Copy, Debug)]
+pub(crate) enum AuditFault {
+    /// The store failed, or there was no memory.
+    Store,
+    /// A line could not be written.
+    Writer,
+}
+
+impl From<StoreFault> for AuditFault {
+    ghost use Rattle.std.specs.Prelude.{◌≡◌};
+    ghost use Rattle.dep_store.specs.declared.audit_fault.AuditFault.TheVariants.{Store};
+
+    ghost from_gives = { λ _ fault. fault ≡ Store };
+
+    fn from(_fault: StoreFault) -> AuditFault {
+        AuditFault::Store
+    }
+}
+
+impl From<AllocError> for AuditFault {
+    ghost use Rattle.std.specs.Prelude.{◌≡◌};
+    ghost use Rattle.dep_store.specs.declared.audit_fault.AuditFault.TheVariants.{Store};
+
+    ghost from_gives = { λ _ fault. fault ≡ Store };
+
+    fn from(_error: AllocError) -> AuditFault {
+        AuditFault::Store
+    }
+}
+
+impl From<WriteFailed> for AuditFault {
+    ghost use Rattle.std.specs.Prelude.{◌≡◌};
+    ghost use Rattle.dep_store.specs.declared.audit_fault.AuditFault.TheVariants.{Writer};
+
+    ghost from_gives = { λ _ fault. fault ≡ Writer };
+
+    fn from(_error: WriteFailed) -> AuditFault {
+        AuditFault::Writer
+    }
+}

@@ -1,0 +1,38 @@
+//! The export of an object's bag.
+ghost use Rattle.std.specs.Prelude.{◌≡◌, ◌≢◌, ℕ, List};
+ghost use Rattle.std.specs.Io.KnownBytes.{Appends, Keeps};
+ghost use Rattle.dep_types.specs.State.{State};
+ghost use Rattle.dep_types.specs.Writing.{HasRisen};
+ghost use Rattle.dep_store.specs.Exports.{Exports};
+
+use crate::outcome::Outcome;
+use dep_bag::{BagSource, ExportFault, export};
+use dep_types::BagSink;
+use std::alloc::Global;
+
+/// Gives a sink the bag of an object, as it stands in the archive: the folder `data` and then each file, in the
+/// order of the bag's list.
+pub fn export_object<S: BagSource, K: BagSink>(
+    alloc: Global,
+    source: &mut S,
+    object: u64,
+    sink: &mut K,
+) -> Outcome
+    ensures gives { (given : List ℕ) × Appends (K.taken sink.old) (K.taken sink.new) given
+        × (S.is_clean source.new → (s : State) → S.stands source.old s
+        → Exports s object given result) }
+    ensures absent { result ≡ Outcome.NoSuchObject → Keeps (K.taken sink.old) (K.taken sink.new) }
+    ensures count { result ≢ Outcome.TransferFault → K.failures sink.new ≡ K.failures sink.old }
+    ensures cause { result ≡ Outcome.TransferFault →
+        HasRisen (K.failures sink.old) (K.failures sink.new) }
+    ensures kept { result ≡ Outcome.Done → S.is_clean source.new
+        → (s : State) → S.stands source.old s → S.stands source.new s }
+    ensures clean { S.is_clean source.new → S.is_clean source.old }
+{
+    match export(alloc, source, object, sink) {
+        Ok(()) => Outcome::Done,
+        Err(ExportFault::NoSuchObject) => Outcome::NoSuchObject,
+        Err(ExportFault::Sink) => Outcome::TransferFault,
+        Err(ExportFault::Store | ExportFault::Memory) => Outcome::StoreFault,
+    }
+}

@@ -1,0 +1,97 @@
+//! The lines of an audit.
+ghost use Rattle.std.specs.Prelude.{◌≡◌, ℕ, List, OnOk, IfOk, flat_map, string_bytes};
+ghost use Rattle.std.specs.Io.KnownBytes.{Appends};
+ghost use Rattle.dep_store.specs.Audits.{damaged_line, count_line};
+ghost use Rattle.dep_store.specs.Telling.{IsWritten, IsQuiet, HasCause};
+
+use crate::audit_fault::AuditFault;
+use crate::tally::Tally;
+use dep_types::Outlet;
+use itoa::Buffer;
+use std::alloc::{AllocError, Global};
+
+/// Writes a line for each of the damaged files of an object.
+pub(crate) fn tell_damaged<W: Outlet>(
+    alloc: Global,
+    object: u64,
+    files: &[u64],
+    out: &mut W,
+) -> Result<(), AuditFault>
+    ensures writes { (written : List ℕ) × Appends (W.taken out.old) (W.taken out.new) written
+        × IsWritten (flat_map (damaged_line object) files.now) written result }
+    ensures count { OnOk result (W.failures out.new ≡ W.failures out.old) }
+    ensures quiet { IsQuiet result (W.failures out.old) (W.failures out.new) }
+    ensures cause { HasCause result (W.failures out.old) (W.failures out.new) }
+{
+    'files: for file in files {
+        tell_file(alloc, object, *file, out)?;
+    }
+    Ok(())
+}
+
+fn tell_file<W: Outlet>(
+    alloc: Global,
+    object: u64,
+    file: u64,
+    out: &mut W,
+) -> Result<(), AuditFault>
+    ensures writes { (written : List ℕ) × Appends (W.taken out.old) (W.taken out.new) written
+        × IsWritten (damaged_line object file) written result }
+    ensures count { OnOk result (W.failures out.new ≡ W.failures out.old) }
+    ensures quiet { IsQuiet result (W.failures out.old) (W.failures out.new) }
+    ensures cause { HasCause result (W.failures out.old) (W.failures out.new) }
+{
+    let line = file_line(alloc, object, file)?;
+    tell(line.as_str(), out)
+}
+
+fn file_line(alloc: Global, object: u64, file: u64) -> Result<String, AllocError>
+    ensures { IfOk result (λ line. string_bytes line ≡ damaged_line object file) }
+{
+    let mut digits = Buffer::new();
+    let mut line = String::from_str(alloc, "damaged ")?;
+    line.push_str(digits.format(object))?;
+    line.push_str(" ")?;
+    line.push_str(digits.format(file))?;
+    line.push_str("\n")?;
+    Ok(line)
+}
+
+/// Writes the last line.
+pub(crate) fn tell_count<W: Outlet>(
+    alloc: Global,
+    tally: Tally,
+    out: &mut W,
+) -> Result<(), AuditFault>
+    ensures writes { (written : List ℕ) × Appends (W.taken out.old) (W.taken out.new) written
+        × IsWritten (count_line tally.checked tally.damaged) written result }
+    ensures count { OnOk result (W.failures out.new ≡ W.failures out.old) }
+    ensures quiet { IsQuiet result (W.failures out.old) (W.failures out.new) }
+    ensures cause { HasCause result (W.failures out.old) (W.failures out.new) }
+{
+    let line = last_line(alloc, tally)?;
+    tell(line.as_str(), out)
+}
+
+fn last_line(alloc: Global, tally: Tally) -> Result<String, AllocError>
+    ensures { IfOk result (λ line. string_bytes line ≡ count_line tally.checked tally.damaged) }
+{
+    let mut digits = Buffer::new();
+    let mut line = String::from_str(alloc, "files ")?;
+    line.push_str(digits.format(tally.checked))?;
+    line.push_str(" damaged ")?;
+    line.push_str(digits.format(tally.damaged))?;
+    line.push_str("\n")?;
+    Ok(line)
+}
+
+fn tell<W: Outlet>(line: &str, out: &mut W) -> Result<(), AuditFault>
+    ensures writes { (written : List ℕ) × Appends (W.taken out.old) (W.taken out.new) written
+        × IsWritten line.now written result }
+    ensures count { OnOk result (W.failures out.new ≡ W.failures out.old) }
+    ensures quiet { IsQuiet result (W.failures out.old) (W.failures out.new) }
+    ensures cause { HasCause result (W.failures out.old) (W.failures out.new) }
+{
+    out.write(line.as_bytes())?;
+    Ok(())
+}

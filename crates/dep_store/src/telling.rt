@@ -1,0 +1,134 @@
+//! The audit of all files of a store.
+ghost use Rattle.std.specs.Prelude.{◌≡◌, ◌≢◌, ℕ, List, IsTrue, OnOk};
+ghost use Rattle.std.specs.Io.KnownBytes.{Appends};
+ghost use Rattle.sqlite.specs.State.{HasCleanDisk};
+ghost use Rattle.sqlite.specs.Held.{state};
+ghost use Rattle.dep_types.specs.Writing.{HasRisen};
+ghost use Rattle.dep_tables.specs.Tables.{Tables};
+ghost use Rattle.dep_schema.specs.Standing.{Stands};
+ghost use Rattle.dep_types.specs.State.{State};
+ghost use Rattle.dep_schema.specs.States.{StandsFor, Leaves};
+ghost use Rattle.dep_store.specs.Audits.{Audits};
+ghost use Rattle.dep_store.specs.Telling.{TellsObject, TellsObjects, IsQuiet, HasCause, outcome_of_fault};
+
+use crate::audit_fault::AuditFault;
+use crate::lines::{tell_count, tell_damaged};
+use crate::outcome::Outcome;
+use crate::store::Store;
+use crate::tally::Tally;
+use dep_streams::Watch;
+use dep_types::Outlet;
+use sqlite::Alter;
+use std::alloc::Global;
+
+/// Checks all files of all objects by their SHA-256, in the order of the objects' numbers and then of the files'. It
+/// writes a line for each damaged one, once its object was checked, and at last a line of how many were checked and
+/// how many are damaged. The watch is told of each block that is read.
+pub fn audit_all<S: Alter, W: Outlet, P: Watch>(
+    alloc: Global,
+    store: &mut Store<S>,
+    out: &mut W,
+    watch: &mut P,
+) -> Outcome
+    ensures writes { (written : List ℕ) × Appends (W.taken out.old) (W.taken out.new) written
+        × (HasCleanDisk (state S.Store store.new) → (t : Tables)
+        → Stands (state S.Store store.old) t → Audits t written result) }
+    ensures still { IsTrue (state S.Store store.new).is_open → (t : Tables)
+        → Stands (state S.Store store.old) t → Stands (state S.Store store.new) t }
+    ensures honest { HasCleanDisk (state S.Store store.new) → HasCleanDisk (state S.Store store.old) }
+    ensures stop { HasCleanDisk (state S.Store store.new)
+        → (s : State) → StandsFor (state S.Store store.old) s
+        → Leaves (state S.Store store.new) (λ left. left ≡ s) }
+    ensures count { result ≢ Outcome.TransferFault →
+        W.failures out.new ≡ W.failures out.old }
+    ensures cause { result ≡ Outcome.TransferFault →
+        HasRisen (W.failures out.old) (W.failures out.new) }
+{
+    let tally = match tell_objects(alloc, store, out, watch) {
+        Ok(tally) => tally,
+        Err(fault) => return outcome_of(fault),
+    };
+    match tell_count(alloc, tally, out) {
+        Ok(()) if tally.damaged == 0 => Outcome::Done,
+        Ok(()) => Outcome::Damaged,
+        Err(fault) => outcome_of(fault),
+    }
+}
+
+fn outcome_of(fault: AuditFault) -> Outcome
+    ensures { result ≡ outcome_of_fault fault }
+{
+    match fault {
+        AuditFault::Store => Outcome::StoreFault,
+        AuditFault::Writer => Outcome::TransferFault,
+    }
+}
+
+// Writes the lines of all objects.
+fn tell_objects<S: Alter, W: Outlet, P: Watch>(
+    alloc: Global,
+    store: &mut Store<S>,
+    out: &mut W,
+    watch: &mut P,
+) -> Result<Tally, AuditFault>
+    ensures writes { (written : List ℕ) × Appends (W.taken out.old) (W.taken out.new) written
+        × (HasCleanDisk (state S.Store store.new) → (t : Tables)
+        → Stands (state S.Store store.old) t → TellsObjects t written result) }
+    ensures still { IsTrue (state S.Store store.new).is_open → (t : Tables)
+        → Stands (state S.Store store.old) t → Stands (state S.Store store.new) t }
+    ensures open { IsTrue (state S.Store store.new).is_open → IsTrue (state S.Store store.old).is_open }
+    ensures honest { HasCleanDisk (state S.Store store.new) → HasCleanDisk (state S.Store store.old) }
+    ensures stop { HasCleanDisk (state S.Store store.new)
+        → (s : State) → StandsFor (state S.Store store.old) s
+        → Leaves (state S.Store store.new) (λ left. left ≡ s) }
+    ensures count { OnOk result (W.failures out.new ≡ W.failures out.old) }
+    ensures quiet { IsQuiet result (W.failures out.old) (W.failures out.new) }
+    ensures cause { HasCause result (W.failures out.old) (W.failures out.new) }
+{
+    let mut tally = Tally {
+        checked: 0,
+        damaged: 0,
+    };
+    let mut after = 0;
+    'objects: for _ in 0..u64::MAX {
+        let Some(object) = store.next_object(after)? else {
+            return Ok(tally);
+        };
+        let more = tell_object(alloc, store, object, out, watch)?;
+        tally = tally.plus(more)?;
+        after = object;
+    }
+    Err(AuditFault::Store)
+}
+
+// Writes the lines of an object.
+fn tell_object<S: Alter, W: Outlet, P: Watch>(
+    alloc: Global,
+    store: &mut Store<S>,
+    object: u64,
+    out: &mut W,
+    watch: &mut P,
+) -> Result<Tally, AuditFault>
+    ensures writes { (written : List ℕ) × Appends (W.taken out.old) (W.taken out.new) written
+        × (HasCleanDisk (state S.Store store.new) → (t : Tables)
+        → Stands (state S.Store store.old) t → TellsObject t object written result) }
+    ensures kept { HasCleanDisk (state S.Store store.new) → (t : Tables)
+        → Stands (state S.Store store.old) t → OnOk result (Stands (state S.Store store.new) t) }
+    ensures still { IsTrue (state S.Store store.new).is_open → (t : Tables)
+        → Stands (state S.Store store.old) t → Stands (state S.Store store.new) t }
+    ensures open { IsTrue (state S.Store store.new).is_open → IsTrue (state S.Store store.old).is_open }
+    ensures honest { HasCleanDisk (state S.Store store.new) → HasCleanDisk (state S.Store store.old) }
+    ensures stop { HasCleanDisk (state S.Store store.new)
+        → (s : State) → StandsFor (state S.Store store.old) s
+        → Leaves (state S.Store store.new) (λ left. left ≡ s) }
+    ensures count { OnOk result (W.failures out.new ≡ W.failures out.old) }
+    ensures quiet { IsQuiet result (W.failures out.old) (W.failures out.new) }
+    ensures cause { HasCause result (W.failures out.old) (W.failures out.new) }
+{
+    let audit = store.audit(object, watch)?;
+    tell_damaged(alloc, object, audit.damaged.as_slice(), out)?;
+    Ok(Tally {
+        checked: audit.checked,
+        damaged: audit.damaged.len() as u64,
+    })
+}

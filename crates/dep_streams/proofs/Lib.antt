@@ -1,0 +1,11 @@
+pub mod Stills
+pub mod Digests
+pub mod ShownFrom
+pub mod RowByRow
+pub mod SizeFound
+pub mod SendingLemmas
+pub mod NextRow
+pub mod RowsSent
+pub mod FaultsTold
+pub mod OrderedBlocks
+pub mod Streams

@@ -1,0 +1,122 @@
+-- Rows that are read one at a time, by a query that only shows, whose bytes are hashed.
+use Rattle.std.proofs.Common.{◌≡◌, ◌⊎◌, ◌++◌, ℕ, List, [], ◌∷◌, Option, Some, None, Result, Ok, Err, IfOk, IfErr, OnOk, OnErr, inl, subst, sym}
+use Rattle.std.specs.Borrow.{Bor}
+use Rattle.sha2.specs.Hashers.{Holds256}
+use Rattle.sha2.specs.Sha256.{sha256}
+use Rattle.sha2.specs.declared.Sha256.{Sha256}
+use Rattle.sqlite.specs.Order.{Row}
+use Rattle.sqlite.specs.State.{State, HasCleanDisk, Survives, CommitsShowing, FailsToQuery, IsUnchanged, IsRolledBack}
+use Rattle.sqlite.specs.Held.{Held, state}
+use Rattle.sqlite.specs.Given.{HasGiven, IsPlain, IsRefused}
+use Rattle.sqlite.specs.Listing.{understood}
+use Rattle.sqlite.specs.Next.{HasMoved}
+use Rattle.sqlite.specs.declared.error.Error.{Error}
+use Rattle.sqlite.specs.declared.rows.stream.Rows.{Rows}
+use Rattle.sqlite_trees.specs.declared.store.Store.{Ghosts}
+use Rattle.dep_streams.specs.Sent.{blob_of, joined}
+use Rattle.dep_streams.proofs.NextRow.{clean_before, survives_on, unchanged_on}
+use Rattle.dep_streams.proofs.SendingLemmas.{clean_was, commits_nothing, failed_then, joined_push, refused_left}
+use Rattle.dep_types.specs.declared.store_fault.StoreFault.{StoreFault}
+use Rattle.dep_streams.specs.Fixity.{HashesShown}
+use Rattle.dep_streams.proofs.ShownFrom.{shown_from}
+
+-- the hasher holds the rows that were given so far
+abbrev pub Hashed : {S : Type 0} → Ghosts S → List ℕ → Row → State → Held S → Sha256 → Type 0
+Hashed g sql params first now hasher =
+    (given : List Row) × HasGiven g sql params now given × IsUnchanged first (state g now) × Holds256 hasher (joined given)
+
+-- what the hashing of a query's rows leaves, by what it answers
+pub record EndsHashing (sql : List ℕ) (params : Row) (first new : State) (result : Result (List ℕ) StoreFault) : Type 0 where
+  pub hashes : HasCleanDisk new → IsPlain (understood first.now.schema sql) → IfOk result (HashesShown sql params first)
+  pub same : HasCleanDisk new → IsPlain (understood first.now.schema sql) → OnOk result (IsUnchanged first new)
+  pub err : HasCleanDisk new → IsPlain (understood first.now.schema sql) → OnErr result (IsUnchanged first new ⊎ IsRolledBack first new)
+  pub clean : HasCleanDisk new → HasCleanDisk first
+  pub survives : IsPlain (understood first.now.schema sql) → Survives first new (λ _. ⊥)
+
+-- no query began
+pub not_begun : {S X : Type 0} (g : Ghosts S) (sql : List ℕ) (params : Row) (old new : Held S) (result : Result X Error) (error : Error) (fault : StoreFault)
+    → OnErr result (IsRefused g sql params old result new) → result ≡ Err error → EndsHashing sql params (state g old) (state g new) (Err fault)
+not_begun {X = X} g sql params old new result error fault left is =
+    let it : IsRefused g sql params old result new = subst (λ (r : Result X Error). OnErr r (IsRefused g sql params old result new)) is left in
+    record {
+      hashes = λ late plain. tt;
+      same = λ late plain. tt;
+      err = λ late plain.
+          refused_left sql params (state g old) (state g new) error plain
+          (subst (λ (r : Result X Error). IfErr r (FailsToQuery sql params (state g old) (state g new))) is (it.err late));
+      clean = clean_was (state g old) (state g new) (CommitsShowing sql params (state g old)) it.survives;
+      survives = λ plain. commits_nothing sql params (state g old) (state g new) plain it.survives;
+    }
+
+module _ {S : Type 0} (g : Ghosts S) (old new : Rows S g) (result : Result (Option (Bor Row)) Error) (moved : HasMoved g old result new) where
+  earlier : HasCleanDisk (state g new.conn.now) → HasCleanDisk (state g old.conn.now)
+  earlier = clean_before g old new result moved
+
+  unchanged : (first : State) (next : Option (Bor Row)) → result ≡ Ok next → HasCleanDisk (state g new.conn.now)
+      → IsUnchanged first (state g old.conn.now) → IsUnchanged first (state g new.conn.now)
+  unchanged = unchanged_on g old new result moved
+
+  survived : (first : State) → Survives first (state g old.conn.now) (λ _. ⊥) → Survives first (state g new.conn.now) (λ _. ⊥)
+  survived = survives_on g old new result moved
+
+  module _ (sql : List ℕ) (params : Row) (first : State) (hasher : Sha256) (was : Hashed g sql params first old.conn.now hasher) (late : HasCleanDisk (state g new.conn.now)) where
+    pub hashed_all : result ≡ Ok None → IsPlain (understood first.now.schema sql) → (digest : List ℕ)
+        → ((message : List ℕ) → Holds256 hasher message → digest ≡ sha256 message) → HashesShown sql params first digest
+    hashed_all is plain digest made =
+        let shown = (rw is at (moved.ok late)) sql params was.0 was.1 in record {
+          rows = was.0;
+          shown = shown_from sql params first (state g old.conn.now) (state g new.conn.now) was.0 was.2 plain shown;
+          is = made (joined was.0) was.3;
+        }
+
+    pub hashed_more : (row : Bor Row) (after : Sha256) → result ≡ Ok (Some row)
+        → ((message : List ℕ) → Holds256 hasher message → Holds256 after (message ++ blob_of row.now)) → Hashed g sql params first new.conn.now after
+    hashed_more row after is more = (
+      was.0 ++ row.now ∷ [],
+      (rw is at (moved.ok late)) sql params was.0 was.1,
+      unchanged first (Some row) is late was.2,
+      subst (Holds256 after) (sym (joined_push was.0 row.now)) (more (joined was.0) was.3),
+    )
+
+    pub failed_on : (error : Error) → result ≡ Err error → IsPlain (understood first.now.schema sql)
+        → IsUnchanged first (state g new.conn.now) ⊎ IsRolledBack first (state g new.conn.now)
+    failed_on error is plain =
+        let failed = (rw is at (moved.err late)) sql params was.0 was.1 in
+        failed_then sql params first (state g old.conn.now) (state g new.conn.now) error plain was.2 failed
+
+  module _ (sql : List ℕ) (params : Row) (first : State) (hasher : Sha256)
+      (before : IsPlain (understood first.now.schema sql) → Survives first (state g old.conn.now) (λ _. ⊥))
+      (was : HasCleanDisk (state g old.conn.now) → IsPlain (understood first.now.schema sql) → Hashed g sql params first old.conn.now hasher)
+      (clean : HasCleanDisk (state g old.conn.now) → HasCleanDisk first) where
+    -- all rows were hashed
+    pub ends_whole : result ≡ Ok None → (digest : List ℕ) → ((message : List ℕ) → Holds256 hasher message → digest ≡ sha256 message)
+        → EndsHashing sql params first (state g new.conn.now) (Ok digest)
+    ends_whole is digest made = record {
+      hashes = λ late plain. hashed_all sql params first hasher (was (earlier late) plain) late is plain digest made;
+      same = λ late plain. unchanged first None is late (was (earlier late) plain).2;
+      err = λ late plain. tt;
+      clean = λ late. clean (earlier late);
+      survives = λ plain. survived first (before plain);
+    }
+
+    -- one was not given
+    pub ends_failed : (error : Error) → result ≡ Err error → (fault : StoreFault)
+        → EndsHashing sql params first (state g new.conn.now) (Err fault)
+    ends_failed error is fault = record {
+      hashes = λ late plain. tt;
+      same = λ late plain. tt;
+      err = λ late plain. failed_on sql params first hasher (was (earlier late) plain) late error is plain;
+      clean = λ late. clean (earlier late);
+      survives = λ plain. survived first (before plain);
+    }
+
+    -- one has no bytes
+    pub ends_refused : (row : Bor Row) → result ≡ Ok (Some row) → (fault : StoreFault)
+        → EndsHashing sql params first (state g new.conn.now) (Err fault)
+    ends_refused row is fault = record {
+      hashes = λ late plain. tt;
+      same = λ late plain. tt;
+      err = λ late plain. inl (unchanged first (Some row) is late (was (earlier late) plain).2);
+      clean = λ late. clean (earlier late);
+      survives = λ plain. survived first (before plain);
+    }

@@ -1,0 +1,118 @@
+-- Rows that are sent one at a time.
+use Rattle.std.proofs.Common.{◌≡◌, ◌⊎◌, inl, inr, List, ℕ, [], ◌∷◌, ◌++◌, ◌<◌, length, append-nil, append_assoc, Result, Ok, Err, OnOk, OnErr, Option, IsTrue, sym, ap, subst, ◌∙◌, ◌+◌, ◌-◌, ◌≤◌, length-append, arith}
+use Rattle.std.specs.Io.KnownBytes.{Appends}
+use Rattle.std.proofs.KnownBytes.{Appends-trans}
+use Rattle.sqlite.specs.Order.{Row}
+use Rattle.sqlite_trees.specs.Tree.{Trees}
+use Rattle.sqlite.specs.Effect.{Database}
+use Rattle.sqlite.specs.declared.error.Error.{Error}
+use Rattle.sqlite.specs.Listing.{understood, IsSourceOf, reads_listing}
+use Rattle.sqlite.specs.State.{State, Survives, CommitsShowing, IsUnchanged, IsRolledBack, Begins, FailsToQuery, FailsToShow, IsNotRun, HasCleanDisk}
+use Rattle.sqlite.specs.Clock.{timed}
+use Rattle.sqlite.proofs.StateLemmas.{survives_weaker}
+use Rattle.sqlite.proofs.Callers.{IsPlain, never_commits, unchanged_then}
+use Rattle.dep_streams.specs.declared.fault.BlockFault.{BlockFault}
+use Rattle.dep_streams.specs.declared.fault.BlockFault.TheVariants.{Writer, Store, Memory}
+use Rattle.dep_streams.specs.Sent.{blob_of, joined, IsOfStore, GivesRow, StopsBetween, SendsSized}
+
+pub commits_nothing : (sql : List ℕ) (params : Row) (old new : State) → IsPlain (understood old.now.schema sql) → Survives old new (CommitsShowing sql params old) → Survives old new (λ _. ⊥)
+commits_nothing sql params old new plain = survives_weaker old new _ _ (λ _ db. never_commits sql params old db plain)
+
+-- what begins an answer begins one of the first state
+pub begins_from : (sql : List ℕ) (params : Row) (first old : State) (rows : List Row) → IsUnchanged first old → Begins sql params old rows → Begins sql params first rows
+unfolding Begins
+begins_from sql params first old rows same h =
+    let now = same.0.now_is in (
+      h.0,
+      record { is = subst (λ (d : Database). understood d.schema sql ≡ Ok h.0) now h.1.is; whole = h.1.whole; given = h.1.given; now = h.1.now },
+      h.2,
+      h.3,
+      subst (λ (d : Database). IsSourceOf (reads_listing d.schema sql) d h.3) now h.4,
+      h.5,
+    )
+
+pub joined_push : (given : List Row) (row : Row) → joined (given ++ row ∷ []) ≡ joined given ++ blob_of row
+joined_push [] row = append-nil (blob_of row)
+joined_push (r ∷ given) row = ap (λ more. blob_of r ++ more) (joined_push given row) ∙ sym (append_assoc (blob_of r) (joined given) (blob_of row))
+
+pub joined_more : (sent : List ℕ) (given : List Row) (row : Row) → sent ≡ joined given → sent ++ blob_of row ≡ joined (given ++ row ∷ [])
+joined_more sent given row sends = ap (λ l. l ++ blob_of row) sends ∙ sym (joined_push given row)
+
+pub rolled_then : (a b c : State) → IsUnchanged a b → IsUnchanged b c ⊎ IsRolledBack b c → IsUnchanged a c ⊎ IsRolledBack a c
+rolled_then a b c same (inl still) = inl (unchanged_then a b c same still)
+rolled_then a b c same (inr back) = inr (record {
+  was_open = λ _. same.0.was_open;
+  undone = λ h. ((back.undone h).0 ∙ same.0.committed_is, (back.undone h).1 ∙ same.0.committed_is);
+  autocommit = back.autocommit;
+  unmarked = back.unmarked;
+  counts = record { changes = back.counts.changes ∙ same.1.changes; last_rowid = back.counts.last_rowid ∙ same.1.last_rowid };
+})
+
+pub was_open : (a b : State) → IsUnchanged a b ⊎ IsRolledBack a b → IsTrue b.is_open → IsTrue a.is_open
+was_open a b (inl same) h = same.0.was_open
+was_open a b (inr back) h = back.was_open h
+
+none_before : (before after : ℕ) → before ≤ after → after ≡ 0 → before ≡ 0
+none_before before after fewer none = omega arith
+
+-- a disk that is clean was so before
+pub clean_was : (old new : State) (Commits : Trees → Type 0) → Survives old new Commits → HasCleanDisk new → HasCleanDisk old
+clean_was old new Commits kept late = none_before _ _ kept.clean late
+
+-- a plain query that does not begin
+pub refused_left : (sql : List ℕ) (params : Row) (old new : State) (e : Error) → IsPlain (understood old.now.schema sql) → FailsToQuery sql params old new e → IsUnchanged old new ⊎ IsRolledBack old new
+unfolding FailsToQuery IsNotRun
+refused_left sql params old new e plain (inl (inl refused)) = inl refused.1
+refused_left sql params old new e plain (inl (inr failed)) = inr failed.3
+refused_left sql params old new e plain (inr h) =
+    let none = (subst IsPlain h.1.is plain).0 in
+    inl (subst (FailsToShow old new sql h.0 (timed params h.0.formats h.1.now) e) none h.2).3
+
+-- a plain query that was under way
+pub failed_then : (sql : List ℕ) (params : Row) (first old new : State) (e : Error) → IsPlain (understood first.now.schema sql) → IsUnchanged first old → FailsToQuery sql params old new e → IsUnchanged first new ⊎ IsRolledBack first new
+failed_then sql params first old new e plain same failed =
+    rolled_then first old new same (refused_left sql params old new e (subst (λ (d : Database). IsPlain (understood d.schema sql)) (sym same.0.now_is) plain) failed)
+
+pub left_by : {A E : Type 0} (r : Result A E) (a b : State) → OnOk r (IsUnchanged a b) → OnErr r (IsUnchanged a b ⊎ IsRolledBack a b) → IsUnchanged a b ⊎ IsRolledBack a b
+left_by (Ok x) a b ok err = inl ok
+left_by (Err e) a b ok err = err
+
+pub stops_sized : (sql : List ℕ) (params : Row) (old : State) (size : ℕ) (sent : List ℕ) (fault : BlockFault) → IsOfStore fault → length sent < size → StopsBetween sql params old sent → SendsSized sql params old size sent (Err fault)
+stops_sized sql params old size sent fault (inl e) low h = rw e (h, low)
+stops_sized sql params old size sent fault (inr e) low h = rw e (h, low)
+
+pub cut_sized : (sql : List ℕ) (params : Row) (old : State) (size : ℕ) (start held next : Option (List ℕ)) (sent : List ℕ) (row : Row) (Clean Plain : Type 0) (fault : BlockFault)
+    → Appends start held sent → GivesRow held next (blob_of row) (Err fault) → length sent < size
+    → (Clean → Plain → (given : List Row) × Begins sql params old given × Begins sql params old (given ++ row ∷ []) × (sent ≡ joined given))
+    → (more : List ℕ) × Appends start next more × (Clean → Plain → SendsSized sql params old size more (Err fault))
+cut_sized sql params old size start held next sent row Clean Plain Writer before took low h = (
+  sent ++ took.0,
+  Appends-trans start held next sent took.0 before took.2,
+  λ clean plain. let x = h clean plain in record { given = x.0; row = row; part = took.0; begins = x.2; short = took.1; sends = ap (λ (l : List ℕ). l ++ took.0) x.3 },
+)
+cut_sized sql params old size start held next sent row Clean Plain Store before same low h = (
+  sent,
+  subst (λ (t : Option (List ℕ)). Appends start t sent) (sym same) before,
+  λ clean plain. let x = h clean plain in (record { given = x.0; begins = inr x.1; sends = x.3 }, low),
+)
+cut_sized sql params old size start held next sent row Clean Plain Memory before took low h = absurd took
+
+some_less : (left sent size : ℕ) → 0 < left → left + sent ≡ size → sent < size
+some_less left sent size some is = omega arith
+
+-- what was sent and what is left of a size
+pub some_left : (left : ℕ) (sent : List ℕ) (size : ℕ) → 0 < left → left + length sent ≡ size → length sent < size
+some_left left sent size some is = some_less left (length sent) size some is
+
+less_by : (left n before bytes more size : ℕ) → n ≤ left → n ≡ bytes → left + before ≡ size → more ≡ before + bytes → (left - n) + more ≡ size
+less_by left n before bytes more size fits is was all = omega arith
+
+pub less_left : (left n size : ℕ) (sent bytes : List ℕ) → n ≤ left → n ≡ length bytes → left + length sent ≡ size → (left - n) + length (sent ++ bytes) ≡ size
+less_left left n size sent bytes fits is was = less_by left n (length sent) (length bytes) (length (sent ++ bytes)) size fits is was (length-append sent bytes)
+
+none_less : (left more size : ℕ) → left ≡ 0 → left + more ≡ size → more ≡ size
+none_less left more size none is = omega arith
+
+pub all_sent : (left n size : ℕ) (sent bytes : List ℕ) → left - n ≡ 0 → n ≤ left → n ≡ length bytes → left + length sent ≡ size → length (sent ++ bytes) ≡ size
+all_sent left n size sent bytes none fits is was =
+    none_less (left - n) (length (sent ++ bytes)) size none (less_left left n size sent bytes fits is was)

@@ -1,0 +1,180 @@
+-- What was sent of the content of a file.
+use Rattle.std.proofs.Common.{◌≡◌, ◌≢◌, ◌⊎◌, inl, inr, ℕ, ◌+◌, ◌<◌, pos, true, false, cond, List, [], ◌∷◌, ◌++◌, length, filter, Option, Some, None, Ok, Err, IsTrue, false, refl, sym, ap, subst, ◌∙◌, append-nil, append_assoc, length-append, is_eq, arith}
+use Rattle.std.specs.Prelude.{option_map, option_and_then}
+use Rattle.std.specs.List.{flat_map}
+use Rattle.std.specs.FinMap as finmap
+use Rattle.sqlite.specs.State.{IsUnchanged, IsRolledBack, Shown, ShowsRows}
+use Rattle.sqlite.specs.Clock.{timed}
+use Rattle.sqlite_schema.specs.declared.command.Returning.{Returning}
+use Rattle.sqlite.specs.State as db
+use Rattle.sqlite.specs.Held.{Held, state}
+use Rattle.sqlite.proofs.Callers.{unchanged_then}
+use Rattle.sqlite_trees.specs.declared.store.Store.{Ghosts}
+use Rattle.sqlite.specs.declared.types.Value.TheVariants.{Int}
+use Rattle.sqlite_value.specs.Order.{Row, column, value_cmp}
+use Rattle.dep_types.specs.Maps.{Numbered}
+use Rattle.dep_types.specs.State.{State, File, file_at}
+use Rattle.dep_statements.specs.Rows.{IsOrdered, row_at}
+use Rattle.dep_tables.specs.Rows.{is_block_of}
+use Rattle.dep_tables.specs.Tables.{Tables}
+use Rattle.dep_tables.specs.declared.owner.BlockOwner.TheVariants as owner
+use Rattle.dep_streams.specs.Sent as sent
+use Rattle.dep_streams.specs.Sent.{blob_of, BeginsBlocks, SendsBlocks}
+use Rattle.dep_streams.specs.declared.fault.BlockFault.{BlockFault}
+use Rattle.dep_streams.specs.declared.fault.BlockFault.TheVariants as blocks_fault
+use Rattle.dep_row_maps.specs.Owned.{placed}
+use Rattle.dep_row_maps.specs.Stored.{block_seen, block_rows, part_rows, blocks_of, file_stored, is_file_of}
+use Rattle.dep_row_maps.specs.TablesAre.{TablesAre, files_at, joined}
+use Rattle.dep_types.specs.Names.{if_passes}
+use Rattle.dep_row_maps.proofs.Files.{free_file, number_itself}
+use Rattle.dep_row_maps.proofs.Blocks.{blocks-sorted}
+use Rattle.dep_row_maps.proofs.Whole.{file_found_at}
+use Rattle.dep_streams.specs.declared.sizes.FileSize.{FileSize}
+use Rattle.dep_streams.specs.Sizes.{size_values, shown_size}
+use Rattle.dep_types.specs.Streams.{HasNoFile, IsStreamed}
+use Rattle.dep_streams.specs.Reading.{IsKept}
+use Rattle.dep_streams.specs.Faults.{fault_of_blocks}
+use Rattle.dep_files.proofs.Cuts.{blocks_join}
+use Rattle.dep_files.proofs.FileCalls.{file_is}
+
+-- ---- the blocks of a file, in order, are its content
+
+joined_both : (xs ys : List Row) → sent.joined (xs ++ ys) ≡ sent.joined xs ++ sent.joined ys
+joined_both [] ys = refl
+joined_both (x ∷ xs) ys = ap (λ l. blob_of x ++ l) (joined_both xs ys) ∙ sym (append_assoc (blob_of x) (sent.joined xs) (sent.joined ys))
+
+placed_joined : (part k : ℕ) (bs : List (List ℕ)) → sent.joined (placed (block_seen part) k bs) ≡ flat_map (λ b. b) bs
+placed_joined part k [] = refl
+placed_joined part k (b ∷ bs) = ap (λ l. b ++ l) (placed_joined part (k + 1) bs)
+
+parts_joined : (m : Numbered (List ℕ)) → sent.joined (block_rows m) ≡ joined m
+parts_joined m = go (finmap.entries m)
+  where
+    go : (es : List (ℕ × List ℕ)) → sent.joined (flat_map (λ e. part_rows e.0 e.1) es) ≡ flat_map (λ e. e.1) es
+    go [] = refl
+    go (e ∷ es) = joined_both (part_rows e.0 e.1) (flat_map (λ x. part_rows x.0 x.1) es)
+        ∙ ap (λ l. l ++ sent.joined (flat_map (λ x. part_rows x.0 x.1) es)) (placed_joined e.0 0 (blocks_of e.1) ∙ blocks_join e.1) ∙ ap (λ l. e.1 ++ l) (go es)
+
+begun : (t : Tables) (s : State) (n f : ℕ) (file : File) (bytes : List ℕ) → TablesAre t s → file_at s n f ≡ Some file → (b : BeginsBlocks (filter (is_block_of (owner.File f)) t.blocks) bytes) → file.content ≡ bytes ++ b.rest
+begun t s n f file bytes h has b =
+    sym (h.files_parts.of_files n f file (file_is s n f ∙ has)) ∙ sym (parts_joined (h.parts (owner.File f)))
+    ∙ ap sent.joined (sym (blocks-sorted t.blocks h.parts h.blocks (owner.File f) b.all b.ordered.same b.ordered.sorted)) ∙ b.whole
+
+-- ---- the size of a file
+
+pub record IsSized (s : State) (f : ℕ) (size : ℕ) : Type 0 where
+  pub object : ℕ
+  pub file : File
+  pub held : file_at s object f ≡ Some file
+  pub sized : size ≡ length file.content
+
+abbrev pub SizeTold : State → ℕ → Option FileSize → Type 0
+SizeTold s f (Some found) = IsSized s f found.size
+SizeTold s f None = HasNoFile s f
+
+pub size_told : (t : Tables) (s : State) (f : ℕ) (found : Option FileSize) → TablesAre t s → IsOrdered t.files → option_map size_values found ≡ option_map shown_size (row_at t.files f) → SizeTold s f found
+size_told t s f found h up read = go found (row_at t.files f) refl read
+  where
+    of_row : (n size : ℕ) (row : Row) (x : Option File) → size_values (record { object = n; size = size }) ≡ shown_size row → Some row ≡ option_map (file_stored n f) x → (file : File) × (x ≡ Some file) × (size ≡ length file.content)
+    of_row n size row None shown e = absurd (cc)
+    of_row n size row (Some file) shown e =
+        let it : row ≡ file_stored n f file = cc in
+        let both : size_values (record { object = n; size = size }) ≡ shown_size (file_stored n f file) = shown ∙ ap shown_size it in
+        let same : size ≡ length file.content = cc in (file, refl, same)
+
+    go : (found : Option FileSize) (there : Option Row) → row_at t.files f ≡ there → option_map size_values found ≡ option_map shown_size there → SizeTold s f found
+    go None None is e = λ n. sym (file_is s n f) ∙ free_file t.files (files_at s.objects) (files_at s.objects) h.files up n f is
+    go None (Some row) is e = absurd (cc)
+    go (Some z) None is e = absurd (cc)
+    go (Some z) (Some row) is e =
+        let shown : size_values z ≡ shown_size row = cc in
+        let number : column row 2 ≡ Int (pos z.object) = sym (ap (λ (r : Row). column r 0) shown) in
+        let its : is_file_of z.object row ≡ true = ap (λ v. is_eq (value_cmp v (Int (pos z.object)))) number ∙ number_itself z.object in
+        let found = file_found_at t s h up z.object f in
+        let told : Some row ≡ option_map (file_stored z.object f) (finmap.get (files_at s.objects z.object) f) =
+        sym (ap (λ b. cond b (Some row) None) its) ∙ ap (option_and_then (if_passes (is_file_of z.object))) (sym is) ∙ found in
+        let it = of_row z.object z.size row (finmap.get (files_at s.objects z.object) f) shown told in
+        record { object = z.object; file = it.0; held = sym (file_is s z.object f) ∙ it.1; sized = it.2 }
+
+-- ---- what was sent
+
+none_after : (xs ys : List ℕ) → length (xs ++ ys) ≡ length xs → ys ≡ []
+none_after xs [] e = refl
+none_after xs (y ∷ ys) e = absurd (let len = length-append xs (y ∷ ys) in omega (arith, len, e))
+
+more_after : (xs ys : List ℕ) → length xs < length (xs ++ ys) → ys ≢ []
+more_after xs ys h e = let len = ap length (ap (λ l. xs ++ l) e ∙ append-nil xs) in omega (arith, h, len)
+
+pub all_sent : (t : Tables) (s : State) (f size : ℕ) (bytes : List ℕ) (done x : Unit {0}) → TablesAre t s → IsSized s f size → SendsBlocks (filter (is_block_of (owner.File f)) t.blocks) size bytes (Ok done) → IsStreamed {X = Unit {0}} s f bytes (Ok x)
+all_sent t s f size bytes done x h z h2 = record { object = z.object; file = z.file; held = z.held; is = go h2.0 }
+  where
+    go : (bytes ≡ []) ⊎ BeginsBlocks (filter (is_block_of (owner.File f)) t.blocks) bytes → z.file.content ≡ bytes
+    go (inl none) = empty z.file.content (sym z.sized ∙ sym h2.1 ∙ ap length none) ∙ sym none
+      where
+        empty : (xs : List ℕ) → length xs ≡ 0 → xs ≡ []
+        empty [] e = refl
+        empty (y ∷ ys) e = absurd (omega arith)
+    go (inr b) =
+        let whole = begun t s z.object f z.file bytes h z.held b in
+        whole ∙ ap (λ l. bytes ++ l) (none_after bytes b.rest (sym (ap length whole) ∙ sym z.sized ∙ sym h2.1)) ∙ append-nil bytes
+
+pub some_sent : (t : Tables) (s : State) (f size : ℕ) (bytes : List ℕ) (fault : BlockFault) → TablesAre t s → IsSized s f size → SendsBlocks (filter (is_block_of (owner.File f)) t.blocks) size bytes (Err fault) → IsStreamed {X = Unit {0}} s f bytes (Err (fault_of_blocks fault))
+some_sent t s f size bytes blocks_fault.Writer h z b =
+    record { whole = z.file.content; has = record { object = z.object; file = z.file; held = z.held; is = refl }; front = record { rest = b.0.rest; joined = begun t s z.object f z.file bytes h z.held b.0; short = b.1 } }
+some_sent t s f size bytes blocks_fault.Store h z b = short b.0
+  where
+    short : (bytes ≡ []) ⊎ BeginsBlocks (filter (is_block_of (owner.File f)) t.blocks) bytes → IsStreamed {X = Unit {0}} s f bytes (Err (fault_of_blocks blocks_fault.Store))
+    short (inl none) = inl none
+    short (inr begins) =
+        let whole = begun t s z.object f z.file bytes h z.held begins in
+        inr (record { whole = z.file.content; has = record { object = z.object; file = z.file; held = z.held; is = refl }; front = record { rest = begins.rest; joined = whole; short = more_after bytes begins.rest (subst (λ n. length bytes < n) (z.sized ∙ ap length whole) b.1) } })
+some_sent t s f size bytes blocks_fault.Memory h z b = short b.0
+  where
+    short : (bytes ≡ []) ⊎ BeginsBlocks (filter (is_block_of (owner.File f)) t.blocks) bytes → IsStreamed {X = Unit {0}} s f bytes (Err (fault_of_blocks blocks_fault.Memory))
+    short (inl none) = inl none
+    short (inr begins) =
+        let whole = begun t s z.object f z.file bytes h z.held begins in
+        inr (record { whole = z.file.content; has = record { object = z.object; file = z.file; held = z.held; is = refl }; front = record { rest = begins.rest; joined = whole; short = more_after bytes begins.rest (subst (λ n. length bytes < n) (z.sized ∙ ap length whole) b.1) } })
+
+-- ---- what is kept
+
+pub kept_same : (old new : db.State) → IsUnchanged old new → IsKept old new
+kept_same old new same = λ is_open. ((same.0.was_open, same.0.committed_is), inl (same.0.now_is, same.0.mode))
+
+pub kept_back : (old new : db.State) → IsRolledBack old new → IsKept old new
+kept_back old new back = λ is_open. ((back.was_open is_open, (back.undone is_open).1), inr ((back.undone is_open).0, back.autocommit))
+
+pub kept_then : (old mid new : db.State) → IsUnchanged old mid → IsKept mid new → IsKept old new
+kept_then old mid new same kept is_open = let k = kept is_open in ((same.0.was_open, k.0.1 ∙ same.0.committed_is), go k.1)
+  where
+    go : ((new.now ≡ mid.now) × (new.in_transaction ≡ mid.in_transaction)) ⊎ ((new.now ≡ mid.committed) × (new.in_transaction ≡ false)) → ((new.now ≡ old.now) × (new.in_transaction ≡ old.in_transaction)) ⊎ ((new.now ≡ old.committed) × (new.in_transaction ≡ false))
+    go (inl x) = inl (x.0 ∙ same.0.now_is, x.1 ∙ same.0.mode)
+    go (inr x) = inr (x.0 ∙ same.0.committed_is, x.1)
+
+pub kept_failed : (old new : db.State) → IsUnchanged old new ⊎ IsRolledBack old new → IsKept old new
+kept_failed old new (inl same) = kept_same old new same
+kept_failed old new (inr back) = kept_back old new back
+
+pub kept_itself : (now : db.State) → IsKept now now
+kept_itself now is_open = ((is_open, refl), inl (refl, refl))
+
+pub kept_asked : {S : Type 0} (g : Ghosts S) (old new : Held S) → (new ≡ old) ⊎ (IsUnchanged (state g old) (state g new) ⊎ IsRolledBack (state g old) (state g new)) → IsKept (state g old) (state g new)
+kept_asked {S = S} g old new (inl none) = subst (λ (h : Held S). IsKept (state g old) (state g h)) (sym none) (kept_itself (state g old))
+kept_asked g old new (inr left) = kept_failed (state g old) (state g new) left
+
+pub still_on : {S : Type 0} (g : Ghosts S) (old : db.State) (mid new : Held S) → IsUnchanged old (state g mid) → (new ≡ mid) ⊎ IsUnchanged (state g mid) (state g new) → IsUnchanged old (state g new)
+still_on {S = S} g old mid new same (inl none) = subst (λ (h : Held S). IsUnchanged old (state g h)) (sym none) same
+still_on g old mid new same (inr still) = unchanged_then old (state g mid) (state g new) same still
+
+-- what shows rows was open
+pub shown_open : (sql : List ℕ) (params : Row) (old new : db.State) (rows : List Row) → Shown sql params old new rows → IsTrue old.is_open
+unfolding Shown
+shown_open sql params old new rows h = either h.0.returning h.2
+  where
+    either : (returning : Option Returning) → ShowsRows old new sql h.0 (timed params h.0.formats h.1.now) rows returning → IsTrue old.is_open
+    either None shows = shows.3.0.was_open
+    either (Some what) shows = shows.1.shown.was_open
+
+pub left_open : (old new : db.State) → IsUnchanged old new ⊎ IsRolledBack old new → IsTrue new.is_open → IsTrue old.is_open
+left_open old new (inl same) is_open = same.0.was_open
+left_open old new (inr back) is_open = back.was_open is_open

@@ -1,0 +1,52 @@
+use Rattle.std.proofs.Common.{inl, inr, refl, sym, []}
+use Rattle.std.proofs.KnownBytes.{Appends-nil}
+use Rattle.sqlite.specs.Held.{state}
+use Rattle.sqlite.proofs.StateLemmas.{unchanged}
+use Rattle.dep_tables.specs.Texts.{blocks_of_text}
+use Rattle.dep_tables.proofs.Leading.{plain_here}
+use Rattle.dep_tables.proofs.Results.{ok_then}
+use Rattle.dep_streams.specs.declared.fault.BlockFault.TheVariants.{Writer}
+use Rattle.dep_streams.proofs.FaultsTold.{none_stopped, store_stopped}
+use Rattle.dep_streams.proofs.OrderedBlocks.{sends_owner, owner_is}
+use Rattle.dep_files.proofs.Results.{some_where, survives_itself}
+use Rattle.dep_streams.proofs.blocks.stream_blocks.Goals as goal
+
+pub returns : goal.returns
+returns g c =
+    let old = state g.S.Store c.args.connection.now in
+    let it = rw c.owner_params.ensures at c.stream_sized.ensures.streams in
+    let sent = c.stream_sized.ensures in
+    record {
+      streams = (it.0, it.1, λ clean ours. sends_owner old c.args.owner c.args.size it.0 c.stream_sized.result ours (it.2 clean (plain_here old blocks_of_text ours owner_is.plain)));
+      ok = λ clean ours. ok_then c.stream_sized.result (sent.ok clean (plain_here old blocks_of_text ours owner_is.plain)) (λ same. inr same);
+      err = λ clean ours is_open. sent.err clean (plain_here old blocks_of_text ours owner_is.plain);
+      clean = sent.clean;
+      survives = λ ours. sent.survives (plain_here old blocks_of_text ours owner_is.plain);
+      kept = sent.kept;
+      cause = sent.cause;
+      others = sent.others;
+    }
+
+pub returns-then-size-eq0 : goal.returns-then-size-eq0
+returns-then-size-eq0 g c = record {
+  streams = ([], Appends-nil _, λ clean ours. (inl refl, sym c.if-size-eq0.true));
+  ok = λ clean ours. inl refl;
+  err = λ clean ours is_open. tt;
+  clean = λ clean. clean;
+  survives = λ ours. survives_itself (state g.S.Store c.args.connection.now);
+  kept = refl;
+  cause = λ e. absurd (none_stopped tt Writer e);
+  others = λ _. refl;
+}
+
+pub returns-then-not-is_storable_owner : goal.returns-then-not-is_storable_owner
+returns-then-not-is_storable_owner g c = record {
+  streams = ([], Appends-nil _, λ clean ours. (inl refl, some_where c.args.size c.if-size-eq0.false));
+  ok = λ clean ours. tt;
+  err = λ clean ours is_open. inl (unchanged (state g.S.Store c.args.connection.now) is_open);
+  clean = λ clean. clean;
+  survives = λ ours. survives_itself (state g.S.Store c.args.connection.now);
+  kept = tt;
+  cause = λ e. absurd (store_stopped e);
+  others = λ _. refl;
+}

@@ -1,0 +1,108 @@
+use Rattle.std.proofs.Common.{◌∙◌, refl, sym, subst, rules, Ok, Err, Some, None}
+use Rattle.sqlite.specs.Held.{state}
+use Rattle.sqlite.specs.Values.{bound}
+use Rattle.dep_streams.specs.declared.fault.BlockFault.TheVariants.{Store}
+use Rattle.dep_streams.proofs.NextRow.{answered}
+use Rattle.dep_streams.proofs.RowsSent.{EndsSending, not_begun, none_sent, one_more, ends_failed, ends_short, ends_cut, ends_whole, ends_uncounted}
+use Rattle.dep_streams.proofs.sending.stream_sized.Goals as goal
+
+pub returns-in-Err : goal.returns-in-Err
+returns-in-Err g c =
+    let it = not_begun g.S.Store c.args.sql.now (bound c.args.params.now) c.args.connection.now c.query.follows.lender-at-none c.args.size
+    (g.O.Outlet.taken c.args.out.now) (g.O.Outlet.failures c.args.out.now) c.query.result c.in-Err.error c.block_fault_of.result
+    c.requires c.block_fault_of.ensures c.query.follows.holds-at-none c.in-Err.is in
+    record { streams = it.streams; ok = it.ok; err = it.err; clean = it.clean; survives = it.survives; kept = it.kept; cause = it.cause; others = it.others }
+
+pub rows-init : goal.rows-init
+rows-init g c = (
+  refl,
+  none_sent g.S.Store c.args.sql.now (bound c.args.params.now) c.args.connection.now c.in-Ok.rows.conn.now c.args.size
+      (g.O.Outlet.taken c.args.out.now) (g.O.Outlet.failures c.args.out.now) c.requires c.in-Ok.ensures.begun c.in-Ok.ensures.survives,
+)
+
+pub rows-preserved : goal.rows-preserved
+rows-preserved g c =
+    let moved = c.next.follows.holds-at-none in
+    let gave = c.in-Ok-give_sized.ensures in (
+      moved.same_reference ∙ c.rows.invariant.0,
+      one_more c.rows.rows c.next.follows.lender-at-none c.next.result moved c.rows.invariant.1
+          c.in-Some.row (answered c.next.result c.in-Ok-next.next (Some c.in-Some.row) c.in-Ok-next.is c.in-Some.is)
+          (g.O.Outlet.taken c.give_sized.new.out) (g.O.Outlet.failures c.give_sized.new.out)
+          c.in-Ok-give_sized.n gave.gives gave.fits gave.kept (search rules),
+    )
+
+pub returns-in-Err-next : goal.returns-in-Err-next
+returns-in-Err-next g c =
+    let moved = c.next.follows.holds-at-none in
+    let now = c.next.follows.lender-at-none in
+    let names = sym (moved.same_reference ∙ c.rows.invariant.0 ∙ c.in-Ok.ensures.same_reference) in
+    let back = sym (c.connection-in-Err-next-1.given.1 names ∙ c.drop-rows.ensures) in
+    let it = subst
+    (λ h. EndsSending c.args.sql.now (bound c.args.params.now) (state g.S.Store c.args.connection.now) (state g.S.Store h) c.args.size
+    (g.O.Outlet.taken c.args.out.now) (g.O.Outlet.taken c.rows.out) (g.O.Outlet.failures c.args.out.now) (g.O.Outlet.failures c.rows.out)
+    (Err c.block_fault_of-in-Err-next.result))
+    back
+    (ends_failed c.rows.rows now c.next.result moved c.rows.invariant.1 c.in-Err-next.error c.in-Err-next.is c.block_fault_of-in-Err-next.result c.block_fault_of-in-Err-next.ensures) in
+    record { streams = it.streams; ok = it.ok; err = it.err; clean = it.clean; survives = it.survives; kept = it.kept; cause = it.cause; others = it.others }
+
+pub returns-in_default : goal.returns-in_default
+returns-in_default g c =
+    let moved = c.next.follows.holds-at-none in
+    let now = c.next.follows.lender-at-none in
+    let names = sym (moved.same_reference ∙ c.rows.invariant.0 ∙ c.in-Ok.ensures.same_reference) in
+    let back = sym (c.connection-in_default-1.given.1 names ∙ c.drop-rows-in_default.ensures) in
+    let it = subst
+    (λ h. EndsSending c.args.sql.now (bound c.args.params.now) (state g.S.Store c.args.connection.now) (state g.S.Store h) c.args.size
+    (g.O.Outlet.taken c.args.out.now) (g.O.Outlet.taken c.rows.out) (g.O.Outlet.failures c.args.out.now) (g.O.Outlet.failures c.rows.out)
+    (Err Store))
+    back
+    (ends_short c.rows.rows now c.next.result moved c.rows.invariant.1 (answered c.next.result c.in-Ok-next.next None c.in-Ok-next.is c.in_default.is)) in
+    record { streams = it.streams; ok = it.ok; err = it.err; clean = it.clean; survives = it.survives; kept = it.kept; cause = it.cause; others = it.others }
+
+pub returns-in-Err-give_sized : goal.returns-in-Err-give_sized
+returns-in-Err-give_sized g c =
+    let moved = c.next.follows.holds-at-none in
+    let now = c.next.follows.lender-at-none in
+    let names = sym (moved.same_reference ∙ c.rows.invariant.0 ∙ c.in-Ok.ensures.same_reference) in
+    let back = sym (c.connection-in-Err-give_sized-1.given.1 names ∙ c.drop-rows-in-Err-give_sized.ensures) in
+    let gave = c.in-Err-give_sized.ensures in
+    let it = subst
+    (λ h. EndsSending c.args.sql.now (bound c.args.params.now) (state g.S.Store c.args.connection.now) (state g.S.Store h) c.args.size
+    (g.O.Outlet.taken c.args.out.now) (g.O.Outlet.taken c.give_sized.new.out) (g.O.Outlet.failures c.args.out.now) (g.O.Outlet.failures c.give_sized.new.out)
+    (Err c.in-Err-give_sized.fault))
+    back
+    (ends_cut c.rows.rows now c.next.result moved c.rows.invariant.1
+    c.in-Some.row (answered c.next.result c.in-Ok-next.next (Some c.in-Some.row) c.in-Ok-next.is c.in-Some.is)
+    (g.O.Outlet.taken c.give_sized.new.out) (g.O.Outlet.failures c.give_sized.new.out)
+    c.in-Err-give_sized.fault gave.gives gave.cause gave.others) in
+    record { streams = it.streams; ok = it.ok; err = it.err; clean = it.clean; survives = it.survives; kept = it.kept; cause = it.cause; others = it.others }
+
+pub returns-then-left-eq0 : goal.returns-then-left-eq0
+returns-then-left-eq0 g c =
+    let moved = c.next.follows.holds-at-none in
+    let now = c.next.follows.lender-at-none in
+    let names = sym (moved.same_reference ∙ c.rows.invariant.0 ∙ c.in-Ok.ensures.same_reference) in
+    let back = sym (c.connection-then-left-eq0-1.given.1 names ∙ c.drop-rows-then-left-eq0.ensures) in
+    let gave = c.in-Ok-give_sized.ensures in
+    let it = subst
+    (λ h. EndsSending c.args.sql.now (bound c.args.params.now) (state g.S.Store c.args.connection.now) (state g.S.Store h) c.args.size
+    (g.O.Outlet.taken c.args.out.now) (g.O.Outlet.taken c.give_sized.new.out) (g.O.Outlet.failures c.args.out.now) (g.O.Outlet.failures c.give_sized.new.out)
+    (Ok tt))
+    back
+    (ends_whole c.rows.rows now c.next.result moved c.rows.invariant.1
+    c.in-Some.row (answered c.next.result c.in-Ok-next.next (Some c.in-Some.row) c.in-Ok-next.is c.in-Some.is)
+    (g.O.Outlet.taken c.give_sized.new.out) (g.O.Outlet.failures c.give_sized.new.out)
+    c.in-Ok-give_sized.n gave.gives gave.fits gave.kept c.if-left-eq0.true) in
+    record { streams = it.streams; ok = it.ok; err = it.err; clean = it.clean; survives = it.survives; kept = it.kept; cause = it.cause; others = it.others }
+
+-- no more rows can be counted
+pub returns : goal.returns
+returns g c =
+    let names = sym (c.rows.invariant.0 ∙ c.in-Ok.ensures.same_reference) in
+    let back = sym (c.connection-2-1.given.1 names ∙ c.drop-rows-2.ensures) in
+    let it = subst
+    (λ h. EndsSending c.args.sql.now (bound c.args.params.now) (state g.S.Store c.args.connection.now) (state g.S.Store h) c.args.size
+    (g.O.Outlet.taken c.args.out.now) (g.O.Outlet.taken c.rows.out) (g.O.Outlet.failures c.args.out.now) (g.O.Outlet.failures c.rows.out)
+    (Err Store))
+    back (ends_uncounted c.rows.rows.conn.now c.rows.invariant.1) in
+    record { streams = it.streams; ok = it.ok; err = it.err; clean = it.clean; survives = it.survives; kept = it.kept; cause = it.cause; others = it.others }

@@ -1,0 +1,45 @@
+use Rattle.std.proofs.Common.{inl, inr, ap, map, ◌∙◌}
+use Rattle.dep_statements.specs.Rows.{columns_from}
+use Rattle.sqlite.specs.Held.{state}
+use Rattle.dep_statements.proofs.Asked.{shown_unchanged, asks_leave}
+use Rattle.dep_tables.proofs.Results.{if_ok, if_failed, if_then}
+use Rattle.dep_tables.proofs.Leading.{plain_here}
+use Rattle.dep_streams.proofs.SendingLemmas.{commits_nothing}
+use Rattle.dep_streams.specs.Sizes.{find_size_text}
+use Rattle.dep_streams.proofs.SizeFound.{find_is, finds_size}
+use Rattle.dep_streams.proofs.Streams.{shown_open, left_open}
+use Rattle.dep_streams.proofs.sizes.find_size.Goals as goal
+
+pub returns-in-Ok-clause-ok : goal.returns-in-Ok-clause-ok
+returns-in-Ok-clause-ok g c clean ours =
+    let shown = rw c.key_param.ensures at (c.in-Ok.ensures.ok clean) in
+    if_then c.only.result c.only.ensures (λ found read. finds_size (state g.S.Store c.args.connection.now) (state g.S.Store c.query_all-asked.new.self) c.args.file found _ ours shown (read ∙ ap (map (columns_from 0 2)) c.as_slice.ensures.value))
+
+pub returns-in-Ok-clause-same : goal.returns-in-Ok-clause-same
+returns-in-Ok-clause-same g c clean ours =
+    if_ok c.only.result (shown_unchanged _ _ (state g.S.Store c.args.connection.now) (state g.S.Store c.query_all-asked.new.self) (plain_here (state g.S.Store c.args.connection.now) find_size_text ours find_is.plain) _ (c.in-Ok.ensures.ok clean))
+
+pub returns-in-Ok-clause-err : goal.returns-in-Ok-clause-err
+returns-in-Ok-clause-err g c clean ours =
+    if_failed c.only.result (inr (inl (shown_unchanged _ _ (state g.S.Store c.args.connection.now) (state g.S.Store c.query_all-asked.new.self) (plain_here (state g.S.Store c.args.connection.now) find_size_text ours find_is.plain) _ (c.in-Ok.ensures.ok clean))))
+
+pub returns-in-Ok-clause-survives : goal.returns-in-Ok-clause-survives
+returns-in-Ok-clause-survives g c ours = commits_nothing _ _ (state g.S.Store c.args.connection.now) (state g.S.Store c.query_all-asked.new.self) (plain_here (state g.S.Store c.args.connection.now) find_size_text ours find_is.plain) c.in-Ok.ensures.survives
+
+pub returns-in-Err-clause-err : goal.returns-in-Err-clause-err
+returns-in-Err-clause-err g c clean ours = inr (asks_leave _ _ (state g.S.Store c.args.connection.now) (state g.S.Store c.query_all-asked.new.self) _ (inl (c.in-Err.ensures.err clean)))
+
+pub returns-in-Err-clause-survives : goal.returns-in-Err-clause-survives
+returns-in-Err-clause-survives g c ours = commits_nothing _ _ (state g.S.Store c.args.connection.now) (state g.S.Store c.query_all-asked.new.self) (plain_here (state g.S.Store c.args.connection.now) find_size_text ours find_is.plain) c.in-Err.ensures.survives
+
+pub returns-in-Ok-clause-found : goal.returns-in-Ok-clause-found
+returns-in-Ok-clause-found g c clean =
+    if_ok c.only.result (shown_open _ _ (state g.S.Store c.args.connection.now) (state g.S.Store c.query_all-asked.new.self) _ (c.in-Ok.ensures.ok clean))
+
+pub returns-in-Ok-clause-open : goal.returns-in-Ok-clause-open
+returns-in-Ok-clause-open g c clean is_open =
+    shown_open _ _ (state g.S.Store c.args.connection.now) (state g.S.Store c.query_all-asked.new.self) _ (c.in-Ok.ensures.ok clean)
+
+pub returns-in-Err-clause-open : goal.returns-in-Err-clause-open
+returns-in-Err-clause-open g c clean =
+    left_open (state g.S.Store c.args.connection.now) (state g.S.Store c.query_all-asked.new.self) (asks_leave _ _ (state g.S.Store c.args.connection.now) (state g.S.Store c.query_all-asked.new.self) _ (inl (c.in-Err.ensures.err clean)))

@@ -1,0 +1,82 @@
+-- What was sent of the blocks that a query shows.
+use Rattle.std.specs.Prelude.{◌≡◌, ◌≢◌, ◌⊎◌, ◌<◌, ℕ, List, [], ◌∷◌, ◌++◌, length, map, Option, Result, Ok, Err}
+use Rattle.std.specs.Io.KnownBytes.{Appends}
+use Rattle.dep_types.specs.Writing.{IsProperPrefix, TakesPart}
+use Rattle.sqlite.specs.Order.{Row, column}
+use Rattle.sqlite.specs.declared.types.Value.{Value}
+use Rattle.sqlite.specs.declared.types.Value.TheVariants.{Blob}
+use Rattle.sqlite.specs.State.{State, Begins}
+use Rattle.dep_statements.specs.Rows.{InOrder}
+use Rattle.dep_tables.specs.Rows.{shown_block, by_part_and_place}
+use Rattle.dep_streams.specs.declared.fault.BlockFault.{BlockFault}
+use Rattle.dep_streams.specs.declared.fault.BlockFault.TheVariants.{Writer, Store, Memory}
+
+-- the bytes of a value that is a blob
+abbrev pub blob_in : Value → List ℕ
+blob_in (Blob b) = b
+blob_in _ = []
+
+-- the bytes of a block as it is shown
+abbrev pub blob_of : Row → List ℕ
+blob_of row = blob_in (column row 2)
+
+-- the bytes of the rows, in turn
+abbrev pub joined : List Row → List ℕ
+joined [] = []
+joined (row ∷ rows) = blob_of row ++ joined rows
+
+abbrev pub IsOfStore : BlockFault → Type 0
+IsOfStore fault = (fault ≡ Store) ⊎ (fault ≡ Memory)
+
+abbrev pub GivesRow : Option (List ℕ) → Option (List ℕ) → List ℕ → Result (Unit {0}) BlockFault → Type 0
+GivesRow old new bytes (Ok done) = Appends old new bytes
+GivesRow old new bytes (Err Writer) = TakesPart old new bytes
+GivesRow old new bytes (Err Store) = new ≡ old
+GivesRow old new bytes (Err Memory) = ⊥
+
+-- these are the first rows of an answer, all of whose bytes were sent
+pub record StopsBetween (sql : List ℕ) (params : Row) (old : State) (sent : List ℕ) : Type 0 where
+  pub given : List Row
+  pub begins : (given ≡ []) ⊎ Begins sql params old given
+  pub sends : sent ≡ joined given
+
+-- these are the first rows of an answer; of the last of them a proper prefix was sent
+pub record StopsWithin (sql : List ℕ) (params : Row) (old : State) (sent : List ℕ) : Type 0 where
+  pub given : List Row
+  pub row : Row
+  pub part : List ℕ
+  pub begins : Begins sql params old (given ++ row ∷ [])
+  pub short : IsProperPrefix part (blob_of row)
+  pub sends : sent ≡ joined given ++ part
+
+abbrev pub GivesSized : Option (List ℕ) → Option (List ℕ) → List ℕ → Result ℕ BlockFault → Type 0
+GivesSized old new bytes (Ok n) = Appends old new bytes × (n ≡ length bytes)
+GivesSized old new bytes (Err fault) = GivesRow old new bytes (Err fault)
+
+-- the first rows of an answer, up to so many bytes
+abbrev pub SendsSized : List ℕ → Row → State → ℕ → List ℕ → Result (Unit {0}) BlockFault → Type 0
+SendsSized sql params old size sent (Ok done) = StopsBetween sql params old sent
+    × (length sent ≡ size)
+SendsSized sql params old size sent (Err Writer) = StopsWithin sql params old sent
+SendsSized sql params old size sent (Err Store) = StopsBetween sql params old sent
+    × (length sent < size)
+SendsSized sql params old size sent (Err Memory) = StopsBetween sql params old sent
+    × (length sent < size)
+
+-- the bytes begin those of these stored blocks, by part and place
+pub record BeginsBlocks (stored : List Row) (sent : List ℕ) : Type 0 where
+  pub all : List Row
+  pub ordered : InOrder by_part_and_place (map shown_block stored) all
+  pub rest : List ℕ
+  pub whole : joined all ≡ sent ++ rest
+
+-- So many bytes of the blocks, by part and place; fewer where the store failed, and where the outlet failed
+-- the first bytes and not all.
+abbrev pub SendsBlocks : List Row → ℕ → List ℕ → Result (Unit {0}) BlockFault → Type 0
+SendsBlocks stored size sent (Ok done) = ((sent ≡ []) ⊎ BeginsBlocks stored sent)
+    × (length sent ≡ size)
+SendsBlocks stored size sent (Err Writer) = (h : BeginsBlocks stored sent) × (h.rest ≢ [])
+SendsBlocks stored size sent (Err Store) = ((sent ≡ []) ⊎ BeginsBlocks stored sent)
+    × (length sent < size)
+SendsBlocks stored size sent (Err Memory) = ((sent ≡ []) ⊎ BeginsBlocks stored sent)
+    × (length sent < size)

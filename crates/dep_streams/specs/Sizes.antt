@@ -1,0 +1,15 @@
+-- What is told of a file before its content is sent.
+use Rattle.std.specs.Prelude.{ℕ, pos, List, [], ◌∷◌, codes}
+use Rattle.sqlite.specs.declared.types.Value.TheVariants.{Int}
+use Rattle.sqlite_value.specs.Order.{Row, column}
+use Rattle.dep_streams.specs.declared.sizes.FileSize.{FileSize}
+
+abbrev pub find_size_text : List ℕ
+find_size_text = codes "SELECT object, size FROM files WHERE file = ?1"
+
+abbrev pub size_values : FileSize → Row
+size_values f = Int (pos f.object) ∷ Int (pos f.size) ∷ []
+
+-- the object and the size of a stored row
+abbrev pub shown_size : Row → Row
+shown_size stored = column stored 2 ∷ column stored 5 ∷ []

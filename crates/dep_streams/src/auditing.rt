@@ -1,0 +1,94 @@
+//! Files whose bytes are not those that were deposited.
+
+ghost use Rattle.std.specs.Prelude.{◌⊎◌, IsTrue, IfOk, OnOk, OnErr};
+ghost use Rattle.sqlite.specs.State.{HasCleanDisk, Survives, IsUnchanged, IsRolledBack};
+ghost use Rattle.sqlite.specs.Held.{state};
+ghost use Rattle.dep_tables.specs.Tables.{tables_of, IsOurs};
+ghost use Rattle.dep_streams.specs.Reading.{IsKept};
+ghost use Rattle.dep_streams.specs.Fixity.{IsAudited, KeepsDamaged};
+
+use crate::hashing::hash_blocks;
+use crate::watch::Watch;
+use dep_tables::BlockOwner;
+use dep_types::{FileRow, StoreFault};
+use sqlite::{Alter, Connection};
+use std::alloc::Global;
+
+/// What an audit of files found.
+#[derive(Drop)]
+pub struct Audit {
+    /// How many files were checked.
+    pub checked: u64,
+    /// The numbers of those whose bytes have another SHA-256 than their row keeps, in the order of the rows.
+    pub damaged: Vec<u64>,
+}
+
+// Notes the number of the file where its bytes have another digest.
+fn keep_damaged<S: Alter, W: Watch>(
+    connection: &mut Connection<S>,
+    damaged: &mut Vec<u64>,
+    row: &FileRow,
+    watch: &mut W,
+) -> Result<(), StoreFault>
+    ensures notes { HasCleanDisk (state S.Store connection.new) → IsOurs (state S.Store connection.old)
+        → OnOk result (KeepsDamaged (tables_of (state S.Store connection.old)) row.now
+        damaged.old.items damaged.new.items) }
+    ensures same { HasCleanDisk (state S.Store connection.new) → IsOurs (state S.Store connection.old)
+        → OnOk result (IsUnchanged (state S.Store connection.old) (state S.Store connection.new)) }
+    ensures err { HasCleanDisk (state S.Store connection.new) → IsOurs (state S.Store connection.old)
+        → IsTrue (state S.Store connection.new).is_open
+        → OnErr result (IsUnchanged (state S.Store connection.old) (state S.Store connection.new)
+        ⊎ IsRolledBack (state S.Store connection.old) (state S.Store connection.new)) }
+    ensures clean { HasCleanDisk (state S.Store connection.new)
+        → HasCleanDisk (state S.Store connection.old) }
+    ensures survives { IsOurs (state S.Store connection.old)
+        → Survives (state S.Store connection.old) (state S.Store connection.new) (λ _. ⊥) }
+{
+    let digest = match hash_blocks(connection, BlockOwner::File(row.file), watch) {
+        Ok(digest) => digest,
+        Err(fault) => return Err(fault),
+    };
+    if row.sha256 == digest {
+        return Ok(());
+    }
+    match damaged.push(row.file) {
+        Ok(()) => Ok(()),
+        Err(_) => Err(StoreFault::Memory),
+    }
+}
+
+/// Checks files by the SHA-256 of the bytes that stand in the tables: those of all blocks that name the file, by
+/// part and place, whatever they are. Each block is read once, and one is held at a time. The rows are those that
+/// the tables keep of the files. The watch is told of each block. A number of 2^63 or more is a fault of the store, and so is a block that has no
+/// bytes.
+pub fn audit_files<S: Alter, W: Watch>(
+    connection: &mut Connection<S>,
+    alloc: Global,
+    files: &[FileRow],
+    watch: &mut W,
+) -> Result<Audit, StoreFault>
+    ensures audits { HasCleanDisk (state S.Store connection.new) → IsOurs (state S.Store connection.old)
+        → IfOk result (IsAudited (tables_of (state S.Store connection.old)) files.now) }
+    ensures ok { HasCleanDisk (state S.Store connection.new) → IsOurs (state S.Store connection.old)
+        → IsTrue (state S.Store connection.old).is_open
+        → OnOk result (IsUnchanged (state S.Store connection.old) (state S.Store connection.new)) }
+    ensures same { HasCleanDisk (state S.Store connection.new) → IsOurs (state S.Store connection.old)
+        → IsKept (state S.Store connection.old) (state S.Store connection.new) }
+    ensures clean { HasCleanDisk (state S.Store connection.new)
+        → HasCleanDisk (state S.Store connection.old) }
+    ensures survives { HasCleanDisk (state S.Store connection.new)
+        → IsOurs (state S.Store connection.old)
+        → Survives (state S.Store connection.old) (state S.Store connection.new) (λ _. ⊥) }
+{
+    let mut damaged = Vec::new(alloc);
+    'files: for row in files {
+        match keep_damaged(connection, &mut damaged, row, watch) {
+            Ok(()) => {}
+            Err(fault) => return Err(fault),
+        }
+    }
+    Ok(Audit {
+        checked: files.len() as u64,
+        damaged,
+    })
+}

@@ -1,0 +1,107 @@
+//! The SHA-256 of the blocks of an owner, read one at a time.
+
+ghost use Rattle.std.specs.Prelude.{◌≡◌, ◌⊎◌, ◌++◌, ℕ, List, IsTrue, IfOk, OnOk, OnErr};
+ghost use Rattle.sha2.specs.Hashers.{Holds256};
+ghost use Rattle.sqlite.specs.State.{HasCleanDisk, Survives, IsUnchanged, IsRolledBack};
+ghost use Rattle.sqlite.specs.Held.{state};
+ghost use Rattle.sqlite.specs.Given.{IsPlain};
+ghost use Rattle.sqlite.specs.Listing.{understood};
+ghost use Rattle.sqlite.specs.Values.{bound};
+ghost use Rattle.dep_streams.specs.Sent.{blob_of};
+ghost use Rattle.dep_tables.specs.Tables.{tables_of, IsOurs};
+ghost use Rattle.dep_streams.specs.Fixity.{IsDigestOf, HashesShown};
+
+use crate::watch::Watch;
+use dep_tables::{BlockOwner, fault_of, is_storable_owner, owner_params};
+use dep_types::StoreFault;
+use sha2::{Digest, Sha256};
+use sqlite::types::ValueRef;
+use sqlite::{Alter, Connection, Row};
+
+fn hash_row<W: Watch>(row: &Row, hasher: &mut Sha256, watch: &mut W) -> Result<(), StoreFault>
+    ensures { OnOk result ((message : List ℕ) → Holds256 hasher.old message
+        → Holds256 hasher.new (message ++ blob_of row.now)) }
+{
+    match row.get_ref(2) {
+        Ok(ValueRef::Blob(bytes)) => {
+            hasher.update(bytes);
+            watch.advance(bytes.len() as u64);
+            Ok(())
+        }
+        _ => Err(StoreFault::Store),
+    }
+}
+
+// The SHA-256 of the third column of each row that a query shows, joined.
+fn hash_rows<S: Alter, W: Watch>(
+    connection: &mut Connection<S>,
+    sql: &str,
+    params: &[ValueRef<'_>],
+    watch: &mut W,
+) -> Result<[u8; 32], StoreFault>
+    ensures hashes { HasCleanDisk (state S.Store connection.new)
+        → IsPlain (understood connection.old.schema sql.now)
+        → IfOk result (HashesShown sql.now (bound params.now) (state S.Store connection.old)) }
+    ensures same { HasCleanDisk (state S.Store connection.new)
+        → IsPlain (understood connection.old.schema sql.now)
+        → OnOk result (IsUnchanged (state S.Store connection.old) (state S.Store connection.new)) }
+    ensures err { HasCleanDisk (state S.Store connection.new)
+        → IsPlain (understood connection.old.schema sql.now)
+        → OnErr result (IsUnchanged (state S.Store connection.old) (state S.Store connection.new)
+        ⊎ IsRolledBack (state S.Store connection.old) (state S.Store connection.new)) }
+    ensures clean { HasCleanDisk (state S.Store connection.new)
+        → HasCleanDisk (state S.Store connection.old) }
+    ensures survives { IsPlain (understood connection.old.schema sql.now)
+        → Survives (state S.Store connection.old) (state S.Store connection.new) (λ _. ⊥) }
+{
+    let mut hasher = Sha256::new();
+    let mut rows = match connection.query(sql, params) {
+        Ok(rows) => rows,
+        Err(error) => return Err(fault_of(error)),
+    };
+    'rows: for _ in 0..u64::MAX {
+        let next = match rows.next() {
+            Ok(next) => next,
+            Err(error) => return Err(fault_of(error)),
+        };
+        let Some(row) = next else {
+            return Ok(hasher.finalize());
+        };
+        match hash_row(row, &mut hasher, watch) {
+            Ok(()) => {}
+            Err(fault) => return Err(fault),
+        }
+    }
+    Err(StoreFault::Store)
+}
+
+/// The SHA-256 of the blocks of an owner, joined by part and place. It holds one block at a time. A number of
+/// 2^63 or more is a fault of the store.
+pub(crate) fn hash_blocks<S: Alter, W: Watch>(
+    connection: &mut Connection<S>,
+    owner: BlockOwner,
+    watch: &mut W,
+) -> Result<[u8; 32], StoreFault>
+    ensures hashes { HasCleanDisk (state S.Store connection.new) → IsOurs (state S.Store connection.old)
+        → IfOk result (IsDigestOf (tables_of (state S.Store connection.old)) owner) }
+    ensures same { HasCleanDisk (state S.Store connection.new) → IsOurs (state S.Store connection.old)
+        → OnOk result (IsUnchanged (state S.Store connection.old) (state S.Store connection.new)) }
+    ensures err { HasCleanDisk (state S.Store connection.new) → IsOurs (state S.Store connection.old)
+        → IsTrue (state S.Store connection.new).is_open
+        → OnErr result (IsUnchanged (state S.Store connection.old) (state S.Store connection.new)
+        ⊎ IsRolledBack (state S.Store connection.old) (state S.Store connection.new)) }
+    ensures clean { HasCleanDisk (state S.Store connection.new)
+        → HasCleanDisk (state S.Store connection.old) }
+    ensures survives { IsOurs (state S.Store connection.old)
+        → Survives (state S.Store connection.old) (state S.Store connection.new) (λ _. ⊥) }
+{
+    if !is_storable_owner(owner) {
+        return Err(StoreFault::Store);
+    }
+    hash_rows(
+        connection,
+        "SELECT part, place, bytes FROM blocks WHERE kind = ?1 AND owner = ?2 ORDER BY part, place",
+        &owner_params(owner),
+        watch,
+    )
+}

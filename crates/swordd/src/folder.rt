@@ -1,0 +1,106 @@
+//! A new folder of the file system.
+ghost use Rattle.std.specs.Prelude.{◌≡◌, IfOk, OnOk, IsSome, None, string_bytes};
+ghost use Rattle.swordd.specs.Folders.{path_in};
+
+use crate::progress::Progress;
+use dep_store::Watch;
+use std::fs::File;
+use std::io::{ErrorKind, Write};
+use std::{fs, io};
+
+/// Room for the path of each file of a bag: the number of a file and its name.
+const ROOM: usize = 512;
+
+/// A new folder of the file system, which is filled file by file.
+#[derive(Drop)]
+pub struct Folder<'a> {
+    rt: &'a HostRuntime,
+    progress: Progress<'a>,
+    path: &'a str,
+    /// The path of the file or folder that was made last. Its room is taken at once.
+    inside: String,
+    /// The file that was begun last, until it is ended.
+    file: Option<File>,
+}
+
+impl<'a> Folder<'a> {
+    /// Makes the folder, which must not be there.
+    pub fn new(rt: &'a HostRuntime, path: &'a str) -> io::Result<Folder<'a>>
+        ensures path { IfOk result (λ folder. folder.path.now ≡ path.now) }
+        ensures none_begun { IfOk result (λ folder. folder.file ≡ None) }
+    {
+        let inside = String::with_capacity(rt.alloc(), path.len().saturating_add(ROOM))?;
+        fs::create_dir(rt, path)?;
+        Ok(Folder {
+            rt,
+            progress: Progress::new(rt),
+            path,
+            inside,
+            file: None,
+        })
+    }
+
+    /// Makes a folder in it, with those above.
+    pub fn make_folder(&mut self, path: &str) -> io::Result<()>
+        ensures made { OnOk result
+            (string_bytes self.new.inside ≡ path_in self.old.path.now path.now) }
+        ensures path { self.new.path ≡ self.old.path }
+        ensures file { self.new.file ≡ self.old.file }
+    {
+        self.turn_to(path)?;
+        fs::create_dir_all(self.rt, self.inside.as_str())
+    }
+
+    /// Begins a file in it, which must not be there, and makes the folders that its path names.
+    pub fn begin_file(&mut self, path: &str) -> io::Result<()>
+        ensures made { OnOk result
+            (string_bytes self.new.inside ≡ path_in self.old.path.now path.now) }
+        ensures path { self.new.path ≡ self.old.path }
+        ensures begun { OnOk result (IsSome self.new.file) }
+    {
+        if let Some((above, _)) = path.rsplit_once('/') {
+            self.make_folder(above)?;
+        }
+        self.turn_to(path)?;
+        self.file = Some(File::create_new(self.rt, self.inside.as_str())?);
+        Ok(())
+    }
+
+    /// Writes on in the file that was begun last. There has to be one.
+    pub fn write_on(&mut self, bytes: &[u8]) -> io::Result<()>
+        ensures begun { OnOk result (IsSome self.old.file) }
+        ensures path { self.new.path ≡ self.old.path }
+        ensures inside { self.new.inside ≡ self.old.inside }
+    {
+        match &mut self.file {
+            Some(file) => file.write_all(bytes)?,
+            None => return Err(ErrorKind::NotFound.into()),
+        }
+        self.progress.advance(bytes.len() as u64);
+        Ok(())
+    }
+
+    /// Ends the file that was begun last, once the disk has it: so a write that fails late is seen.
+    pub fn end_file(&mut self) -> io::Result<()>
+        ensures ended { self.new.file ≡ None }
+        ensures path { self.new.path ≡ self.old.path }
+    {
+        match self.file.take() {
+            Some(file) => file.sync_all(),
+            None => Ok(()),
+        }
+    }
+
+    fn turn_to(&mut self, path: &str) -> io::Result<()>
+        ensures made { OnOk result
+            (string_bytes self.new.inside ≡ path_in self.old.path.now path.now) }
+        ensures path { self.new.path ≡ self.old.path }
+        ensures file { self.new.file ≡ self.old.file }
+    {
+        self.inside.clear();
+        self.inside.push_str(self.path)?;
+        self.inside.push_str("/")?;
+        self.inside.push_str(path)?;
+        Ok(())
+    }
+}
