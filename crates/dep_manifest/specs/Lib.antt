@@ -1,1 +1,2 @@
+pub mod Damaged
 pub mod Manifest

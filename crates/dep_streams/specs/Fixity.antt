@@ -1,9 +1,10 @@
 -- Which files have other bytes than those whose SHA-256 their rows keep.
-use Rattle.std.specs.Prelude.{◌≡◌, ℕ, List, [], ◌∷◌, ◌++◌, length, map, filter, bytes_eq, if◌then◌else◌}
+use Rattle.std.specs.Prelude.{◌≡◌, ℕ, List, ◌++◌, length, map, filter}
 use Rattle.std.specs.List.{AllZip, flat_map, zip}
 use Rattle.sha2.specs.Sha256.{sha256}
 use Rattle.sqlite.specs.Order.{Row}
 use Rattle.sqlite.specs.State.{State, Shown}
+use Rattle.dep_manifest.specs.Damaged.{number_unless_kept}
 use Rattle.dep_statements.specs.Rows.{InOrder}
 use Rattle.dep_streams.specs.Sent.{joined}
 use Rattle.dep_tables.specs.Rows.{shown_block, is_block_of, by_part_and_place}
@@ -24,10 +25,6 @@ pub record IsDigestOf (t : Tables) (o : BlockOwner) (digest : List ℕ) : Type 0
   pub rows : List Row
   pub ordered : InOrder by_part_and_place (map shown_block (filter (is_block_of o) t.blocks)) rows
   pub is : digest ≡ sha256 (joined rows)
-
--- the number of the file, unless its bytes have the digest that its row keeps
-abbrev pub number_unless_kept : FileRow → (digest : List ℕ) → List ℕ
-number_unless_kept row digest = if bytes_eq row.sha256 digest then [] else row.file ∷ []
 
 -- All files were checked, each by the digest of its blocks, and those that differ are told in their order.
 pub record IsAudited (t : Tables) (rows : List FileRow) (audit : Audit) : Type 0 where

@@ -9,10 +9,11 @@ ghost use Rattle.dep_streams.specs.Fixity.{IsAudited, KeepsDamaged};
 
 use crate::hashing::hash_blocks;
 use crate::watch::Watch;
+use dep_manifest::note_damaged;
 use dep_tables::BlockOwner;
 use dep_types::{FileRow, StoreFault};
 use sqlite::{Alter, Connection};
-use std::alloc::Global;
+use std::alloc::{AllocError, Global};
 
 /// What an audit of files found.
 #[derive(Drop)]
@@ -48,12 +49,9 @@ fn keep_damaged<S: Alter, W: Watch>(
         Ok(digest) => digest,
         Err(fault) => return Err(fault),
     };
-    if row.sha256 == digest {
-        return Ok(());
-    }
-    match damaged.push(row.file) {
+    match note_damaged(damaged, row, &digest) {
         Ok(()) => Ok(()),
-        Err(_) => Err(StoreFault::Memory),
+        Err(AllocError) => Err(StoreFault::Memory),
     }
 }
 

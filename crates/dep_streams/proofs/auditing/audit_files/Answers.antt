@@ -9,7 +9,8 @@ use Rattle.dep_tables.specs.Tables.{Tables, tables_of}
 use Rattle.dep_tables.specs.declared.owner.BlockOwner.TheVariants as owner
 use Rattle.dep_types.specs.declared.rows.FileRow.{FileRow}
 use Rattle.dep_files.proofs.Results.{survives_itself}
-use Rattle.dep_streams.specs.Fixity.{IsDigestOf, KeepsDamaged, number_unless_kept}
+use Rattle.dep_streams.specs.Fixity.{IsDigestOf, KeepsDamaged}
+use Rattle.dep_manifest.specs.Damaged.{number_unless_kept}
 use Rattle.dep_streams.proofs.Stills.{still_then, ours_still, tables_still, kept_still, failed_still}
 use Rattle.dep_streams.proofs.Digests.{one_more, zip_more}
 use Rattle.dep_streams.proofs.auditing.audit_files.Goals as goal

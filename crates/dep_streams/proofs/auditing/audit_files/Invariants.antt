@@ -4,8 +4,9 @@ use Rattle.sqlite.specs.State.{HasCleanDisk, Survives}
 use Rattle.sqlite.specs.Held.{state}
 use Rattle.dep_tables.specs.Tables.{tables_of, IsOurs}
 use Rattle.dep_tables.specs.declared.owner.BlockOwner.TheVariants as owner
+use Rattle.dep_manifest.specs.Damaged.{number_unless_kept}
 use Rattle.dep_streams.proofs.Stills.{IsStill}
-use Rattle.dep_streams.specs.Fixity.{IsDigestOf, number_unless_kept}
+use Rattle.dep_streams.specs.Fixity.{IsDigestOf}
 use Rattle.dep_streams.proofs.auditing.audit_files.Given as goal
 
 -- the files so far were checked
