@@ -102,3 +102,60 @@ returns-in-Closed-clause-there g c = (c.arrive.ensures.there c.requires.there).1
 
 pub returns-in-Cut-clause-there : goal.returns-in-Cut-clause-there
 returns-in-Cut-clause-there g c = (c.arrive.ensures.there c.requires.there).1
+
+pub returns-in-Open-clause-same : goal.returns-in-Open-clause-same
+returns-in-Open-clause-same g c = refl
+
+pub returns-in-Open-clause-config : goal.returns-in-Open-clause-config
+returns-in-Open-clause-config g c = c.arrive.ensures.config
+
+pub returns-in-Open-clause-next : goal.returns-in-Open-clause-next
+returns-in-Open-clause-next g c = c.arrive.ensures.next
+
+pub returns-in-Closed-clause-same : goal.returns-in-Closed-clause-same
+returns-in-Closed-clause-same g c = refl
+
+pub returns-in-Closed-clause-config : goal.returns-in-Closed-clause-config
+returns-in-Closed-clause-config g c = c.arrive.ensures.config
+
+pub returns-in-Closed-clause-next : goal.returns-in-Closed-clause-next
+returns-in-Closed-clause-next g c = c.arrive.ensures.next
+
+pub returns-in-Cut-clause-same : goal.returns-in-Cut-clause-same
+returns-in-Cut-clause-same g c = refl
+
+pub returns-in-Cut-clause-config : goal.returns-in-Cut-clause-config
+returns-in-Cut-clause-config g c = c.arrive.ensures.config
+
+pub returns-in-Cut-clause-next : goal.returns-in-Cut-clause-next
+returns-in-Cut-clause-next g c = c.arrive.ensures.next
+
+pub returns-in-Err-clause-call : goal.returns-in-Err-clause-call
+returns-in-Err-clause-call g c = c.requires.call
+
+pub returns-in-Err-clause-there : goal.returns-in-Err-clause-there
+returns-in-Err-clause-there g c = c.requires.there
+
+pub returns-in-Err-clause-same : goal.returns-in-Err-clause-same
+returns-in-Err-clause-same g c = refl
+
+pub returns-in-Err-clause-config : goal.returns-in-Err-clause-config
+returns-in-Err-clause-config g c = refl
+
+pub returns-in-Err-clause-next : goal.returns-in-Err-clause-next
+returns-in-Err-clause-next g c = refl
+
+pub returns-in-Ok-eq0-clause-call : goal.returns-in-Ok-eq0-clause-call
+returns-in-Ok-eq0-clause-call g c = c.requires.call
+
+pub returns-in-Ok-eq0-clause-there : goal.returns-in-Ok-eq0-clause-there
+returns-in-Ok-eq0-clause-there g c = c.requires.there
+
+pub returns-in-Ok-eq0-clause-same : goal.returns-in-Ok-eq0-clause-same
+returns-in-Ok-eq0-clause-same g c = refl
+
+pub returns-in-Ok-eq0-clause-config : goal.returns-in-Ok-eq0-clause-config
+returns-in-Ok-eq0-clause-config g c = refl
+
+pub returns-in-Ok-eq0-clause-next : goal.returns-in-Ok-eq0-clause-next
+returns-in-Ok-eq0-clause-next g c = refl

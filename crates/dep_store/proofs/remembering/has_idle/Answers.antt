@@ -1,7 +1,8 @@
-use Rattle.std.proofs.Common.{sym, subst, ◌∙◌}
+use Rattle.std.proofs.Common.{sym, subst, refl, ◌∙◌}
+use Rattle.std.proofs.lemmas.Result.{IfOk-from_err}
 use Rattle.sqlite.specs.Effect.{Database}
 use Rattle.dep_tables.specs.Tables.{tables_in, tables_of, HasOurTables}
-use Rattle.dep_tables.proofs.Chains.{clean_before, stays_then, stays_ok}
+use Rattle.dep_tables.proofs.Chains.{clean_before, stays_then, stays_ok, stays_err}
 use Rattle.dep_row_maps.specs.TablesAre.{TablesAre}
 use Rattle.dep_row_maps.proofs.Readings.{next_upload_read}
 use Rattle.dep_staging.proofs.Next.{next_of, none_after}
@@ -46,3 +47,28 @@ uploads-preserved g c =
 
 pub returns-in_default-clause-stays : goal.returns-in_default-clause-stays
 returns-in_default-clause-stays g c = stays_ok (stays_then c.uploads.invariant.0 c.in_ok-upload.ensures.stays)
+
+pub returns-in_err-upload-clause-map : goal.returns-in_err-upload-clause-map
+returns-in_err-upload-clause-map g c clean inside ours s are zero_free = IfOk-from_err c.from_residual.result _ c.from_residual.ensures.0
+
+pub returns-in_err-upload-clause-stays : goal.returns-in_err-upload-clause-stays
+returns-in_err-upload-clause-stays g c = stays_err c.from_residual.ensures.0 (stays_then c.uploads.invariant.0 c.in_err-upload.ensures.stays)
+
+pub returns-in_err-is_idle-clause-map : goal.returns-in_err-is_idle-clause-map
+returns-in_err-is_idle-clause-map g c clean inside ours s are zero_free =
+    IfOk-from_err c.from_residual-in_err-is_idle.result _ c.from_residual-in_err-is_idle.ensures.0
+
+pub returns-in_err-is_idle-clause-stays : goal.returns-in_err-is_idle-clause-stays
+returns-in_err-is_idle-clause-stays g c =
+    stays_err c.from_residual-in_err-is_idle.ensures.0
+    (stays_then (stays_then c.uploads.invariant.0 c.in_ok-upload.ensures.stays) c.in_err-is_idle.ensures.stays)
+
+pub returns-then-branch-clause-stays : goal.returns-then-branch-clause-stays
+returns-then-branch-clause-stays g c =
+    stays_ok (stays_then (stays_then c.uploads.invariant.0 c.in_ok-upload.ensures.stays) c.in_ok-is_idle.ensures.stays)
+
+pub returns-clause-map : goal.returns-clause-map
+returns-clause-map g c clean inside ours s are zero_free = tt
+
+pub returns-clause-stays : goal.returns-clause-stays
+returns-clause-stays g c = stays_err refl c.uploads.invariant.0
