@@ -26,3 +26,15 @@ returns-in-Some-clause-talks g c = talk_last g.A.Archive.condition _ _ _ _ _ c.i
 
 pub returns-clause-talks : goal.returns-clause-talks
 returns-clause-talks g c = talk_bound g.A.Archive.condition _ _ _ _ _ (omega arith) c.loop-count.invariant.talk
+
+pub returns-in-Some-clause-config : goal.returns-in-Some-clause-config
+returns-in-Some-clause-config g c = c.turn.ensures.config ∙ c.loop-count.invariant.config
+
+pub returns-in-Some-clause-next : goal.returns-in-Some-clause-next
+returns-in-Some-clause-next g c = c.turn.ensures.next ∙ c.loop-count.invariant.next
+
+pub returns-clause-config : goal.returns-clause-config
+returns-clause-config g c = c.loop-count.invariant.config
+
+pub returns-clause-next : goal.returns-clause-next
+returns-clause-next g c = c.loop-count.invariant.next

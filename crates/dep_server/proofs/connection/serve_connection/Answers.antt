@@ -46,3 +46,18 @@ pub returns-clause-next : goal.returns-clause-next
 returns-clause-next g c =
     c.close.ensures.next ∙ (c.converse-served.ensures.next ∙ (c.in-Ok-connect.ensures.next.1
     ∙ sym (next_served g.A.Archive.condition _ c.in-Ok-connect.connection _ _ c.converse-served.result c.converse-served.ensures.talks c.args.hub.now.next)))
+
+pub returns-in_default-clause-config : goal.returns-in_default-clause-config
+returns-in_default-clause-config g c = refl
+
+pub returns-in_default-clause-clean : goal.returns-in_default-clause-clean
+returns-in_default-clause-clean g c = λ h. h
+
+pub returns-in_default-clause-honest : goal.returns-in_default-clause-honest
+returns-in_default-clause-honest g c = λ h. h
+
+pub returns-in_default-connect-clause-config : goal.returns-in_default-connect-clause-config
+returns-in_default-connect-clause-config g c = c.connect.ensures.config
+
+pub returns-clause-config : goal.returns-clause-config
+returns-clause-config g c = c.close.ensures.config ∙ (c.converse-served.ensures.config ∙ c.connect.ensures.config)

@@ -92,3 +92,15 @@ returns-in_default-answer_message g c =
       limit = ap (λ (r : Reading). r.limit) c.end-in_default-answer_message.ensures.shut ∙ (h.limit ∙ c.loop-intake.invariant.limit);
       there = λ e. never_such c.answer_message.result (sym c.end-in_default-answer_message.ensures.answer ∙ e);
     }
+
+pub returns-in-Err-clause-limit : goal.returns-in-Err-clause-limit
+returns-in-Err-clause-limit g c = ap (λ (r : Reading). r.limit) c.give_up.ensures.shut ∙ ap (λ (r : Reading). r.limit) c.in-Err.ensures.err.0
+
+pub returns-in-Err-clause-there : goal.returns-in-Err-clause-there
+returns-in-Err-clause-there g c = c.give_up.ensures.there
+
+pub returns-in-Err-next-clause-there : goal.returns-in-Err-next-clause-there
+returns-in-Err-next-clause-there g c = c.give_up-in-Err-next.ensures.there
+
+pub returns-in-Ok-Refused-clause-there : goal.returns-in-Ok-Refused-clause-there
+returns-in-Ok-Refused-clause-there g c = λ e. never_such c.answer_fault-answer.result (sym c.end.ensures.answer ∙ e)

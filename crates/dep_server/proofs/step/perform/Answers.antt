@@ -52,3 +52,36 @@ pub returns-in-Err-clause-stop : goal.returns-in-Err-clause-stop
 returns-in-Err-clause-stop g c disk s stands =
     leaves_it (g.A.Archive.condition c.args.store.now) s _
     (stays_as (g.A.Archive.condition c.args.store.now) s (g.met.A.Archive.settled c.args.store.now) stands)
+
+pub returns-in-Ok-To-clause-err : goal.returns-in-Ok-To-clause-err
+returns-in-Ok-To-clause-err g c = c.operate.ensures.err
+
+pub returns-in-Ok-To-clause-honest : goal.returns-in-Ok-To-clause-honest
+returns-in-Ok-To-clause-honest g c = c.operate.ensures.honest
+
+pub returns-in-Ok-To-clause-open : goal.returns-in-Ok-To-clause-open
+returns-in-Ok-To-clause-open g c = c.operate.ensures.open
+
+pub returns-in-Ok-NotFound-clause-honest : goal.returns-in-Ok-NotFound-clause-honest
+returns-in-Ok-NotFound-clause-honest g c = λ h. h
+
+pub returns-in-Ok-NotFound-clause-open : goal.returns-in-Ok-NotFound-clause-open
+returns-in-Ok-NotFound-clause-open g c = λ h. h
+
+pub returns-in-Ok-NotAllowed-clause-honest : goal.returns-in-Ok-NotAllowed-clause-honest
+returns-in-Ok-NotAllowed-clause-honest g c = λ h. h
+
+pub returns-in-Ok-NotAllowed-clause-open : goal.returns-in-Ok-NotAllowed-clause-open
+returns-in-Ok-NotAllowed-clause-open g c = λ h. h
+
+pub returns-in-Err-clause-honest : goal.returns-in-Err-clause-honest
+returns-in-Err-clause-honest g c = λ h. h
+
+pub returns-in-Err-clause-open : goal.returns-in-Err-clause-open
+returns-in-Err-clause-open g c = λ h. h
+
+pub returns-in-Err-clause-ok : goal.returns-in-Err-clause-ok
+returns-in-Err-clause-ok g c disk s stands clock = tt
+
+pub returns-in-Err-clause-err : goal.returns-in-Err-clause-err
+returns-in-Err-clause-err g c is_open s stands = stands

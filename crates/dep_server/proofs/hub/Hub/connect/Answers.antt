@@ -56,3 +56,42 @@ returns-in-Err-clause-rests g c =
 pub returns-clause-rests : goal.returns-clause-rests
 returns-clause-rests g c =
     leaves_as_before g.A.Archive.condition c.args.self.now _ refl (g.met.A.Archive.settled c.args.self.now.store)
+
+pub returns-in-Err-clause-adds : goal.returns-in-Err-clause-adds
+returns-in-Err-clause-adds g c = tt
+
+pub returns-in-Err-clause-moves : goal.returns-in-Err-clause-moves
+returns-in-Err-clause-moves g c = tt
+
+pub returns-in-Err-clause-config : goal.returns-in-Err-clause-config
+returns-in-Err-clause-config g c = refl
+
+pub returns-in-Err-clause-store : goal.returns-in-Err-clause-store
+returns-in-Err-clause-store g c = refl
+
+pub returns-in-Err-clause-next : goal.returns-in-Err-clause-next
+returns-in-Err-clause-next g c = tt
+
+pub returns-in-Err-clause-room : goal.returns-in-Err-clause-room
+returns-in-Err-clause-room g c = tt
+
+pub returns-in-Err-clause-kept : goal.returns-in-Err-clause-kept
+returns-in-Err-clause-kept g c = refl
+
+pub returns-in-Err-clause-fresh : goal.returns-in-Err-clause-fresh
+returns-in-Err-clause-fresh g c = tt
+
+pub returns-in-Err-clause-there : goal.returns-in-Err-clause-there
+returns-in-Err-clause-there g c = tt
+
+pub returns-clause-same : goal.returns-clause-same
+returns-clause-same g c = tt
+
+pub returns-clause-config : goal.returns-clause-config
+returns-clause-config g c = refl
+
+pub returns-clause-store : goal.returns-clause-store
+returns-clause-store g c = refl
+
+pub returns-clause-kept : goal.returns-clause-kept
+returns-clause-kept g c = tt
