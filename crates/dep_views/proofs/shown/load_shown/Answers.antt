@@ -1,0 +1,46 @@
+use Rattle.dep_views.proofs.shown.load_shown.Goals as goal
+
+pub returns-in-Object-clause-same : goal.returns-in-Object-clause-same
+returns-in-Object-clause-same g c is_open = c.show_object.ensures.same
+
+pub returns-in-Object-clause-err : goal.returns-in-Object-clause-err
+returns-in-Object-clause-err g c = c.show_object.ensures.err
+
+pub returns-in-Object-clause-stays : goal.returns-in-Object-clause-stays
+returns-in-Object-clause-stays g c = c.show_object.ensures.stays
+
+pub returns-in-ObjectRow-clause-same : goal.returns-in-ObjectRow-clause-same
+returns-in-ObjectRow-clause-same g c is_open = c.show_row.ensures.same
+
+pub returns-in-ObjectRow-clause-err : goal.returns-in-ObjectRow-clause-err
+returns-in-ObjectRow-clause-err g c = c.show_row.ensures.err
+
+pub returns-in-ObjectRow-clause-stays : goal.returns-in-ObjectRow-clause-stays
+returns-in-ObjectRow-clause-stays g c = c.show_row.ensures.stays
+
+pub returns-in-Metadata-clause-same : goal.returns-in-Metadata-clause-same
+returns-in-Metadata-clause-same g c is_open = c.show_metadata.ensures.same
+
+pub returns-in-Metadata-clause-err : goal.returns-in-Metadata-clause-err
+returns-in-Metadata-clause-err g c = c.show_metadata.ensures.err
+
+pub returns-in-Metadata-clause-stays : goal.returns-in-Metadata-clause-stays
+returns-in-Metadata-clause-stays g c = c.show_metadata.ensures.stays
+
+pub returns-in-File-clause-same : goal.returns-in-File-clause-same
+returns-in-File-clause-same g c is_open = c.show_file.ensures.same
+
+pub returns-in-File-clause-err : goal.returns-in-File-clause-err
+returns-in-File-clause-err g c = c.show_file.ensures.err
+
+pub returns-in-File-clause-stays : goal.returns-in-File-clause-stays
+returns-in-File-clause-stays g c = c.show_file.ensures.stays
+
+pub returns-in-Upload-clause-same : goal.returns-in-Upload-clause-same
+returns-in-Upload-clause-same g c is_open = c.show_upload.ensures.same
+
+pub returns-in-Upload-clause-err : goal.returns-in-Upload-clause-err
+returns-in-Upload-clause-err g c = c.show_upload.ensures.err
+
+pub returns-in-Upload-clause-stays : goal.returns-in-Upload-clause-stays
+returns-in-Upload-clause-stays g c = c.show_upload.ensures.stays
