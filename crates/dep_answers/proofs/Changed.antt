@@ -24,7 +24,7 @@ use Rattle.dep_decisions.specs.declared.decision.Deposit.{Deposit}
 use Rattle.dep_decisions.specs.declared.decision.Deposit.TheVariants as deposit
 use Rattle.dep_decisions.specs.declared.decision.Decision.{Decision}
 use Rattle.dep_decisions.specs.declared.decision.Decision.TheVariants.{Append, Complete, Replace}
-use Rattle.dep_soundness.proofs.FoundInMaps.{all_passed, at-some, unless-none}
+use Rattle.dep_decisions.proofs.FoundInMaps.{all_passed, at-some, unless-none}
 use Rattle.dep_answers.specs.Answers.{Answer}
 use Rattle.dep_answers.specs.Steps.{accepted_answer}
 use Rattle.dep_answers.proofs.Made.{answered, as_asked, decided, deposit_for, deposited, document_passed, it_is, kind_unless, left_by, taken, told_kind}

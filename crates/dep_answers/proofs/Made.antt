@@ -31,7 +31,7 @@ use Rattle.dep_decisions.specs.declared.decision.Deposit.{Deposit}
 use Rattle.dep_decisions.specs.declared.decision.Deposit.TheVariants as deposit
 use Rattle.dep_decisions.specs.declared.decision.Decision.{Decision}
 use Rattle.dep_decisions.specs.declared.decision.Decision.TheVariants.{Show, Create, Open}
-use Rattle.dep_soundness.proofs.FoundInMaps.{all_passed, unless-none}
+use Rattle.dep_decisions.proofs.FoundInMaps.{all_passed, unless-none}
 use Rattle.dep_answers.specs.Answers.{Document, answer}
 use Rattle.dep_answers.specs.Replies.{answer_to, created_answer, opened_answer}
 use Rattle.dep_answers.specs.Steps.{accepted_answer}

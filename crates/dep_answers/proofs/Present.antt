@@ -12,7 +12,7 @@ use Rattle.dep_types.specs.declared.refusal.Refusal.TheVariants.{NotFound, Segme
 use Rattle.dep_types.specs.declared.target.Resource.{Resource}
 use Rattle.dep_types.specs.declared.target.Resource.TheVariants as at
 use Rattle.dep_decisions.specs.Rules.{presence_refusal, has_object, has_bag_path}
-use Rattle.dep_soundness.proofs.FoundInMaps.{unless-none}
+use Rattle.dep_decisions.proofs.FoundInMaps.{unless-none}
 use Rattle.dep_answers.specs.Bags.{BagEntry, bag_entries, payload_shown, shown_in_bag}
 use Rattle.dep_answers.specs.Laws.{is_shown}
 use Rattle.dep_answers.specs.Replies.{content_at}

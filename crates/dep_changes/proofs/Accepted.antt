@@ -36,9 +36,9 @@ use Rattle.dep_rulings.specs.Views.{live_upload, referred_uploads, seen_at, touc
 use Rattle.dep_rulings.specs.declared.view.View.{View}
 use Rattle.dep_rulings.specs.declared.view.UploadState.TheVariants.{TimedOut, Unknown, Live}
 use Rattle.dep_rulings.specs.declared.view.UploadView.{UploadView}
-use Rattle.dep_soundness.proofs.FoundInMaps.{all_passed, unless-none}
-use Rattle.dep_soundness.proofs.Lengths.{assembled_length}
-use Rattle.dep_soundness.proofs.Referred.{IsReferred, referred}
+use Rattle.dep_decisions.proofs.FoundInMaps.{all_passed, unless-none}
+use Rattle.dep_decisions.proofs.Lengths.{assembled_length}
+use Rattle.dep_decisions.proofs.Referred.{IsReferred, referred}
 use Rattle.dep_changes.specs.Told.{AreSources, HasSources, IsSeenWhole, IsSource, TellsFile, TellsFor, TellsObject, whole_view}
 
 -- ---- what is there

@@ -5,3 +5,5 @@ pub mod Effects
 pub mod Kinds
 pub mod Purposes
 pub mod Rules
+pub mod Fit
+pub mod Laws

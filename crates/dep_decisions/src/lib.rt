@@ -5,6 +5,7 @@
 mod asked;
 mod content_rows;
 mod decision;
+pub mod laws;
 mod numbers;
 mod operation;
 mod purpose;

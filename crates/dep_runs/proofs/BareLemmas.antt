@@ -19,8 +19,8 @@ use Rattle.dep_docs_out.specs.Documents.{service_document, error_document, statu
 use Rattle.dep_bag.specs.Bag.{list_text}
 use Rattle.dep_decisions.specs.Rules.{refusal, behalf_rule, presence_rule, presence_refusal}
 use Rattle.dep_decisions.specs.declared.operation.Operation.{Operation}
-use Rattle.dep_soundness.proofs.FoundInMaps.{unless-none}
-use Rattle.dep_soundness.proofs.ReadAlone.{reads_keep}
+use Rattle.dep_decisions.proofs.FoundInMaps.{unless-none}
+use Rattle.dep_decisions.proofs.ReadAlone.{reads_keep}
 use Rattle.dep_answers.specs.Answers.{Answer, ReplyContent, Document, PlainText, StoredContent, bytes_of, document_of, stored_of, head_of}
 use Rattle.dep_answers.specs.Bags.{BagEntry, bag_entries, payload_shown, shown_in_bag}
 use Rattle.dep_answers.specs.Replies.{front_text, stored_text, content_at, shown_answer, refused_answer}

@@ -10,9 +10,9 @@ use Rattle.dep_docs_in.specs.declared.reference.Reference.{Reference}
 use Rattle.dep_decisions.specs.Rules.{refusal}
 use Rattle.dep_decisions.specs.Effects.{effect}
 use Rattle.dep_decisions.specs.declared.operation.Operation.{Operation}
-use Rattle.dep_soundness.specs.Laws.{IsDepositedFrom, deposited_object, takes_file}
-use Rattle.dep_soundness.proofs.Deposited.{deposited}
-use Rattle.dep_soundness.proofs.FilesStay.{file_stays}
+use Rattle.dep_decisions.specs.Laws.{IsDepositedFrom, deposited_object, takes_file}
+use Rattle.dep_decisions.proofs.Deposited.{deposited}
+use Rattle.dep_decisions.proofs.FilesStay.{file_stays}
 use Rattle.dep_answers.specs.Steps.{step_by, operation_step}
 use Rattle.dep_message.specs.Stream.{Item, Fault, Continue, Request}
 use Rattle.dep_message.specs.declared.message.Message.{Message}

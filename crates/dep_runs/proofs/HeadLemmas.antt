@@ -24,7 +24,7 @@ use Rattle.dep_fields.proofs.FitFields.{fields_are_fit}
 use Rattle.dep_decisions.specs.Rules.{refusal}
 use Rattle.dep_decisions.specs.Effects.{effect}
 use Rattle.dep_decisions.specs.declared.operation.Operation.{Operation}
-use Rattle.dep_soundness.proofs.Accepted.{effect_sound}
+use Rattle.dep_decisions.proofs.Accepted.{effect_sound}
 use Rattle.dep_answers.specs.Answers.{Answer, document_of, head_of}
 use Rattle.dep_answers.specs.Replies.{unless_bare, front_text, refused_answer}
 use Rattle.dep_answers.specs.Steps.{is_head, accepted_answer, step_by, operation_step}

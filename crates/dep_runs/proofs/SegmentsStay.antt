@@ -27,10 +27,10 @@ use Rattle.dep_decisions.specs.Effects.{effect, effect_of, at, without, used, fr
 use Rattle.dep_decisions.specs.declared.operation.Operation.{Operation}
 use Rattle.dep_decisions.specs.declared.decision.Decision.{Decision}
 use Rattle.dep_decisions.specs.declared.decision.Decision.TheVariants.{Show, Create, Append, Replace, Complete, SetMetadata, SetFiles, SetFile, DropFile, DropObject, Open, Receive, DropUpload}
-use Rattle.dep_soundness.specs.Fit.{IsFitDecision}
-use Rattle.dep_soundness.proofs.FoundInMaps.{all_passed, without-was, at-some, at-none}
-use Rattle.dep_soundness.proofs.Accepted.{decision_fit, effect_sound}
-use Rattle.dep_soundness.proofs.SoundEffects.{uploads_by}
+use Rattle.dep_decisions.specs.Fit.{IsFitDecision}
+use Rattle.dep_decisions.proofs.FoundInMaps.{all_passed, without-was, at-some, at-none}
+use Rattle.dep_decisions.proofs.Accepted.{decision_fit, effect_sound}
+use Rattle.dep_decisions.proofs.SoundEffects.{uploads_by}
 use Rattle.dep_answers.specs.Steps.{step_by, operation_step}
 use Rattle.dep_message.specs.Stream.{Item, Fault, Continue, Request}
 use Rattle.dep_message.specs.declared.message.Message.{Message}

@@ -11,7 +11,7 @@ use Rattle.dep_fields.specs.Fit.{AreFit}
 use Rattle.dep_fields.proofs.FitFields.{fields_are_fit}
 use Rattle.dep_decisions.specs.Rules.{refusal}
 use Rattle.dep_decisions.specs.declared.operation.Operation.{Operation}
-use Rattle.dep_soundness.proofs.Accepted.{effect_sound}
+use Rattle.dep_decisions.proofs.Accepted.{effect_sound}
 use Rattle.dep_answers.specs.Steps.{step_by, operation_step}
 use Rattle.dep_server.specs.Machine.{operation_of, routed_step, step}
 use Rattle.dep_router.specs.Targets.{target}

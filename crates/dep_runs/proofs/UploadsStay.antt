@@ -20,8 +20,8 @@ use Rattle.dep_decisions.specs.Effects.{effect, effect_of, without, used, fresh}
 use Rattle.dep_decisions.specs.declared.operation.Operation.{Operation}
 use Rattle.dep_decisions.specs.declared.decision.Decision.{Decision}
 use Rattle.dep_decisions.specs.declared.decision.Decision.TheVariants.{Show, Create, Append, Replace, Complete, SetMetadata, SetFiles, SetFile, DropFile, DropObject, Open, Receive, DropUpload}
-use Rattle.dep_soundness.specs.Fit.{IsFitDecision}
-use Rattle.dep_soundness.proofs.Accepted.{decision_fit}
+use Rattle.dep_decisions.specs.Fit.{IsFitDecision}
+use Rattle.dep_decisions.proofs.Accepted.{decision_fit}
 use Rattle.dep_answers.specs.Steps.{step_by, operation_step}
 use Rattle.dep_message.specs.Stream.{Fault, Continue, Request}
 use Rattle.dep_message.specs.declared.message.Message.{Message}

@@ -10,7 +10,7 @@ use Rattle.dep_message.specs.Stream.{Request}
 use Rattle.dep_docs_in.specs.declared.reference.Reference.{Reference}
 use Rattle.dep_decisions.specs.Decisions.{references_in}
 use Rattle.dep_decisions.specs.Rules.{refusal}
-use Rattle.dep_soundness.specs.Laws.{IsDepositedFrom, deposited_object, takes_file}
+use Rattle.dep_decisions.specs.Laws.{IsDepositedFrom, deposited_object, takes_file}
 use Rattle.dep_server.specs.Machine.{operation_of, step}
 use Rattle.dep_runs.specs.Moves.{Move, Made, state_by}
 

@@ -8,3 +8,4 @@ pub mod Standing
 pub mod Turns
 pub mod Conversation
 pub mod Numbers
+pub mod Conditions

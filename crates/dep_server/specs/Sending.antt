@@ -6,7 +6,7 @@ use Rattle.dep_types.specs.declared.store_fault.StoreFault.{StoreFault}
 use Rattle.dep_types.specs.declared.store_fault.StoreFault.TheVariants.{Store, Memory}
 use Rattle.dep_answers.specs.Steps.{Stepped, sent_by}
 use Rattle.dep_answers.specs.declared.performed.Performed.{Performed}
-use Rattle.dep_archive.specs.Conditions.{Condition, StandsFor, HasCleanDisk, Leaves, Performs}
+use Rattle.dep_server.specs.Conditions.{Condition, StandsFor, HasCleanDisk, Leaves, Performs}
 use Rattle.dep_server.specs.Machine.{want_of_memory, store_fault}
 use Rattle.dep_server.specs.Causes.{CutsStored}
 use Rattle.dep_server.specs.declared.sending.Answered.{Answered}

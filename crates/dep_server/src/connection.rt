@@ -4,10 +4,10 @@ ghost use Rattle.dep_server.specs.Standing.{intake_of, IsClean, IsHonest};
 ghost use Rattle.dep_server.specs.Turns.{most_read};
 ghost use Rattle.dep_server.specs.Conversation.{session, wire, ConversesOver, TalksUntil, TurnsTo, next_after};
 
+use crate::archive::Archive;
 use crate::arrived::Arrived;
 use crate::connections::ConnId;
 use crate::hub::Hub;
-use dep_archive::Archive;
 use dep_moment::Moment;
 use dep_types::Outlet;
 use std::alloc::Global;

@@ -2,15 +2,15 @@
 ghost use Rattle.std.specs.Prelude.{◌+◌, ◌≡◌, ◌<◌, ◌≤◌, ℕ, [], ◌∷◌, ◌++◌, List, length, IfOk, IfErr, OnErr, IfSome, None, IsErrOf, IsSome, ◌⊎◌, ◌≢◌};
 ghost use Rattle.dep_types.specs.State.{State};
 ghost use Rattle.dep_types.specs.Config.{IsChecked};
-ghost use Rattle.dep_archive.specs.Conditions.{StandsFor, Leaves};
+ghost use Rattle.dep_server.specs.Conditions.{StandsFor, Leaves};
 ghost use Rattle.dep_server.specs.Records.{Connect, Close, Record, World, Run, Absent, stopped, first_world};
 ghost use Rattle.dep_server.specs.Numbers.{Ascends, Ascends-prop, most_connections, last_number};
 
+use crate::archive::Archive;
 use crate::arrived::Arrived;
 use crate::connections::{ConnId, Connection, index_among};
 use crate::serving::{Piece, serve};
 use dep_answers::Service;
-use dep_archive::Archive;
 use dep_message::Intake;
 use dep_moment::Moment;
 use dep_types::{Config, ConfigFault, Outlet};

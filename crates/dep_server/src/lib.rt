@@ -1,6 +1,7 @@
 //! All connections over one store, from the bytes of requests to the bytes of replies.
 #![tactic(auto)]
 
+mod archive;
 mod arrived;
 mod connection;
 mod connections;
@@ -9,6 +10,7 @@ mod sending;
 mod serving;
 mod step;
 
+pub use archive::Archive;
 pub use arrived::Arrived;
 pub use connection::{Served, serve_connection};
 pub use connections::ConnId;

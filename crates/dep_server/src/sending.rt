@@ -4,8 +4,8 @@ ghost use Rattle.dep_types.specs.Writing.{HasRisen};
 ghost use Rattle.dep_server.specs.Machine.{want_of_memory, store_fault};
 ghost use Rattle.dep_server.specs.Sending.{SendsOver, SendsReady, SendsReply, outside, reply_to};
 
+use crate::archive::Archive;
 use dep_answers::Performed;
-use dep_archive::Archive;
 use dep_types::{Outlet, StoreFault, WriteFailed};
 
 /// How an item was answered.

@@ -7,11 +7,11 @@ ghost use Rattle.dep_message.specs.Places.{Reading, Shut};
 ghost use Rattle.dep_server.specs.Sending.{outside};
 ghost use Rattle.dep_server.specs.Serving.{ServesOver, arrival_of, answer_after};
 
+use crate::archive::Archive;
 use crate::arrived::Arrived;
 use crate::sending::{Answered, send_want_of_memory};
 use crate::step::{StreamRefusal, answer_continue, answer_fault, answer_message};
 use dep_answers::Service;
-use dep_archive::Archive;
 use dep_message::{Intake, Step};
 use dep_moment::Moment;
 use dep_types::Outlet;

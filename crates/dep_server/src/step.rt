@@ -8,14 +8,14 @@ ghost use Rattle.dep_router.specs.Targets.{target};
 ghost use Rattle.dep_answers.specs.Performing.{IsReply};
 ghost use Rattle.dep_answers.specs.Replies.{refused_answer};
 ghost use Rattle.dep_answers.specs.Steps.{operation_step};
-ghost use Rattle.dep_archive.specs.Conditions.{StandsFor, HasCleanDisk, Leaves, Performs};
+ghost use Rattle.dep_server.specs.Conditions.{StandsFor, HasCleanDisk, Leaves, Performs};
 ghost use Rattle.dep_server.specs.Machine.{operation_of, routed_step};
 ghost use Rattle.dep_server.specs.Sending.{outside};
 ghost use Rattle.dep_server.specs.Serving.{Answers};
 
+use crate::archive::Archive;
 use crate::sending::{Answered, send, send_fault, send_performed};
 use dep_answers::{Delivery, Performed, Service, refused};
-use dep_archive::Archive;
 use dep_decisions::Operation;
 use dep_fields::SwordFields;
 use dep_head::Head;

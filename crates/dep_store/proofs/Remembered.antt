@@ -23,7 +23,7 @@ use Rattle.dep_decisions.specs.Decisions.{references_in, references_by}
 use Rattle.dep_decisions.specs.Kinds.{kind_of, kind_by, kind_without, takes_kind, may_hold}
 use Rattle.dep_decisions.specs.declared.operation.Operation.{Operation}
 use Rattle.dep_rulings.specs.Views.{true_view, seen_at, touched_with}
-use Rattle.dep_soundness.specs.Laws.{is_read}
+use Rattle.dep_decisions.specs.Laws.{is_read}
 use Rattle.dep_answers.specs.Subjects.{shown_at, subject_of}
 use Rattle.dep_answers.specs.declared.subject.Shown.TheVariants as shown
 use Rattle.sqlite.specs.State as db

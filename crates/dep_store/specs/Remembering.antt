@@ -9,7 +9,7 @@ use Rattle.dep_types.specs.declared.counters.Counters.{Counters}
 use Rattle.dep_types.specs.declared.target.Resource.TheVariants.{Service}
 use Rattle.dep_decisions.specs.declared.operation.Operation.{Operation}
 use Rattle.dep_rulings.specs.declared.view.View.{View}
-use Rattle.dep_soundness.specs.Laws.{is_read}
+use Rattle.dep_decisions.specs.Laws.{is_read}
 use Rattle.dep_store.specs.declared.remembering.Remembered.{Remembered}
 use Rattle.dep_schema.specs.States.{StandsFor}
 

@@ -5,9 +5,9 @@ ghost use Rattle.dep_store.specs.Archive.{condition_of};
 
 use crate::store::Store;
 use dep_answers::{Performed, Service};
-use dep_archive::Archive;
 use dep_decisions::Operation;
 use dep_moment::Moment;
+use dep_server::Archive;
 use dep_types::{Config, Outlet, StoreFault, StreamFault};
 use sqlite::Alter;
 

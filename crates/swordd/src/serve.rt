@@ -3,9 +3,8 @@ ghost use Rattle.std.specs.Prelude.{◌≡◌, IfOk, IfErr};
 ghost use Rattle.dep_server.specs.Standing.{IsClean, IsHonest};
 ghost use Rattle.swordd.specs.Serves.{Serves, ServesOne};
 
-use dep_archive::Archive;
 use dep_moment::Moment;
-use dep_server::{Hub, Served, serve_connection};
+use dep_server::{Archive, Hub, Served, serve_connection};
 use dep_store::Outcome;
 use dep_types::Through;
 use std::alloc::Global;

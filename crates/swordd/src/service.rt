@@ -2,9 +2,8 @@
 
 use crate::serve::serve_on;
 use crate::setup::configuration_at;
-use dep_archive::Archive;
 use dep_moment::Moment;
-use dep_server::{Hub, HubFault};
+use dep_server::{Archive, Hub, HubFault};
 use dep_store::Outcome;
 use std::net::{Ipv4Addr, TcpListener};
 use std::time::{SystemTime, UNIX_EPOCH};

@@ -2,7 +2,7 @@ use Rattle.std.proofs.Common.{refl}
 use Rattle.dep_tables.proofs.Chains.{clean_before, stays_then}
 use Rattle.dep_decisions.specs.Effects.{effect}
 use Rattle.dep_changes.proofs.Chains.{ours_then}
-use Rattle.dep_soundness.proofs.Accepted.{effect_sound}
+use Rattle.dep_decisions.proofs.Accepted.{effect_sound}
 use Rattle.dep_requests.proofs.Stepping.{next_after, shown_after}
 use Rattle.dep_requests.proofs.performing.carry.Goals as goal
 

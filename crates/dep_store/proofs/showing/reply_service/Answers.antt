@@ -3,7 +3,7 @@ use Rattle.dep_types.specs.State.{State}
 use Rattle.dep_rulings.specs.Rulings.{IsRuling}
 use Rattle.dep_rulings.specs.declared.ruling.Ruling.{Ruling}
 use Rattle.dep_answers.specs.Subjects.{shown_at, subject_of}
-use Rattle.dep_soundness.proofs.ReadAlone.{reads_keep}
+use Rattle.dep_decisions.proofs.ReadAlone.{reads_keep}
 use Rattle.dep_answers.specs.declared.subject.Shown.TheVariants as shown
 use Rattle.dep_store.proofs.Remembered.{shows_nothing}
 use Rattle.dep_requests.proofs.Stepping.{delivered, refused_then, accepted_then}

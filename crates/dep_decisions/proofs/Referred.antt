@@ -1,0 +1,152 @@
+-- The files of an accepted deposit by reference.
+use Rattle.std.proofs.Common.{◌≡◌, ◌∙◌, ℕ, zero, suc, Bool, true, false, cond, List, [], ◌∷◌, map, slice_get, Option, Some, None, is_some, option_map, option_and_then, refl, sym, ap, subst, if◌then◌else◌}
+use Rattle.std.specs.List.{cons_option, filter_map}
+use Rattle.std.specs.Option.{option_map_or}
+use Rattle.std.specs.Cmp.{nat_cmp_total, tied_itself}
+use Rattle.std.specs.Ordering.{is_eq}
+use Rattle.std.specs.FinMap as finmap
+use Rattle.std.specs.FinSet as set
+use Rattle.dep_types.specs.Maps.{Numbered, first_of}
+use Rattle.dep_types.specs.State.{State, Upload}
+use Rattle.dep_types.specs.Uploads.{is_complete}
+use Rattle.dep_types.specs.declared.refusal.Refusal.{Refusal}
+use Rattle.dep_types.specs.declared.refusal.Refusal.TheVariants.{BadRequest, ByReferenceNotAllowed, DigestMismatch, NotFound, PackagingFormatNotAcceptable, SegmentedUploadTimedOut}
+use Rattle.dep_docs_in.specs.declared.reference.Reference.{Reference}
+use Rattle.dep_docs_in.specs.declared.reference.Pointed.{Pointed}
+use Rattle.dep_docs_in.specs.declared.reference.Pointed.TheVariants.{Upload as AnUpload, Elsewhere}
+use Rattle.dep_decisions.specs.Decisions.{assembled_file, referred_files, upload_number}
+use Rattle.dep_decisions.specs.Rules.{each, has_digests, has_length, is_binary, entries_refusal, passes, stands_twice, unless, upload_refusal, when}
+use Rattle.dep_decisions.specs.Effects.{upload_of, uploads_of, without}
+use Rattle.dep_decisions.specs.declared.operation.Operation.{Operation}
+use Rattle.dep_decisions.specs.declared.decision.NewFile.{NewFile}
+use Rattle.dep_decisions.proofs.FoundInMaps.{all_passed, unless-none, without-none}
+
+-- ---- one entry of those that a rule passed
+
+first_two : (o : Option Refusal) (rest : List (Option Refusal)) → first_of (o ∷ rest) ≡ None → (o ≡ None) × (first_of rest ≡ None)
+first_two None rest e = (refl, e)
+first_two (Some r) rest e = cc e
+
+pub one_passed : (rule : Reference → Option Refusal) (refs : List Reference) (i : ℕ) (r : Reference) → each rule refs ≡ None → slice_get refs i ≡ Some r → rule r ≡ None
+one_passed rule [] i r e at = cc at
+one_passed rule (x ∷ refs) zero r e at =
+    let same : x ≡ r = cc at in
+    subst (λ (y : Reference). rule y ≡ None) same (first_two (rule x) (map rule refs) e).0
+one_passed rule (x ∷ refs) (suc i) r e at = one_passed rule refs i r (first_two (rule x) (map rule refs) e).1 at
+
+number_of : (o : Option ℕ) → unless (is_some o) ByReferenceNotAllowed ≡ None → (u : ℕ) × (o ≡ Some u)
+number_of (Some u) e = (u, refl)
+number_of None e = cc e
+
+pointed_at : (p : Pointed) (u : ℕ) → upload_number p ≡ Some u → p ≡ AnUpload u
+pointed_at (AnUpload n) u e = let same : n ≡ u = cc e in ap AnUpload same
+pointed_at Elsewhere u e = cc e
+
+there_by : (live gone : Bool) → (if live then None else if gone then Some SegmentedUploadTimedOut else Some NotFound) ≡ None → live ≡ true
+there_by true gone e = refl
+there_by false true e = cc e
+there_by false false e = cc e
+
+upload_there : (s : State) (o : Option ℕ) (u : ℕ) → o ≡ Some u → option_and_then (upload_refusal s) o ≡ None → (x : Upload) × (finmap.get s.uploads u ≡ Some x)
+upload_there s o u is e = some_one (finmap.get s.uploads u) (there_by (finmap.contains_key s.uploads u) (set.contains s.timed_out u) (ap (option_and_then (upload_refusal s)) (sym is) ∙ e)) where
+  some_one : (o : Option Upload) → is_some o ≡ true → (x : Upload) × (o ≡ Some x)
+  some_one (Some x) h = (x, refl)
+  some_one None h = cc h
+
+passed_by : (s : State) (r : Reference) (u : ℕ) (x : Upload) (test : Upload → Bool) (refusal : Refusal) → upload_number r.target ≡ Some u → finmap.get s.uploads u ≡ Some x
+    → unless (passes s r test) refusal ≡ None → test x ≡ true
+passed_by s r u x test refusal is there e =
+    sym (ap (λ (o : Option ℕ). option_map_or test (option_and_then (finmap.get s.uploads) o) true) is ∙ ap (λ (o : Option Upload). option_map_or test o true) there)
+    ∙ unless-none (passes s r test) refusal e
+
+-- what the rules on references let through
+pub record IsReferred (s : State) (r : Reference) : Type 0 where
+  pub upload : ℕ
+  pub number : upload_number r.target ≡ Some upload
+  pub target : r.target ≡ AnUpload upload
+  pub was : Upload
+  pub there : finmap.get s.uploads upload ≡ Some was
+  pub complete : is_complete was ≡ true
+  pub length : has_length r.length was ≡ true
+  pub digests : has_digests r.digest was ≡ true
+
+pub all_known : (s : State) (refs : List Reference) → entries_refusal s refs ≡ None → each (λ r. unless (is_some (upload_number r.target)) ByReferenceNotAllowed) refs ≡ None
+unfolding entries_refusal
+all_known s refs e = (first_two (each (λ r. unless (is_some (upload_number r.target)) ByReferenceNotAllowed) refs) (rest s refs) e).0 where
+  rest : (s : State) (refs : List Reference) → List (Option Refusal)
+  rest s refs =
+      each (λ r. unless (is_binary r.packaging) PackagingFormatNotAcceptable) refs
+      ∷ when (stands_twice (filter_map (λ r. upload_number r.target) refs)) BadRequest
+      ∷ each (λ r. option_and_then (upload_refusal s) (upload_number r.target)) refs
+      ∷ each (λ r. unless (passes s r is_complete) BadRequest) refs
+      ∷ each (λ r. unless (passes s r (has_length r.length)) BadRequest) refs
+      ∷ each (λ r. unless (passes s r (has_digests r.digest)) DigestMismatch) refs
+      ∷ []
+
+pub referred : (s : State) (refs : List Reference) (i : ℕ) (r : Reference) → entries_refusal s refs ≡ None → slice_get refs i ≡ Some r → IsReferred s r
+unfolding entries_refusal
+referred s refs i r e at =
+    let rows = all_passed
+    (each (λ r. unless (is_some (upload_number r.target)) ByReferenceNotAllowed) refs
+    ∷ each (λ r. unless (is_binary r.packaging) PackagingFormatNotAcceptable) refs
+    ∷ when (stands_twice (filter_map (λ r. upload_number r.target) refs)) BadRequest
+    ∷ each (λ r. option_and_then (upload_refusal s) (upload_number r.target)) refs
+    ∷ each (λ r. unless (passes s r is_complete) BadRequest) refs
+    ∷ each (λ r. unless (passes s r (has_length r.length)) BadRequest) refs
+    ∷ each (λ r. unless (passes s r (has_digests r.digest)) DigestMismatch) refs
+    ∷ []) e in
+    let number = number_of (upload_number r.target) (one_passed (λ r. unless (is_some (upload_number r.target)) ByReferenceNotAllowed) refs i r rows.0 at) in
+    let there = upload_there s (upload_number r.target) number.0 number.1 (one_passed (λ r. option_and_then (upload_refusal s) (upload_number r.target)) refs i r rows.1.1.1.0 at) in
+    record {
+      upload = number.0;
+      number = number.1;
+      target = pointed_at r.target number.0 number.1;
+      was = there.0;
+      there = there.1;
+      complete = passed_by s r number.0 there.0 is_complete BadRequest number.1 there.1 (one_passed (λ r. unless (passes s r is_complete) BadRequest) refs i r rows.1.1.1.1.0 at);
+      length = passed_by s r number.0 there.0 (has_length r.length) BadRequest number.1 there.1 (one_passed (λ r. unless (passes s r (has_length r.length)) BadRequest) refs i r rows.1.1.1.1.1.0 at);
+      digests = passed_by s r number.0 there.0 (has_digests r.digest) DigestMismatch number.1 there.1 (one_passed (λ r. unless (passes s r (has_digests r.digest)) DigestMismatch) refs i r rows.1.1.1.1.1.1.0 at);
+    }
+
+-- ---- the files, in their order
+
+abbrev AreKnown : List Reference → Type 0
+AreKnown refs = each (λ r. unless (is_some (upload_number r.target)) ByReferenceNotAllowed) refs ≡ None
+
+module _ (op : Operation) (r : Reference) (u : ℕ) (is : upload_number r.target ≡ Some u) where
+  first_placed : (x : Reference) (refs : List Reference) (i : ℕ) (v : ℕ) → upload_number x.target ≡ Some v → slice_get (x ∷ refs) i ≡ Some r
+      → ((j : ℕ) → slice_get refs j ≡ Some r → slice_get (referred_files op refs) j ≡ Some (assembled_file op r u))
+      → slice_get (assembled_file op x v ∷ referred_files op refs) i ≡ Some (assembled_file op r u)
+  first_placed x refs zero v has at later =
+      let same : x ≡ r = cc at in
+      let one : Some v ≡ Some u = sym has ∙ ap (λ (y : Reference). upload_number y.target) same ∙ is in
+      let number : v ≡ u = cc one in
+      ap (λ (y : Reference). Some (assembled_file op y v)) same ∙ ap (λ (n : ℕ). Some (assembled_file op r n)) number
+  first_placed x refs (suc i) v has at later = later i at
+
+  pub file_in_place : (refs : List Reference) (i : ℕ) → AreKnown refs → slice_get refs i ≡ Some r → slice_get (referred_files op refs) i ≡ Some (assembled_file op r u)
+  file_in_place [] i known at = cc at
+  file_in_place (x ∷ refs) i known at =
+      let both = first_two (unless (is_some (upload_number x.target)) ByReferenceNotAllowed) (map (λ r. unless (is_some (upload_number r.target)) ByReferenceNotAllowed) refs) known in
+      let first = number_of (upload_number x.target) both.0 in
+      ap (λ (o : Option ℕ). slice_get (cons_option (option_map (assembled_file op x) o) (referred_files op refs)) i) first.1
+      ∙ first_placed x refs i first.0 first.1 at (λ j there. file_in_place refs j both.1 there)
+
+-- ---- the uploads are gone
+
+removed : (m : Numbered Upload) (u : ℕ) → finmap.get (finmap.remove m u) u ≡ None
+removed m u = finmap.get-remove nat_cmp_total m u u ∙ ap (λ r. cond (is_eq r) None (finmap.get m u)) (tied_itself nat_cmp_total u)
+
+some_removed : (more : List ℕ) (o : Option ℕ) (u : ℕ) (m : Numbered Upload) → ((n : Numbered Upload) → finmap.get (without n more) u ≡ None)
+    → finmap.get (without m (cons_option o more)) u ≡ None
+some_removed more None u m each = each m
+some_removed more (Some v) u m each = each (finmap.remove m v)
+
+pub used_up : (m : Numbered Upload) (new : List NewFile) (i : ℕ) (file : NewFile) (u : ℕ) → slice_get new i ≡ Some file → upload_of file.source ≡ Some u
+    → finmap.get (without m (uploads_of new)) u ≡ None
+used_up m [] i file u at is = cc at
+used_up m (x ∷ more) zero file u at is =
+    let same : x ≡ file = cc at in
+    ap (λ (o : Option ℕ). finmap.get (without m (cons_option o (uploads_of more))) u) (ap (λ (y : NewFile). upload_of y.source) same ∙ is)
+    ∙ without-none (finmap.remove m u) (uploads_of more) u (removed m u)
+used_up m (x ∷ more) (suc i) file u at is = some_removed (uploads_of more) (upload_of x.source) u m (λ n. used_up n more i file u at is)

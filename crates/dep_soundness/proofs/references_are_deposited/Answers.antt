@@ -1,5 +1,0 @@
-use Rattle.dep_soundness.proofs.Deposited.{deposited}
-use Rattle.dep_soundness.proofs.references_are_deposited.Goals as goal
-
-pub returns : goal.returns
-returns c config s op refs i r sound accepted read at = deposited config s op refs read r i sound accepted at

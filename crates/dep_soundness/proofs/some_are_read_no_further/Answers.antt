@@ -1,5 +1,0 @@
-use Rattle.dep_soundness.proofs.ReadAlone.{read_no_further}
-use Rattle.dep_soundness.proofs.some_are_read_no_further.Goals as goal
-
-pub returns : goal.returns
-returns c = read_no_further
