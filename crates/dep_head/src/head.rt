@@ -131,12 +131,12 @@ fn read_path(alloc: Global, target: &[u8]) -> Result<Vec<u8>, HeadFault>
         × (path.items ≡ uri_path uri)) }
     ensures refused { result ≡ Err HeadFault.NotAHead → (uri : Uri) → ¬ Spells target.now uri }
 {
-    let uri = match Uri::from_bytes(alloc, target) {
-        Ok(uri) => uri,
+    let path = match Uri::from_bytes(alloc, target) {
+        Ok(uri) => Vec::from_slice(alloc, uri.path().as_bytes()),
         Err(UriError::Invalid(_)) => return Err(HeadFault::NotAHead),
         Err(UriError::OutOfMemory) => return Err(HeadFault::Memory),
     };
-    match Vec::from_slice(alloc, uri.path().as_bytes()) {
+    match path {
         Ok(path) => Ok(path),
         Err(AllocError) => Err(HeadFault::Memory),
     }

@@ -1,7 +1,19 @@
-use Rattle.std.proofs.Common.{◌≡◌, ◌-◌, ◌≤◌, ◌++◌, length, take, drop, true, false, sym, ap, subst, ◌∙◌, arith, take_all, length-drop}
+use Rattle.std.proofs.Common.{◌≡◌, ◌-◌, ◌≤◌, ◌++◌, length, take, drop, true, false, sym, ap, subst, ◌∙◌, arith, take_all, length-drop, append-nil, le_refl, refl}
 use Rattle.dep_body.specs.Standing.{StandsAt, is_settled}
 use Rattle.dep_body.proofs.FeedLemmas.{take_further, kept_further}
 use Rattle.dep_body.proofs.reader.advance.Goals as goal
+
+pub loop-used-init : goal.loop-used-init
+loop-used-init c = record {
+  stands = λ text h. subst (StandsAt c.args.limit c.args.content.now.items c.args.stage) (sym (append-nil text)) h;
+  within = omega arith;
+  settled = λ _. (refl, refl);
+  kept = take_all _ _ (le_refl _);
+}
+
+pub returns-in_err-next-clause-kept : goal.returns-in_err-next-clause-kept
+returns-in_err-next-clause-kept c =
+    kept_further c.args.content.now.items c.loop-used.content.items c.step.new.content.items c.loop-used.invariant.kept c.in_err-next.ensures.kept
 
 pub loop-used-preserved : goal.loop-used-preserved
 loop-used-preserved c =

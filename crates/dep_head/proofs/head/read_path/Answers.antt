@@ -1,6 +1,6 @@
 use Rattle.std.proofs.Common.{◌∙◌}
 use Rattle.dep_head.proofs.head.read_path.Goals as goal
 
-pub returns-in-Ok-from_slice-clause-read : goal.returns-in-Ok-from_slice-clause-read
-returns-in-Ok-from_slice-clause-read c =
-    (c.in-Ok.uri, c.in-Ok.ensures.ok, c.in-Ok-from_slice.ensures.items ∙ c.as_bytes.ensures.value ∙ c.path.ensures.value)
+pub returns-in-Ok-path-clause-read : goal.returns-in-Ok-path-clause-read
+returns-in-Ok-path-clause-read c =
+    (c.in-Ok.uri, c.in-Ok.ensures.ok, c.in-Ok-path.ensures.items ∙ c.as_bytes.ensures.value ∙ c.path.ensures.value)

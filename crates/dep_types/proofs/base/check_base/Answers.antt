@@ -1,22 +1,59 @@
-use Rattle.std.proofs.Common.{◌≡◌, ◌∙◌, ◌++◌, ◌∷◌, List, [], ℕ, sym, ap, rules, Ok, None}
-use Rattle.std.proofs.lemmas.List.{append_cancel_right}
+use Rattle.std.proofs.Common.{◌≡◌, ◌∙◌, ◌++◌, ◌∷◌, List, [], ℕ, sym, ap, rules, refl, Bool, true, false, not, nat_eq, codes, Ok, None}
+use Rattle.std.specs.Cmp.Lexicographic.{pointwise}
+use Rattle.std.proofs.lemmas.List.{same_from_push}
 use Rattle.url.specs.Parser.{parse_url}
 use Rattle.url.specs.Parts.{Parts, serialize}
 use Rattle.dep_types.specs.Base.{IsBase}
 use Rattle.dep_types.proofs.base.check_base.Goals as goal
 
--- a base is the text of its URL without the last byte
-front_is : (text front : List ℕ) (last : ℕ) (url : Parts) → IsBase text → parse_url None text ≡ Ok url → serialize url ≡ front ++ last ∷ [] → last ≡ 47 → front ≡ text
-front_is text front last url h reads spelled slash =
+-- a base is the text of its URL without the last byte, which is a slash
+front_is : (text front : List ℕ) (last : ℕ) (url : Parts) → IsBase text → parse_url None text ≡ Ok url → serialize url ≡ front ++ last ∷ [] → (front ≡ text) × (last ≡ 47)
+front_is text front last url h reads spelled =
     let both = sym h.reads ∙ reads in
     let same : h.url ≡ url = cc both in
-    append_cancel_right front text (47 ∷ [])
-    (ap (λ b. front ++ b ∷ []) (sym slash) ∙ sym spelled ∙ ap serialize (sym same) ∙ h.spelled)
+    same_from_push front text last 47 (sym spelled ∙ ap serialize (sym same) ∙ h.spelled)
+
+scheme_is : (text : List ℕ) (url : Parts) → IsBase text → parse_url None text ≡ Ok url → url.scheme ≡ codes "http"
+scheme_is text url h reads =
+    let both = sym h.reads ∙ reads in
+    let same : h.url ≡ url = cc both in
+    ap (λ (u : Parts). u.scheme) (sym same) ∙ h.scheme
+
+spelled_so : (text front serialized : List ℕ) (last : ℕ) → serialized ≡ front ++ last ∷ [] → last ≡ 47 → front ≡ text → serialized ≡ text ++ 47 ∷ []
+spelled_so text front serialized last spelled slash same = spelled ∙ rw (slash, same) refl
+
+-- what a test for other bytes tells
+same_bytes : (a b : List ℕ) (apart : Bool) → apart ≡ not (pointwise nat_eq a b) → apart ≡ false → a ≡ b
+same_bytes a b apart test told = search rules
+
+other_bytes : (a b : List ℕ) (apart : Bool) → apart ≡ not (pointwise nat_eq a b) → apart ≡ true → a ≡ b → ⊥
+other_bytes a b apart test told = search rules
+
+pub returns-then-last-ne47-clause-refused : goal.returns-then-last-ne47-clause-refused
+returns-then-last-ne47-clause-refused c = λ _ base.
+    let spelled = sym c.as_str.ensures.value ∙ sym c.as_bytes.ensures.value ∙ c.in-Some.ensures.cases.0 in
+    c.if-last-ne47.true (front_is c.args.base.now c.in-Some.front.now c.in-Some.last.now c.in-Ok.url base c.in-Ok.ensures spelled).1
 
 pub returns-then-ne-2-clause-refused : goal.returns-then-ne-2-clause-refused
 returns-then-ne-2-clause-refused c = λ _ base.
-    let cut : c.as_bytes.result.now ≡ c.in-Some.front.now ++ c.in-Some.last.now ∷ [] = search rules in
-    let spelled = sym c.as_str.ensures.value ∙ sym c.as_bytes.ensures.value ∙ cut in
-    let front : c.in-Some.front.now ≡ c.args.base.now = front_is _ _ _ _ base c.in-Ok.ensures spelled c.if-last-ne47.false in
-    let differs : c.in-Some.front.now ≡ c.as_bytes-in-Ok.result.now → ⊥ = search rules in
-    differs (front ∙ sym c.as_bytes-in-Ok.ensures.value)
+    let spelled = sym c.as_str.ensures.value ∙ sym c.as_bytes.ensures.value ∙ c.in-Some.ensures.cases.0 in
+    let front = front_is c.args.base.now c.in-Some.front.now c.in-Some.last.now c.in-Ok.url base c.in-Ok.ensures spelled in
+    other_bytes c.in-Some.front.now c.as_bytes-in-Ok.result.now c.ne-in-Ok.result c.ne-in-Ok.ensures c.if-ne-2.true (front.0 ∙ sym c.as_bytes-in-Ok.ensures.value)
+
+pub returns-else-ne-2-clause-kept : goal.returns-else-ne-2-clause-kept
+returns-else-ne-2-clause-kept c =
+    let scheme = same_bytes c.scheme.result.now (codes "http") c.ne.result c.ne.ensures c.if-ne.false in
+    let front = same_bytes c.in-Some.front.now c.as_bytes-in-Ok.result.now c.ne-in-Ok.result c.ne-in-Ok.ensures c.if-ne-2.false in
+    record {
+      url = c.in-Ok.url;
+      reads = c.in-Ok.ensures;
+      scheme = sym c.scheme.ensures.value ∙ scheme;
+      spelled = spelled_so c.args.base.now c.in-Some.front.now (serialize c.in-Ok.url) c.in-Some.last.now
+          (sym c.as_str.ensures.value ∙ sym c.as_bytes.ensures.value ∙ c.in-Some.ensures.cases.0)
+          c.if-last-ne47.false (front ∙ c.as_bytes-in-Ok.ensures.value);
+    }
+
+pub returns-then-ne-clause-refused : goal.returns-then-ne-clause-refused
+returns-then-ne-clause-refused c = λ _ base.
+    other_bytes c.scheme.result.now (codes "http") c.ne.result c.ne.ensures c.if-ne.true
+    (c.scheme.ensures.value ∙ scheme_is c.args.base.now c.in-Ok.url base c.in-Ok.ensures)
