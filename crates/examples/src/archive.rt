@@ -1,34 +1,61 @@
-//! An archive in memory.
+//! An archive, as an example needs it, and the one in memory.
 
+use crate::archive_calls::ArchiveCall;
+use crate::page::Page;
 use crate::trouble::Trouble;
 use dep_schema::OpenFault;
+use dep_server::Archive;
 use dep_store::Store;
 use sqlite::{Connection, Error, ErrorCode, MemStore};
 use std::alloc::Global;
 
-/// A new archive.
-pub fn made(alloc: Global) -> Result<Store<MemStore>, Trouble> {
-    opened(alloc, Connection::open_in_memory(alloc)?)
+/// An archive that an example can be played on.
+pub trait ExampleArchive: Archive + Drop {
+    /// A new archive.
+    fn made(alloc: Global) -> Result<Self, Trouble>;
+
+    /// The archive, closed and opened again.
+    fn reopened(self, alloc: Global) -> Result<Self, Trouble>;
+
+    /// The archive, whose tables a statement has changed.
+    fn changed(self, alloc: Global, statement: &str) -> Result<Self, Trouble>;
+
+    /// Makes a call of it, and tells in a word what that came to.
+    fn answers(
+        &mut self,
+        alloc: Global,
+        call: ArchiveCall,
+        page: &mut Page,
+    ) -> Result<&'static str, Trouble>;
 }
 
-/// The archive, closed and opened again.
-pub fn reopened(alloc: Global, archive: Store<MemStore>) -> Result<Store<MemStore>, Trouble> {
-    opened(alloc, archive.close())
-}
+impl ExampleArchive for Store<MemStore> {
+    fn made(alloc: Global) -> Result<Store<MemStore>, Trouble> {
+        opened(alloc, Connection::open_in_memory(alloc)?)
+    }
 
-/// The archive, whose tables a statement has changed.
-pub fn changed(
-    alloc: Global,
-    archive: Store<MemStore>,
-    statement: &str,
-) -> Result<Store<MemStore>, Trouble> {
-    let mut connection = archive.close();
-    match execute(&mut connection, statement) {
-        Ok(()) => opened(alloc, connection),
-        Err(why) => {
-            drop(connection);
-            Err(why)
+    fn reopened(self, alloc: Global) -> Result<Store<MemStore>, Trouble> {
+        opened(alloc, self.close())
+    }
+
+    fn changed(self, alloc: Global, statement: &str) -> Result<Store<MemStore>, Trouble> {
+        let mut connection = self.close();
+        match execute(&mut connection, statement) {
+            Ok(()) => opened(alloc, connection),
+            Err(why) => {
+                drop(connection);
+                Err(why)
+            }
         }
+    }
+
+    fn answers(
+        &mut self,
+        alloc: Global,
+        call: ArchiveCall,
+        page: &mut Page,
+    ) -> Result<&'static str, Trouble> {
+        call.plays(alloc, self, page)
     }
 }
 

@@ -1,10 +1,13 @@
 //! An example, and the ways in which it is played.
 
+use crate::archive::ExampleArchive;
 use crate::cut::Cut;
 use crate::play::Play;
 use crate::trouble::Trouble;
 use crate::verdict::Verdict;
 use crate::words::Words;
+use dep_store::Store;
+use sqlite::MemStore;
 use std::alloc::Global;
 use std::fmt;
 
@@ -137,7 +140,7 @@ impl<'a> Example<'a> {
         cut: Cut,
         skipped: usize,
     ) -> Result<usize, Wrong<'a>> {
-        match Play::new(alloc, cut) {
+        match Play::<Store<MemStore>>::new(alloc, cut) {
             Ok(mut play) => {
                 let played = self.all_lines(words, &mut play, cut, skipped);
                 drop(play);
@@ -147,10 +150,10 @@ impl<'a> Example<'a> {
         }
     }
 
-    fn all_lines(
+    fn all_lines<A: ExampleArchive>(
         self,
         words: &mut Words,
-        play: &mut Play,
+        play: &mut Play<A>,
         cut: Cut,
         skipped: usize,
     ) -> Result<usize, Wrong<'a>> {

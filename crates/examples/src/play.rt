@@ -1,5 +1,6 @@
 //! An example is played line by line.
 
+use crate::archive::ExampleArchive;
 use crate::archive_calls::ArchiveCall;
 use crate::cut::Cut;
 use crate::escapes::fill;
@@ -32,16 +33,16 @@ const ANSWERS: [&str; 15] = [
 
 /// An example that is played, its bytes cut in one way.
 #[derive(Drop)]
-pub struct Play {
+pub struct Play<A> {
     alloc: Global,
     settings: Settings,
-    side: Side,
+    side: Side<A>,
     exchange: Exchange,
     longest: usize,
 }
 
-impl Play {
-    pub fn new(alloc: Global, cut: Cut) -> Result<Play, Trouble> {
+impl<A: ExampleArchive> Play<A> {
+    pub fn new(alloc: Global, cut: Cut) -> Result<Play<A>, Trouble> {
         Ok(Play {
             alloc,
             settings: Settings::new(alloc)?,

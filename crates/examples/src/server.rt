@@ -6,27 +6,21 @@ use crate::settings::Settings;
 use crate::source::Source;
 use crate::trouble::Trouble;
 use dep_moment::Moment;
-use dep_server::{Arrived, ConnId, ConnectFault, Hub, HubFault, Served, serve_connection};
-use dep_store::Store;
+use dep_server::{Archive, Arrived, ConnId, ConnectFault, Hub, HubFault, Served, serve_connection};
 use dep_types::Through;
-use sqlite::MemStore;
 use std::alloc::{AllocError, Global};
 
 /// A hub and its connections, which have the numbers 1, 2 and so on.
 #[derive(Drop)]
-pub struct Server {
-    hub: Hub<Store<MemStore>>,
+pub struct Server<A> {
+    hub: Hub<A>,
     connections: Vec<ConnId>,
     current: ConnId,
 }
 
-impl Server {
+impl<A: Archive + Drop> Server<A> {
     /// Over this archive, with connection 1.
-    pub fn open(
-        alloc: Global,
-        settings: &Settings,
-        store: Store<MemStore>,
-    ) -> Result<Server, Trouble> {
+    pub fn open(alloc: Global, settings: &Settings, store: A) -> Result<Server<A>, Trouble> {
         let mut hub = opened(alloc, settings, store)?;
         match first(alloc, &mut hub) {
             Ok((connections, current)) => Ok(Server {
@@ -90,7 +84,7 @@ impl Server {
     }
 
     /// What the hub leaves.
-    pub fn into_store(self) -> Store<MemStore> {
+    pub fn into_store(self) -> A {
         self.hub.into_store()
     }
 
@@ -156,22 +150,22 @@ pub fn word_of(came: Arrived) -> &'static str {
 }
 
 // A hub over the archive, or why there is none, with the archive.
-fn hub(
+fn hub<A: Archive + Drop>(
     alloc: Global,
     settings: &Settings,
-    store: Store<MemStore>,
-) -> Result<Hub<Store<MemStore>>, (HubFault, Store<MemStore>)> {
+    store: A,
+) -> Result<Hub<A>, (HubFault, A)> {
     match settings.config(alloc) {
         Ok(config) => Hub::new(alloc, config, store),
         Err(AllocError) => Err((HubFault::Memory, store)),
     }
 }
 
-fn opened(
+fn opened<A: Archive + Drop>(
     alloc: Global,
     settings: &Settings,
-    store: Store<MemStore>,
-) -> Result<Hub<Store<MemStore>>, Trouble> {
+    store: A,
+) -> Result<Hub<A>, Trouble> {
     match hub(alloc, settings, store) {
         Ok(hub) => Ok(hub),
         Err((fault, store)) => {
@@ -185,11 +179,11 @@ fn opened(
 }
 
 /// The archive, which no hub takes by this configuration.
-pub fn refused(
+pub fn refused<A: Archive + Drop>(
     alloc: Global,
     settings: &Settings,
-    store: Store<MemStore>,
-) -> Result<Store<MemStore>, Trouble> {
+    store: A,
+) -> Result<A, Trouble> {
     match hub(alloc, settings, store) {
         Ok(hub) => {
             drop(hub);
@@ -204,12 +198,15 @@ pub fn refused(
 }
 
 // The numbers of the connections, of which there is one, and that one.
-fn first(alloc: Global, hub: &mut Hub<Store<MemStore>>) -> Result<(Vec<ConnId>, ConnId), Trouble> {
+fn first<A: Archive + Drop>(
+    alloc: Global,
+    hub: &mut Hub<A>,
+) -> Result<(Vec<ConnId>, ConnId), Trouble> {
     let current = connected(hub)?;
     Ok(([current].to_vec(alloc)?, current))
 }
 
-fn connected(hub: &mut Hub<Store<MemStore>>) -> Result<ConnId, Trouble> {
+fn connected<A: Archive + Drop>(hub: &mut Hub<A>) -> Result<ConnId, Trouble> {
     match hub.connect() {
         Ok(connection) => Ok(connection),
         Err(ConnectFault::Memory) => Err(Trouble::Memory),

@@ -1,6 +1,6 @@
 //! What an example is played against.
 
-use crate::archive::{changed, made, reopened};
+use crate::archive::ExampleArchive;
 use crate::exchange::Exchange;
 use crate::intake::takes;
 use crate::page::Page;
@@ -8,23 +8,21 @@ use crate::server::{Server, refused};
 use crate::settings::Settings;
 use crate::trouble::Trouble;
 use dep_message::Intake;
-use dep_store::Store;
-use sqlite::MemStore;
 use std::alloc::Global;
 use std::mem;
 
 /// What an example is played against.
 #[derive(Drop)]
-pub enum Side {
+pub enum Side<A> {
     /// Nothing was played yet, and the archive is to be a new one.
     New,
     /// An archive that no hub has.
-    Archive(Store<MemStore>),
-    Server(Server),
+    Archive(A),
+    Server(Server<A>),
     Intake(Intake),
 }
 
-impl Side {
+impl<A: ExampleArchive> Side<A> {
     /// Plays an exchange, and tells in a word what it came to.
     pub fn plays(
         &mut self,
@@ -36,7 +34,7 @@ impl Side {
         match self {
             Side::New => Err(Trouble::Line("no hub is there")),
             Side::Archive(store) => match exchange.call {
-                Some(call) => call.plays(alloc, store, page),
+                Some(call) => store.answers(alloc, call, page),
                 None => Err(Trouble::Line("no hub is there")),
             },
             Side::Intake(intake) => takes(intake, exchange, page),
@@ -54,7 +52,11 @@ impl Side {
     }
 
     /// Its hub, which is opened where none is there yet.
-    pub fn server(&mut self, alloc: Global, settings: &Settings) -> Result<&mut Server, Trouble> {
+    pub fn server(
+        &mut self,
+        alloc: Global,
+        settings: &Settings,
+    ) -> Result<&mut Server<A>, Trouble> {
         self.open(alloc, settings)?;
         match self {
             Side::Server(server) => Ok(server),
@@ -72,14 +74,14 @@ impl Side {
     /// The archive is closed and opened again.
     pub fn reopen(&mut self, alloc: Global) -> Result<(), Trouble> {
         let store = self.take_store(alloc)?;
-        self.change_to(Side::Archive(reopened(alloc, store)?));
+        self.change_to(Side::Archive(store.reopened(alloc)?));
         Ok(())
     }
 
     /// A statement changes the tables of the archive, which is opened again.
     pub fn change(&mut self, alloc: Global, statement: &str) -> Result<(), Trouble> {
         let store = self.take_store(alloc)?;
-        self.change_to(Side::Archive(changed(alloc, store, statement)?));
+        self.change_to(Side::Archive(store.changed(alloc, statement)?));
         Ok(())
     }
 
@@ -91,7 +93,7 @@ impl Side {
     }
 
     /// It goes on with another.
-    pub fn change_to(&mut self, other: Side) {
+    pub fn change_to(&mut self, other: Side<A>) {
         drop(mem::replace(self, other));
     }
 
@@ -106,9 +108,9 @@ impl Side {
         }
     }
 
-    fn take_store(&mut self, alloc: Global) -> Result<Store<MemStore>, Trouble> {
+    fn take_store(&mut self, alloc: Global) -> Result<A, Trouble> {
         if let Side::New = self {
-            return made(alloc);
+            return A::made(alloc);
         }
         match mem::replace(self, Side::New) {
             Side::Archive(store) => Ok(store),
