@@ -40,6 +40,14 @@ found_view s n view told =
       | Some o ↦ λ e h. record { object = o; held = e; is = same_view view (object_view n o) h }
     ] refl told
 
+-- no view was told
+pub none_found : (s : State) (n : ℕ) → None ≡ view_at s n → map.get s.objects n ≡ None
+none_found s n told =
+    elim (map.get s.objects n) as (λ found. None ≡ option_map (object_view n) found → found ≡ None) [
+      | None ↦ λ h. refl
+      | Some o ↦ λ h. absurd (cc)
+    ] told
+
 -- the files of the object's rows are its payload
 are_files : (s : State) (n : ℕ) (o : Object) → map.get s.objects n ≡ Some o → (es : List (ℕ × File)) → All (λ e. map.get o.files e.0 ≡ Some e.1) es
     → AreFilesOf s (each (λ e. file_row n e.0 e.1) es) (each payload_entry es)

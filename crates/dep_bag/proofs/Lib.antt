@@ -5,6 +5,7 @@ pub mod FoundFiles
 pub mod ToldBag
 pub mod GivenParts
 pub mod StoredFiles
+pub mod Still
 pub mod Payload
 pub mod Exported
 pub mod Keys

@@ -5,11 +5,14 @@ use Rattle.std.specs.Io.KnownBytes.{Appends}
 use Rattle.std.proofs.KnownBytes.{Appends-nil, Appends-trans}
 use Rattle.std.proofs.lemmas.Grind.{flat_map-append}
 use Rattle.dep_types.specs.State.{State}
+use Rattle.dep_types.specs.Conditions.{Condition, StandsFor, HasCleanDisk, Leaves}
 use Rattle.dep_types.specs.Sinks.{Entry, IsFront, file_given}
 use Rattle.dep_types.specs.declared.rows.FileRow.{FileRow}
 use Rattle.dep_types.specs.Streams.{HasContent}
 use Rattle.dep_bag.specs.Parts.{row_path}
 use Rattle.std.specs.Result.{IsErrAnd}
+use Rattle.dep_bag.specs.Source.{StandsStill}
+use Rattle.dep_bag.proofs.Still.{unchanged, still_then}
 use Rattle.dep_bag.specs.Giving.{IsGivenAt, IsGiven, AreFilesOf}
 use Rattle.dep_bag.specs.declared.export_fault.ExportFault.{ExportFault}
 use Rattle.dep_bag.proofs.GivenParts.{IsOurs, faulty, given_front}
@@ -23,19 +26,19 @@ pub record IsSplit (s : State) (left : List FileRow) (files : List Entry) (given
   pub is : given ≡ flat_map file_given done
 
 -- what was given for the rows so far
-pub record SoFar {A : Type 0} (stands : A → State → Type 0) (is_clean : A → Type 0) (old now : A) (before after : Option (List ℕ)) (rows left : List FileRow) : Type 0 where
+pub record SoFar (old now : Condition) (before after : Option (List ℕ)) (rows left : List FileRow) : Type 0 where
   pub given : List ℕ
   pub appends : Appends before after given
-  pub clean : is_clean now → is_clean old
-  pub kept : is_clean now → (s : State) → stands old s → stands now s
-  pub split : is_clean now → (s : State) → stands old s → (files : List Entry) → AreFilesOf s rows files → IsSplit s left files given
+  pub still : StandsStill old now
+  pub kept : HasCleanDisk now → (s : State) → StandsFor old s → StandsFor now s
+  pub split : HasCleanDisk now → (s : State) → StandsFor old s → (files : List Entry) → AreFilesOf s rows files → IsSplit s left files given
 
-pub none_so_far : {A : Type 0} (stands : A → State → Type 0) (is_clean : A → Type 0) (old : A) (before : Option (List ℕ)) (rows : List FileRow)
-    → SoFar stands is_clean old old before before rows rows
-none_so_far stands is_clean old before rows = record {
+pub none_so_far : (old : Condition) (before : Option (List ℕ)) (rows : List FileRow)
+    → ((s : State) → StandsFor old s → Leaves old (λ left. left ≡ s)) → SoFar old old before before rows rows
+none_so_far old before rows settled = record {
   given = [];
   appends = Appends-nil before;
-  clean = λ c. c;
+  still = unchanged old settled;
   kept = λ c s at. at;
   split = λ c s at files are. record { done = []; rest = files; joined = refl; are = are; is = refl };
 }
@@ -79,42 +82,42 @@ next_row rows i row inside is =
     let one_more : suc i ≡ i + 1 = omega arith in
     drop-cons rows i row inside ∙ ap (λ r. r ∷ drop (suc i) rows) (sym is) ∙ ap (λ k. row ∷ drop k rows) one_more
 
-pub one_more : {A : Type 0} (stands : A → State → Type 0) (is_clean : A → Type 0) (old mid now : A) (before between after : Option (List ℕ))
+pub one_more : (old mid now : Condition) (before between after : Option (List ℕ))
     (rows : List FileRow) (i : ℕ) (row : FileRow) → i < length rows → row ≡ get_or rows i row
-    → SoFar stands is_clean old mid before between rows (drop i rows)
+    → SoFar old mid before between rows (drop i rows)
     → (more : List ℕ) × Appends between after more
-    × (is_clean now → (s : State) → stands mid s → (bytes : List ℕ) → HasContent s row.file bytes → more ≡ file_given (row_path row, bytes))
-    → (is_clean now → is_clean mid) → (is_clean now → (s : State) → stands mid s → stands now s)
-    → SoFar stands is_clean old now before after rows (drop (i + 1) rows)
-one_more stands is_clean old mid now before between after rows i row inside is far gives clean kept =
+    × (HasCleanDisk now → (s : State) → StandsFor mid s → (bytes : List ℕ) → HasContent s row.file bytes → more ≡ file_given (row_path row, bytes))
+    → StandsStill mid now → (HasCleanDisk now → (s : State) → StandsFor mid s → StandsFor now s)
+    → SoFar old now before after rows (drop (i + 1) rows)
+one_more old mid now before between after rows i row inside is far gives still kept =
     let next = next_row rows i row inside is in
     record {
       given = far.given ++ gives.0;
       appends = Appends-trans before between after far.given gives.0 far.appends gives.1;
-      clean = λ c. far.clean (clean c);
-      kept = λ c s at. kept c s (far.kept (clean c) s at);
+      still = still_then old mid now far.kept far.still still;
+      kept = λ c s at. kept c s (far.kept (still.honest_before c) s at);
       split = λ c s at files are.
-          let was = far.split (clean c) s at files are in
+          let was = far.split (still.honest_before c) s at files are in
           split_more s row (drop (i + 1) rows) files far.given gives.0 was.done was.rest was.joined (subst (λ l. AreFilesOf s l was.rest) next was.are) was.is
-          (λ bytes has. gives.2 c s (far.kept (clean c) s at) bytes has);
+          (λ bytes has. gives.2 c s (far.kept (still.honest_before c) s at) bytes has);
     }
 
-pub one_fails : {A X : Type 0} (stands : A → State → Type 0) (is_clean : A → Type 0) (old mid now : A) (before between after : Option (List ℕ))
+pub one_fails : {X : Type 0} (old mid now : Condition) (before between after : Option (List ℕ))
     (rows : List FileRow) (i : ℕ) (row : FileRow) (e : ExportFault) (r : Result X ExportFault) → i < length rows → row ≡ get_or rows i row
-    → SoFar stands is_clean old mid before between rows (drop i rows)
+    → SoFar old mid before between rows (drop i rows)
     → (more : List ℕ) × Appends between after more
-    × (is_clean now → (s : State) → stands mid s → (bytes : List ℕ) → HasContent s row.file bytes → IsGivenAt e (file_given (row_path row, bytes)) more)
-    → (is_clean now → is_clean mid) → IsOurs e → IsErrAnd r (λ x. x ≡ e)
+    × (HasCleanDisk now → (s : State) → StandsFor mid s → (bytes : List ℕ) → HasContent s row.file bytes → IsGivenAt e (file_given (row_path row, bytes)) more)
+    → StandsStill mid now → IsOurs e → IsErrAnd r (λ x. x ≡ e)
     → (given : List ℕ) × Appends before after given
-    × (is_clean now → (s : State) → stands old s → (files : List Entry) → AreFilesOf s rows files → IsGiven (flat_map file_given files) given r)
-one_fails stands is_clean old mid now before between after rows i row e r inside is far gives clean ours err =
+    × (HasCleanDisk now → (s : State) → StandsFor old s → (files : List Entry) → AreFilesOf s rows files → IsGiven (flat_map file_given files) given r)
+one_fails old mid now before between after rows i row e r inside is far gives still ours err =
     let next = next_row rows i row inside is in (
       far.given ++ gives.0,
       Appends-trans before between after far.given gives.0 far.appends gives.1,
       λ c s at files are.
-          let was = far.split (clean c) s at files are in
+          let was = far.split (still.honest_before c) s at files are in
           let front = split_front s row (drop (i + 1) rows) files far.given gives.0 was.done was.rest was.joined (subst (λ l. AreFilesOf s l was.rest) next was.are) was.is
-          (λ bytes has. (given_front e (file_given (row_path row, bytes)) gives.0 (gives.2 c s (far.kept (clean c) s at) bytes has)).1) in
+          (λ bytes has. (given_front e (file_given (row_path row, bytes)) gives.0 (gives.2 c s (far.kept (still.honest_before c) s at) bytes has)).1) in
           faulty r e (flat_map file_given files) (far.given ++ gives.0) err ours front,
     )
 
@@ -124,11 +127,11 @@ all_done s files given done [] joined are is = is ∙ ap (flat_map file_given) (
 all_done s files given done (file ∷ rest) joined are is = absurd are
 
 -- every file was given
-pub all_given : {A : Type 0} (stands : A → State → Type 0) (is_clean : A → Type 0) (old now : A) (before after : Option (List ℕ)) (rows left : List FileRow) → left ≡ []
-    → SoFar stands is_clean old now before after rows left
+pub all_given : (old now : Condition) (before after : Option (List ℕ)) (rows left : List FileRow) → left ≡ []
+    → SoFar old now before after rows left
     → (given : List ℕ) × Appends before after given
-    × (is_clean now → (s : State) → stands old s → (files : List Entry) → AreFilesOf s rows files → given ≡ flat_map file_given files)
-all_given stands is_clean old now before after rows left none far = (
+    × (HasCleanDisk now → (s : State) → StandsFor old s → (files : List Entry) → AreFilesOf s rows files → given ≡ flat_map file_given files)
+all_given old now before after rows left none far = (
   far.given,
   far.appends,
   λ c s at files are. let was = far.split c s at files are in

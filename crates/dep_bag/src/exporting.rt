@@ -2,7 +2,8 @@
 ghost use Rattle.std.specs.Prelude.{◌≡◌, ℕ, List, Err};
 ghost use Rattle.std.specs.Io.KnownBytes.{Appends, Keeps};
 ghost use Rattle.dep_types.specs.State.{State};
-ghost use Rattle.dep_bag.specs.Source.{KeepsStanding};
+ghost use Rattle.dep_types.specs.Conditions.{StandsFor, HasCleanDisk};
+ghost use Rattle.dep_bag.specs.Source.{KeepsStanding, StandsStill};
 ghost use Rattle.dep_bag.specs.Giving.{HasCause};
 ghost use Rattle.dep_bag.specs.Exports.{IsExported};
 
@@ -22,13 +23,14 @@ pub fn export<S: BagSource, K: BagSink>(
     sink: &mut K,
 ) -> Result<(), ExportFault>
     ensures gives { (given : List ℕ) × Appends (K.taken sink.old) (K.taken sink.new) given
-        × (S.is_clean source.new → (s : State) → S.stands source.old s
+        × (HasCleanDisk (S.condition source.new)
+        → (s : State) → StandsFor (S.condition source.old) s
         → IsExported s object given result) }
     ensures absent { result ≡ Err ExportFault.NoSuchObject →
         Keeps (K.taken sink.old) (K.taken sink.new) }
     ensures cause { HasCause result (K.failures sink.old) (K.failures sink.new) }
-    ensures kept { KeepsStanding S.is_clean S.stands source.old source.new result }
-    ensures clean { S.is_clean source.new → S.is_clean source.old }
+    ensures kept { KeepsStanding (S.condition source.old) (S.condition source.new) result }
+    ensures still { StandsStill (S.condition source.old) (S.condition source.new) }
 {
     let view = match source.view(object) {
         Ok(Some(view)) => view,

@@ -4,7 +4,8 @@ ghost use Rattle.std.specs.Io.KnownBytes.{Appends};
 ghost use Rattle.dep_types.specs.State.{State};
 ghost use Rattle.dep_types.specs.Sinks.{Entry, file_given};
 ghost use Rattle.dep_types.specs.Streams.{HasContent};
-ghost use Rattle.dep_bag.specs.Source.{KeepsStanding};
+ghost use Rattle.dep_types.specs.Conditions.{StandsFor, HasCleanDisk};
+ghost use Rattle.dep_bag.specs.Source.{KeepsStanding, StandsStill};
 ghost use Rattle.dep_bag.specs.Parts.{row_path};
 ghost use Rattle.dep_bag.specs.Giving.{IsGiven, Gives, HasCause, tag_transcript, unsent_fault, AreFilesOf};
 
@@ -59,12 +60,13 @@ pub(crate) fn give_payload<S: BagSource, K: BagSink>(
     sink: &mut K,
 ) -> Result<(), ExportFault>
     ensures gives { (given : List ℕ) × Appends (K.taken sink.old) (K.taken sink.new) given
-        × (S.is_clean source.new → (s : State) → S.stands source.old s
+        × (HasCleanDisk (S.condition source.new)
+        → (s : State) → StandsFor (S.condition source.old) s
         → (files : List Entry) → AreFilesOf s rows.now files
         → IsGiven (flat_map file_given files) given result) }
     ensures cause { HasCause result (K.failures sink.old) (K.failures sink.new) }
-    ensures kept { KeepsStanding S.is_clean S.stands source.old source.new result }
-    ensures clean { S.is_clean source.new → S.is_clean source.old }
+    ensures kept { KeepsStanding (S.condition source.old) (S.condition source.new) result }
+    ensures still { StandsStill (S.condition source.old) (S.condition source.new) }
     ensures there { result ≢ Err ExportFault.NoSuchObject }
 {
     for row in rows {
@@ -81,12 +83,13 @@ fn give_stored<S: BagSource, K: BagSink>(
     sink: &mut K,
 ) -> Result<(), ExportFault>
     ensures gives { (given : List ℕ) × Appends (K.taken sink.old) (K.taken sink.new) given
-        × (S.is_clean source.new → (s : State) → S.stands source.old s
+        × (HasCleanDisk (S.condition source.new)
+        → (s : State) → StandsFor (S.condition source.old) s
         → (bytes : List ℕ) → HasContent s row.now.file bytes
         → IsGiven (file_given (row_path row.now, bytes)) given result) }
     ensures cause { HasCause result (K.failures sink.old) (K.failures sink.new) }
-    ensures kept { KeepsStanding S.is_clean S.stands source.old source.new result }
-    ensures clean { S.is_clean source.new → S.is_clean source.old }
+    ensures kept { KeepsStanding (S.condition source.old) (S.condition source.new) result }
+    ensures still { StandsStill (S.condition source.old) (S.condition source.new) }
     ensures there { result ≢ Err ExportFault.NoSuchObject }
 {
     let path = payload_path(alloc, row)?;

@@ -10,7 +10,7 @@ use Rattle.dep_head.specs.Head.{head_end}
 use Rattle.dep_message.specs.Places.{Place, Open, Shut, Reading, IsOpen, HasBytes, place_with}
 use Rattle.dep_message.specs.Stream.{Item, Reads, Waits}
 use Rattle.dep_message.proofs.Reading.{reads_more, reads_append}
-use Rattle.dep_server.specs.Conditions.{Condition, StandsFor, Leaves}
+use Rattle.dep_types.specs.Conditions.{Condition, StandsFor, Leaves}
 use Rattle.dep_server.specs.Machine.{Serves, serves_all, step_fails, gives_up, answer_at_place}
 use Rattle.dep_server.specs.Stops.{LeftByServing}
 use Rattle.dep_server.specs.Records.{Event, Connect, Arrive, Close, Record, stopped, Line, Absent, Live, ShutLine, World, first_world, with_line, line_after, ReadsBeyond, Arrives, at_live, at_shut_line, LeftByArrival, connects, closes, arrives, Run, goes_on, stops, breaks}

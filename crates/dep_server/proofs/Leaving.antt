@@ -1,7 +1,7 @@
 -- What a stop leaves of an archive that stands for a state.
 use Rattle.std.proofs.Common.{◌≡◌}
 use Rattle.dep_types.specs.State.{State}
-use Rattle.dep_server.specs.Conditions.{Condition, StandsFor, Leaves}
+use Rattle.dep_types.specs.Conditions.{Condition, StandsFor, Leaves}
 
 -- a crash leaves the state that it stands for and nothing else
 abbrev pub Settles : Condition → Type 0

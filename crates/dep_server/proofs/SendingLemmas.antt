@@ -12,7 +12,8 @@ use Rattle.dep_answers.specs.Steps.{Stepped, sent_by}
 use Rattle.dep_answers.specs.Performing.{stored_in}
 use Rattle.dep_answers.specs.declared.performed.FileId.{FileId}
 use Rattle.dep_answers.specs.declared.performed.Performed.{Performed}
-use Rattle.dep_server.specs.Conditions.{Condition, StandsFor, HasCleanDisk, Leaves, Performs}
+use Rattle.dep_types.specs.Conditions.{Condition, StandsFor, HasCleanDisk, Leaves}
+use Rattle.dep_server.specs.Performing.{Performs}
 use Rattle.dep_server.specs.Sending.{SendsReply, Outside, Passes, SendsReady}
 use Rattle.dep_server.specs.declared.sending.Answered.{Answered}
 use Rattle.dep_server.specs.declared.sending.Answered.TheVariants.{Sent, GaveUp, CutShort}

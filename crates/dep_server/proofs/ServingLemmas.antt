@@ -12,7 +12,7 @@ use Rattle.dep_message.specs.Places.{Place, Open, Shut, IsOpen, HasBytes, place_
 use Rattle.dep_message.specs.Stream.{Item, Fault, FirstAt, Waits}
 use Rattle.dep_message.proofs.Reading.{reads_one}
 use Rattle.dep_answers.specs.Steps.{sent_by}
-use Rattle.dep_server.specs.Conditions.{Condition, StandsFor, HasCleanDisk, Leaves}
+use Rattle.dep_types.specs.Conditions.{Condition, StandsFor, HasCleanDisk, Leaves}
 use Rattle.dep_server.specs.Machine.{starting_state, step, replies, state_after, given_up, cut_short, serves_all, step_fails, gives_up, SendsUpTo, all, cut, want_of_memory, store_fault, answer_at_place}
 use Rattle.dep_server.specs.Causes.{IsCutInContent}
 use Rattle.dep_server.specs.Sending.{IsSentUpTo, SendsOver, SendsReply, Outside, Passes, SendsStep, reply_to}

@@ -16,7 +16,8 @@ use Rattle.dep_answers.specs.Steps.{Stepped, refused_step, operation_step}
 use Rattle.dep_answers.specs.Performing.{IsReady, IsReply}
 use Rattle.dep_answers.specs.declared.performed.Delivery.{Delivery}
 use Rattle.dep_answers.specs.declared.performed.Performed.{Performed}
-use Rattle.dep_server.specs.Conditions.{Condition, StandsFor, Leaves, Performs}
+use Rattle.dep_types.specs.Conditions.{Condition, StandsFor, Leaves}
+use Rattle.dep_server.specs.Performing.{Performs}
 use Rattle.dep_server.specs.Machine.{operation_of, routed_step}
 use Rattle.dep_server.proofs.Leaving.{leaves_wider}
 

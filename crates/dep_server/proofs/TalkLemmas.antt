@@ -6,7 +6,7 @@ use Rattle.std.specs.Io.KnownBytes.{Appends, Consumes, Keeps}
 use Rattle.std.specs.Prelude.{IsTrue}
 use Rattle.dep_types.specs.State.{State}
 use Rattle.dep_types.specs.declared.config.Config.{Config}
-use Rattle.dep_server.specs.Conditions.{Condition, HasCleanDisk, Leaves}
+use Rattle.dep_types.specs.Conditions.{Condition, HasCleanDisk, Leaves}
 use Rattle.dep_server.specs.Records.{World, Line, with_line, Connect, Close, Record, stopped, first_world, Run, goes_on, stops, breaks, Arrives, LeftByArrival, Happens, connects, closes, arrives}
 use Rattle.dep_server.specs.Standing.{StandsAt, StandsAfter, IsClean, IsHonest, Moves, intake_of, store_of}
 use Rattle.dep_server.specs.declared.hub.Hub.{Hub}

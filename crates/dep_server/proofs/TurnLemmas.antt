@@ -1,7 +1,7 @@
 -- One turn of a connection.
 use Rattle.std.proofs.Common.{◌≡◌, ◌≤◌, ◌<◌, ℕ, List, ◌++◌, length, take, drop, sym, ap, subst, ◌∙◌, arith, Option, Some, None, refl, take_at}
 use Rattle.std.specs.Io.KnownBytes.{Consumes, Keeps}
-use Rattle.dep_server.specs.Conditions.{Condition}
+use Rattle.dep_types.specs.Conditions.{Condition}
 use Rattle.dep_server.specs.Turns.{most_read}
 use Rattle.dep_server.specs.Standing.{ArrivesOver}
 use Rattle.dep_server.specs.Conversation.{Session, OneTurn, NoTurn}

@@ -3,7 +3,7 @@ use Rattle.std.specs.Prelude.{◌<◌, ◌≤◌, ◌+◌, length, ◌≡◌, �
 use Rattle.std.specs.List.{FoldsTo}
 use Rattle.std.specs.Io.KnownBytes.{Appends, Consumes, Keeps, IsAtEnd}
 use Rattle.dep_types.specs.State.{State}
-use Rattle.dep_server.specs.Conditions.{Condition, Leaves}
+use Rattle.dep_types.specs.Conditions.{Condition, Leaves}
 use Rattle.dep_server.specs.Records.{World, Connect, Close, Record, stopped, Run, first_world}
 use Rattle.dep_server.specs.Standing.{StandsAt, StandsAfter, IsClean, IsHonest, Moves, IsArrival, intake_of, store_of}
 use Rattle.dep_server.specs.Turns.{Turn, pieces_of, replies_of, record_of, records_of, most_read, ArePieces, last_answer, with_opened, with_closed, Exchanges, LeftByExchanges, EndsAs}

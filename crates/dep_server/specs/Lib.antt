@@ -8,4 +8,4 @@ pub mod Standing
 pub mod Turns
 pub mod Conversation
 pub mod Numbers
-pub mod Conditions
+pub mod Performing

@@ -6,7 +6,8 @@ use Rattle.dep_types.specs.declared.store_fault.StoreFault.{StoreFault}
 use Rattle.dep_types.specs.declared.store_fault.StoreFault.TheVariants.{Store, Memory}
 use Rattle.dep_answers.specs.Steps.{Stepped, sent_by}
 use Rattle.dep_answers.specs.declared.performed.Performed.{Performed}
-use Rattle.dep_server.specs.Conditions.{Condition, StandsFor, HasCleanDisk, Leaves, Performs}
+use Rattle.dep_types.specs.Conditions.{Condition, StandsFor, HasCleanDisk, Leaves}
+use Rattle.dep_server.specs.Performing.{Performs}
 use Rattle.dep_server.specs.Machine.{want_of_memory, store_fault}
 use Rattle.dep_server.specs.Causes.{CutsStored}
 use Rattle.dep_server.specs.declared.sending.Answered.{Answered}

@@ -5,7 +5,7 @@ use Rattle.dep_types.specs.Writing.{HasRisen}
 use Rattle.dep_types.specs.declared.config.Config.{Config}
 use Rattle.dep_message.specs.Places.{Place, Reading, place_with}
 use Rattle.dep_message.specs.Stream.{Item, Reads}
-use Rattle.dep_server.specs.Conditions.{StandsFor, HasCleanDisk, Leaves}
+use Rattle.dep_types.specs.Conditions.{StandsFor, HasCleanDisk, Leaves}
 use Rattle.dep_server.specs.Machine.{step, replies, state_after, Fails, Serves}
 use Rattle.dep_server.specs.Stops.{LeftByFailure, LeftByServing}
 use Rattle.dep_server.specs.Causes.{IsCutInContent, EndsInContent}

@@ -7,7 +7,8 @@ ghost use Rattle.dep_types.specs.Streams.{IsStreamed};
 ghost use Rattle.dep_types.specs.Writing.{HasRisen};
 ghost use Rattle.dep_fields.specs.Fit.{AreFit};
 ghost use Rattle.dep_answers.specs.Steps.{operation_step};
-ghost use Rattle.dep_server.specs.Conditions.{Condition, StandsFor, HasCleanDisk, Leaves, Performs};
+ghost use Rattle.dep_types.specs.Conditions.{Condition, StandsFor, HasCleanDisk, Leaves};
+ghost use Rattle.dep_server.specs.Performing.{Performs};
 
 use dep_answers::{Performed, Service};
 use dep_decisions::Operation;

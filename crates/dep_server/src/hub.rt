@@ -2,7 +2,7 @@
 ghost use Rattle.std.specs.Prelude.{◌+◌, ◌≡◌, ◌<◌, ◌≤◌, ℕ, [], ◌∷◌, ◌++◌, List, length, IfOk, IfErr, OnErr, IfSome, None, IsErrOf, IsSome, ◌⊎◌, ◌≢◌};
 ghost use Rattle.dep_types.specs.State.{State};
 ghost use Rattle.dep_types.specs.Config.{IsChecked};
-ghost use Rattle.dep_server.specs.Conditions.{StandsFor, Leaves};
+ghost use Rattle.dep_types.specs.Conditions.{StandsFor, Leaves};
 ghost use Rattle.dep_server.specs.Records.{Connect, Close, Record, World, Run, Absent, stopped, first_world};
 ghost use Rattle.dep_server.specs.Numbers.{Ascends, Ascends-prop, most_connections, last_number};
 

@@ -1,3 +1,4 @@
+pub mod Sources
 pub mod Carrying
 pub mod Opened
 pub mod Audited

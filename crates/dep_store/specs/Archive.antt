@@ -3,7 +3,7 @@ use Rattle.sqlite.specs.State as db
 use Rattle.sqlite.specs.Held.{Held, state}
 use Rattle.sqlite.specs.Tree.{Trees}
 use Rattle.sqlite_trees.specs.declared.store.Store.{Ghosts}
-use Rattle.dep_server.specs.Conditions.{Condition}
+use Rattle.dep_types.specs.Conditions.{Condition}
 use Rattle.dep_schema.specs.States.{StandsFor, IsLeftAs}
 
 -- what its database shows

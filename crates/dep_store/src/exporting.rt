@@ -3,6 +3,8 @@ ghost use Rattle.std.specs.Prelude.{◌≡◌, ◌≢◌, ℕ, List};
 ghost use Rattle.std.specs.Io.KnownBytes.{Appends, Keeps};
 ghost use Rattle.dep_types.specs.State.{State};
 ghost use Rattle.dep_types.specs.Writing.{HasRisen};
+ghost use Rattle.dep_types.specs.Conditions.{StandsFor, HasCleanDisk};
+ghost use Rattle.dep_bag.specs.Source.{StandsStill};
 ghost use Rattle.dep_store.specs.Exports.{Exports};
 
 use crate::outcome::Outcome;
@@ -19,15 +21,16 @@ pub fn export_object<S: BagSource, K: BagSink>(
     sink: &mut K,
 ) -> Outcome
     ensures gives { (given : List ℕ) × Appends (K.taken sink.old) (K.taken sink.new) given
-        × (S.is_clean source.new → (s : State) → S.stands source.old s
+        × (HasCleanDisk (S.condition source.new)
+        → (s : State) → StandsFor (S.condition source.old) s
         → Exports s object given result) }
     ensures absent { result ≡ Outcome.NoSuchObject → Keeps (K.taken sink.old) (K.taken sink.new) }
     ensures count { result ≢ Outcome.TransferFault → K.failures sink.new ≡ K.failures sink.old }
     ensures cause { result ≡ Outcome.TransferFault →
         HasRisen (K.failures sink.old) (K.failures sink.new) }
-    ensures kept { result ≡ Outcome.Done → S.is_clean source.new
-        → (s : State) → S.stands source.old s → S.stands source.new s }
-    ensures clean { S.is_clean source.new → S.is_clean source.old }
+    ensures kept { result ≡ Outcome.Done → HasCleanDisk (S.condition source.new)
+        → (s : State) → StandsFor (S.condition source.old) s → StandsFor (S.condition source.new) s }
+    ensures still { StandsStill (S.condition source.old) (S.condition source.new) }
 {
     match export(alloc, source, object, sink) {
         Ok(()) => Outcome::Done,

@@ -6,13 +6,10 @@ use dep_types::{ObjectView, Outlet, StoreFault, StreamFault};
 use sqlite::Alter;
 
 impl<S: Alter> BagSource for Store<S> {
-    ghost use Rattle.sqlite.specs.State.{HasCleanDisk};
-    ghost use Rattle.sqlite.specs.Held.{state};
-    ghost use Rattle.dep_schema.specs.States.{StandsFor};
+    ghost use Rattle.dep_schema.proofs.Transacting.{leaves_as_was};
+    ghost use Rattle.dep_store.specs.Archive.{condition_of};
 
-    ghost stands = { λ store s. StandsFor (state S.Store store) s };
-
-    ghost is_clean = { λ store. HasCleanDisk (state S.Store store) };
+    ghost condition = { condition_of S.Store };
 
     fn view(&mut self, object: u64) -> Result<Option<ObjectView>, StoreFault> {
         Store::view(self, object)
@@ -22,5 +19,6 @@ impl<S: Alter> BagSource for Store<S> {
         Store::stream(self, file, out)
     }
 
-    ghost sound = { λ store s stands. stands.means.sound };
+    ghost settled = { λ store s stands. leaves_as_was _ s
+        (λ trees h. S.Store.settled store.store trees stands.stands.is_open h) stands };
 }

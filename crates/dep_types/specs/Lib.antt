@@ -9,6 +9,7 @@ pub mod Through
 pub mod Uploads
 pub mod Names
 pub mod Sound
+pub mod Conditions
 pub mod Rows
 pub mod MetadataEntries
 pub mod StoreFaults

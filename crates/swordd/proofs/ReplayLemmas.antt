@@ -6,7 +6,7 @@ use Rattle.sqlite.specs.State as db
 use Rattle.sqlite.specs.Steps.{IsEmpty}
 use Rattle.sqlite.specs.Effect.{IsDatabase}
 use Rattle.dep_schema.specs.Standing.{HoldsNone}
-use Rattle.dep_server.specs.Conditions.{Condition}
+use Rattle.dep_types.specs.Conditions.{Condition}
 use Rattle.dep_types.specs.State.{State, empty_state}
 use Rattle.dep_types.specs.declared.config.Config.{Config}
 use Rattle.dep_server.specs.Records.{World, Record, Arrive, stopped, first_world, Run, begins, goes_on, stops, breaks}

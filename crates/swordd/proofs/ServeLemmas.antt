@@ -3,7 +3,7 @@ use Rattle.std.proofs.Common.{◌≡◌, ℕ, ◌+◌, List, [], ◌∷◌, ◌+
 use Rattle.std.proofs.lemmas.List.{append-nil, length-append, flat_map_more}
 use Rattle.std.proofs.lemmas.List.Elements.{All-nil, All-append, All-cons}
 use Rattle.std.specs.Prelude.{All}
-use Rattle.dep_server.specs.Conditions.{Condition}
+use Rattle.dep_types.specs.Conditions.{Condition}
 use Rattle.dep_server.specs.Standing.{StandsAfter, IsClean}
 use Rattle.dep_server.specs.Turns.{Turn, records_of}
 use Rattle.dep_server.specs.Conversation.{Wire, session, Converses, ConversesOver}

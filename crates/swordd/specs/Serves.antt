@@ -4,7 +4,7 @@ use Rattle.std.specs.List.{flat_map}
 use Rattle.dep_server.specs.Records.{Record}
 use Rattle.dep_server.specs.Turns.{Turn, records_of, ArePieces}
 use Rattle.dep_server.specs.Conversation.{Wire, session, AddsAll, Clocks, ConversesOver}
-use Rattle.dep_server.specs.Conditions.{Condition}
+use Rattle.dep_types.specs.Conditions.{Condition}
 use Rattle.dep_server.specs.declared.hub.Hub.{Hub}
 use Rattle.dep_server.specs.declared.connection.Served.{Served}
 use Rattle.dep_store.specs.declared.outcome.Outcome.{Outcome}

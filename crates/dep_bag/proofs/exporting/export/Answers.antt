@@ -1,9 +1,10 @@
-use Rattle.std.proofs.Common.{◌++◌, refl, sym, subst, ◌∙◌}
-use Rattle.std.proofs.KnownBytes.{Appends-trans}
+use Rattle.std.proofs.Common.{[], ◌++◌, refl, sym, subst, ◌∙◌}
+use Rattle.std.proofs.KnownBytes.{Appends-nil, Appends-trans}
 use Rattle.dep_bag.specs.Bag.{payload}
 use Rattle.dep_bag.specs.Giving.{AreFilesOf}
 use Rattle.dep_bag.proofs.GivenParts.{cause_later, cause_passed}
-use Rattle.dep_bag.proofs.Exported.{found_view, are_payload, tags_exported, all_exported}
+use Rattle.dep_bag.proofs.Still.{still_then}
+use Rattle.dep_bag.proofs.Exported.{found_view, none_found, are_payload, tags_exported, all_exported}
 use Rattle.dep_bag.proofs.exporting.export.Goals as goal
 
 pub returns-in_err-give_tag_files-clause-gives : goal.returns-in_err-give_tag_files-clause-gives
@@ -23,7 +24,7 @@ returns-clause-gives g c =
     let n = c.args.object in (
       tags.0 ++ more.0,
       Appends-trans (g.K.Outlet.taken c.args.sink.now) (g.K.Outlet.taken c.give_tag_files.new.sink) (g.K.Outlet.taken c.give_payload.new.sink) tags.0 more.0 tags.1 more.1,
-      λ clean s at. let before = c.give_payload.ensures.clean clean in
+      λ clean s at. let before = c.give_payload.ensures.still.honest_before clean in
           let v = found_view s n c.in-Ok-Some.view (sym c.in-Ok-Some.field-0-is ∙ c.in-Ok-Some.ensures.ok before s at) in
           all_exported s n c.in-Ok-Some.view v tags.0 more.0 c.give_payload.result tags.2
           (more.2 clean s (c.in-Ok-Some.ensures.kept before s at) (payload v.object)
@@ -39,3 +40,15 @@ pub returns-clause-cause : goal.returns-clause-cause
 returns-clause-cause g c =
     cause_later (g.K.Outlet.failures c.args.sink.now) (g.K.Outlet.failures c.give_tag_files.new.sink) (g.K.Outlet.failures c.give_payload.new.sink) c.give_payload.result
     c.in_ok-give_tag_files.ensures.cause c.give_payload.ensures.cause
+
+pub returns-in-Ok-None-clause-gives : goal.returns-in-Ok-None-clause-gives
+returns-in-Ok-None-clause-gives g c = (
+  [],
+  Appends-nil (g.K.Outlet.taken c.args.sink.now),
+  λ clean s at. (none_found s c.args.object (sym c.in-Ok-None.field-0-is ∙ c.in-Ok-None.ensures.ok clean s at), refl),
+)
+
+pub returns-clause-still : goal.returns-clause-still
+returns-clause-still g c =
+    still_then (g.S.BagSource.condition c.args.source.now) (g.S.BagSource.condition c.view.new.self) (g.S.BagSource.condition c.give_payload.new.source)
+    c.in-Ok-Some.ensures.kept c.in-Ok-Some.ensures.still c.give_payload.ensures.still

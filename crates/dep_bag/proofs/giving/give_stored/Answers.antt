@@ -6,6 +6,7 @@ use Rattle.dep_bag.specs.Giving.{IsGivenAt, IsCausedBy, unsent_fault}
 use Rattle.dep_bag.specs.Parts.{row_path}
 use Rattle.dep_bag.specs.declared.export_fault.ExportFault.TheVariants.{Sink, Memory}
 use Rattle.dep_bag.proofs.GivenParts.{faulty, kept, nothing_given, nothing_front, caused_later, cause_passed}
+use Rattle.dep_bag.proofs.Still.{unchanged}
 use Rattle.dep_bag.proofs.StoredFiles.{unsent_given, unsent_cause, unsent_there, all_sent, all_front}
 use Rattle.dep_bag.proofs.giving.give_stored.Goals as goal
 
@@ -31,7 +32,7 @@ returns-clause-gives g c =
     let all = Appends-trans (g.K.Outlet.taken c.args.sink.now) (g.K.Outlet.taken c.begin.new.self) (g.K.Outlet.taken c.stream.new.out) (file_begun path) sends.0 begun sends.1 in (
       file_begun path ++ sends.0,
       kept (g.K.Outlet.taken c.args.sink.now) (g.K.Outlet.taken c.stream.new.out) (g.K.Outlet.taken c.finish.new.self) (file_begun path ++ sends.0) all c.in_ok-finish.ensures.ok,
-      λ clean s at bytes has. all_sent s (g.met.S.BagSource.sound c.args.source.now s at) c.args.row.now.file path sends.0 bytes (sends.2 clean s at) has,
+      λ clean s at bytes has. all_sent s ((g.S.BagSource.condition c.args.source.now).sound_if_kept s at) c.args.row.now.file path sends.0 bytes (sends.2 clean s at) has,
     )
 
 pub returns-in_err-finish-clause-gives : goal.returns-in_err-finish-clause-gives
@@ -43,7 +44,7 @@ returns-in_err-finish-clause-gives g c =
       file_begun path ++ sends.0,
       kept (g.K.Outlet.taken c.args.sink.now) (g.K.Outlet.taken c.stream.new.out) (g.K.Outlet.taken c.finish.new.self) (file_begun path ++ sends.0) all c.in_err-finish.ensures.err,
       λ clean s at bytes has. faulty c.from_residual-in_err-finish.result Sink (file_given (path, bytes)) (file_begun path ++ sends.0) c.from_residual-in_err-finish.ensures.1 tt
-          (all_front s (g.met.S.BagSource.sound c.args.source.now s at) c.args.row.now.file path sends.0 bytes (sends.2 clean s at) has),
+          (all_front s ((g.S.BagSource.condition c.args.source.now).sound_if_kept s at) c.args.row.now.file path sends.0 bytes (sends.2 clean s at) has),
     )
 
 pub returns-in-Err-clause-gives : goal.returns-in-Err-clause-gives
@@ -54,7 +55,7 @@ returns-in-Err-clause-gives g c =
       file_begun path ++ sends.0,
       Appends-trans (g.K.Outlet.taken c.args.sink.now) (g.K.Outlet.taken c.begin.new.self) (g.K.Outlet.taken c.stream.new.out) (file_begun path) sends.0 begun sends.1,
       λ clean s at bytes has. subst (λ e. IsGivenAt e (file_given (path, bytes)) (file_begun path ++ sends.0)) (sym c.unsent.ensures)
-          (unsent_given s (g.met.S.BagSource.sound c.args.source.now s at) c.args.row.now.file path sends.0 bytes c.in-Err.fault (sends.2 clean s at) has),
+          (unsent_given s ((g.S.BagSource.condition c.args.source.now).sound_if_kept s at) c.args.row.now.file path sends.0 bytes c.in-Err.fault (sends.2 clean s at) has),
     )
 
 pub returns-in-Err-clause-cause : goal.returns-in-Err-clause-cause
@@ -79,3 +80,9 @@ returns-in_err-finish-clause-cause g c =
 
 pub returns-in-Err-clause-there : goal.returns-in-Err-clause-there
 returns-in-Err-clause-there g c = λ is. unsent_there c.in-Err.fault (ap Err (sym c.unsent.ensures) ∙ is)
+
+pub returns-in_err-path-clause-still : goal.returns-in_err-path-clause-still
+returns-in_err-path-clause-still g c = unchanged _ (g.met.S.BagSource.settled c.args.source.now)
+
+pub returns-in_err-begin-clause-still : goal.returns-in_err-begin-clause-still
+returns-in_err-begin-clause-still g c = unchanged _ (g.met.S.BagSource.settled c.args.source.now)

@@ -1,5 +1,5 @@
 use Rattle.std.proofs.Common.{sym, ◌∙◌, refl, subst, IsTrue}
-use Rattle.dep_server.specs.Conditions.{HasCleanDisk}
+use Rattle.dep_types.specs.Conditions.{HasCleanDisk}
 use Rattle.dep_server.specs.Conversation.{wire, session}
 use Rattle.dep_server.specs.Standing.{store_of}
 use Rattle.dep_server.proofs.HubLemmas.{same_stands_for}

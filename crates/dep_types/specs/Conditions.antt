@@ -2,9 +2,6 @@
 use Rattle.std.specs.Prelude.{Bool, IsTrue}
 use Rattle.dep_types.specs.State.{State}
 use Rattle.dep_types.specs.Sound.{IsSound}
-use Rattle.dep_answers.specs.Steps.{Stepped}
-use Rattle.dep_answers.specs.Performing.{IsReady}
-use Rattle.dep_answers.specs.declared.performed.Performed.{Performed}
 
 pub record Condition : Type 1 where
   -- no fault has shut it, and its disk has told no lie that was taken as true
@@ -33,8 +30,3 @@ HasCleanDisk c = c.is_honest
 abbrev pub Leaves : Condition → (State → Type 0) → Type 0
 Leaves c allowed = (image : c.Image) → c.may_leave image
     → (left : State) × c.is_left_as image left × allowed left
-
--- the archive stands for the state that the step leaves, and what is ready is its reply
-pub record Performs (stepped : Stepped) (new : Condition) (p : Performed) : Type 0 where
-  pub state : StandsFor new stepped.state
-  pub ready : IsReady stepped p
