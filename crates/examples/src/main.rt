@@ -3,27 +3,11 @@
 #![tactic(auto)]
 
 mod archive;
-mod archive_calls;
-mod cut;
-mod escapes;
-mod example;
-mod exchange;
-mod file;
-mod intake;
-mod page;
-mod play;
-mod server;
-mod settings;
-mod shelf;
-mod side;
-mod source;
-mod trouble;
-mod verdict;
-mod words;
+mod calls;
 
-use crate::file::play_file;
-use crate::verdict::Verdict;
-use crate::words::Words;
+use crate::archive::MemoryArchive;
+use example_player::{Verdict, play_file};
+use example_text::Words;
 use std::process::ExitCode;
 use std::{env, fs, io};
 
@@ -51,7 +35,7 @@ fn main(rt: HostRuntime) -> io::Result<ExitCode> {
 // Plays a file, and tells what came of it.
 fn played(rt: &HostRuntime, words: &mut Words, name: &str) -> io::Result<Verdict> {
     match fs::read_to_string(rt, name) {
-        Ok(text) => play_file(rt, rt.alloc(), words, name, text.as_str()),
+        Ok(text) => play_file::<MemoryArchive>(rt, rt.alloc(), words, name, text.as_str()),
         Err(error) => {
             println!(rt; "{name}: {error}")?;
             Ok(Verdict::of(&error))

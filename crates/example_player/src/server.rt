@@ -1,13 +1,11 @@
 //! A hub and its connections.
 
 use crate::exchange::Exchange;
-use crate::page::Page;
-use crate::settings::Settings;
 use crate::source::Source;
-use crate::trouble::Trouble;
 use dep_moment::Moment;
 use dep_server::{Archive, Arrived, ConnId, ConnectFault, Hub, HubFault, Served, serve_connection};
 use dep_types::Through;
+use example_text::{Page, Settings, Trouble};
 use std::alloc::{AllocError, Global};
 
 /// A hub and its connections, which have the numbers 1, 2 and so on.

@@ -1,7 +1,7 @@
 //! A reader in memory.
 
-use crate::cut::Cut;
 use crate::exchange::Exchange;
+use example_text::Cut;
 use std::io;
 use std::io::{ErrorKind, Read};
 

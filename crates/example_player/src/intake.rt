@@ -1,11 +1,10 @@
 //! An intake by itself, whose steps are told as lines.
 
 use crate::exchange::Exchange;
-use crate::page::Page;
 use crate::server::word_of;
-use crate::trouble::Trouble;
 use dep_message::{Intake, Message, Step, closes, is_without_body};
 use dep_server::Arrived;
+use example_text::{Page, Trouble};
 use std::alloc::AllocError;
 
 /// The pieces come one after another, and each step that the intake gives is a line on the page.

@@ -1,15 +1,16 @@
 //! The examples of a file.
 
+use crate::archive::ExampleArchive;
 use crate::example::{Example, Wrong};
 use crate::verdict::Verdict;
-use crate::words::Words;
+use example_text::Words;
 use std::alloc::Global;
 use std::io;
 
-/// Plays the examples of a file, and prints what is not as it is written. Each example begins at a line with `# ` and
+/// Plays the examples of a file on such archives, and prints what is not as it is written. Each example begins at a line with `# ` and
 /// its title, and what stands before the first are texts for all that follow, in later files too: where one of these
 /// is wrong, none is played.
-pub fn play_file(
+pub fn play_file<A: ExampleArchive>(
     rt: &impl Print,
     alloc: Global,
     words: &mut Words,
@@ -22,9 +23,9 @@ pub fn play_file(
     for (i, lines) in text.split("\n# ").enumerate() {
         let example = Example::new(lines, line);
         let played = if i == 0 {
-            example.sets_out(alloc, words)
+            example.sets_out::<A>(alloc, words)
         } else {
-            example.plays(alloc, words)
+            example.plays::<A>(alloc, words)
         };
         match came_of(rt, name, played)? {
             Verdict::AsWritten => right = right.saturating_add(1),

@@ -3,11 +3,9 @@
 use crate::archive::ExampleArchive;
 use crate::exchange::Exchange;
 use crate::intake::takes;
-use crate::page::Page;
 use crate::server::{Server, refused};
-use crate::settings::Settings;
-use crate::trouble::Trouble;
 use dep_message::Intake;
+use example_text::{Page, Settings, Trouble};
 use std::alloc::Global;
 use std::mem;
 

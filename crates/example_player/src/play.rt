@@ -1,15 +1,11 @@
 //! An example is played line by line.
 
 use crate::archive::ExampleArchive;
-use crate::archive_calls::ArchiveCall;
-use crate::cut::Cut;
-use crate::escapes::fill;
+use crate::archive_call::ArchiveCall;
 use crate::exchange::{Exchange, blank};
-use crate::settings::{Settings, number};
 use crate::side::Side;
-use crate::trouble::Trouble;
-use crate::words::{Words, first_word};
 use dep_message::Intake;
+use example_text::{Cut, Settings, Trouble, Words, fill, first_word, number};
 use std::alloc::{AllocError, Global};
 
 /// The words that say what an exchange comes to.

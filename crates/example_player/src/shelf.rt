@@ -2,8 +2,8 @@
 ghost use Rattle.std.specs.Prelude.{◌≡◌, OnOk, OnErr};
 ghost use Rattle.dep_types.specs.Writing.{HasRisen};
 
-use crate::page::Page;
 use dep_types::{BagSink, Outlet, SinkFailed, WriteFailed};
+use example_text::Page;
 
 /// A call of a sink.
 #[derive(Clone, Copy, PartialEq, Eq)]

@@ -1,13 +1,9 @@
 //! An example, and the ways in which it is played.
 
 use crate::archive::ExampleArchive;
-use crate::cut::Cut;
 use crate::play::Play;
-use crate::trouble::Trouble;
 use crate::verdict::Verdict;
-use crate::words::Words;
-use dep_store::Store;
-use sqlite::MemStore;
+use example_text::{Cut, Trouble, Words};
 use std::alloc::Global;
 use std::fmt;
 
@@ -61,26 +57,39 @@ impl<'a> Example<'a> {
     }
 
     /// Takes the texts that stand above the first example.
-    pub fn sets_out(self, alloc: Global, words: &mut Words) -> Result<(), Wrong<'a>> {
-        let _ = self.each_line(alloc, words, Cut::Whole, 0)?;
+    pub fn sets_out<A: ExampleArchive>(
+        self,
+        alloc: Global,
+        words: &mut Words,
+    ) -> Result<(), Wrong<'a>> {
+        let _ = self.each_line::<A>(alloc, words, Cut::Whole, 0)?;
         Ok(())
     }
 
     /// Plays it for each of its rows, in each of its ways. Its texts end with it.
-    pub fn plays(self, alloc: Global, words: &mut Words) -> Result<(), Wrong<'a>> {
+    pub fn plays<A: ExampleArchive>(
+        self,
+        alloc: Global,
+        words: &mut Words,
+    ) -> Result<(), Wrong<'a>> {
         let rows = self
             .lines
             .lines()
             .skip(1)
             .filter(|line| line.starts_with('-'));
         match (self.value_of("each"), rows.count()) {
-            (None, 0) => self.in_all_ways(alloc, words),
-            (Some(names), 1..) => self.for_each_row(alloc, words, names),
+            (None, 0) => self.in_all_ways::<A>(alloc, words),
+            (Some(names), 1..) => self.for_each_row::<A>(alloc, words, names),
             _ => Err(self.wrong(0, Cut::Whole, Trouble::Line("rows stand below `each`"))),
         }
     }
 
-    fn for_each_row(self, alloc: Global, words: &mut Words, names: &str) -> Result<(), Wrong<'a>> {
+    fn for_each_row<A: ExampleArchive>(
+        self,
+        alloc: Global,
+        words: &mut Words,
+        names: &str,
+    ) -> Result<(), Wrong<'a>> {
         for (i, line) in self.lines.lines().enumerate() {
             if let Some(row) = line.strip_prefix("-") {
                 let example = Example {
@@ -89,7 +98,7 @@ impl<'a> Example<'a> {
                 };
                 let kept = words.count();
                 let played = match add_cells(alloc, words, names, row) {
-                    Ok(()) => example.in_all_ways(alloc, words),
+                    Ok(()) => example.in_all_ways::<A>(alloc, words),
                     Err(why) => Err(example.wrong(i, Cut::Whole, why)),
                 };
                 words.forget(kept);
@@ -99,15 +108,24 @@ impl<'a> Example<'a> {
         Ok(())
     }
 
-    fn in_all_ways(self, alloc: Global, words: &mut Words) -> Result<(), Wrong<'a>> {
+    fn in_all_ways<A: ExampleArchive>(
+        self,
+        alloc: Global,
+        words: &mut Words,
+    ) -> Result<(), Wrong<'a>> {
         let ways = self.value_of("pieces").unwrap_or("whole");
         for way in ways.split(' ') {
-            self.in_way(alloc, words, way)?;
+            self.in_way::<A>(alloc, words, way)?;
         }
         Ok(())
     }
 
-    fn in_way(self, alloc: Global, words: &mut Words, way: &str) -> Result<(), Wrong<'a>> {
+    fn in_way<A: ExampleArchive>(
+        self,
+        alloc: Global,
+        words: &mut Words,
+        way: &str,
+    ) -> Result<(), Wrong<'a>> {
         let mut cut = match Cut::first(way) {
             Some(cut) => cut,
             None => {
@@ -116,7 +134,7 @@ impl<'a> Example<'a> {
             }
         };
         for _ in 0..u64::MAX {
-            let longest = self.played(alloc, words, cut)?;
+            let longest = self.played::<A>(alloc, words, cut)?;
             match cut.following(longest) {
                 Some(next) => cut = next,
                 None => break,
@@ -126,21 +144,26 @@ impl<'a> Example<'a> {
     }
 
     // Plays it on an archive of its own. It tells the longest stream of an exchange. Its texts end with it.
-    fn played(self, alloc: Global, words: &mut Words, cut: Cut) -> Result<usize, Wrong<'a>> {
+    fn played<A: ExampleArchive>(
+        self,
+        alloc: Global,
+        words: &mut Words,
+        cut: Cut,
+    ) -> Result<usize, Wrong<'a>> {
         let kept = words.count();
-        let played = self.each_line(alloc, words, cut, 1);
+        let played = self.each_line::<A>(alloc, words, cut, 1);
         words.forget(kept);
         played
     }
 
-    fn each_line(
+    fn each_line<A: ExampleArchive>(
         self,
         alloc: Global,
         words: &mut Words,
         cut: Cut,
         skipped: usize,
     ) -> Result<usize, Wrong<'a>> {
-        match Play::<Store<MemStore>>::new(alloc, cut) {
+        match Play::<A>::new(alloc, cut) {
             Ok(mut play) => {
                 let played = self.all_lines(words, &mut play, cut, skipped);
                 drop(play);

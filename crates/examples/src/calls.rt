@@ -1,0 +1,59 @@
+//! Calls of a store that no request makes.
+
+use dep_store::{Outcome, Store, Unwatched, audit_all, export_object};
+use dep_types::{StoreFault, Through};
+use example_player::{ArchiveCall, Shelf};
+use example_text::{Page, Trouble};
+use sqlite::MemStore;
+use std::alloc::Global;
+
+/// Makes the call, and tells in a word what it came to.
+pub fn answered(
+    alloc: Global,
+    store: &mut Store<MemStore>,
+    call: ArchiveCall,
+    page: &mut Page,
+) -> Result<&'static str, Trouble> {
+    match call {
+        ArchiveCall::Export(object, failing) => {
+            let mut shelf = Shelf::new(page, failing);
+            let outcome = export_object(alloc, store, object, &mut shelf);
+            Ok(word_of(outcome))
+        }
+        ArchiveCall::Audit(object) => audited(store, object, page),
+        ArchiveCall::AuditAll => {
+            let outcome = audit_all(alloc, store, &mut Through::new(page), &mut Unwatched);
+            Ok(word_of(outcome))
+        }
+    }
+}
+
+// The files of an object, a line for each that is damaged.
+fn audited(
+    store: &mut Store<MemStore>,
+    object: u64,
+    page: &mut Page,
+) -> Result<&'static str, Trouble> {
+    let audit = match store.audit(object, &mut Unwatched) {
+        Ok(audit) => audit,
+        Err(StoreFault::Store) => return Ok("store-fault"),
+        Err(StoreFault::Memory) => return Err(Trouble::Memory),
+    };
+    page.tell_number(b"checked ", audit.checked);
+    for file in &audit.damaged {
+        page.tell_number(b"damaged ", *file);
+    }
+    Ok("done")
+}
+
+// What a command came to, in the word of the files.
+fn word_of(outcome: Outcome) -> &'static str {
+    match outcome {
+        Outcome::Done => "done",
+        Outcome::NoSuchObject => "no-such-object",
+        Outcome::Damaged => "damaged",
+        Outcome::TransferFault => "transfer-fault",
+        Outcome::StoreFault => "store-fault",
+        Outcome::Usage => "usage",
+    }
+}
