@@ -1,8 +1,7 @@
 //! An archive, as an example needs it.
 
-use crate::archive_call::ArchiveCall;
 use dep_server::Archive;
-use example_text::{Page, Trouble};
+use example_text::{ArchiveCall, Page, Trouble};
 use std::alloc::Global;
 
 /// An archive that an example can be played on.

@@ -1,10 +1,9 @@
 //! An intake by itself, whose steps are told as lines.
 
-use crate::exchange::Exchange;
 use crate::server::word_of;
 use dep_message::{Intake, Message, Step, closes, is_without_body};
 use dep_server::Arrived;
-use example_text::{Page, Trouble};
+use example_text::{Exchange, Page, Trouble};
 use std::alloc::AllocError;
 
 /// The pieces come one after another, and each step that the intake gives is a line on the page.

@@ -2,20 +2,16 @@
 #![tactic(auto)]
 
 mod archive;
-mod archive_call;
 mod example;
-mod exchange;
 mod file;
 mod intake;
 mod play;
 mod server;
 mod shelf;
 mod side;
-mod source;
 mod verdict;
 
 pub use archive::ExampleArchive;
-pub use archive_call::ArchiveCall;
 pub use file::play_file;
-pub use shelf::{Call, Shelf};
+pub use shelf::Shelf;
 pub use verdict::Verdict;

@@ -1,11 +1,11 @@
 //! An example is played line by line.
 
 use crate::archive::ExampleArchive;
-use crate::archive_call::ArchiveCall;
-use crate::exchange::{Exchange, blank};
 use crate::side::Side;
 use dep_message::Intake;
-use example_text::{Cut, Settings, Trouble, Words, fill, first_word, number};
+use example_text::{
+    ArchiveCall, Cut, Exchange, Settings, Trouble, Words, blank, fill, first_word, number,
+};
 use std::alloc::{AllocError, Global};
 
 /// The words that say what an exchange comes to.

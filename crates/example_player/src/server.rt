@@ -1,11 +1,9 @@
 //! A hub and its connections.
 
-use crate::exchange::Exchange;
-use crate::source::Source;
 use dep_moment::Moment;
 use dep_server::{Archive, Arrived, ConnId, ConnectFault, Hub, HubFault, Served, serve_connection};
 use dep_types::Through;
-use example_text::{Page, Settings, Trouble};
+use example_text::{Exchange, Page, Settings, Source, Trouble};
 use std::alloc::{AllocError, Global};
 
 /// A hub and its connections, which have the numbers 1, 2 and so on.

@@ -3,28 +3,18 @@ ghost use Rattle.std.specs.Prelude.{◌≡◌, OnOk, OnErr};
 ghost use Rattle.dep_types.specs.Writing.{HasRisen};
 
 use dep_types::{BagSink, Outlet, SinkFailed, WriteFailed};
-use example_text::Page;
-
-/// A call of a sink.
-#[derive(Clone, Copy, PartialEq, Eq)]
-pub enum Call {
-    Folder,
-    Begin,
-    Write,
-    Finish,
-}
+use example_text::{FailingCall, Page, SinkCall};
 
 /// Writes the folders and files that it is given to a page. One of its calls may be told to fail.
 #[derive(Drop)]
 pub struct Shelf<'a> {
     page: &'a mut Page,
-    /// The call that fails, and how many of them come before.
-    failing: Option<(Call, u64)>,
+    failing: Option<FailingCall>,
     failures: u64,
 }
 
 impl<'a> Shelf<'a> {
-    pub fn new(page: &'a mut Page, failing: Option<(Call, u64)>) -> Shelf<'a> {
+    pub fn new(page: &'a mut Page, failing: Option<FailingCall>) -> Shelf<'a> {
         Shelf {
             page,
             failing,
@@ -32,7 +22,7 @@ impl<'a> Shelf<'a> {
         }
     }
 
-    fn put(&mut self, call: Call, parts: &[&[u8]]) -> Result<(), SinkFailed>
+    fn put(&mut self, call: SinkCall, parts: &[&[u8]]) -> Result<(), SinkFailed>
         ensures count { OnOk result (self.new.failures ≡ self.old.failures) }
         ensures cause { OnErr result (HasRisen self.old.failures self.new.failures) }
     {
@@ -44,17 +34,20 @@ impl<'a> Shelf<'a> {
         Ok(())
     }
 
-    fn fails(&mut self, call: Call) -> bool
+    fn fails(&mut self, call: SinkCall) -> bool
         ensures { self.new.failures ≡ self.old.failures }
     {
-        let Some((failing, before)) = self.failing else {
+        let Some(failing) = self.failing else {
             return false;
         };
-        if failing != call {
+        if failing.call != call {
             return false;
         }
-        self.failing = Some((failing, before.saturating_sub(1)));
-        before == 0
+        self.failing = Some(FailingCall {
+            before: failing.before.saturating_sub(1),
+            ..failing
+        });
+        failing.before == 0
     }
 }
 
@@ -65,7 +58,7 @@ impl Outlet for Shelf<'_> {
         if bytes.is_empty() {
             return Ok(());
         }
-        match self.put(Call::Write, &[bytes]) {
+        match self.put(SinkCall::Write, &[bytes]) {
             Ok(()) => Ok(()),
             Err(SinkFailed) => Err(WriteFailed),
         }
@@ -74,14 +67,14 @@ impl Outlet for Shelf<'_> {
 
 impl BagSink for Shelf<'_> {
     fn folder(&mut self, path: &str) -> Result<(), SinkFailed> {
-        self.put(Call::Folder, &[b"folder ", path.as_bytes(), b"\r\n"])
+        self.put(SinkCall::Folder, &[b"folder ", path.as_bytes(), b"\r\n"])
     }
 
     fn begin(&mut self, path: &str) -> Result<(), SinkFailed> {
-        self.put(Call::Begin, &[b"file ", path.as_bytes(), b"\r\n"])
+        self.put(SinkCall::Begin, &[b"file ", path.as_bytes(), b"\r\n"])
     }
 
     fn finish(&mut self) -> Result<(), SinkFailed> {
-        self.put(Call::Finish, &[b"\r\n"])
+        self.put(SinkCall::Finish, &[b"\r\n"])
     }
 }

@@ -1,11 +1,10 @@
 //! What an example is played against.
 
 use crate::archive::ExampleArchive;
-use crate::exchange::Exchange;
 use crate::intake::takes;
 use crate::server::{Server, refused};
 use dep_message::Intake;
-use example_text::{Page, Settings, Trouble};
+use example_text::{Exchange, Page, Settings, Trouble};
 use std::alloc::Global;
 use std::mem;
 

@@ -1,17 +1,23 @@
-//! What stands in the files of examples: named texts, the bytes that a text stands for, configurations, and the ways in
-//! which a stream is cut; and the page on which is written what came of it. docs/EXAMPLES.md explains the files.
+//! What stands in the files of examples: named texts, the bytes that a text stands for, configurations, exchanges, and
+//! the ways in which a stream is cut; and the reader and the writer of an exchange. docs/EXAMPLES.md explains the files.
 #![tactic(auto)]
 
+mod archive_call;
 mod cut;
 mod escapes;
+mod exchange;
 mod page;
 mod settings;
+mod source;
 mod trouble;
 mod words;
 
+pub use archive_call::{ArchiveCall, FailingCall, SinkCall};
 pub use cut::{Cut, Pieces};
-pub use escapes::{expand, fill};
+pub use escapes::fill;
+pub use exchange::{Exchange, blank};
 pub use page::Page;
 pub use settings::{Settings, number};
-pub use trouble::{Trouble, differing};
+pub use source::Source;
+pub use trouble::Trouble;
 pub use words::{Words, first_word};

@@ -12,8 +12,8 @@ use dep_schema::OpenFault;
 use dep_server::Archive;
 use dep_store::Store;
 use dep_types::{Config, Outlet, StoreFault, StreamFault};
-use example_player::{ArchiveCall, ExampleArchive};
-use example_text::{Page, Trouble};
+use example_player::ExampleArchive;
+use example_text::{ArchiveCall, Page, Trouble};
 use sqlite::{Connection, Error, ErrorCode, MemStore};
 use std::alloc::Global;
 

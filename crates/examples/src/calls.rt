@@ -2,8 +2,8 @@
 
 use dep_store::{Outcome, Store, Unwatched, audit_all, export_object};
 use dep_types::{StoreFault, Through};
-use example_player::{ArchiveCall, Shelf};
-use example_text::{Page, Trouble};
+use example_player::Shelf;
+use example_text::{ArchiveCall, Page, Trouble};
 use sqlite::MemStore;
 use std::alloc::Global;
 
@@ -15,7 +15,7 @@ pub fn answered(
     page: &mut Page,
 ) -> Result<&'static str, Trouble> {
     match call {
-        ArchiveCall::Export(object, failing) => {
+        ArchiveCall::Export { object, failing } => {
             let mut shelf = Shelf::new(page, failing);
             let outcome = export_object(alloc, store, object, &mut shelf);
             Ok(word_of(outcome))

@@ -1,7 +1,12 @@
 //! One exchange: what comes and when, what has to be sent for it, and how the reader and the writer behave.
 
 use crate::archive_call::ArchiveCall;
-use example_text::{Cut, Page, Trouble, Words, differing, expand, number};
+use crate::cut::Cut;
+use crate::escapes::expand;
+use crate::page::Page;
+use crate::settings::number;
+use crate::trouble::{Trouble, differing};
+use crate::words::Words;
 use std::alloc::{AllocError, Global};
 
 /// The moment of the published replies.

@@ -1,7 +1,7 @@
 //! A reader in memory.
 
+use crate::cut::Cut;
 use crate::exchange::Exchange;
-use example_text::Cut;
 use std::io;
 use std::io::{ErrorKind, Read};
 
@@ -15,7 +15,7 @@ pub struct Source<'a> {
 }
 
 impl<'a> Source<'a> {
-    /// The reader of a exchange.
+    /// The reader of an exchange.
     pub fn of(exchange: &'a Exchange) -> Source<'a> {
         Source {
             rest: exchange.stream.as_slice(),

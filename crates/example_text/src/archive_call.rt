@@ -1,13 +1,34 @@
 //! Calls of an archive that no request makes: the export of a bag, and the audit of an object.
 
-use crate::shelf::Call;
-use example_text::{Trouble, first_word, number};
+use crate::settings::number;
+use crate::trouble::Trouble;
+use crate::words::first_word;
+
+/// A call of a sink.
+#[derive(Clone, Copy, PartialEq, Eq)]
+pub enum SinkCall {
+    Folder,
+    Begin,
+    Write,
+    Finish,
+}
+
+/// A call of a sink that fails.
+#[derive(Clone, Copy)]
+pub struct FailingCall {
+    pub call: SinkCall,
+    /// So many of these calls come before it.
+    pub before: u64,
+}
 
 /// A call of an archive.
 #[derive(Clone, Copy)]
 pub enum ArchiveCall {
     /// The bag of this object goes into a sink, of which a call may fail.
-    Export(u64, Option<(Call, u64)>),
+    Export {
+        object: u64,
+        failing: Option<FailingCall>,
+    },
     /// The files of this object are checked.
     Audit(u64),
     /// The files of all objects are checked.
@@ -24,22 +45,31 @@ impl ArchiveCall {
         let object = number(object)?;
         match (word, failing) {
             ("audit", "") => Ok(ArchiveCall::Audit(object)),
-            ("export", "") => Ok(ArchiveCall::Export(object, None)),
-            ("export", _) => Ok(ArchiveCall::Export(object, Some(failure(failing)?))),
+            ("export", "") => Ok(ArchiveCall::Export {
+                object,
+                failing: None,
+            }),
+            ("export", _) => Ok(ArchiveCall::Export {
+                object,
+                failing: Some(failure(failing)?),
+            }),
             _ => Err(Trouble::Line("there is a word too many")),
         }
     }
 }
 
 // `begin fails 3`: the third of these calls.
-fn failure(text: &str) -> Result<(Call, u64), Trouble> {
+fn failure(text: &str) -> Result<FailingCall, Trouble> {
     let (name, count) = text.split_once(" fails ").unwrap_or((text, ""));
     let call = match name {
-        "folder" => Call::Folder,
-        "begin" => Call::Begin,
-        "write" => Call::Write,
-        "finish" => Call::Finish,
+        "folder" => SinkCall::Folder,
+        "begin" => SinkCall::Begin,
+        "write" => SinkCall::Write,
+        "finish" => SinkCall::Finish,
         _ => return Err(Trouble::Line("no call of a sink has that name")),
     };
-    Ok((call, number(count)?.saturating_sub(1)))
+    Ok(FailingCall {
+        call,
+        before: number(count)?.saturating_sub(1),
+    })
 }
