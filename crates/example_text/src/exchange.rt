@@ -143,7 +143,7 @@ impl Exchange {
     }
 
     // Whether the connection was given up for want of memory: behind whole replies the one that says so, or a reply
-    // that is cut though its writer doesn't fail.
+    // that is cut though its writer would take more.
     fn is_given_up(&self, sent: &[u8], came: &str) -> bool {
         match came {
             "unserved" => sent.is_empty(),
@@ -151,8 +151,10 @@ impl Exchange {
                 Some(front) => self.want.as_slice().starts_with(front),
                 None => false,
             },
-            "cut" | "write-fault" if self.most < usize::MAX => WANT_OF_MEMORY.starts_with(sent),
-            "cut" | "write-fault" | "store-fault" => self.want.as_slice().starts_with(sent),
+            "cut" | "write-fault" | "store-fault" => {
+                let is_short = sent.len() < self.most && self.want.as_slice().starts_with(sent);
+                is_short || self.most < usize::MAX && WANT_OF_MEMORY.starts_with(sent)
+            }
             _ => false,
         }
     }
