@@ -1,14 +1,14 @@
 -- Replies that are ready.
-use Rattle.std.proofs.Common.{◌≡◌, ◌≢◌, ℕ, Bool, true, false, List, [], ◌∷◌, ◌++◌, Option, Some, None, refl, sym, ap, subst, ◌∙◌, append-nil}
+use Rattle.std.proofs.Common.{◌≡◌, ◌≢◌, ℕ, ◌==◌, ◌&&◌, ◌||◌, not, Bool, true, false, is_some, List, [], ◌∷◌, ◌++◌, Option, Some, None, option_map, length, refl, sym, ap, subst, ◌∙◌, append-nil}
 use Rattle.std.specs.Prelude.{IsSome}
 use Rattle.std.specs.Option.{option_map_or}
 use Rattle.dep_types.specs.State.{State, File, file_at}
 use Rattle.dep_types.specs.Rows.{file_row}
 use Rattle.dep_types.specs.declared.rows.FileRow.{FileRow}
 use Rattle.dep_reply.specs.Head.{ReplyHead, head_text}
-use Rattle.dep_answers.specs.Answers.{Answer, StoredContent, document_of, stored_of, answer, head_of}
+use Rattle.dep_answers.specs.Answers.{Answer, ReplyContent, StoredContent, bytes_of, document_of, stored_of, answer, head_of, is_silent}
 use Rattle.dep_answers.specs.Replies.{unless_bare, front_text, stored_text}
-use Rattle.dep_answers.specs.Performing.{IsReply, stored_in, stored_behind}
+use Rattle.dep_answers.specs.Performing.{HasEnd, IsReply, stored_in, stored_behind}
 use Rattle.dep_answers.specs.declared.performed.Delivery.{Delivery}
 use Rattle.dep_answers.specs.declared.performed.Performed.{Performed}
 use Rattle.dep_answers.specs.declared.performed.FileId.{FileId}
@@ -30,6 +30,25 @@ text_reply s a delivery p front none nothing = record {
   front = front;
   stored = ap (stored_in s) nothing ∙ sym (ap (unless_bare delivery.is_bare) none ∙ nothing_either_way delivery.is_bare);
   not_empty = λ has. absurd (none_there p.stored nothing has);
+}
+
+-- ---- where a reply ends
+
+told_end : (content : Option ReplyContent) (b : Bool) → (not (is_some content) && not b) ≡ false
+    → (is_some (option_map (λ (c : ReplyContent). length (bytes_of c)) content) || b) ≡ true
+told_end (Some c) b e = refl
+told_end None true e = refl
+told_end None false e = absurd (cc)
+
+-- what isn't silent tells where it ends
+pub ends_by : (a : Answer) (delivery : Delivery) (p : Performed) → is_silent a ≡ false
+    → p.front.items ≡ front_text a delivery.clock delivery.is_bare delivery.closes → HasEnd p
+unfolding front_text
+ends_by a delivery p e front = record {
+  head = head_of a delivery.clock delivery.closes;
+  behind = unless_bare delivery.is_bare (document_of a.content);
+  front = front;
+  ends = told_end a.content (a.status == 204) e;
 }
 
 -- ---- the content of a file
@@ -77,3 +96,11 @@ stored_ready s file row tag delivery p there is front stored =
           ∙ content_behind s delivery.is_bare file.content id (ap (λ (o : Option File). option_map_or (λ (x : File). x.content) o []) there);
       not_empty = λ has. not_nothing delivery.is_bare file.content id (subst IsSome stored has);
     }
+
+pub stored_ends : (row : FileRow) (tag : Option ℕ) (delivery : Delivery) (p : Performed) → p.front.items ≡ head_text (head_by row tag delivery) → HasEnd p
+stored_ends row tag delivery p front = record {
+  head = head_by row tag delivery;
+  behind = [];
+  front = front ∙ sym (append-nil (head_text (head_by row tag delivery)));
+  ends = refl;
+}

@@ -1,5 +1,5 @@
 -- Replies that show files, by what was read of them.
-use Rattle.std.proofs.Common.{◌≡◌, ◌⊎◌, inl, inr, ℕ, ◌==◌, List, Option, Some, None, refl, sym, ap, subst, ◌∙◌}
+use Rattle.std.proofs.Common.{◌≡◌, ◌⊎◌, inl, inr, ℕ, ◌==◌, List, Option, Some, None, refl, sym, ap, subst, ◌∙◌, true}
 use Rattle.std.specs.Prelude.{find}
 use Rattle.std.specs.Option.{option_map, option_map_or, option_and_then}
 use Rattle.std.specs.FinMap as finmap
@@ -11,9 +11,9 @@ use Rattle.dep_types.specs.declared.config.Config.{Config}
 use Rattle.dep_types.specs.declared.target.Method.{Method}
 use Rattle.dep_types.specs.declared.target.Resource.{Resource}
 use Rattle.dep_types.specs.declared.target.Resource.TheVariants as resource
-use Rattle.dep_answers.specs.Answers.{Answer, StoredContent, answer}
+use Rattle.dep_answers.specs.Answers.{Answer, StoredContent, answer, is_silent}
 use Rattle.dep_answers.specs.Bags.{shown_in_bag}
-use Rattle.dep_answers.specs.Performing.{IsReply}
+use Rattle.dep_answers.specs.Performing.{IsReply, Says}
 use Rattle.dep_answers.specs.Replies.{shown_answer, answer_to}
 use Rattle.dep_answers.specs.Subjects.{shown_at, subject_at, subject_of}
 use Rattle.dep_answers.specs.Told.{file_answer, bag_answer}
@@ -26,8 +26,15 @@ use Rattle.dep_answers.specs.declared.subject.Subject.TheVariants as subject
 use Rattle.dep_answers.proofs.BagLemmas.{row_found}
 
 -- the same reply, where the answer is another's
-pub says_as : (s : State) (a b : Answer) (delivery : Delivery) (p : Performed) → a ≡ b → IsReply s a delivery p → IsReply s b delivery p
-says_as s a b delivery p e r = subst (λ (x : Answer). IsReply s x delivery p) e r
+pub says_as : (s : State) (a b : Answer) (delivery : Delivery) (said : Option Performed) → a ≡ b → Says s a delivery said → Says s b delivery said
+says_as s a b delivery said e r = subst (λ (x : Answer). Says s x delivery said) e r
+
+replies_as : (s : State) (a b : Answer) (delivery : Delivery) (p : Performed) → a ≡ b → IsReply s a delivery p → IsReply s b delivery p
+replies_as s a b delivery p e r = subst (λ (x : Answer). IsReply s x delivery p) e r
+
+-- an answer with nothing to show
+pub nothing_said : (a : Answer) → answer 200 None None None ≡ a → is_silent a ≡ true
+nothing_said a e = sym (ap (λ (x : Answer). is_silent x) e)
 
 -- ---- a file
 
@@ -60,7 +67,7 @@ file_reply_is s id row sh delivery p is e says =
     let file : File = found.0 in
     let there : file_at s id.object id.file ≡ Some file = found.1.0 in
     let of : row ≡ file_row id.object id.file file = found.1.1 in
-    says_as s (answer 200 (Some (StoredContent file.media file.content)) (Some row.tag) None) (file_answer s id) delivery p
+    replies_as s (answer 200 (Some (StoredContent file.media file.content)) (Some row.tag) None) (file_answer s id) delivery p
     (ap (λ (r : FileRow). answer 200 (Some (StoredContent file.media file.content)) (Some r.tag) None) of
     ∙ ap (λ (o : Option File). answer 200 (option_map (λ (x : File). StoredContent x.media x.content) o) (option_map (λ (x : File). x.tag) o) None) (sym there))
     (says_row row (Some row.tag) delivery p says s id.object id.file file there of)
@@ -108,14 +115,14 @@ object_in : (n : ℕ) (view : ObjectView) (o : Option Object)
 object_in n view None e = absurd (cc)
 object_in n view (Some it) e = (it, (refl, same_view view (object_view n it) e))
 
-pub bag_reply_is : (s : State) (n : ℕ) (path : List ℕ) (view : ObjectView) (sh : Shown) (delivery : Delivery) (p : Performed)
+pub bag_reply_is : (s : State) (n : ℕ) (path : List ℕ) (view : ObjectView) (sh : Shown) (delivery : Delivery) (said : Option Performed)
     → sh ≡ shown.Object view → sh ≡ shown_at s (subject.Object n)
     → ((s : State) (n : ℕ) (o : Object) → finmap.get s.objects n ≡ Some o → view ≡ object_view n o
-    → IsReply s (answer 200 (shown_in_bag o path) None None) delivery p)
-    → IsReply s (bag_answer s n path) delivery p
-bag_reply_is s n path view sh delivery p is e says =
+    → Says s (answer 200 (shown_in_bag o path) None None) delivery said)
+    → Says s (bag_answer s n path) delivery said
+bag_reply_is s n path view sh delivery said is e says =
     let found = object_in n view (finmap.get s.objects n) (sym is ∙ e) in
-    says_as s (answer 200 (shown_in_bag found.0 path) None None) (bag_answer s n path) delivery p
+    says_as s (answer 200 (shown_in_bag found.0 path) None None) (bag_answer s n path) delivery said
     (ap (λ (o : Option Object). answer 200 (option_and_then (λ (x : Object). shown_in_bag x path) o) None None) (sym found.1.0))
     (says s n found.0 found.1.0 found.1.1)
 
@@ -133,18 +140,18 @@ no_bag_answer s n path sh not e =
 -- ---- by the resource and the method
 
 -- the reply that shows a resource that is this one
-pub shows : (config : Config) (s : State) (sh : Shown) (delivery : Delivery) (p : Performed) (r q : Resource) → r ≡ q
-    → (sh ≡ shown_at s (subject_at q) → IsReply s (shown_answer config s q) delivery p)
-    → sh ≡ shown_at s (subject_at r) → IsReply s (shown_answer config s r) delivery p
-shows config s sh delivery p r q is says =
-    subst (λ (x : Resource). sh ≡ shown_at s (subject_at x) → IsReply s (shown_answer config s x) delivery p) (sym is) says
+pub shows : (config : Config) (s : State) (sh : Shown) (delivery : Delivery) (said : Option Performed) (r q : Resource) → r ≡ q
+    → (sh ≡ shown_at s (subject_at q) → Says s (shown_answer config s q) delivery said)
+    → sh ≡ shown_at s (subject_at r) → Says s (shown_answer config s r) delivery said
+shows config s sh delivery said r q is says =
+    subst (λ (x : Resource). sh ≡ shown_at s (subject_at x) → Says s (shown_answer config s x) delivery said) (sym is) says
 
 -- the reply to a method that is this one
-pub answers : (config : Config) (s : State) (sh : Shown) (delivery : Delivery) (p : Performed) (r : Resource) (m n : Method) → m ≡ n
-    → (sh ≡ shown_at s (subject_of s.next r n) → IsReply s (answer_to config s r n) delivery p)
-    → sh ≡ shown_at s (subject_of s.next r m) → IsReply s (answer_to config s r m) delivery p
-answers config s sh delivery p r m n is says =
-    subst (λ (x : Method). sh ≡ shown_at s (subject_of s.next r x) → IsReply s (answer_to config s r x) delivery p) (sym is) says
+pub answers : (config : Config) (s : State) (sh : Shown) (delivery : Delivery) (said : Option Performed) (r : Resource) (m n : Method) → m ≡ n
+    → (sh ≡ shown_at s (subject_of s.next r n) → Says s (answer_to config s r n) delivery said)
+    → sh ≡ shown_at s (subject_of s.next r m) → Says s (answer_to config s r m) delivery said
+answers config s sh delivery said r m n is says =
+    subst (λ (x : Method). sh ≡ shown_at s (subject_of s.next r x) → Says s (answer_to config s r x) delivery said) (sym is) says
 
 -- what is never read shows nothing
 pub unread : (config : Config) (s : State) (r : Resource) → ((n : ℕ) × (r ≡ resource.FileSet n)) ⊎ (r ≡ resource.Staging)

@@ -1,5 +1,5 @@
 -- What answers tell of what was read is what they tell of the state.
-use Rattle.std.proofs.Common.{◌≡◌, ℕ, Bool, true, List, [], ◌∷◌, ◌++◌, Option, Some, None, refl, ap, ◌∙◌, map as each}
+use Rattle.std.proofs.Common.{◌≡◌, ℕ, Bool, true, List, [], ◌∷◌, ◌++◌, Option, Some, None, if◌then◌else◌, refl, ap, ◌∙◌, map as each}
 use Rattle.std.specs.Option.{option_map, option_map_or}
 use Rattle.std.specs.FinMap as finmap
 use Rattle.dep_types.specs.State.{State, Object, File, Upload, file_at}
@@ -8,6 +8,7 @@ use Rattle.dep_types.specs.BagPaths.{bag_paths, tag_paths, payload_path}
 use Rattle.dep_types.specs.Rows.{object_row, object_view, file_row, upload_row}
 use Rattle.dep_types.specs.declared.config.Config.{Config}
 use Rattle.dep_types.specs.declared.target.Resource.TheVariants as resource
+use Rattle.dep_docs_out.specs.Segments.{are_segments}
 use Rattle.dep_docs_out.specs.Documents.{status_document, metadata_document, upload_document, object_url, upload_url}
 use Rattle.dep_bag.specs.Bag.{list_text}
 use Rattle.dep_bag.specs.Parts.{row_path}
@@ -15,7 +16,7 @@ use Rattle.dep_decisions.specs.Rules.{tag_at}
 use Rattle.dep_answers.specs.Answers.{Document, PlainText, answer}
 use Rattle.dep_answers.specs.Replies.{status_answer, created_answer, opened_answer, shown_answer}
 use Rattle.dep_answers.specs.Subjects.{shown_at}
-use Rattle.dep_answers.specs.Told.{told_status, told_created, told_metadata, told_list, told_tag, told_upload, told_opened, document_by, rises_above}
+use Rattle.dep_answers.specs.Told.{told_status, told_created, told_metadata, told_list, told_tag, told_upload, told_opened}
 use Rattle.dep_answers.specs.declared.subject.Shown.{Shown}
 use Rattle.dep_answers.specs.declared.subject.Shown.TheVariants as shown
 use Rattle.dep_answers.specs.declared.subject.Subject.TheVariants as subject
@@ -85,12 +86,12 @@ file_tag_is s n f sh e = ap (told_tag (resource.File n f)) e ∙ file_tag_by n f
 -- ---- uploads
 
 upload_by : (config : Config) (u : ℕ) (o : Option Upload)
-    → ((it : Upload) → o ≡ Some it → rises_above 0 (finmap.keys it.segments) ≡ true)
+    → ((it : Upload) → o ≡ Some it → are_segments (finmap.keys it.segments) ≡ true)
     → told_upload config (option_map_or (λ (x : Upload). shown.Upload (upload_row u x) (finmap.keys x.segments)) o shown.Nothing)
     ≡ answer 200 (option_map (λ (x : Upload). Document (upload_document config (upload_row u x) (finmap.keys x.segments))) o) None None
 upload_by config u None rise = refl
 upload_by config u (Some it) rise =
-    ap (λ (b : Bool). answer 200 (document_by b (upload_document config (upload_row u it) (finmap.keys it.segments))) None None) (rise it refl)
+    ap (λ (b : Bool). answer 200 (option_map (λ (bytes : List ℕ). Document bytes) (if b then Some (upload_document config (upload_row u it) (finmap.keys it.segments)) else None)) None None) (rise it refl)
 
 pub upload_is : (config : Config) (s : State) → IsSound s → (u : ℕ) (sh : Shown) → sh ≡ shown_at s (subject.Upload u)
     → told_upload config sh ≡ shown_answer config s (resource.Upload u)
@@ -98,12 +99,12 @@ upload_is config s sound u sh e =
     ap (told_upload config) e ∙ upload_by config u (finmap.get s.uploads u) (segments_rise s sound u)
 
 opened_by : (config : Config) (u : ℕ) (o : Option Upload)
-    → ((it : Upload) → o ≡ Some it → rises_above 0 (finmap.keys it.segments) ≡ true)
+    → ((it : Upload) → o ≡ Some it → are_segments (finmap.keys it.segments) ≡ true)
     → told_opened config (option_map_or (λ (x : Upload). shown.Upload (upload_row u x) (finmap.keys x.segments)) o shown.Nothing)
     ≡ answer 201 (option_map (λ (x : Upload). Document (upload_document config (upload_row u x) (finmap.keys x.segments))) o) None (option_map (λ (x : Upload). upload_url config u) o)
 opened_by config u None rise = refl
 opened_by config u (Some it) rise =
-    ap (λ (b : Bool). answer 201 (document_by b (upload_document config (upload_row u it) (finmap.keys it.segments))) None (Some (upload_url config u))) (rise it refl)
+    ap (λ (b : Bool). answer 201 (option_map (λ (bytes : List ℕ). Document bytes) (if b then Some (upload_document config (upload_row u it) (finmap.keys it.segments)) else None)) None (Some (upload_url config u))) (rise it refl)
 
 pub opened_is : (config : Config) (s : State) → IsSound s → (u : ℕ) (sh : Shown) → sh ≡ shown_at s (subject.Upload u)
     → told_opened config sh ≡ opened_answer config s u

@@ -1,5 +1,5 @@
 -- What replies say.
-use Rattle.std.specs.Prelude.{ℕ, Bool, List, [], Option, Some, None, option_map, length, codes}
+use Rattle.std.specs.Prelude.{ℕ, ◌==◌, ◌&&◌, not, Bool, List, [], is_some, Option, Some, None, option_map, length, codes}
 use Rattle.dep_reply.specs.Head.{ReplyHead}
 
 -- what a reply shows: a document, a text of a bag, or the content of a file, as the archive keeps it
@@ -57,3 +57,7 @@ head_of a clock closes = record {
 abbrev pub answer : ℕ → Option ReplyContent → (tag : Option ℕ) → (location : Option (List ℕ)) → Answer
 answer status content tag location =
     record { status = status; content = content; tag = tag; location = location; allow = None }
+
+-- it shows nothing, though replies of its status tell how long their content is (RFC 9110, section 15.3.5)
+abbrev pub is_silent : Answer → Bool
+is_silent a = not (is_some a.content) && not (a.status == 204)

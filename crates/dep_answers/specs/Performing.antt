@@ -1,8 +1,9 @@
 -- Replies that are ready to be sent.
-use Rattle.std.specs.Prelude.{◌≡◌, ◌≢◌, ℕ, Bool, true, false, List, [], ◌∷◌, Option, Some, None, IsSome}
+use Rattle.std.specs.Prelude.{◌≡◌, ◌≢◌, ℕ, ◌==◌, ◌||◌, Bool, true, false, List, [], ◌∷◌, ◌++◌, is_some, Option, Some, None, IsSome, IsTrue}
 use Rattle.std.specs.Option.{option_map_or}
 use Rattle.dep_types.specs.State.{State, file_at}
-use Rattle.dep_answers.specs.Answers.{Answer}
+use Rattle.dep_reply.specs.Head.{ReplyHead, head_text}
+use Rattle.dep_answers.specs.Answers.{Answer, is_silent}
 use Rattle.dep_answers.specs.Steps.{Stepped, answered_step}
 use Rattle.dep_answers.specs.declared.performed.Delivery.{Delivery}
 use Rattle.dep_answers.specs.declared.performed.Performed.{Performed}
@@ -22,6 +23,19 @@ pub record IsReady (stepped : Stepped) (p : Performed) : Type 0 where
 -- what is ready says this, at the state
 abbrev pub IsReply : State → Answer → Delivery → Performed → Type 0
 IsReply s a delivery p = IsReady (answered_step s a delivery.clock delivery.is_bare delivery.closes) p
+
+-- The same of what may be ready. What would show nothing, in a reply that has to tell how long its content is, isn't said.
+abbrev pub Says : State → Answer → Delivery → Option Performed → Type 0
+Says s a delivery (Some p) = IsReply s a delivery p
+Says s a delivery None = IsTrue (is_silent a)
+
+-- the reply tells where it ends: its head tells a length, or is of the status that has no content (RFC 9110, section
+-- 15.3.5; RFC 9112, section 6.3)
+pub record HasEnd (p : Performed) : Type 0 where
+  pub head : ReplyHead
+  pub behind : List ℕ
+  pub front : p.front.items ≡ head_text head ++ behind
+  pub ends : IsTrue (is_some head.content_length || head.status == 204)
 
 -- what was done is the step, and what is ready is its reply
 pub record Performs (stepped : Stepped) (left : State) (p : Performed) : Type 0 where

@@ -1,11 +1,13 @@
 -- What private functions make of what was read: answers, and the texts in them.
-use Rattle.std.specs.Prelude.{ℕ, nat_lt, ◌&&◌, Bool, true, List, [], ◌∷◌, Option, Some, None, option_map, option_and_then, codes, bytes_eq, if◌then◌else◌}
+use Rattle.std.specs.Prelude.{ℕ, List, Option, Some, None, option_map, option_and_then, codes, bytes_eq, if◌then◌else◌}
 use Rattle.std.specs.FinMap as finmap
 use Rattle.dep_types.specs.State.{State, file_at}
 use Rattle.dep_types.specs.declared.config.Config.{Config}
+use Rattle.dep_types.specs.declared.rows.UploadRow.{UploadRow}
 use Rattle.dep_types.specs.declared.target.Resource.{Resource}
 use Rattle.dep_types.specs.declared.target.Resource.TheVariants.{Metadata, FileSet, File}
-use Rattle.dep_docs_out.specs.Documents.{status_document, metadata_document, upload_document, object_url, upload_url}
+use Rattle.dep_docs_out.specs.Documents.{status_document, metadata_document, object_url, upload_url}
+use Rattle.dep_docs_out.specs.Segments.{ordered_upload_document}
 use Rattle.dep_bag.specs.Bag.{list_text}
 use Rattle.dep_bag.specs.Parts.{told_paths}
 use Rattle.dep_answers.specs.Answers.{Answer, ReplyContent, Document, PlainText, StoredContent, answer}
@@ -53,26 +55,19 @@ told_tag resource sh = None
 
 -- ---- uploads
 
--- each number is above the one before it
-unfoldable pub rises_above : ℕ → List ℕ → Bool
-rises_above before [] = true
-rises_above before (k ∷ ks) = nat_lt before k && rises_above k ks
-
 -- the document of an upload, where its segments' numbers are in order
-abbrev pub document_by : (is_ordered : Bool) → (bytes : List ℕ) → Option ReplyContent
-document_by is_ordered bytes = if is_ordered then Some (Document bytes) else None
+abbrev pub ordered_upload : Config → UploadRow → (received : List ℕ) → Option ReplyContent
+ordered_upload config row received =
+    option_map (λ bytes. Document bytes) (ordered_upload_document config row received)
 
 abbrev pub told_upload : Config → Shown → Answer
 told_upload config (shown.Upload row received) =
-    answer 200
-    (document_by (rises_above 0 received) (upload_document config row received)) None None
+    answer 200 (ordered_upload config row received) None None
 told_upload config sh = answer 200 None None None
 
 abbrev pub told_opened : Config → Shown → Answer
 told_opened config (shown.Upload row received) =
-    answer 201
-    (document_by (rises_above 0 received) (upload_document config row received)) None
-    (Some (upload_url config row.upload))
+    answer 201 (ordered_upload config row received) None (Some (upload_url config row.upload))
 told_opened config sh = answer 201 None None None
 
 -- ---- files and bags

@@ -1,11 +1,11 @@
 //! Replies to requests that are accepted.
-ghost use Rattle.std.specs.Prelude.{◌≡◌, IfOk, Some, None};
+ghost use Rattle.std.specs.Prelude.{◌≡◌, IfOk, IfSome, Some, None};
 ghost use Rattle.dep_types.specs.State.{State};
 ghost use Rattle.dep_types.specs.Sound.{IsSound};
 ghost use Rattle.dep_types.specs.declared.target.Method.TheVariants.{Post, Put};
 ghost use Rattle.dep_docs_out.specs.Documents.{service_document};
 ghost use Rattle.dep_answers.specs.Answers.{answer, Document};
-ghost use Rattle.dep_answers.specs.Performing.{IsReply};
+ghost use Rattle.dep_answers.specs.Performing.{HasEnd, Says};
 ghost use Rattle.dep_answers.specs.Replies.{answer_to, shown_answer};
 ghost use Rattle.dep_answers.specs.Subjects.{shown_at, subject_at, subject_of};
 
@@ -23,27 +23,30 @@ use std::alloc::{AllocError, Global};
 
 /// The reply to a request that was accepted and carried out, by what the archive then shows at its
 /// [`Subject`](crate::Subject) (RFC 9110, section 15.3; SWORD 3.0). A reply to a HEAD is that to the
-/// GET, delivered bare.
+/// GET, delivered bare. There is none where the reply would have nothing to show, though it had to tell a length: for a
+/// resource that has no GET, where nothing was read, and where a damaged table gave numbers of segments that don't
+/// rise from 1 on. An `Err` is want of memory.
 pub fn accepted(
     alloc: Global,
     service: &Service,
     target: &Target,
     shown: &Shown,
     delivery: Delivery,
-) -> Result<Performed, AllocError>
-    ensures { IfOk result (λ p. (s : State) → IsSound s
+) -> Result<Option<Performed>, AllocError>
+    ensures says { IfOk result (λ said. (s : State) → IsSound s
         → shown.now ≡ shown_at s (subject_of s.next target.now.resource target.now.method)
-        → IsReply s (answer_to service.now s target.now.resource target.now.method) delivery p) }
+        → Says s (answer_to service.now s target.now.resource target.now.method) delivery said) }
+    ensures ends { IfOk result (λ said. IfSome said HasEnd) }
 {
     match target.method {
         Method::Get | Method::Head => show(alloc, service, &target.resource, shown, delivery),
         Method::Post => {
-            posted(alloc, service.config(), &target.resource, shown)?.spell(alloc, delivery)
+            posted(alloc, service.config(), &target.resource, shown)?.say(alloc, delivery)
         }
-        Method::Put => put(alloc, service.config(), &target.resource, shown)?.spell(
-            alloc, delivery,
-        ),
-        Method::Delete => Answer::without_content(Status::NoContent).spell(alloc, delivery),
+        Method::Put => {
+            put(alloc, service.config(), &target.resource, shown)?.say(alloc, delivery)
+        }
+        Method::Delete => Answer::without_content(Status::NoContent).say(alloc, delivery),
     }
 }
 
@@ -54,23 +57,22 @@ fn show(
     resource: &Resource,
     shown: &Shown,
     delivery: Delivery,
-) -> Result<Performed, AllocError>
-    ensures { IfOk result (λ p. (s : State) → IsSound s
+) -> Result<Option<Performed>, AllocError>
+    ensures says { IfOk result (λ said. (s : State) → IsSound s
         → shown.now ≡ shown_at s (subject_at resource.now)
-        → IsReply s (shown_answer service.now s resource.now) delivery p) }
+        → Says s (shown_answer service.now s resource.now) delivery said) }
+    ensures ends { IfOk result (λ said. IfSome said HasEnd) }
 {
     let config = service.config();
     match resource {
-        Resource::Service => service_document(alloc, service)?.spell(alloc, delivery),
-        Resource::Object(_) => status(alloc, config, shown)?.spell(alloc, delivery),
-        Resource::Metadata(_) => metadata(alloc, config, shown)?.spell(alloc, delivery),
+        Resource::Service => service_document(alloc, service)?.say(alloc, delivery),
+        Resource::Object(_) => status(alloc, config, shown)?.say(alloc, delivery),
+        Resource::Metadata(_) => metadata(alloc, config, shown)?.say(alloc, delivery),
         Resource::File(..) => file_reply(alloc, shown, delivery),
-        Resource::Upload(_) => upload(alloc, config, shown)?.spell(alloc, delivery),
-        Resource::BagList(_) => bag_list(alloc, shown)?.spell(alloc, delivery),
+        Resource::Upload(_) => upload(alloc, config, shown)?.say(alloc, delivery),
+        Resource::BagList(_) => bag_list(alloc, shown)?.say(alloc, delivery),
         Resource::BagFile(_, path) => bag_reply(alloc, shown, path.as_slice(), delivery),
-        Resource::FileSet(_) | Resource::Staging => {
-            Answer::without_content(Status::Ok).spell(alloc, delivery)
-        }
+        Resource::FileSet(_) | Resource::Staging => Ok(None),
     }
 }
 

@@ -1,10 +1,10 @@
 //! Answers, and the replies that say them.
-ghost use Rattle.std.specs.Prelude.{◌≡◌, ◌++◌, [], IfOk, OnOk, Some, None};
+ghost use Rattle.std.specs.Prelude.{◌≡◌, ◌++◌, [], IfOk, IfSome, OnOk, Some, None};
 ghost use Rattle.dep_types.specs.State.{State};
 ghost use Rattle.dep_reply.specs.Statuses.{status_number};
-ghost use Rattle.dep_answers.specs.Answers.{answer, head_of, media_of, document_of, stored_of, Document};
-ghost use Rattle.dep_answers.specs.Performing.{IsReply};
-ghost use Rattle.dep_answers.specs.Replies.{unless_bare};
+ghost use Rattle.dep_answers.specs.Answers.{answer, head_of, is_silent, media_of, document_of, stored_of, Document};
+ghost use Rattle.dep_answers.specs.Performing.{HasEnd, IsReply, Says};
+ghost use Rattle.dep_answers.specs.Replies.{front_text, unless_bare};
 ghost use Rattle.dep_answers.specs.Told.{content_of};
 
 use crate::performed::{Delivery, Performed};
@@ -127,9 +127,33 @@ impl Answer {
         }
     }
 
+    /// Whether it shows nothing, though replies of its status tell how long their content is.
+    fn is_silent(&self) -> bool
+        ensures { result ≡ is_silent self.now }
+    {
+        self.content.is_none() && self.status.number() != 204
+    }
+
+    /// The reply that says this, if it isn't silent.
+    pub(crate) fn say(
+        self,
+        alloc: Global,
+        delivery: Delivery,
+    ) -> Result<Option<Performed>, AllocError>
+        ensures says { IfOk result (λ said. (s : State) → Says s self delivery said) }
+        ensures ends { IfOk result (λ said. IfSome said HasEnd) }
+    {
+        if self.is_silent() {
+            return Ok(None);
+        }
+        Ok(Some(self.spell(alloc, delivery)?))
+    }
+
     /// The reply that says this.
     pub(crate) fn spell(self, alloc: Global, delivery: Delivery) -> Result<Performed, AllocError>
-        ensures { IfOk result (λ p. (s : State) → IsReply s self delivery p) }
+        ensures says { IfOk result (λ p. (s : State) → IsReply s self delivery p) }
+        ensures front { IfOk result (λ p. p.front.items
+            ≡ front_text self delivery.clock delivery.is_bare delivery.closes) }
     {
         let mut front = spell_head(alloc, &self.head(delivery.clock, delivery.closes))?;
         self.add_text(&mut front, delivery.is_bare)?;

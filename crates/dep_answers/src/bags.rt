@@ -1,5 +1,5 @@
 //! Replies that show the bag of an object (RFC 8493).
-ghost use Rattle.std.specs.Prelude.{◌≡◌, ◌==◌, ℕ, IfOk, Some, None, find};
+ghost use Rattle.std.specs.Prelude.{◌≡◌, ◌==◌, ℕ, IfOk, IfSome, Some, None, find};
 ghost use Rattle.std.specs.Option.{option_copied};
 ghost use Rattle.std.specs.FinMap as map;
 ghost use Rattle.dep_types.specs.State.{State, Object as StateObject, File as StateFile};
@@ -7,7 +7,7 @@ ghost use Rattle.dep_types.specs.Rows.{object_view};
 ghost use Rattle.dep_bag.specs.Bag.{list_text};
 ghost use Rattle.dep_answers.specs.Answers.{answer, StoredContent};
 ghost use Rattle.dep_answers.specs.Bags.{shown_in_bag};
-ghost use Rattle.dep_answers.specs.Performing.{IsReply};
+ghost use Rattle.dep_answers.specs.Performing.{HasEnd, Says};
 ghost use Rattle.dep_answers.specs.Subjects.{shown_at};
 ghost use Rattle.dep_answers.specs.Told.{told_list, form_at, bag_answer};
 ghost use Rattle.dep_answers.specs.declared.subject.Subject.TheVariants.{Object};
@@ -48,19 +48,20 @@ fn list_text(alloc: Global, paths: &[Text]) -> Result<Vec<u8>, AllocError>
     Ok(text)
 }
 
-/// The reply that shows what stands at a path of an object's bag.
+/// The reply that shows what stands at a path of an object's bag, where an object was read and something stands there.
 pub(crate) fn bag_reply(
     alloc: Global,
     shown: &Shown,
     path: &[u8],
     delivery: Delivery,
-) -> Result<Performed, AllocError>
-    ensures { IfOk result (λ p. (s : State) (n : ℕ) → shown.now ≡ shown_at s (Object n)
-        → IsReply s (bag_answer s n path.now) delivery p) }
+) -> Result<Option<Performed>, AllocError>
+    ensures says { IfOk result (λ said. (s : State) (n : ℕ) → shown.now ≡ shown_at s (Object n)
+        → Says s (bag_answer s n path.now) delivery said) }
+    ensures ends { IfOk result (λ said. IfSome said HasEnd) }
 {
     match shown {
         Shown::Object(view) => part_reply(alloc, view, path, delivery),
-        _ => Answer::without_content(Status::Ok).spell(alloc, delivery),
+        _ => Ok(None),
     }
 }
 
@@ -69,17 +70,18 @@ fn part_reply(
     view: &ObjectView,
     path: &[u8],
     delivery: Delivery,
-) -> Result<Performed, AllocError>
-    ensures { IfOk result (λ p. (s : State) (n : ℕ) (o : StateObject)
+) -> Result<Option<Performed>, AllocError>
+    ensures says { IfOk result (λ said. (s : State) (n : ℕ) (o : StateObject)
         → map.get s.objects n ≡ Some o → view.now ≡ object_view n o
-        → IsReply s (answer 200 (shown_in_bag o path.now) None None) delivery p) }
+        → Says s (answer 200 (shown_in_bag o path.now) None None) delivery said) }
+    ensures ends { IfOk result (λ said. IfSome said HasEnd) }
 {
     match bag_file(alloc, view, path)? {
         Some(BagPart::Bytes(text)) => {
-            Answer::showing(Status::Ok, Content::new(form_at(path), text)).spell(alloc, delivery)
+            Answer::showing(Status::Ok, Content::new(form_at(path), text)).say(alloc, delivery)
         }
         Some(BagPart::Stored(file)) => payload_reply(alloc, view, file, delivery),
-        None => Answer::without_content(Status::Ok).spell(alloc, delivery),
+        None => Ok(None),
     }
 }
 
@@ -100,15 +102,16 @@ fn payload_reply(
     view: &ObjectView,
     file: u64,
     delivery: Delivery,
-) -> Result<Performed, AllocError>
-    ensures { IfOk result (λ p. (s : State) (n : ℕ) (o : StateObject) (it : StateFile)
+) -> Result<Option<Performed>, AllocError>
+    ensures says { IfOk result (λ said. (s : State) (n : ℕ) (o : StateObject) (it : StateFile)
         → map.get s.objects n ≡ Some o → view.now ≡ object_view n o
         → map.get o.files file ≡ Some it
-        → IsReply s (answer 200 (Some (StoredContent it.media it.content)) None None) delivery p) }
+        → Says s (answer 200 (Some (StoredContent it.media it.content)) None None) delivery said) }
+    ensures ends { IfOk result (λ said. IfSome said HasEnd) }
 {
     match row_of(view.files.as_slice(), file) {
-        Some(row) => stored_reply(alloc, row, None, delivery),
-        None => Answer::without_content(Status::Ok).spell(alloc, delivery),
+        Some(row) => Ok(Some(stored_reply(alloc, row, None, delivery)?)),
+        None => Ok(None),
     }
 }
 

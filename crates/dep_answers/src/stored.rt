@@ -1,33 +1,33 @@
 //! Replies with the content of a stored file.
-ghost use Rattle.std.specs.Prelude.{◌≡◌, IfOk, Some, None, ℕ, List, length};
+ghost use Rattle.std.specs.Prelude.{◌≡◌, IfOk, IfSome, Some, None, ℕ, List, length};
 ghost use Rattle.dep_types.specs.State.{State, File as StateFile, file_at};
 ghost use Rattle.dep_types.specs.Rows.{file_row};
 ghost use Rattle.dep_answers.specs.Answers.{answer, StoredContent};
-ghost use Rattle.dep_answers.specs.Performing.{IsReply, stored_behind};
+ghost use Rattle.dep_answers.specs.Performing.{HasEnd, IsReply, Says, stored_behind};
 ghost use Rattle.dep_answers.specs.Subjects.{shown_at};
 ghost use Rattle.dep_answers.specs.Told.{file_answer};
 ghost use Rattle.dep_answers.specs.declared.performed.FileId.{FileId as AFileId};
 ghost use Rattle.dep_answers.specs.declared.subject.Subject.TheVariants.{File};
 
-use crate::answer::Answer;
 use crate::performed::{Delivery, FileId, Performed};
 use crate::subject::Shown;
 use dep_reply::{Reply, Status, spell_head};
 use dep_types::FileRow;
 use std::alloc::{AllocError, Global};
 
-/// The reply that shows a file, with its entity tag.
+/// The reply that shows a file, with its entity tag, where one was read.
 pub(crate) fn file_reply(
     alloc: Global,
     shown: &Shown,
     delivery: Delivery,
-) -> Result<Performed, AllocError>
-    ensures { IfOk result (λ p. (s : State) (id : AFileId) → shown.now ≡ shown_at s (File id)
-        → IsReply s (file_answer s id) delivery p) }
+) -> Result<Option<Performed>, AllocError>
+    ensures says { IfOk result (λ said. (s : State) (id : AFileId) → shown.now ≡ shown_at s (File id)
+        → Says s (file_answer s id) delivery said) }
+    ensures ends { IfOk result (λ said. IfSome said HasEnd) }
 {
     match shown {
-        Shown::File(row) => stored_reply(alloc, row, Some(row.tag), delivery),
-        _ => Answer::without_content(Status::Ok).spell(alloc, delivery),
+        Shown::File(row) => Ok(Some(stored_reply(alloc, row, Some(row.tag), delivery)?)),
+        _ => Ok(None),
     }
 }
 
@@ -39,10 +39,11 @@ pub(crate) fn stored_reply(
     tag: Option<u64>,
     delivery: Delivery,
 ) -> Result<Performed, AllocError>
-    ensures { IfOk result (λ p. (s : State) (file : StateFile)
+    ensures says { IfOk result (λ p. (s : State) (file : StateFile)
         → file_at s row.now.object row.now.file ≡ Some file
         → row.now ≡ file_row row.now.object row.now.file file
         → IsReply s (answer 200 (Some (StoredContent file.media file.content)) tag None) delivery p) }
+    ensures ends { IfOk result HasEnd }
 {
     let head = Reply {
         status: Status::Ok,

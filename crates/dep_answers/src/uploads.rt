@@ -1,7 +1,6 @@
 //! Answers that show staged uploads.
 ghost use Rattle.std.specs.Prelude.{◌≡◌, IfOk};
-ghost use Rattle.dep_docs_out.specs.Documents.{upload_document};
-ghost use Rattle.dep_answers.specs.Told.{told_upload, told_opened, rises_above, document_by};
+ghost use Rattle.dep_answers.specs.Told.{told_upload, told_opened, ordered_upload};
 
 use crate::answer::{Answer, Content};
 use crate::subject::Shown;
@@ -50,27 +49,11 @@ fn document(
     upload: &UploadRow,
     received: &Numbers,
 ) -> Result<Option<Content>, AllocError>
-    ensures { IfOk result (λ content. content ≡ document_by (rises_above 0 received.now)
-        (upload_document config.now upload.now received.now)) }
+    ensures { IfOk result
+        (λ content. content ≡ ordered_upload config.now upload.now received.now) }
 {
-    let received = received.as_slice();
-    if !are_segments(received) {
-        return Ok(None);
+    match upload_doc(alloc, config, upload, received.as_slice())? {
+        Some(document) => Ok(Some(Content::document(document))),
+        None => Ok(None),
     }
-    let document = upload_doc(alloc, config, upload, received)?;
-    Ok(Some(Content::document(document)))
-}
-
-// Whether the numbers may be those of segments: each at least 1, and above the one before it.
-fn are_segments(numbers: &[u64]) -> bool
-    ensures { result ≡ rises_above 0 numbers.now }
-{
-    let mut last = 0;
-    for number in numbers {
-        if *number <= last {
-            return false;
-        }
-        last = *number;
-    }
-    true
 }

@@ -4,7 +4,7 @@ use Rattle.std.specs.Io.KnownBytes.{Appends, Keeps}
 use Rattle.std.proofs.KnownBytes.{Appends-nil, Appends-trans, Appends-kept}
 use Rattle.std.specs.Prelude.{Result}
 use Rattle.std.specs.Result.{IsErrAnd}
-use Rattle.dep_types.specs.Sinks.{IsFront, file_begun, file_given}
+use Rattle.dep_types.specs.Sinks.{IsFront, file_begun, file_ended, file_given}
 use Rattle.dep_types.specs.Writing.{HasRisen, IsProperPrefix}
 use Rattle.dep_bag.specs.Giving.{IsGivenAt, IsGiven, Gives, IsCausedBy, HasCause}
 use Rattle.dep_bag.specs.declared.export_fault.ExportFault.{ExportFault}
@@ -94,9 +94,16 @@ nothing_given a b keeps = kept a a b [] (Appends-nil a) keeps
 pub nothing_front : (whole : List ℕ) → IsFront [] whole
 nothing_front whole = record { rest = whole; joined = refl }
 
+-- a beginning, a front of some bytes, their rest and an end
+regroup_ended : (begun front rest ended : List ℕ) → (begun ++ (front ++ rest)) ++ ended ≡ (begun ++ front) ++ (rest ++ ended)
+regroup_ended begun front rest ended = simp append_assoc
+
 -- a front of a file's bytes, behind its beginning
 pub file_front : (path part bytes : List ℕ) → IsFront part bytes → IsFront (file_begun path ++ part) (file_given (path, bytes))
-file_front path part bytes f = record { rest = f.rest; joined = ap (λ t. file_begun path ++ t) f.joined ∙ sym (append_assoc (file_begun path) part f.rest) }
+file_front path part bytes f = record {
+  rest = f.rest ++ file_ended;
+  joined = ap (λ t. (file_begun path ++ t) ++ file_ended) f.joined ∙ regroup_ended (file_begun path) part f.rest file_ended;
+}
 
 pub whole_front : (whole : List ℕ) → IsFront whole whole
 whole_front whole = record { rest = []; joined = sym (append-nil whole) }
@@ -118,11 +125,11 @@ text_unended a b c d path text seen r is begun adds keeps err = (
 )
 
 pub text_ended : (a b c d : Option (List ℕ)) (path text seen : List ℕ) → seen ≡ text → Appends a b (file_begun path)
-    → Appends b c seen → Keeps c d → (x : List ℕ) × Appends a d x × (x ≡ file_given (path, text))
-text_ended a b c d path text seen is begun adds keeps = (
-  file_begun path ++ seen,
-  kept a c d (file_begun path ++ seen) (Appends-trans a b c (file_begun path) seen begun adds) keeps,
-  ap (λ t. file_begun path ++ t) is,
+    → Appends b c seen → Appends c d file_ended → (x : List ℕ) × Appends a d x × (x ≡ file_given (path, text))
+text_ended a b c d path text seen is begun adds ended = (
+  (file_begun path ++ seen) ++ file_ended,
+  Appends-trans a c d (file_begun path ++ seen) file_ended (Appends-trans a b c (file_begun path) seen begun adds) ended,
+  ap (λ t. (file_begun path ++ t) ++ file_ended) is,
 )
 
 -- a whole file was given next

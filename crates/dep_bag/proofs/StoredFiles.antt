@@ -3,7 +3,7 @@ use Rattle.std.proofs.Common.{◌≡◌, ◌⊎◌, inl, inr, ℕ, List, [], ◌
 use Rattle.std.specs.Prelude.{Result, Err}
 use Rattle.dep_types.specs.State.{State, File, file_at}
 use Rattle.dep_types.specs.Sound.{IsSound}
-use Rattle.dep_types.specs.Sinks.{IsFront, file_begun, file_given}
+use Rattle.dep_types.specs.Sinks.{IsFront, file_begun, file_ended, file_given}
 use Rattle.dep_types.specs.Streams.{HasContent, HasNoFile, IsPartOfContent, IsStreamed}
 use Rattle.dep_types.specs.declared.stream_fault.StreamFault.{StreamFault}
 use Rattle.dep_types.specs.declared.stream_fault.StreamFault.TheVariants.{Writer, Store, Memory, NoSuchFile}
@@ -38,10 +38,11 @@ perhaps_sent s sound f path sent bytes (inr part) has = part_sent s sound f path
 pub no_content : (s : State) (f : ℕ) (bytes : List ℕ) → HasNoFile s f → HasContent s f bytes → ⊥
 no_content s f bytes none has = let no = none has.object in let some = has.held in cc
 
--- all of it
+-- all of it, and the end of the file
 pub all_sent : (s : State) → IsSound s → (f : ℕ) (path sent bytes : List ℕ) → HasContent s f sent → HasContent s f bytes
-    → file_begun path ++ sent ≡ file_given (path, bytes)
-all_sent s sound f path sent bytes has held = ap (λ t. file_begun path ++ t) (same_content s sound f sent bytes has held)
+    → (file_begun path ++ sent) ++ file_ended ≡ file_given (path, bytes)
+all_sent s sound f path sent bytes has held =
+    ap (λ t. (file_begun path ++ t) ++ file_ended) (same_content s sound f sent bytes has held)
 
 pub all_front : (s : State) → IsSound s → (f : ℕ) (path sent bytes : List ℕ) → HasContent s f sent → HasContent s f bytes
     → IsFront (file_begun path ++ sent) (file_given (path, bytes))

@@ -6,3 +6,4 @@ pub mod Standing
 pub mod ReaderValue
 pub mod Feeding
 pub mod Trailers
+pub mod Faults

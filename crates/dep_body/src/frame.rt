@@ -1,4 +1,6 @@
 //! What frames a body.
+ghost use Rattle.std.specs.Prelude.{◌≡◌};
+ghost use Rattle.dep_body.specs.Faults.{fault_number};
 
 use std::error::Error;
 use std::fmt;
@@ -21,6 +23,18 @@ pub enum FrameFault {
     Bad,
     /// The body has more bytes than are allowed.
     TooLarge,
+}
+
+impl FrameFault {
+    /// The number of the fault: 1 or 2.
+    pub fn number(self) -> u8
+        ensures { result ≡ fault_number self }
+    {
+        match self {
+            FrameFault::Bad => 1,
+            FrameFault::TooLarge => 2,
+        }
+    }
 }
 
 impl fmt::Display for FrameFault {

@@ -1,5 +1,5 @@
 -- From what a decision makes of the maps to what a request makes of the state.
-use Rattle.std.proofs.Common.{◌≡◌, ℕ, ◌&&◌, true, List, None, Some, Option, IsTrue, Result, OnOk, nat_eq, sym, ap, subst, arith}
+use Rattle.std.proofs.Common.{◌≡◌, ◌∙◌, ℕ, ◌+◌, ◌&&◌, true, List, None, Some, Option, IsTrue, Result, OnOk, nat_eq, sym, ap, subst, arith}
 use Rattle.std.proofs.lemmas.Bool.Decides.{nat_tests}
 use Rattle.sqlite.specs.State as db
 use Rattle.std.specs.FinMap as finmap
@@ -7,7 +7,7 @@ use Rattle.std.specs.Option.{option_map_or}
 use Rattle.dep_types.specs.State.{State, Object, Upload}
 use Rattle.dep_types.specs.Maps.{Numbered}
 use Rattle.dep_types.specs.Sound.{IsSound}
-use Rattle.dep_types.specs.Numbers.{counters_after, has_room, room_for}
+use Rattle.dep_types.specs.Numbers.{counters_after, has_room, numbers, room_for}
 use Rattle.dep_types.specs.declared.config.Config.{Config}
 use Rattle.dep_types.specs.declared.counters.Counters.{Counters}
 use Rattle.dep_types.specs.declared.store_fault.StoreFault.{StoreFault}
@@ -68,6 +68,29 @@ same_counters a b e =
   where
     same : (x y : ℕ) → nat_eq x y ≡ true → x ≡ y
     same x y e = grind (arith, nat_tests)
+
+-- no number is taken
+pub none_taken : (next was taken : Counters) → next ≡ counters_after was taken → taken ≡ numbers 0 0 0 0 → next ≡ was
+none_taken next was taken e none =
+    let object = as_many was.object in
+    let file = as_many was.file in
+    let upload = as_many was.upload in
+    let change = as_many was.change in
+    let still : counters_after was (numbers 0 0 0 0) ≡ was = λ i. record { object = object i; file = file i; upload = upload i; change = change i } in
+    e ∙ ap (counters_after was) none ∙ still
+  where
+    as_many : (n : ℕ) → n + 0 ≡ n
+    as_many n = omega arith
+
+pub equal_counters : (a b : Counters) → a ≡ b → (nat_eq a.object b.object && (nat_eq a.file b.file && (nat_eq a.upload b.upload && nat_eq a.change b.change))) ≡ true
+equal_counters a b same =
+    subst (λ (x : Counters). (nat_eq a.object x.object && (nat_eq a.file x.file && (nat_eq a.upload x.upload && nat_eq a.change x.change))) ≡ true) same
+    (ap (λ x. x && (nat_eq a.file a.file && (nat_eq a.upload a.upload && nat_eq a.change a.change))) (itself a.object)
+    ∙ ap (λ x. x && (nat_eq a.upload a.upload && nat_eq a.change a.change)) (itself a.file)
+    ∙ ap (λ x. x && nat_eq a.change a.change) (itself a.upload) ∙ itself a.change)
+  where
+    itself : (n : ℕ) → nat_eq n n ≡ true
+    itself n = grind (arith, nat_tests)
 
 -- what a call makes of the maps for a decision of this form
 pub carried_as : (view : View) (content : List ℕ) (old new : db.State) (decision d : Decision) (r : Result (Unit {0}) StoreFault) → decision ≡ d

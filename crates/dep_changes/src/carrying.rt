@@ -1,6 +1,6 @@
 //! What a decision makes of the tables.
 
-ghost use Rattle.std.specs.Prelude.{◌≡◌, OnOk, IsTrue};
+ghost use Rattle.std.specs.Prelude.{◌≡◌, Ok, OnOk, IsTrue};
 ghost use Rattle.dep_types.specs.Numbers.{room_for};
 ghost use Rattle.dep_types.specs.Sound.{IsSound};
 ghost use Rattle.dep_types.specs.declared.config.Config.{Config};
@@ -8,6 +8,7 @@ ghost use Rattle.dep_tables.specs.Clauses.{StaysWithin};
 ghost use Rattle.dep_row_maps.specs.Clauses.{FromMaps, KeepsOurs, SeesState};
 ghost use Rattle.dep_decisions.specs.Decisions.{numbers_for};
 ghost use Rattle.dep_decisions.specs.Effects.{effect};
+ghost use Rattle.dep_decisions.specs.declared.decision.Decision.TheVariants.{Show};
 ghost use Rattle.dep_decisions.specs.declared.operation.Operation.{Operation};
 ghost use Rattle.dep_rulings.specs.Rulings.{IsRuling};
 ghost use Rattle.dep_rulings.specs.Views.{true_view};
@@ -31,7 +32,7 @@ use std::alloc::Global;
 /// Makes of the tables what an accepted request's decision makes of the state. The view tells the state where the
 /// request touches it, and the content is that of the request. Nothing is hashed: the digests of a posted content
 /// stand in the decision, and those of uploads in the view. A number of 2^63 or more is a fault of the store, and so is
-/// that something is not there which the rules have seen.
+/// that something is not there which the rules have seen. Where nothing is changed, no statement is run.
 pub fn carry_out<T: Statements>(
     tx: &mut T,
     alloc: Global,
@@ -44,6 +45,7 @@ pub fn carry_out<T: Statements>(
         (λ s. (config : Config) (op : Operation) → IsSound s → view.now ≡ true_view config s op
         → IsRuling config s op (Do decision.now) → content.now ≡ op.content
         → OnOk result (SeesState (T.state tx.new) (effect config s op))) }
+    ensures untouched { decision.now ≡ Show → (result ≡ Ok tt) × (tx.new ≡ tx.old) }
     ensures ours { KeepsOurs (T.state tx.old) (T.state tx.new) result }
     ensures stays { StaysWithin T.lenders T.state tx.old tx.new result }
 {
@@ -78,6 +80,7 @@ fn change_maps<T: Statements>(
         → TellsFor change.now.view.now s change.now.content.now decision.now
         → OnOk result (SeesState (T.state tx.new)
         (with_maps s change.now.content.now decision.now))) }
+    ensures untouched { decision.now ≡ Show → (result ≡ Ok tt) × (tx.new ≡ tx.old) }
     ensures ours { KeepsOurs (T.state tx.old) (T.state tx.new) result }
     ensures stays { StaysWithin T.lenders T.state tx.old tx.new result }
 {

@@ -3,6 +3,7 @@ pub mod ContentRows
 pub mod Decisions
 pub mod Effects
 pub mod Kinds
+pub mod Memory
 pub mod Purposes
 pub mod Rules
 pub mod Fit

@@ -1,14 +1,17 @@
 //! What an accepted request asks for, as its content is read.
-ghost use Rattle.std.specs.Prelude.{◌≡◌, ◌∷◌, [], IfOk, IfSome, List, Option, option_map, option_and_then, unwrap_or};
+ghost use Rattle.std.specs.Prelude.{◌≡◌, ◌∷◌, [], IfOk, OnErr, IfSome, IsSome, List, Option, Some, option_map, option_and_then, unwrap_or};
 ghost use Rattle.std.specs.Option.{option_copied};
 ghost use Rattle.dep_fixity.specs.Fixity.{digests_of};
 ghost use Rattle.dep_docs_in.specs.declared.reference.Reference.{Reference as AReference};
 ghost use Rattle.dep_decisions.specs.Asked.{IsRead, asked_at, name_in, opened_by, received_by};
 ghost use Rattle.dep_decisions.specs.Decisions.{assembled_file, behalf_of, decision_with, deposit_of, files_of, ingests, posted_file, referred_files, replaced_file, texts_of};
+ghost use Rattle.dep_decisions.specs.ContentRows.{purpose_in};
 ghost use Rattle.dep_decisions.specs.Kinds.{kind_of};
+ghost use Rattle.dep_decisions.specs.Memory.{MakesFiles};
 ghost use Rattle.dep_decisions.specs.declared.decision.Decision.TheVariants.{Append, Create, Replace, SetFiles, SetMetadata, Show};
 ghost use Rattle.dep_decisions.specs.declared.decision.Deposit.TheVariants.{Files, Metadata as MetadataOf};
 ghost use Rattle.dep_decisions.specs.declared.operation.Operation.{Operation as AnOperation};
+ghost use Rattle.dep_decisions.specs.declared.purpose.Purpose.TheVariants as of;
 ghost use Rattle.dep_types.specs.declared.target.Method.TheVariants.{Post, Put, Delete};
 
 use crate::decision::{Decision, Deposit, NewFile, NewFiles, Source};
@@ -30,7 +33,7 @@ pub struct ReadContent {
 }
 
 /// What a request asks for, with the references that its content tells where that is what it is for.
-/// The content is hashed only where it is a file whose digests aren't known yet.
+/// The content is hashed only where it is a file whose digests aren't known yet. An `Err` is want of memory.
 pub fn decision_on(
     alloc: Global,
     operation: &Operation<'_>,
@@ -38,7 +41,8 @@ pub fn decision_on(
     read: ReadContent,
 ) -> Result<Decision, AllocError>
     requires { IsRead operation.now read }
-    ensures { IfOk result (λ d. d ≡ decision_with (option_copied references.entry) operation.now) }
+    ensures ok { IfOk result (λ d. d ≡ decision_with (option_copied references.entry) operation.now) }
+    ensures err { OnErr result (MakesFiles (option_copied references.entry) operation.now) }
 {
     match operation.target.method {
         Method::Get | Method::Head => Ok(Decision::Show),
@@ -56,9 +60,10 @@ fn posted(
     read: ReadContent,
 ) -> Result<Decision, AllocError>
     requires { IsRead operation.now read }
-    ensures { IfOk result (λ d.
+    ensures ok { IfOk result (λ d.
         d ≡ asked_at (option_copied references.entry) operation.now
         operation.now.target.resource Post) }
+    ensures err { OnErr result (MakesFiles (option_copied references.entry) operation.now) }
 {
     match operation.target.resource {
         Resource::Service => {
@@ -120,9 +125,10 @@ fn put(
     read: ReadContent,
 ) -> Result<Decision, AllocError>
     requires { IsRead operation.now read }
-    ensures { IfOk result (λ d.
+    ensures ok { IfOk result (λ d.
         d ≡ asked_at (option_copied references.entry) operation.now
         operation.now.target.resource Put) }
+    ensures err { OnErr result (MakesFiles (option_copied references.entry) operation.now) }
 {
     match operation.target.resource {
         Resource::Object(object) => {
@@ -202,8 +208,9 @@ fn file_set(
     file: u64,
 ) -> Result<Decision, AllocError>
     requires { IfSome digests (λ d. d ≡ digests_of operation.now.content) }
-    ensures { IfOk result (λ d. d ≡ unwrap_or
+    ensures ok { IfOk result (λ d. d ≡ unwrap_or
         (option_and_then (replaced_file operation.now object file) (kind_of operation.now)) Show) }
+    ensures err { OnErr result (purpose_in operation.now ≡ Some of.File) }
 {
     match file_name(operation) {
         Some(name) => Ok(Decision::SetFile {
@@ -252,7 +259,8 @@ fn deposit(
     read: ReadContent,
 ) -> Result<Option<Deposit>, AllocError>
     requires { IsRead operation.now read }
-    ensures { IfOk result (λ d. d ≡ deposit_of (option_copied references.entry) operation.now) }
+    ensures ok { IfOk result (λ d. d ≡ deposit_of (option_copied references.entry) operation.now) }
+    ensures err { OnErr result (MakesFiles (option_copied references.entry) operation.now) }
 {
     match content_purpose(operation) {
         Some(Purpose::File) => {
@@ -307,9 +315,10 @@ fn references_deposit(
     operation: &Operation<'_>,
     references: Option<&References>,
 ) -> Result<Option<Deposit>, AllocError>
-    ensures { IfOk result (λ d. d ≡ option_map
+    ensures ok { IfOk result (λ d. d ≡ option_map
         (λ entries. Files (referred_files operation.now entries))
         (option_copied references.entry)) }
+    ensures err { OnErr result (IsSome (option_copied references.entry)) }
 {
     match references {
         Some(references) => {

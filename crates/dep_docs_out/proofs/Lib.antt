@@ -1,6 +1,7 @@
 pub mod TokenLemmas
 pub mod Loops
 pub mod Waiting
+pub mod Rising
 pub mod ReadingBack
 pub mod Utf8
 pub mod PartsReadBack

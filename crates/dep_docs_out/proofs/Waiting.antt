@@ -1,15 +1,13 @@
 -- The segments that are waited for, number by number, while the received ones are passed.
-use Rattle.std.proofs.Common.{◌≡◌, ◌≢◌, ◌∙◌, ◌+◌, ◌<◌, ◌≤◌, ◌==◌, ℕ, Bool, true, false, not, cond, List, [], ◌∷◌, ◌++◌, map, refl, sym, ap, subst, arith, All, append_assoc, append-nil}
+use Rattle.std.proofs.Common.{◌≡◌, ◌≢◌, ◌∙◌, ◌+◌, ◌<◌, ◌≤◌, ◌==◌, ℕ, Bool, true, false, not, cond, List, [], ◌∷◌, ◌++◌, map, refl, sym, ap, subst, arith, ◌&&◌, nat_lt, append_assoc, append-nil}
 use Rattle.std.specs.Prelude.{⊤, filter}
 use Rattle.std.specs.List.{AllByRecursion, list_any, range_with_len}
-use Rattle.std.specs.List.Sorted.{IsStrictlyIncreasing, IsStrictlySortedBy}
-use Rattle.std.specs.Ordering.{nat_cmp}
+use Rattle.std.proofs.lemmas.Bool.{ltb-true}
 use Rattle.std.proofs.lemmas.Bool.Decides.{nat_tests}
-use Rattle.std.proofs.lemmas.List.Elements.{All-head}
 use Rattle.std.proofs.lemmas.List.Folds.{list_any-append}
 use Rattle.std.proofs.lemmas.List.FromFn.{filter_of_map_range_with_len_more}
-use Rattle.std.proofs.lemmas.Map.Keys.{below_from_sorted, sorted_from_strictly_increasing}
 use Rattle.dep_docs_out.specs.Documents.{expecting}
+use Rattle.dep_docs_out.specs.Segments.{are_segments, rises_above}
 
 -- each number is above the one before it, the first above n
 abbrev Above : ℕ → List ℕ → Type 0
@@ -23,20 +21,25 @@ pub record IsLeft (passed : ℕ) (received left : List ℕ) : Type 0 where
   pub below : AllByRecursion (λ j. j ≤ passed) front
   pub above : Above passed left
 
-above_sorted : (n : ℕ) (xs : List ℕ) → IsStrictlySortedBy nat_cmp xs → ((x : ℕ) (rest : List ℕ) → xs ≡ x ∷ rest → n < x) → Above n xs
-unfolding IsStrictlySortedBy
-above_sorted n [] s h = tt
-above_sorted n (x ∷ []) s h = (h x [] refl, tt)
-above_sorted n (x ∷ y ∷ ys) s h =
-    let less : x < y = below_from_sorted (x ∷ y ∷ ys) 0 1 0 s (omega arith) (omega arith) in
-    (h x (y ∷ ys) refl, above_sorted x (y ∷ ys) s.1 (λ z rest e. let same : y ≡ z = cc in omega arith))
+first-true : (a b : Bool) → (a && b) ≡ true → a ≡ true
+first-true true b e = refl
+first-true false b e = e
 
-pub all_left : (received : List ℕ) → All (λ k. 1 ≤ k) received → IsStrictlyIncreasing received → IsLeft 0 received received
-all_left received first rising = record {
+second-true : (a b : Bool) → (a && b) ≡ true → b ≡ true
+second-true true b e = e
+second-true false b e = cc
+
+above : (n : ℕ) (xs : List ℕ) → rises_above n xs ≡ true → Above n xs
+unfolding rises_above
+above n [] e = tt
+above n (x ∷ xs) e = (ltb-true n x (first-true (nat_lt n x) (rises_above x xs) e), above x xs (second-true (nat_lt n x) (rises_above x xs) e))
+
+pub all_left : (received : List ℕ) → are_segments received ≡ true → IsLeft 0 received received
+all_left received ordered = record {
   front = [];
   parts = refl;
   below = tt;
-  above = above_sorted 0 received (sorted_from_strictly_increasing received rising) (λ x rest e. let least : 1 ≤ x = All-head (λ k. 1 ≤ k) x rest (subst (All (λ k. 1 ≤ k)) e first) in omega arith);
+  above = above 0 received ordered;
 }
 
 not_above : (k n : ℕ) (xs : List ℕ) → k ≤ n → Above n xs → list_any (λ j. j == k) xs ≡ false

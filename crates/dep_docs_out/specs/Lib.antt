@@ -1,4 +1,5 @@
 pub mod Json
 pub mod Documents
+pub mod Segments
 pub mod ExampleDocuments
 pub mod ReadBack

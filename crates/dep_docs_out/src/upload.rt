@@ -1,7 +1,7 @@
 //! The document of an upload.
-ghost use Rattle.std.specs.Prelude.{◌≡◌, ◌≤◌, [], ◌∷◌, All, map, IfOk, OnOk, codes};
-ghost use Rattle.std.specs.List.Sorted.{IsStrictlyIncreasing};
+ghost use Rattle.std.specs.Prelude.{◌≡◌, [], ◌∷◌, map, true, IfOk, OnOk, codes, option_map};
 ghost use Rattle.dep_docs_out.specs.Documents as spec;
+ghost use Rattle.dep_docs_out.specs.Segments.{are_segments, ordered_upload_document};
 ghost use Rattle.dep_docs_out.specs.Json as json_spec;
 ghost use Rattle.dep_docs_out.specs.Json.{AddsItems, AddsMember, AddsMembers};
 
@@ -11,22 +11,38 @@ use dep_types::{Config, UploadRow};
 use std::alloc::{AllocError, Global};
 
 /// The document of a staged upload (SWORD 3.0, segmented upload): which of its segments were received, and which are
-/// still to come. It takes the numbers of those that were received.
+/// still to come. It takes the numbers of those that were received, from 1 on and each above the one before it; for
+/// other numbers, which no upload has, there is no document.
 pub fn upload_doc(
     alloc: Global,
     config: &Config,
     upload: &UploadRow,
     received: &[u64],
-) -> Result<Vec<u8>, AllocError>
-    requires first { All (λ k. 1 ≤ k) received.now }
-    requires rising { IsStrictlyIncreasing received.now }
-    ensures { IfOk result (λ bytes.
-        bytes.items ≡ spec.upload_document config.now upload.now received.now) }
+) -> Result<Option<Vec<u8>>, AllocError>
+    ensures { IfOk result (λ document. option_map (λ bytes. bytes.items) document
+        ≡ ordered_upload_document config.now upload.now received.now) }
 {
+    if !are_segments(received) {
+        return Ok(None);
+    }
     let place = upload_url(alloc, config, upload.upload)?;
     let mut document = Document::begun(alloc)?;
     add_upload(&mut document, place.as_str(), upload, received)?;
-    document.ended()
+    Ok(Some(document.ended()?))
+}
+
+// Whether the numbers may be those of an upload's segments.
+fn are_segments(numbers: &[u64]) -> bool
+    ensures { result ≡ are_segments numbers.now }
+{
+    let mut last = 0;
+    for number in numbers {
+        if *number <= last {
+            return false;
+        }
+        last = *number;
+    }
+    true
 }
 
 // The upload whose Temporary-URL this is.
@@ -36,8 +52,7 @@ fn add_upload(
     upload: &UploadRow,
     received: &[u64],
 ) -> Result<(), AllocError>
-    requires first { All (λ k. 1 ≤ k) received.now }
-    requires rising { IsStrictlyIncreasing received.now }
+    requires { are_segments received.now ≡ true }
     ensures { OnOk result (AddsMembers document.old document.new
         (spec.upload_members place.now upload.now received.now)) }
 {
@@ -53,8 +68,7 @@ fn add_segments(
     upload: &UploadRow,
     received: &[u64],
 ) -> Result<(), AllocError>
-    requires first { All (λ k. 1 ≤ k) received.now }
-    requires rising { IsStrictlyIncreasing received.now }
+    requires { are_segments received.now ≡ true }
     ensures { OnOk result (AddsMember document.old document.new (codes "segments")
         (spec.segments_data upload.now received.now)) }
 {
@@ -68,8 +82,7 @@ fn add_segments(
 }
 
 fn add_expecting(document: &mut Document, count: u64, received: &[u64]) -> Result<(), AllocError>
-    requires first { All (λ k. 1 ≤ k) received.now }
-    requires rising { IsStrictlyIncreasing received.now }
+    requires { are_segments received.now ≡ true }
     ensures { OnOk result (AddsMember document.old document.new (codes "expecting")
         (json_spec.number_list (spec.expecting count received.now))) }
 {

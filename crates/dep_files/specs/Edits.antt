@@ -7,6 +7,10 @@ use Rattle.sqlite_value.specs.Order.{Row}
 use Rattle.dep_tables.specs.Rows.{is_block_of}
 use Rattle.dep_tables.specs.declared.owner.BlockOwner.TheVariants as owner
 
+-- the part that a content has that came whole
+abbrev pub only_part : ℕ
+only_part = 1
+
 -- the contents of these files are deleted, one after another
 abbrev pub without_contents : List ℕ → List Row → List Row
 without_contents [] rows = rows

@@ -4,11 +4,14 @@ ghost use Rattle.std.specs.Prelude.{◌≡◌, ℕ, Some, None, OnOk, map};
 ghost use Rattle.std.specs.FinMap as finmap;
 ghost use Rattle.dep_types.specs.State.{Object, File, file_at};
 ghost use Rattle.dep_types.specs.Rows.{file_row};
+ghost use Rattle.sqlite_trees.specs.Tree.{put_row};
+ghost use Rattle.dep_tables.specs.Rows.{stored_file};
 ghost use Rattle.dep_tables.specs.Tables.{tables_of};
 ghost use Rattle.dep_tables.specs.Clauses.{StaysWithin};
+ghost use Rattle.dep_row_maps.specs.Stored.{blocks_of, put_blocks};
 ghost use Rattle.dep_row_maps.specs.TablesAre.{TablesAre};
 ghost use Rattle.dep_row_maps.specs.Clauses.{Becomes, FromMaps, KeepsOurs, FailsUncommitted, FailsReadingUncommitted};
-ghost use Rattle.dep_files.specs.Edits.{with_file, without_file, without_files, without_contents};
+ghost use Rattle.dep_files.specs.Edits.{only_part, with_file, without_file, without_files, without_contents};
 
 use crate::blocks::put_blocks;
 use crate::content::Content;
@@ -20,8 +23,8 @@ use std::alloc::Global;
 const ONLY_PART: u64 = 1;
 
 /// Adds a file to an object that is there: its row and its content, each byte of which is written
-/// once. It is a fault of the store where the number of the file is taken, and where a number is
-/// 2^63 or more.
+/// once, as one part of number 1. It is a fault of the store where the number of the file is taken,
+/// and where a number is 2^63 or more.
 pub fn put_file<T: Statements, C: Content>(
     tx: &mut T,
     row: &FileRow,
@@ -34,6 +37,12 @@ pub fn put_file<T: Statements, C: Content>(
         → C.bytes content.now ≡ file.content
         → OnOk result (TablesAre (tables_of (T.state tx.new))
         (with_file s row.now.object o row.now.file file))) }
+    ensures rows { Becomes (T.state tx.old) (T.state tx.new) result
+        (λ t. record t {
+          files = put_row (stored_file row.now) t.files;
+          blocks = put_blocks (BlockOwner.File row.now.file) only_part 0
+              (blocks_of (C.bytes content.now)) t.blocks;
+        }) }
     ensures free { FromMaps (T.state tx.old) (T.state tx.new)
         (λ s. OnOk result ((n : ℕ) → file_at s n row.now.file ≡ None)) }
     ensures ours { KeepsOurs (T.state tx.old) (T.state tx.new) result }

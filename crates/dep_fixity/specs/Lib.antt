@@ -1,1 +1,2 @@
 pub mod Fixity
+pub mod Faults

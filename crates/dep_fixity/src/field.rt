@@ -3,6 +3,7 @@ ghost use Rattle.std.specs.Prelude.{◌≡◌, ◌==◌, MatchOption, codes, pos
 ghost use Rattle.std.specs.Result.{result_ok};
 ghost use Rattle.std.specs.Str.{str_eq_ignore_ascii_case};
 ghost use Rattle.dep_fixity.specs.Fixity.{digest_field, joined, keeps, name_and_value, octets_of};
+ghost use Rattle.dep_fixity.specs.Faults.{fault_number};
 
 use crate::hasher::Digests;
 use crate::spelling::read_sha256;
@@ -23,6 +24,17 @@ pub enum DigestFault {
     /// A member has no `=`, a SHA-256 is neither 64 hexadecimal digits nor the base64 of 32 octets, or two members
     /// promise different ones.
     Unreadable,
+}
+
+impl DigestFault {
+    /// The number of the fault: always 1.
+    pub fn number(self) -> u8
+        ensures { result ≡ fault_number self }
+    {
+        match self {
+            DigestFault::Unreadable => 1,
+        }
+    }
 }
 
 impl fmt::Display for DigestFault {

@@ -2,3 +2,4 @@ pub mod HeadEnd
 pub mod EndFinds
 pub mod FieldLemmas
 pub mod OneHead
+mod ButForTarget

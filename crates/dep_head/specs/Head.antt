@@ -64,3 +64,11 @@ pub record IsHeadText (text : List ℕ) (parts : HeadParts) : Type 0 where
   pub minor_is : parts.minor ≡ head.minor
   pub fields_are : parts.fields ≡ map name_and_value head.fields
   pub hosts : IsHostCount parts.minor (length (values_of parts.fields (codes "Host")))
+
+-- the text is a request's head but perhaps for its target
+pub record IsHeadButForTarget (text : List ℕ) (head : RequestHead) : Type 0 where
+  pub ends : EndsOnce text
+  pub small : length text ≤ head_limit
+  pub reads : ReadsRequest text head []
+  pub room : length head.fields ≤ field_limit
+  pub hosts : IsHostCount head.minor (length (values_of (map name_and_value head.fields) (codes "Host")))

@@ -1,8 +1,11 @@
 //! Heads of requests.
-ghost use Rattle.std.specs.Prelude.{◌≡◌, ◌↔◌, length, codes, IfOk, IsTrue, IsErrOf, Err};
+ghost use Rattle.std.specs.Prelude.{◌≡◌, ◌↔◌, [], length, codes, IfOk, IsTrue, IsErrOf, Err};
+ghost use Rattle.httparse.specs.Grammar.{RequestHead};
 ghost use Rattle.http_uri.specs.Uri.{Spells, uri_path};
 ghost use Rattle.http_uri.specs.declared.uri.Uri.{Uri};
-ghost use Rattle.dep_head.specs.Head.{HeadParts, IsHeadText, IsHostCount, values_of};
+ghost use Rattle.dep_head.specs.Head.{HeadParts, IsHeadText, IsHeadButForTarget, IsHostCount, values_of};
+ghost use Rattle.dep_head.specs.Spans.{fields_at, AreWithin};
+ghost use Rattle.dep_head.specs.Faults.{fault_number};
 
 use crate::end::{HEAD_LIMIT, find_end};
 use crate::fields::{Values, values_in};
@@ -11,8 +14,8 @@ use httparse::Status;
 use httparse::spans::{EMPTY_HEADER_SPAN, HeaderSpan, Span, parse_request};
 use std::alloc::{AllocError, Global};
 use std::error::Error;
-use std::fmt;
 use std::marker::Model;
+use std::{fmt, mem};
 
 /// Why no head was read.
 #[derive(Clone, Copy, Debug, PartialEq, Eq)]
@@ -21,6 +24,18 @@ pub enum HeadFault {
     NotAHead,
     /// Memory was refused.
     Memory,
+}
+
+impl HeadFault {
+    /// The number of the fault: 1 or 2.
+    pub fn number(self) -> u8
+        ensures { result ≡ fault_number self }
+    {
+        match self {
+            HeadFault::NotAHead => 1,
+            HeadFault::Memory => 2,
+        }
+    }
 }
 
 impl fmt::Display for HeadFault {
@@ -70,6 +85,20 @@ impl Head {
         &self.path
     }
 
+    /// Takes the path over, without a copy. The head has an empty one from then on.
+    pub fn take_path(&mut self) -> Vec<u8>
+        ensures path { result.items ≡ self.old.path }
+        ensures rest { self.new ≡ record {
+          method = self.old.method;
+          path = [];
+          minor = self.old.minor;
+          fields = self.old.fields;
+        } }
+    {
+        let none = Vec::new(*self.path.allocator());
+        mem::replace(&mut self.path, none)
+    }
+
     /// The second digit of the version, such as 1 for HTTP/1.1.
     pub fn minor_version(&self) -> u8
         ensures { result ≡ self.now.minor }
@@ -91,6 +120,10 @@ pub fn read_head(alloc: Global, text: &[u8]) -> Result<Head, HeadFault>
     ensures read { IfOk result (IsHeadText text.now) }
     ensures refused { result ≡ Err HeadFault.NotAHead →
         (parts : HeadParts) → ¬ IsHeadText text.now parts }
+
+    // All but the target is read without memory.
+    ensures wanted { result ≡ Err HeadFault.Memory →
+        (head : RequestHead) × IsHeadButForTarget text.now head }
 {
     let Some(end) = find_end(text) else {
         return Err(HeadFault::NotAHead);
@@ -105,24 +138,24 @@ pub fn read_head(alloc: Global, text: &[u8]) -> Result<Head, HeadFault>
     if spans.len != text.len() {
         return Err(HeadFault::NotAHead);
     }
+    let fields = &headers[..spans.headers];
+    if !has_good_host(text, fields, spans.version) {
+        return Err(HeadFault::NotAHead);
+    }
     let path = read_path(alloc, spans.path.of(text))?;
-    let Ok(fields) = Vec::from_slice(alloc, &headers[..spans.headers]) else {
+    let Ok(fields) = Vec::from_slice(alloc, fields) else {
         return Err(HeadFault::Memory);
     };
     let Ok(text) = Vec::from_slice(alloc, text) else {
         return Err(HeadFault::Memory);
     };
-    let head = Head {
+    Ok(Head {
         text,
         method: spans.method,
         path,
         minor: spans.version,
         fields,
-    };
-    if !has_good_host(&head) {
-        return Err(HeadFault::NotAHead);
-    }
-    Ok(head)
+    })
 }
 
 // The path of a request's target. What else a target has is of no use here.
@@ -143,13 +176,14 @@ fn read_path(alloc: Global, target: &[u8]) -> Result<Vec<u8>, HeadFault>
 }
 
 // HTTP/1.1 has exactly one Host field, and HTTP/1.0 at most one (RFC 9112, section 3.2).
-fn has_good_host(head: &Head) -> bool
+fn has_good_host(text: &[u8], fields: &[HeaderSpan], minor: u8) -> bool
+    requires { AreWithin text.now fields.now }
     ensures { IsTrue result ↔
-        IsHostCount head.now.minor (length (values_of head.now.fields (codes "Host"))) }
+        IsHostCount minor (length (values_of (fields_at text.now fields.now) (codes "Host"))) }
 {
-    let mut hosts = head.values("Host");
+    let mut hosts = values_in(text, fields, "Host");
     match hosts.next() {
         Some(_) => hosts.next().is_none(),
-        None => head.minor_version() != 1,
+        None => minor != 1,
     }
 }

@@ -1,5 +1,5 @@
 //! Files whose bytes are not those that a manifest promises (RFC 8493, section 3).
-ghost use Rattle.std.specs.Prelude.{◌≡◌, ◌++◌, OnOk, OnErr};
+ghost use Rattle.std.specs.Prelude.{◌≡◌, ◌≢◌, [], ◌++◌, OnOk, OnErr};
 ghost use Rattle.dep_manifest.specs.Damaged.{number_unless_kept};
 
 use dep_types::FileRow;
@@ -14,6 +14,7 @@ pub fn note_damaged(
 ) -> Result<(), AllocError>
     ensures ok { OnOk result
         (damaged.new.items ≡ damaged.old.items ++ number_unless_kept row.now digest.now) }
+    ensures damaged { OnErr result (number_unless_kept row.now digest.now ≢ []) }
     ensures err { OnErr result (damaged.new.items ≡ damaged.old.items) }
 {
     if row.sha256 == *digest {

@@ -7,6 +7,8 @@ use Rattle.dep_body.specs.declared.frame.Framing.{Framing}
 use Rattle.dep_message.specs.Places.{Reading, Place, Open, HasBytes, place_with}
 use Rattle.dep_message.specs.Working.{IsFresh, IsKnown, IsBegun, ReadsChunks, Keeps, Finds, bytes_apart, kept_bytes, reading_of}
 use Rattle.dep_message.specs.Stream.{Waits}
+use Rattle.dep_message.specs.declared.intake.Standing.{Standing}
+use Rattle.dep_message.specs.declared.intake.Standing.TheVariants.{Live}
 use Rattle.dep_message.specs.declared.message.Message.{Message}
 use Rattle.dep_message.specs.declared.work.Found.TheVariants as F
 use Rattle.dep_body.specs.Body.{IsBodyText, IsPartOfBody}
@@ -109,15 +111,15 @@ left_of front behind all n size whole all_is =
     ap (λ k. drop k all) whole ∙ (ap (drop (length front)) (all_is ∙ ap (λ l. front ++ l) (rest_is size behind)) ∙ drop-append_seam front (drop size behind))
 
 -- where memory is refused for a piece, the reading stands where it stood
-pub stands_still : (work new : Work) (is_shut : Bool) (reading : Reading) (piece : List ℕ) → is_shut ≡ false
-    → reading_of is_shut work ≡ reading → 0 < length piece → Keeps work.limit work.continued (kept_bytes work) new
-    → (reading_of is_shut new ≡ reading) × HasBytes (place_with reading.place piece)
-stands_still work new is_shut reading piece is_open was some keeps =
-    let is : reading_of false work ≡ reading = ap (λ b. reading_of b work) (sym is_open) ∙ was in
+pub stands_still : (work new : Work) (standing : Standing) (reading : Reading) (piece : List ℕ) → standing ≡ Live
+    → reading_of standing work ≡ reading → 0 < length piece → Keeps work.limit work.continued (kept_bytes work) new
+    → (reading_of standing new ≡ reading) × HasBytes (place_with reading.place piece)
+stands_still work new standing reading piece is_live was some keeps =
+    let is : reading_of Live work ≡ reading = ap (λ (s : Standing). reading_of s work) (sym is_live) ∙ was in
     let place : Open work.continued (kept_bytes work) ≡ reading.place = ap (λ (r : Reading). r.place) is in
-    let new_is : reading_of false new ≡ reading_of false work =
-    λ i. record { limit = keeps.limit_is i; place = Open (keeps.continued_is i) (keeps.bytes_are i) } in (
-      ap (λ b. reading_of b new) is_open ∙ (new_is ∙ is),
+    let new_is : reading_of Live new ≡ reading_of Live work =
+    λ i. record { limit = keeps.limit_is i; place = Open (keeps.continued_is i) (keeps.bytes_are i); is_dead = false } in (
+      ap (λ (s : Standing). reading_of s new) is_live ∙ (new_is ∙ is),
       subst (λ (p : Place). HasBytes (place_with p piece)) place
           (has_bytes work.continued (kept_bytes work ++ piece) (omega (arith, length-append (kept_bytes work) piece))),
     )

@@ -6,3 +6,5 @@ pub mod SearchOn
 pub mod Keeping
 pub mod Chunks
 pub mod Taking
+pub mod BodyCases
+pub mod EverySpelling

@@ -1,5 +1,5 @@
 -- Where the reading of a stream stands.
-use Rattle.std.specs.Prelude.{ℕ, ◌+◌, Bool, List, [], ◌∷◌, ◌++◌, length, if◌then◌else◌}
+use Rattle.std.specs.Prelude.{ℕ, ◌+◌, Bool, true, List, [], ◌∷◌, ◌++◌, length, if◌then◌else◌}
 
 -- before these bytes, or at an end behind which no byte is read; continued: the request that stands
 -- first was told to send its body
@@ -18,10 +18,16 @@ HasBytes (Open continued []) = ⊥
 HasBytes (Open continued (byte ∷ bytes)) = Unit {0}
 HasBytes Shut = ⊥
 
--- what an intake keeps: the greatest content, and where its reading stands
+-- what an intake keeps: the greatest content, where its reading stands, and whether it is dead, as it is once
+-- a fault was told or it was shut
 pub record Reading : Type 0 where
   pub limit : ℕ
   pub place : Place
+  pub is_dead : Bool
+
+-- the reading once the intake was shut
+abbrev pub shut_reading : Reading → Reading
+shut_reading reading = record { limit = reading.limit; place = Shut; is_dead = true }
 
 -- how much is left to read: each byte counts twice, and what tells the first request to go on once
 abbrev pub left_to_read : Place → ℕ

@@ -1,5 +1,5 @@
 -- Words of private functions: the bytes that are kept, and what is known of the first request of them.
-use Rattle.std.specs.Prelude.{◌≡◌, ℕ, ◌+◌, ◌<◌, ◌≤◌, Bool, true, false, List, [], ◌++◌, length, take, drop, if◌then◌else◌, None, Result, Ok, MatchResult}
+use Rattle.std.specs.Prelude.{◌≡◌, ℕ, ◌+◌, ◌<◌, ◌≤◌, Bool, true, false, List, [], ◌++◌, length, take, drop, None, Result, Ok, MatchResult}
 use Rattle.std.specs.declared.alloc.AllocError.{AllocError}
 use Rattle.dep_head.specs.Head.{HeadParts, IsHeadText, head_end, head_limit}
 use Rattle.dep_body.specs.Framing.{framing}
@@ -12,6 +12,8 @@ use Rattle.dep_message.specs.Places.{Reading, Open, Shut, HasBytes}
 use Rattle.dep_message.specs.Stream.{IsContinueText, IsFaultText, IsRequestText, Waits}
 use Rattle.dep_message.specs.declared.first.FirstHead.{FirstHead}
 use Rattle.dep_message.specs.declared.first.FirstHead.TheVariants as H
+use Rattle.dep_message.specs.declared.intake.Standing.{Standing}
+use Rattle.dep_message.specs.declared.intake.Standing.TheVariants.{Live, Closed, Dead}
 use Rattle.dep_message.specs.declared.progress.ChunkedRequest.{ChunkedRequest}
 use Rattle.dep_message.specs.declared.progress.Progress.{Progress}
 use Rattle.dep_message.specs.declared.progress.Progress.TheVariants.{Searched, Sized, Chunked}
@@ -69,12 +71,11 @@ abbrev pub IsWorking : Work → Type 0
 IsWorking work = IsKnown work.limit work.continued work.buffer work.progress
 
 -- where the reading stands
-abbrev pub reading_of : (is_shut : Bool) → Work → Reading
-reading_of is_shut work =
-    record {
-      limit = work.limit;
-      place = if is_shut then Shut else Open work.continued (kept_bytes work);
-    }
+abbrev pub reading_of : Standing → Work → Reading
+reading_of Live work =
+    record { limit = work.limit; place = Open work.continued (kept_bytes work); is_dead = false }
+reading_of Closed work = record { limit = work.limit; place = Shut; is_dead = false }
+reading_of Dead work = record { limit = work.limit; place = Shut; is_dead = true }
 
 -- just these bytes are kept
 pub record Keeps (limit : ℕ) (continued : Bool) (bytes : List ℕ) (work : Work) : Type 0 where

@@ -1,6 +1,6 @@
 //! Takes the items of a connection's bytes, in whatever pieces these come.
 ghost use Rattle.std.specs.Prelude.{◌≡◌, [], false, MatchResult, OnOk, OnErr};
-ghost use Rattle.dep_message.specs.Places.{Reading, Open, Shut, place_with, HasBytes};
+ghost use Rattle.dep_message.specs.Places.{Reading, Open, Shut, place_with, shut_reading, HasBytes};
 ghost use Rattle.dep_message.specs.Giving.{Gives};
 
 use crate::heads::closes;
@@ -20,9 +20,19 @@ pub enum Step {
     Message(Message),
     /// A fault of the stream, behind which no byte is read, and whether its reply has no body.
     Refused(Refusal, bool),
-    /// No item is complete.
+    /// No item is complete. So it is for good behind a request that closes the connection.
     NeedMore,
-    /// Nothing is read any more.
+    /// A fault was told, or the intake was shut: nothing is read any more.
+    Dead,
+}
+
+/// Whether items are read.
+#[derive(Clone, Copy)]
+pub(crate) enum Standing {
+    Live,
+    /// A request that closes the connection was given, and behind it nothing is read.
+    Closed,
+    /// A fault was told, or the intake was shut.
     Dead,
 }
 
@@ -31,7 +41,7 @@ pub enum Step {
 #[derive(Drop)]
 pub struct Intake {
     work: Work,
-    is_shut: bool,
+    standing: Standing,
 }
 
 impl Model for Intake {
@@ -41,7 +51,7 @@ impl Model for Intake {
 
     ghost use Rattle.dep_message.specs.Working.{reading_of, IsWorking};
 
-    ghost view = { λ i. reading_of i.is_shut i.work };
+    ghost view = { λ i. reading_of i.standing i.work };
 
     ghost invariant = { λ i. IsWorking i.work };
 }
@@ -49,11 +59,11 @@ impl Model for Intake {
 impl Intake {
     /// An intake of a new connection, for contents of at most `max_upload` bytes. It takes no memory.
     pub fn new(alloc: Global, max_upload: u64) -> Intake
-        ensures { result ≡ record { limit = max_upload; place = Open false [] } }
+        ensures { result ≡ record { limit = max_upload; place = Open false []; is_dead = false } }
     {
         Intake {
             work: Work::new(alloc, max_upload),
-            is_shut: false,
+            standing: Standing::Live,
         }
     }
 
@@ -64,29 +74,43 @@ impl Intake {
         ensures err { OnErr result
             ((self.new ≡ self.old) × HasBytes (place_with self.old.place piece.now)) }
     {
-        if self.is_shut || piece.is_empty() {
-            return Ok(());
+        match self.standing {
+            Standing::Live if !piece.is_empty() => self.work.feed(piece),
+            _ => Ok(()),
         }
-        self.work.feed(piece)
     }
 
-    /// No byte is read any more.
+    /// Nothing is read any more, and the intake is `Dead`, as behind a fault: for a connection that ends before its stream
+    /// does.
     pub fn shut(&mut self)
-        ensures { self.new ≡ record self.old { place = Shut } }
+        ensures { self.new ≡ shut_reading self.old }
+    {
+        self.end(true);
+    }
+
+    // Nothing is read any more.
+    fn end(&mut self, is_dead: bool)
+        ensures { self.new ≡ record self.old { place = Shut; is_dead = is_dead } }
     {
         let work = Work::new(self.work.alloc, self.work.limit);
         drop(mem::replace(&mut self.work, work));
-        self.is_shut = true;
+        self.standing = if is_dead {
+            Standing::Dead
+        } else {
+            Standing::Closed
+        };
     }
 
-    /// Takes the first item, where one is complete. An `Err` changes nothing. Behind a fault, and behind a request that
-    /// closes the connection, the intake is `Dead`.
+    /// Takes the first item, where one is complete. An `Err` changes nothing. Behind a fault the intake is `Dead`. Behind a
+    /// request that closes the connection (`closes`) no byte is read, and it answers `NeedMore`.
     pub fn next(&mut self) -> Result<Step, AllocError>
         ensures { MatchResult result (Gives self.old self.new)
             (λ _. (self.new ≡ self.old) × HasBytes self.old.place) }
     {
-        if self.is_shut {
-            return Ok(Step::Dead);
+        match self.standing {
+            Standing::Live => {}
+            Standing::Closed => return Ok(Step::NeedMore),
+            Standing::Dead => return Ok(Step::Dead),
         }
         match self.work.next()? {
             Found::Nothing => Ok(Step::NeedMore),
@@ -97,7 +121,7 @@ impl Intake {
             }
             Found::Message(message) => {
                 if closes(&message.head) {
-                    self.shut();
+                    self.end(false);
                 }
                 Ok(Step::Message(message))
             }

@@ -22,6 +22,13 @@ pub fn one_spelling()
         → Spells limit stream xs p → Spells limit stream ys q → (xs ≡ ys) × (p ≡ q) }
 {}
 
+/// Every stream has a spelling: it isn't so that it has none. So one of the cases holds of each stream, for whatever bytes
+/// it begins with.
+pub fn every_stream_is_spelled()
+    ensures { (limit : ℕ) (stream : List ℕ)
+        → ¬ ((items : List Item) (left : Place) → ¬ Spells limit stream items left) }
+{}
+
 /// The items of a prefix are a prefix of the items.
 pub fn items_grow()
     ensures { (limit : ℕ) (stream piece : List ℕ) (xs ys : List Item) (p q : Place)

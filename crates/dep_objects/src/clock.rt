@@ -2,7 +2,7 @@
 
 ghost use Rattle.std.specs.Prelude.{◌≡◌, [], IfOk, IfErr, OnOk};
 ghost use Rattle.sqlite.specs.State.{HasCleanDisk};
-ghost use Rattle.dep_tables.specs.Clauses.{ReadsOnly, FailsWhole, FailsReading, FailsByRunning, FailsToRead, JustOne, RefusesNumbers, StaysWithin};
+ghost use Rattle.dep_tables.specs.Clauses.{ReadsOnly, FailsWhole, FailsReading, FailsByRunning, FailsToReadNumbers, JustOne, RefusesNumbers, StaysWithin};
 ghost use Rattle.dep_tables.specs.Rows.{IsStateRow, IsStorableState, state_values};
 ghost use Rattle.dep_tables.specs.Texts.{read_state_text, write_state_text};
 ghost use Rattle.dep_row_maps.specs.Stored.{state_row};
@@ -19,7 +19,7 @@ pub fn counters<T: Statements>(tx: &mut T) -> Result<StateRow, StoreFault>
     ensures same { ReadsOnly (T.state tx.old) (T.state tx.new) result }
     ensures ours { KeepsOurs (T.state tx.old) (T.state tx.new) result }
     ensures cause { HasCleanDisk (T.state tx.new)
-        → IfErr result (FailsToRead (JustOne IsStateRow) read_state_text []
+        → IfErr result (FailsToReadNumbers (JustOne IsStateRow) read_state_text []
         (T.state tx.old) (T.state tx.new)) }
     ensures err { FailsReading (T.state tx.old) (T.state tx.new) result }
     ensures stays { StaysWithin T.lenders T.state tx.old tx.new result }

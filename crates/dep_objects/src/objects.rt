@@ -5,7 +5,7 @@ ghost use Rattle.std.specs.FinMap as map;
 ghost use Rattle.sqlite.specs.declared.types.Value.TheVariants.{Int};
 ghost use Rattle.dep_types.specs.Rows.{object_row};
 ghost use Rattle.dep_types.specs.Sound.{IsSound};
-ghost use Rattle.dep_tables.specs.Clauses.{AtMostOne, ReadsOnly, FailsReading, FailsByReading, RefusesNumbers, StaysWithin};
+ghost use Rattle.dep_tables.specs.Clauses.{AtMostOne, ReadsOnly, FailsReading, FailsByReadingNumbers, RefusesNumbers, StaysWithin};
 ghost use Rattle.dep_tables.specs.Rows.{IsNumberRow, IsObjectRow};
 ghost use Rattle.dep_tables.specs.Texts.{find_object_text, next_object_text};
 ghost use Rattle.dep_row_maps.specs.Keyed.{next_entry};
@@ -58,7 +58,7 @@ pub fn find_object<T: Statements>(tx: &mut T, object: u64) -> Result<Option<Obje
     ensures same { ReadsOnly (T.state tx.old) (T.state tx.new) result }
     ensures ours { KeepsOurs (T.state tx.old) (T.state tx.new) result }
     ensures numbers { RefusesNumbers (T.state tx.old) (T.state tx.new) result (object < 2 ^ 63) }
-    ensures cause { FailsByReading (T.state tx.old) (T.state tx.new) result
+    ensures cause { FailsByReadingNumbers (T.state tx.old) (T.state tx.new) result
         (object < 2 ^ 63) find_object_text (Int (pos object) ∷ []) (AtMostOne IsObjectRow) }
     ensures err { FailsReading (T.state tx.old) (T.state tx.new) result }
     ensures stays { StaysWithin T.lenders T.state tx.old tx.new result }
@@ -73,7 +73,7 @@ pub fn next_object<T: Statements>(tx: &mut T, after: u64) -> Result<Option<u64>,
     ensures same { ReadsOnly (T.state tx.old) (T.state tx.new) result }
     ensures ours { KeepsOurs (T.state tx.old) (T.state tx.new) result }
     ensures numbers { RefusesNumbers (T.state tx.old) (T.state tx.new) result (after < 2 ^ 63) }
-    ensures cause { FailsByReading (T.state tx.old) (T.state tx.new) result
+    ensures cause { FailsByReadingNumbers (T.state tx.old) (T.state tx.new) result
         (after < 2 ^ 63) next_object_text (Int (pos after) ∷ []) (AtMostOne IsNumberRow) }
     ensures err { FailsReading (T.state tx.old) (T.state tx.new) result }
     ensures stays { StaysWithin T.lenders T.state tx.old tx.new result }

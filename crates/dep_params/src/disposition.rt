@@ -1,6 +1,7 @@
 //! What a Content-Disposition field says.
 ghost use Rattle.std.specs.Prelude.{◌≡◌};
 ghost use Rattle.std.specs.Str.{str_eq_ignore_ascii_case};
+ghost use Rattle.dep_params.specs.Faults.{fault_number};
 
 use std::alloc::{AllocError, AllocFailed};
 use std::error::Error;
@@ -18,6 +19,20 @@ pub enum ParamFault {
     NoName,
     /// Memory was refused.
     Memory,
+}
+
+impl ParamFault {
+    /// The number of the fault: 1 to 4.
+    pub fn number(self) -> u8
+        ensures { result ≡ fault_number self }
+    {
+        match self {
+            ParamFault::Malformed => 1,
+            ParamFault::Repeated => 2,
+            ParamFault::NoName => 3,
+            ParamFault::Memory => 4,
+        }
+    }
 }
 
 impl fmt::Display for ParamFault {

@@ -1,5 +1,5 @@
 -- What a request's step is, by the ruling on it.
-use Rattle.std.proofs.Common.{◌≡◌, ℕ, Option, Some, None, Result, Ok, Err, IfOk, OnOk, IsTrue, true, min, refl, sym, ap, subst, ◌∙◌, arith}
+use Rattle.std.proofs.Common.{◌≡◌, ℕ, Option, Some, None, Result, Ok, Err, IfOk, OnOk, IsTrue, true, min, inl, inr, refl, sym, ap, subst, ◌∙◌, arith}
 use Rattle.sqlite.specs.Effect.{Database}
 use Rattle.sqlite.specs.State as db
 use Rattle.dep_types.specs.Limits.{greatest_moment}
@@ -16,7 +16,10 @@ use Rattle.dep_decisions.specs.Effects.{effect}
 use Rattle.dep_decisions.specs.Rules.{refusal}
 use Rattle.dep_decisions.specs.declared.decision.Decision.{Decision}
 use Rattle.dep_decisions.specs.declared.operation.Operation.{Operation}
+use Rattle.dep_rulings.specs.Rulings.{IsRuling}
 use Rattle.dep_rulings.specs.Views.{true_view}
+use Rattle.dep_rulings.specs.declared.ruling.Ruling.{Ruling}
+use Rattle.dep_rulings.specs.declared.ruling.Ruling.TheVariants.{Do, Refuse}
 use Rattle.dep_rulings.specs.declared.view.View.{View}
 use Rattle.dep_decisions.proofs.Accepted.{effect_sound}
 use Rattle.dep_answers.specs.Performing.{IsReady, IsReply}
@@ -27,12 +30,13 @@ use Rattle.dep_answers.specs.declared.performed.Delivery.{Delivery}
 use Rattle.dep_answers.specs.declared.performed.Performed.{Performed}
 use Rattle.dep_answers.specs.declared.subject.Shown.{Shown}
 use Rattle.dep_answers.specs.declared.subject.Subject.{Subject}
-use Rattle.dep_tables.specs.Clauses.{StaysWithin}
+use Rattle.dep_tables.specs.Clauses.{ReadsOnly, StaysWithin}
 use Rattle.dep_tables.specs.Tables.{tables_in}
 use Rattle.dep_tables.proofs.Results.{if_ok}
 use Rattle.dep_row_maps.specs.TablesAre.{TablesAre}
 use Rattle.dep_row_maps.specs.Clauses.{SeesState}
 use Rattle.dep_files.proofs.Results.{survives_itself}
+use Rattle.dep_requests.specs.Performing.{ChangesNothing, OnlyReads}
 
 -- a step leaves a sound state
 pub step_sound : (config : Config) (s : State) (op : Operation) → AreFit op.fields → IsSound s → IsSound (operation_step config s op).state
@@ -55,6 +59,17 @@ stays_put lenders state tx r = record {
 -- the same tables are of the same state
 pub sees_still : (old new : db.State) (s : State) → new.now ≡ old.now → SeesState old s → SeesState new s
 sees_still old new s still are = subst (λ (d : Database). TablesAre (tables_in d.trees) s) (sym still) are
+
+-- what changes nothing is refused or shown
+pub only_reads : (config : Config) (s : State) (op : Operation) (r : Ruling) → IsRuling config s op r → ChangesNothing config s op → OnlyReads r
+only_reads config s op (Refuse r) is nothing = tt
+only_reads config s op (Do d) is (inl refused) = absurd (refused is.0)
+only_reads config s op (Do d) is (inr show) = is.1 ∙ show
+
+-- what reads behind a call that left the transaction alone
+pub reads_alone : {T A E : Type 0} (state : T → db.State) (old mid new : T) (r : Result A E) → mid ≡ old → (IsTrue (state mid).is_open → ReadsOnly (state mid) (state new) r)
+    → IsTrue (state old).is_open → ReadsOnly (state old) (state new) r
+reads_alone {T} state old mid new r same reads = subst (λ (tx : T). IsTrue (state tx).is_open → ReadsOnly (state tx) (state new) r) same reads
 
 -- how the reply to a request goes out
 abbrev pub delivery_for : State → Operation → Delivery

@@ -1,6 +1,7 @@
 //! What a request comes to, in the transaction that it is given.
 
-ghost use Rattle.std.specs.Prelude.{◌≡◌, min, None, IsTrue, IfOk};
+ghost use Rattle.std.specs.Prelude.{◌≡◌, min, None, IsTrue, IfOk, OnOk};
+ghost use Rattle.sqlite.specs.State.{IsUnchanged};
 ghost use Rattle.dep_types.specs.State.{State};
 ghost use Rattle.dep_types.specs.Sound.{IsSound};
 ghost use Rattle.dep_types.specs.Limits.{greatest_moment};
@@ -9,6 +10,7 @@ ghost use Rattle.dep_types.specs.declared.config.Config.{Config};
 ghost use Rattle.dep_fields.specs.Fit.{AreFit};
 ghost use Rattle.dep_decisions.specs.Decisions.{numbers_for};
 ghost use Rattle.dep_decisions.specs.Effects.{effect};
+ghost use Rattle.dep_decisions.specs.declared.decision.Decision.TheVariants.{Show};
 ghost use Rattle.dep_rulings.specs.Rulings.{IsRuling, HasRoomFor};
 ghost use Rattle.dep_rulings.specs.Views.{true_view};
 ghost use Rattle.dep_rulings.specs.declared.ruling.Ruling.TheVariants.{Do};
@@ -18,7 +20,7 @@ ghost use Rattle.dep_answers.specs.Performing.{IsReady, IsReply};
 ghost use Rattle.dep_answers.specs.Replies.{answer_to, refused_answer};
 ghost use Rattle.dep_answers.specs.Steps.{operation_step, is_head};
 ghost use Rattle.dep_answers.specs.Subjects.{shown_at, subject_of};
-ghost use Rattle.dep_requests.specs.Performing.{Rules};
+ghost use Rattle.dep_requests.specs.Performing.{Rules, OnlyReads, ChangesNothing};
 
 use dep_answers::{Delivery, Performed, Service, Shown, Subject, accepted, refused};
 use dep_changes::carry_out;
@@ -89,7 +91,8 @@ pub fn refuse(alloc: Global, refusal: Refusal, delivery: Delivery) -> Result<Per
     }
 }
 
-/// The reply to a request that is accepted, from what is shown of the archive. It fails for want of memory alone.
+/// The reply to a request that is accepted, from what is shown of the archive. It is a fault of the store where that is
+/// nothing that the reply could show, and fails else for want of memory alone.
 pub fn accept(
     alloc: Global,
     service: &Service,
@@ -105,7 +108,8 @@ pub fn accept(
         delivery p) }
 {
     match accepted(alloc, service, &operation.target, shown, delivery) {
-        Ok(performed) => Ok(performed),
+        Ok(Some(performed)) => Ok(performed),
+        Ok(None) => Err(StoreFault::Store),
         Err(AllocError) => Err(StoreFault::Memory),
     }
 }
@@ -127,6 +131,8 @@ fn carry<T: Statements>(
         × (shown ≡ shown_at (effect config s operation.now)
         (subject_of (effect config s operation.now).next
         operation.now.target.resource operation.now.target.method)))) }
+    ensures unchanged { decision.now ≡ Show → IsTrue (T.state tx.old).is_open
+        → ReadsOnly (T.state tx.old) (T.state tx.new) result }
     ensures ours { KeepsOurs (T.state tx.old) (T.state tx.new) result }
     ensures stays { StaysWithin T.lenders T.state tx.old tx.new result }
 {
@@ -149,6 +155,8 @@ fn follow<T: Statements>(
         (λ s. IsSound s → AreFit operation.now.fields → Rules service.now s operation.now ruled.now
         → IfOk result (λ p. IsReady (operation_step service.now s operation.now) p
         × SeesState (T.state tx.new) (operation_step service.now s operation.now).state)) }
+    ensures unchanged { OnlyReads ruled.now.ruling → IsTrue (T.state tx.old).is_open
+        → ReadsOnly (T.state tx.old) (T.state tx.new) result }
     ensures ours { KeepsOurs (T.state tx.old) (T.state tx.new) result }
     ensures stays { StaysWithin T.lenders T.state tx.old tx.new result }
 {
@@ -164,7 +172,8 @@ fn follow<T: Statements>(
     }
 }
 
-/// Does what a request asks for, and spells the reply. After an Err the caller gives the transaction back.
+/// Does what a request asks for, and spells the reply. What is refused, and what only shows, leaves the database as it
+/// was, with nothing to commit. After an Err the caller gives the transaction back.
 pub fn answer<T: Statements>(
     tx: &mut T,
     alloc: Global,
@@ -175,6 +184,9 @@ pub fn answer<T: Statements>(
         (λ s. IsSound s → AreFit operation.now.fields
         → IfOk result (λ p. IsReady (operation_step service.now s operation.now) p
         × SeesState (T.state tx.new) (operation_step service.now s operation.now).state)) }
+    ensures unchanged { FromMaps (T.state tx.old) (T.state tx.new)
+        (λ s. IsSound s → ChangesNothing service.now s operation.now
+        → OnOk result (IsUnchanged (T.state tx.old) (T.state tx.new))) }
     ensures ours { KeepsOurs (T.state tx.old) (T.state tx.new) result }
     ensures stays { StaysWithin T.lenders T.state tx.old tx.new result }
 {

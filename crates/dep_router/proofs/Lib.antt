@@ -1,2 +1,4 @@
 mod SegmentLemmas
 mod RouteLemmas
+mod EscapeLemmas
+mod PlaceLemmas

@@ -1,6 +1,7 @@
 //! Which resource a path names, and which methods it has.
 #![tactic(auto)]
 
+mod bag_paths;
 mod methods;
 mod paths;
 mod routed;

@@ -1,31 +1,50 @@
 //! The resource that a path names.
-ghost use Rattle.std.specs.Prelude.{◌≡◌, ◌∷◌, [], true, IfOk, OnErr};
+ghost use Rattle.std.specs.Prelude.{◌≡◌, ◌∷◌, [], drop};
 ghost use Rattle.dep_types.specs.Numbers.{number_in as spec_number_in};
 ghost use Rattle.dep_router.specs.Targets as spec;
-ghost use Rattle.dep_router.specs.Targets.{segments, resource_of, is_bag_file};
+ghost use Rattle.dep_router.specs.Targets.{segments, resource_of};
+ghost use Rattle.dep_router.specs.Places.{EndsWithPlace, resource_at as spec_resource_at};
 
+use crate::bag_paths::decoded_from;
 use crate::segments::next_segment;
 use dep_octets::positive_decimal;
 use dep_types::{GREATEST_NUMBER, Octets, Resource};
-use percent_encoding::percent_decode;
-use std::alloc::{AllocError, Global};
 
-/// The resource that a path names; `None` where it names none. Nothing but a path in a bag takes memory.
-pub(crate) fn resource_at(alloc: Global, path: &[u8]) -> Result<Option<Resource>, AllocError>
-    ensures ok { IfOk result (λ resource. resource ≡ resource_of (segments path.now)) }
-    ensures err { OnErr result (is_bag_file (resource_of (segments path.now)) ≡ true) }
+/// What a path names, before the path of a file in a bag is decoded.
+#[derive(Drop)]
+pub(crate) enum Place<'a> {
+    /// A resource.
+    Resource(Resource),
+    /// A file in the bag of this object; its path is the end of the whole one, and may be empty.
+    InBag(u64, &'a [u8]),
+}
+
+/// The resource that a path names; `None` where it names none. It takes no memory.
+pub(crate) fn resource_at(path: Vec<u8>) -> Option<Resource>
+    ensures { result ≡ resource_of (segments path.items) }
+{
+    match place_at(&path)? {
+        Place::Resource(resource) => Some(resource),
+        Place::InBag(object, end) => {
+            let start = path.len() - end.len();
+            bag_file(object, path, start)
+        }
+    }
+}
+
+fn place_at(path: &[u8]) -> Option<Place<'_>>
+    ensures named { spec_resource_at result ≡ resource_of (segments path.now) }
+    ensures ends { EndsWithPlace path.now result }
 {
     let (root, after) = next_segment(path);
-    let Some(after) = after else {
-        return Ok(None);
-    };
+    let after = after?;
     if !root.is_empty() {
-        return Ok(None);
+        return None;
     }
     let (name, after) = next_segment(after);
     match after {
-        None => Ok(at_root(name)),
-        Some(after) => resource_below(alloc, name, after),
+        None => Some(Place::Resource(at_root(name)?)),
+        Some(after) => place_below(name, after),
     }
 }
 
@@ -42,26 +61,22 @@ fn at_root(name: &[u8]) -> Option<Resource>
 }
 
 // What stands below a name: a number, and perhaps more.
-fn resource_below(alloc: Global, name: &[u8], path: &[u8]) -> Result<Option<Resource>, AllocError>
-    ensures ok { IfOk result (λ resource.
-        resource ≡ resource_of ([] ∷ name.now ∷ segments path.now)) }
-    ensures err { OnErr result
-        (is_bag_file (resource_of ([] ∷ name.now ∷ segments path.now)) ≡ true) }
+fn place_below<'a>(name: &[u8], path: &'a [u8]) -> Option<Place<'a>>
+    ensures named { spec_resource_at result ≡ resource_of ([] ∷ name.now ∷ segments path.now) }
+    ensures ends { EndsWithPlace path.now result }
 {
     let (number, after) = next_segment(path);
-    let Some(number) = number_in(number) else {
-        return Ok(None);
-    };
+    let number = number_in(number)?;
     let Some(after) = after else {
-        return Ok(numbered(name, number));
+        return Some(Place::Resource(numbered(name, number)?));
     };
     if name != b"objects".as_slice() {
-        return Ok(None);
+        return None;
     }
     let (part, after) = next_segment(after);
     match after {
-        None => Ok(object_part(number, part)),
-        Some(rest) => within_part(alloc, number, part, rest),
+        None => Some(Place::Resource(object_part(number, part)?)),
+        Some(rest) => within_part(number, part, rest),
     }
 }
 
@@ -98,22 +113,17 @@ fn object_part(object: u64, part: &[u8]) -> Option<Resource>
     }
 }
 
-fn within_part(
-    alloc: Global,
-    object: u64,
-    part: &[u8],
-    rest: &[u8],
-) -> Result<Option<Resource>, AllocError>
-    ensures ok { IfOk result (λ resource. resource ≡ spec.within_part object part.now rest.now) }
-    ensures err { OnErr result (is_bag_file (spec.within_part object part.now rest.now) ≡ true) }
+fn within_part<'a>(object: u64, part: &[u8], rest: &'a [u8]) -> Option<Place<'a>>
+    ensures named { spec_resource_at result ≡ spec.within_part object part.now rest.now }
+    ensures ends { EndsWithPlace rest.now result }
 {
     if part == b"files".as_slice() {
-        return Ok(file_at(object, rest));
+        Some(Place::Resource(file_at(object, rest)?))
+    } else if part == b"bag".as_slice() {
+        Some(Place::InBag(object, rest))
+    } else {
+        None
     }
-    if part == b"bag".as_slice() {
-        return bag_file(alloc, object, rest);
-    }
-    Ok(None)
 }
 
 fn file_at(object: u64, text: &[u8]) -> Option<Resource>
@@ -123,14 +133,12 @@ fn file_at(object: u64, text: &[u8]) -> Option<Resource>
     Some(Resource::File(object, file))
 }
 
-fn bag_file(alloc: Global, object: u64, path: &[u8]) -> Result<Option<Resource>, AllocError>
-    ensures ok { IfOk result (λ resource. resource ≡ spec.bag_file object path.now) }
-    ensures err { OnErr result (is_bag_file (spec.bag_file object path.now) ≡ true) }
+fn bag_file(object: u64, path: Vec<u8>, start: usize) -> Option<Resource>
+    ensures { result ≡ spec.bag_file object (drop start path.items) }
 {
-    if path.is_empty() {
-        return Ok(None);
+    if start >= path.len() {
+        return None;
     }
-    let mut octets = Vec::new(alloc);
-    percent_decode(path).append_to(&mut octets)?;
-    Ok(Some(Resource::BagFile(object, Octets::from_vec(octets))))
+    let octets = Octets::from_vec(decoded_from(path, start));
+    Some(Resource::BagFile(object, octets))
 }

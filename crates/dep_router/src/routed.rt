@@ -1,11 +1,10 @@
 //! What a method and a path name.
-ghost use Rattle.std.specs.Prelude.{◌≡◌, true, IfOk, OnErr};
-ghost use Rattle.dep_router.specs.Targets.{target, segments, resource_of, is_bag_file};
+ghost use Rattle.std.specs.Prelude.{◌≡◌};
+ghost use Rattle.dep_router.specs.Targets.{target, segments, resource_of};
 
 use crate::methods::{Allow, method_at};
 use crate::paths::resource_at;
 use dep_types::{Resource, Target};
-use std::alloc::{AllocError, Global};
 
 /// What a method and a path name.
 #[derive(Drop)]
@@ -20,42 +19,29 @@ pub enum Routed {
 
 /// The routes of the server: which resources there are, at which paths, and which methods they have.
 #[derive(Clone, Copy)]
-pub struct Routes {
-    alloc: Global,
-}
+pub struct Routes;
 
 impl Routes {
-    /// The routes. The allocator is that of the paths in bags.
-    pub fn new(alloc: Global) -> Routes {
-        Routes { alloc }
-    }
-
     /// The resource that a path names, whatever the method. The path has no query, and is compared byte by byte:
     /// letters in another case or a slash at its end make another path, and nothing is decoded but the path within a
-    /// bag, once.
-    pub fn resource(&self, path: &[u8]) -> Result<Option<Resource>, AllocError>
-        ensures ok { IfOk result (λ resource. resource ≡ resource_of (segments path.now)) }
-
-        // Memory is taken for a path in a bag alone.
-        ensures err { OnErr result (is_bag_file (resource_of (segments path.now)) ≡ true) }
+    /// bag, once. That is done where the path stands, which is why it is taken over: no memory is taken.
+    pub fn resource(&self, path: Vec<u8>) -> Option<Resource>
+        ensures { result ≡ resource_of (segments path.items) }
     {
-        resource_at(self.alloc, path)
+        resource_at(path)
     }
 
-    /// What a method and a path name.
+    /// What a method and a path name. It takes no memory.
     #[tactic(auto, unfolding(crate::specs::Targets::target))]
-    pub fn route(&self, method: &[u8], path: &[u8]) -> Result<Routed, AllocError>
-        ensures ok { IfOk result (λ routed. routed ≡ target method.now path.now) }
-
-        // Memory is taken for a path in a bag alone.
-        ensures err { OnErr result (is_bag_file (resource_of (segments path.now)) ≡ true) }
+    pub fn route(&self, method: &[u8], path: Vec<u8>) -> Routed
+        ensures { result ≡ target method.now path.items }
     {
-        let Some(resource) = self.resource(path)? else {
-            return Ok(Routed::NotFound);
+        let Some(resource) = self.resource(path) else {
+            return Routed::NotFound;
         };
         match method_at(&resource, method) {
-            Some(method) => Ok(Routed::To(Target { resource, method })),
-            None => Ok(Routed::NotAllowed(Allow::of(&resource))),
+            Some(method) => Routed::To(Target { resource, method }),
+            None => Routed::NotAllowed(Allow::of(&resource)),
         }
     }
 }

@@ -1,4 +1,5 @@
 mod Checked
+mod Memory
 mod Presence
 mod Repeats
 mod Results

@@ -1,10 +1,12 @@
 -- What is known after the rules on a content, and after the last rule.
-use Rattle.std.specs.Prelude.{◌≡◌, Some, None}
+use Rattle.std.specs.Prelude.{◌≡◌, Some, None, IsTrue}
 use Rattle.dep_types.specs.declared.config.Config.{Config}
 use Rattle.dep_decisions.specs.Asked.{IsRead}
-use Rattle.dep_decisions.specs.ContentRows.{purpose_in}
+use Rattle.dep_decisions.specs.ContentRows.{fields_refusal, purpose_in}
 use Rattle.dep_decisions.specs.Decisions.{decision_with}
+use Rattle.dep_decisions.specs.Rules.{digest_rule}
 use Rattle.dep_decisions.specs.declared.operation.Operation.{Operation}
+use Rattle.dep_rulings.specs.Memory.{is_held}
 use Rattle.dep_rulings.specs.Rows.{content_by, content_refusal, room_refusal}
 use Rattle.dep_rulings.specs.declared.order.Checked.{Checked}
 use Rattle.dep_rulings.specs.declared.order.Checked.TheVariants.{Refused, Passed}
@@ -28,3 +30,9 @@ abbrev pub IsRoomRuling : View → Operation → Ruling → Type 0
 IsRoomRuling view op (Refuse r) = room_refusal view op ≡ Some r
 IsRoomRuling view op (Do d) =
     (room_refusal view op ≡ None) × (d ≡ decision_with view.references op)
+
+-- the content is held, and no rule on its fields or its digest refuses it
+pub record HoldsContent (view : View) (op : Operation) : Type 0 where
+  pub fields : fields_refusal op ≡ None
+  pub digest : digest_rule op ≡ None
+  pub content : IsTrue (is_held view.references (purpose_in op))

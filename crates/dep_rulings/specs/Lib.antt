@@ -1,4 +1,5 @@
 pub mod Checks
+pub mod Memory
 pub mod Rows
 pub mod Rulings
 pub mod Seen

@@ -1,9 +1,11 @@
 //! The ruling on a request, from a view of the archive.
-ghost use Rattle.std.specs.Prelude.{◌≡◌, IfOk, Some, is_some};
+ghost use Rattle.std.specs.Prelude.{◌≡◌, IfOk, OnErr, IsTrue, Some, is_some};
 ghost use Rattle.dep_decisions.specs.Asked.{IsRead};
 ghost use Rattle.dep_decisions.specs.declared.purpose.Purpose.TheVariants as of;
 ghost use Rattle.dep_docs_in.specs.Documents.{metadata_read};
-ghost use Rattle.dep_rulings.specs.Checks.{IsChecked, IsCheckedBy, IsRoomRuling};
+ghost use Rattle.dep_decisions.specs.Memory.{MakesFiles};
+ghost use Rattle.dep_rulings.specs.Checks.{HoldsContent, IsChecked, IsCheckedBy, IsRoomRuling};
+ghost use Rattle.dep_rulings.specs.Memory.{RulingTakesMemory, is_held};
 ghost use Rattle.dep_rulings.specs.Rows.{access_refusal, document_by, has_content, reads_alone};
 ghost use Rattle.dep_rulings.specs.Rulings.{HasRoomFor, RulesBy};
 
@@ -21,7 +23,7 @@ use std::alloc::{AllocError, Global};
 
 /// The ruling on a request, where the archive is seen so at the numbers that it touches: the first rule
 /// that applies, from rule 5 of the order of refusals in docs/PROFILE.md on, or what the request asks for. An
-/// `Err` is want of memory.
+/// `Err` is want of memory, which is asked for only where the content is held and no rule before it refuses.
 pub fn decide(
     alloc: Global,
     config: &Config,
@@ -31,6 +33,7 @@ pub fn decide(
     ensures ruling { IfOk result (RulesBy config.now view.now operation.now) }
     // What is let through can be given its numbers.
     ensures room { IfOk result (HasRoomFor view.now.next) }
+    ensures err { OnErr result (RulingTakesMemory config.now view.now operation.now) }
 {
     if let Some(refusal) = access_row(config, view, operation) {
         return Ok(Ruling::Refuse(refusal));
@@ -85,7 +88,8 @@ fn check_content(
     view: &View,
     operation: &Operation<'_>,
 ) -> Result<Checked, AllocError>
-    ensures { IfOk result (IsChecked config.now view.now operation.now) }
+    ensures ok { IfOk result (IsChecked config.now view.now operation.now) }
+    ensures err { OnErr result (HoldsContent view.now operation.now) }
 {
     if has_content(operation.target.method) {
         check_rows(alloc, config, view, operation)
@@ -105,7 +109,8 @@ fn check_rows(
     view: &View,
     operation: &Operation<'_>,
 ) -> Result<Checked, AllocError>
-    ensures { IfOk result (IsCheckedBy config.now view.now operation.now) }
+    ensures ok { IfOk result (IsCheckedBy config.now view.now operation.now) }
+    ensures err { OnErr result (HoldsContent view.now operation.now) }
 {
     let purpose = content_purpose(operation);
     if let Some(refusal) = fields_row(operation) {
@@ -143,8 +148,9 @@ fn metadata_of(
     operation: &Operation<'_>,
     purpose: Option<Purpose>,
 ) -> Result<Option<Metadata>, AllocError>
-    ensures { IfOk result (λ metadata. purpose ≡ Some of.Metadata
+    ensures ok { IfOk result (λ metadata. purpose ≡ Some of.Metadata
         → metadata ≡ metadata_read operation.now.content) }
+    ensures err { OnErr result (purpose ≡ Some of.Metadata) }
 {
     match purpose {
         Some(Purpose::Metadata) => read(alloc, operation.content.as_slice()),
@@ -173,7 +179,8 @@ fn document_row(
 ) -> Result<Option<Refusal>, AllocError>
     requires { purpose ≡ Some of.Metadata
         → is_readable ≡ is_some (metadata_read _operation.now.content) }
-    ensures { IfOk result (λ refusal. refusal ≡ document_by view.now _operation.now purpose) }
+    ensures ok { IfOk result (λ refusal. refusal ≡ document_by view.now _operation.now purpose) }
+    ensures err { OnErr result (IsTrue (is_held view.now.references purpose)) }
 {
     match purpose {
         Some(Purpose::Metadata) if is_readable => Ok(None),
@@ -193,7 +200,8 @@ fn rule_by_room(
     read: ReadContent,
 ) -> Result<Ruling, AllocError>
     requires { IsRead operation.now read }
-    ensures { IfOk result (IsRoomRuling view.now operation.now) }
+    ensures ok { IfOk result (IsRoomRuling view.now operation.now) }
+    ensures err { OnErr result (MakesFiles view.now.references operation.now) }
 {
     let decision = decision_on(alloc, operation, view.references.as_ref(), read)?;
     if view.next.has_room(&numbers_for(&decision)) {

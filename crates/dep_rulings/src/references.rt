@@ -1,9 +1,11 @@
 //! The rules on references (SWORD 3.0, by-reference deposit), one after another, each over all entries.
-ghost use Rattle.std.specs.Prelude.{◌≡◌, IfOk, map};
+ghost use Rattle.std.specs.Prelude.{◌≡◌, IfOk, OnErr, IsTrue, Some, map};
 ghost use Rattle.std.specs.List.{list_any};
 ghost use Rattle.std.specs.Option.{option_copied};
 ghost use Rattle.dep_fixity.specs.Fixity.{is_kept};
 ghost use Rattle.dep_decisions.specs.Rules.{stands_twice};
+ghost use Rattle.dep_decisions.specs.declared.purpose.Purpose.TheVariants as of;
+ghost use Rattle.dep_rulings.specs.Memory.{are_taken, is_held};
 ghost use Rattle.dep_rulings.specs.Seen.{state_refusal};
 ghost use Rattle.dep_rulings.specs.Walks.{upload_digest_rule, entries_seen, is_other_packaging, upload_length_rule, packaging_refusal, points_elsewhere, references_seen, repeat_refusal, rule_of, target_refusal, walk, whole_upload_rule};
 
@@ -34,8 +36,10 @@ pub(crate) fn references_row(
     views: &[UploadView],
     references: Option<&References>,
 ) -> Result<Option<Refusal>, AllocError>
-    ensures { IfOk result
+    ensures ok { IfOk result
         (λ refusal. refusal ≡ references_seen views.now (option_copied references.entry)) }
+    ensures err { OnErr result
+        (IsTrue (is_held (option_copied references.entry) (Some of.References))) }
 {
     match references {
         Some(references) => entries_row(alloc, views, references.as_slice()),
@@ -49,7 +53,8 @@ fn entries_row(
     views: &[UploadView],
     references: &[Reference],
 ) -> Result<Option<Refusal>, AllocError>
-    ensures { IfOk result (λ refusal. refusal ≡ entries_seen views.now references.now) }
+    ensures ok { IfOk result (λ refusal. refusal ≡ entries_seen views.now references.now) }
+    ensures err { OnErr result (IsTrue (are_taken references.now)) }
 {
     if let Some(refusal) = target_row(references) {
         return Ok(Some(refusal));

@@ -1,8 +1,11 @@
 //! What a request touches of the archive.
-ghost use Rattle.std.specs.Prelude.{◌≡◌, ◌∷◌, [], IfOk};
+ghost use Rattle.std.specs.Prelude.{◌≡◌, ◌∷◌, [], false, IfOk, OnErr, IsTrue, Some, None, is_some};
 ghost use Rattle.std.specs.Option.{option_copied};
 ghost use Rattle.dep_docs_in.specs.Documents.{references_read};
+ghost use Rattle.dep_decisions.specs.ContentRows.{purpose_in};
 ghost use Rattle.dep_decisions.specs.Decisions.{references_in};
+ghost use Rattle.dep_decisions.specs.declared.purpose.Purpose.TheVariants as of;
+ghost use Rattle.dep_rulings.specs.Memory.{TouchTakesMemory, is_noted};
 ghost use Rattle.dep_rulings.specs.Rows.{references_for};
 ghost use Rattle.dep_rulings.specs.Views.{file_in, object_in, path_in, touched_by, uploads_in, uploads_named};
 
@@ -19,7 +22,8 @@ pub fn touches(
     config: &Config,
     operation: &Operation<'_>,
 ) -> Result<Touched, AllocError>
-    ensures { IfOk result (λ touched. touched ≡ touched_by config.now operation.now) }
+    ensures ok { IfOk result (λ touched. touched ≡ touched_by config.now operation.now) }
+    ensures err { OnErr result (TouchTakesMemory operation.now) }
 {
     let resource = &operation.target.resource;
     let references = references_in(alloc, config, operation)?;
@@ -39,7 +43,8 @@ fn references_in(
     config: &Config,
     operation: &Operation<'_>,
 ) -> Result<Option<References>, AllocError>
-    ensures { IfOk result (λ references. references ≡ references_in config.now operation.now) }
+    ensures ok { IfOk result (λ references. references ≡ references_in config.now operation.now) }
+    ensures err { OnErr result (purpose_in operation.now ≡ Some of.References) }
 {
     read_for(alloc, config, operation, content_purpose(operation))
 }
@@ -51,7 +56,8 @@ fn read_for(
     operation: &Operation<'_>,
     purpose: Option<Purpose>,
 ) -> Result<Option<References>, AllocError>
-    ensures { IfOk result (λ references. references ≡ references_for config.now operation.now purpose) }
+    ensures ok { IfOk result (λ references. references ≡ references_for config.now operation.now purpose) }
+    ensures err { OnErr result (purpose ≡ Some of.References) }
 {
     match purpose {
         Some(Purpose::References) => read(alloc, config, operation.content.as_slice()),
@@ -93,7 +99,8 @@ fn file_in(resource: &Resource) -> Option<u64>
 }
 
 fn path_in(alloc: Global, resource: &Resource) -> Result<Option<Octets>, AllocError>
-    ensures { IfOk result (λ path. path ≡ path_in resource.now) }
+    ensures ok { IfOk result (λ path. path ≡ path_in resource.now) }
+    ensures err { OnErr result (IsTrue (is_noted resource.now None)) }
 {
     match resource {
         Resource::BagFile(_, path) => Ok(Some(Octets::copied(alloc, path.as_slice())?)),
@@ -107,8 +114,10 @@ fn uploads_in(
     resource: &Resource,
     references: Option<&References>,
 ) -> Result<Numbers, AllocError>
-    ensures { IfOk result
+    ensures ok { IfOk result
         (λ uploads. uploads ≡ uploads_in resource.now (option_copied references.entry)) }
+    ensures err { OnErr result (is_some (option_copied references.entry) ≡ false
+        → IsTrue (is_noted resource.now None)) }
 {
     match (resource, references) {
         (Resource::Upload(upload), _) => one(alloc, *upload),

@@ -9,3 +9,5 @@ mod UploadsStay
 mod Refusing
 mod BareLemmas
 mod HeadLemmas
+pub mod Acknowledging
+pub mod CallsStand

@@ -84,7 +84,7 @@ module _ (config : Config) where
   run_leads begins = refl
   run_leads (goes_on r happens) = further _ (moves_of r) (moves_by_event happens) _ _ (run_leads r) (event_leads happens)
   run_leads (stops r) = run_leads r
-  run_leads (breaks found r arrival leaves) =
+  run_leads (breaks found r arrival shut leaves) =
       further _ (moves_of r) (moves_found_after_arrival arrival found leaves) _ found (run_leads r) (arrival_found arrival found leaves)
 
   -- ---- soundness

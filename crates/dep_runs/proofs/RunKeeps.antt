@@ -71,7 +71,7 @@ module _ (config : Config) (P : State → Type 0)
   after_run begins p = p
   after_run (goes_on r h) p = after_event h (after_run r p)
   after_run (stops r) p = after_run r p
-  after_run (breaks found r a l) p = arrival_stopped a found l (after_run r p)
+  after_run (breaks found r a shut l) p = arrival_stopped a found l (after_run r p)
 
   -- ---- at a state that a run goes through
 
@@ -101,9 +101,9 @@ module _ (config : Config) (P : State → Type 0)
   through_run (goes_on r h) through (inr (inl t)) p = through_event h through t (after_run r p)
   through_run (goes_on r h) through (inr (inr e)) p = subst P (sym e) (after_event h (after_run r p))
   through_run (stops r) through t p = through_run r through t p
-  through_run (breaks found r a l) through (inl t) p = through_run r through t p
-  through_run (breaks found r a l) through (inr (inl t)) p = through_arrival a through t (after_run r p)
-  through_run (breaks found r a l) through (inr (inr e)) p = subst P (sym e) (arrival_stopped a found l (after_run r p))
+  through_run (breaks found r a shut l) through (inl t) p = through_run r through t p
+  through_run (breaks found r a shut l) through (inr (inl t)) p = through_arrival a through t (after_run r p)
+  through_run (breaks found r a shut l) through (inr (inr e)) p = subst P (sym e) (arrival_stopped a found l (after_run r p))
 
   -- ---- from there on
 
@@ -149,6 +149,6 @@ module _ (config : Config) (P : State → Type 0)
   from_run (goes_on r h) through (inr (inl t)) p = from_event h through t p
   from_run (goes_on r h) through (inr (inr e)) p = subst P e p
   from_run (stops r) through t p = from_run r through t p
-  from_run (breaks found r a l) through (inl t) p = arrival_stopped a found l (from_run r through t p)
-  from_run (breaks found r a l) through (inr (inl t)) p = arrival_broken a found through l t p
-  from_run (breaks found r a l) through (inr (inr e)) p = subst P e p
+  from_run (breaks found r a shut l) through (inl t) p = arrival_stopped a found l (from_run r through t p)
+  from_run (breaks found r a shut l) through (inr (inl t)) p = arrival_broken a found through l t p
+  from_run (breaks found r a shut l) through (inr (inr e)) p = subst P e p

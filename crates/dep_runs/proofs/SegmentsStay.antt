@@ -207,7 +207,7 @@ presence config s op u target accepted =
     let rows = all_passed (rows_met config s op (at_resource.Upload u) Post) passed in
     ap (λ (t : Target). presence_refusal s t.resource) (sym target) ∙ rows.1.0
 
-received_by : (config : Config) (s : State) (op : Operation) (u k : ℕ) → op.target ≡ record { resource = at_resource.Upload u; method = Post } → kind_of op ≡ Some (of.Segment k)
+pub received_by : (config : Config) (s : State) (op : Operation) (u k : ℕ) → op.target ≡ record { resource = at_resource.Upload u; method = Post } → kind_of op ≡ Some (of.Segment k)
     → refusal config s op ≡ None → HasSegment (effect config s op) u k op.content
 unfolding effect
 received_by config s op u k target kind accepted =

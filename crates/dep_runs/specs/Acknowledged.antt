@@ -6,6 +6,11 @@ use Rattle.dep_types.specs.State.{State, Upload, tick, expires, clock_at}
 use Rattle.dep_types.specs.declared.config.Config.{Config}
 use Rattle.dep_message.specs.Places.{Place}
 use Rattle.dep_types.specs.declared.target.Target.{Target}
+use Rattle.dep_types.specs.declared.target.Resource.TheVariants.{Upload as AnUpload}
+use Rattle.dep_types.specs.declared.target.Method.TheVariants.{Post}
+use Rattle.dep_fields.specs.declared.kind.Kind.TheVariants.{Segment}
+use Rattle.dep_reply.specs.Head.{status_line}
+use Rattle.dep_decisions.specs.Kinds.{kind_of}
 use Rattle.dep_message.specs.Stream.{Item, Fault, Continue, Request}
 use Rattle.dep_message.specs.declared.message.Message.{Message}
 use Rattle.dep_decisions.specs.Decisions.{decision}
@@ -59,7 +64,7 @@ RunsThrough {first = first} begins through = through ≡ first
 RunsThrough (goes_on {w' = w'} run happens) through =
     RunsThrough run through ⊎ (HappensThrough happens through ⊎ (through ≡ w'.state))
 RunsThrough (stops run) through = RunsThrough run through
-RunsThrough (breaks found run a leaves) through =
+RunsThrough (breaks found run a shut leaves) through =
     RunsThrough run through ⊎ (ArrivesThrough a through ⊎ (through ≡ found))
 
 -- the upload has these bytes as this segment
@@ -71,6 +76,20 @@ pub record HasSegment (s : State) (number segment : ℕ) (bytes : List ℕ) : Ty
 -- there is no such upload: it was deposited or deleted, or has timed out
 abbrev pub IsGone : State → ℕ → Type 0
 IsGone s number = map.get s.uploads number ≡ None
+
+-- a POST to the upload
+abbrev pub posted_to : ℕ → Target
+posted_to number = record { resource = AnUpload number; method = Post }
+
+-- the bytes begin with the line of this status
+abbrev pub HasStatus : ℕ → List ℕ → Type 0
+HasStatus status sent = (behind : List ℕ) × (sent ≡ status_line status ++ behind)
+
+-- the request names a segment of the upload, which has its content there
+pub record IsReceived (s : State) (m : Message) (number : ℕ) : Type 0 where
+  pub segment : ℕ
+  pub named : kind_of (operation_of m (posted_to number)) ≡ Some (Segment segment)
+  pub stands : HasSegment s number segment m.content
 
 -- ---- why an upload goes
 

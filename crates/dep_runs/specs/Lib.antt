@@ -6,3 +6,4 @@ pub mod Moves
 pub mod Refused
 pub mod Deposited
 pub mod Acknowledged
+pub mod Calls

@@ -101,5 +101,5 @@ abbrev pub moves_of : {config : Config} {first : State} {records : List Record} 
 moves_of begins = []
 moves_of (goes_on run happens) = moves_of run ++ moves_by_event happens
 moves_of (stops run) = moves_of run
-moves_of (breaks found run arrival leaves) =
+moves_of (breaks found run arrival shut leaves) =
     moves_of run ++ moves_found_after_arrival arrival found leaves

@@ -5,15 +5,14 @@ ghost use Rattle.dep_message.specs.declared.message.Message.{Message};
 ghost use Rattle.dep_types.specs.State.{State, File, file_at, tick};
 ghost use Rattle.dep_types.specs.declared.refusal.Refusal.{Refusal};
 ghost use Rattle.dep_types.specs.declared.target.Target.{Target};
-ghost use Rattle.dep_types.specs.declared.target.Resource.TheVariants.{Upload};
-ghost use Rattle.dep_types.specs.declared.target.Method.TheVariants.{Post};
 ghost use Rattle.dep_fields.specs.declared.kind.Kind.TheVariants.{Segment};
 ghost use Rattle.dep_decisions.specs.Kinds.{kind_of};
 ghost use Rattle.dep_decisions.specs.Rules.{refusal};
 ghost use Rattle.dep_router.specs.Targets.{target};
 ghost use Rattle.dep_router.specs.declared.routed.Routed.TheVariants.{To};
 ghost use Rattle.dep_docs_in.specs.declared.reference.Reference.{Reference};
-ghost use Rattle.dep_runs.specs.Acknowledged.{RunsThrough, HasSegment, IsGone, StaysUntilEnded};
+ghost use Rattle.dep_answers.specs.Steps.{sent_by};
+ghost use Rattle.dep_runs.specs.Acknowledged.{RunsThrough, HasSegment, IsGone, StaysUntilEnded, posted_to, HasStatus, IsReceived};
 ghost use Rattle.dep_runs.specs.Moves.{Move, Made, moves_of, state_by};
 ghost use Rattle.dep_runs.specs.Deposited.{IsDeposit, StaysDeposited, StaysUntilTaken};
 ghost use Rattle.dep_runs.specs.Refused.{item_refusal, IsRefused};
@@ -29,6 +28,21 @@ ghost use Rattle.dep_server.specs.Machine.{operation_of, step, want_of_memory, s
 ghost use Rattle.dep_runs.specs.Bare.{request_by, IsWithoutBody};
 ghost use Rattle.dep_server.specs.Turns.{Turn, records_of, with_opened, with_closed, Exchanges, EndsAs, IsEndedBy};
 ghost use Rattle.dep_server.specs.declared.connection.Served.{Served};
+ghost use Rattle.dep_server.specs.declared.hub.Hub.{Hub};
+ghost use Rattle.dep_server.specs.Standing.{StandsAfter, IsClean};
+ghost use Rattle.dep_runs.specs.Calls.{Calls};
+
+use dep_server::Archive;
+
+/// The archive promise, for every list of calls: a hub on which calls were made one after another,
+/// each of which left of it what its contract says, stands for the records of these calls, where its
+/// store is open at the last. `before` are the records that it stood for at first: none where
+/// `Hub::new` made it, and those up to a stop where that was over a store that was opened again.
+pub fn calls_stand_for_their_records<A: Archive>()
+    ensures { (hub last : Hub A) (first : State) (before records : List Record)
+        → StandsAfter A.condition hub first before → Calls A.condition hub records last
+        → IsClean A.condition last → StandsAfter A.condition last first (before ++ records) }
+{}
 
 /// Runs without failed steps that make the same steps send the same bytes, each connection its own,
 /// and end in the same state.
@@ -111,13 +125,19 @@ pub fn moves_make_the_state()
 /// request.
 pub fn accepted_segment_stands()
     ensures { (config : Config) (s : State) (m : Message) (moment u k : ℕ)
-        → target m.head.method m.head.path ≡ To (record { resource = Upload u; method = Post })
-        → kind_of (operation_of m (record { resource = Upload u; method = Post }))
-        ≡ Some (Segment k)
-        → refusal config (tick config s moment)
-        (operation_of m (record { resource = Upload u; method = Post }))
-        ≡ None
+        → target m.head.method m.head.path ≡ To (posted_to u)
+        → kind_of (operation_of m (posted_to u)) ≡ Some (Segment k)
+        → refusal config (tick config s moment) (operation_of m (posted_to u)) ≡ None
         → HasSegment (step config s (Request m) moment).state u k m.content }
+{}
+
+/// A POST to an upload whose reply has the status 204 leaves the segment that it names there, with
+/// its content. So what stays (`acknowledged_stays`) begins with the reply that was sent.
+pub fn replied_segment_stands()
+    ensures { (config : Config) (s : State) (m : Message) (moment u : ℕ)
+        → target m.head.method m.head.path ≡ To (posted_to u)
+        → HasStatus 204 (sent_by (step config s (Request m) moment))
+        → IsReceived (step config s (Request m) moment).state m u }
 {}
 
 /// Once it stands there and its reply was sent it stays, whatever happens and also where a stop

@@ -1,28 +1,18 @@
 -- What a query inside a transaction keeps, whatever its text is.
-use Rattle.std.proofs.Common.{◌≡◌, ◌⊎◌, inl, ℕ, List, Result, Err, ap, ◌∙◌}
+use Rattle.std.proofs.Common.{◌≡◌, ◌⊎◌, ℕ, List, Result, Err, OnOk, ap, ◌∙◌}
 use Rattle.std.specs.Borrow.{GName, MutBor}
 use Rattle.sqlite_trees.specs.declared.store.Store.{Ghosts}
 use Rattle.sqlite.specs.Order.{Row}
 use Rattle.sqlite.specs.declared.error.Error.{Error}
 use Rattle.sqlite.specs.Held.{Held, state}
 use Rattle.sqlite.specs.State.{HasCleanDisk, Survives, IsUnchanged, Shown, FailsToQuery, IsTooLate}
-use Rattle.sqlite.proofs.InsideLemmas.{unchanged_keeps}
 use Rattle.dep_statements.proofs.Asked.{shown_keeps, shown_mode, asks_keep}
 use Rattle.dep_tables.specs.Clauses.{StaysWithin}
-use Rattle.dep_tables.proofs.Results.{if_ok}
+use Rattle.dep_tables.proofs.Results.{if_ok, ok_then}
 use Rattle.dep_schema.specs.Standing.{StaysOn}
 use Rattle.dep_schema.specs.declared.lending.Lent.{Lent}
 
 module _ {S : Type 0} (g : Ghosts S) (old new : MutBor (Held S)) (same_reference : new.ghost_name ≡ old.ghost_name) (survives : Survives (state g old.now) (state g new.now) (λ _. ⊥)) where
-  -- it has changed nothing
-  pub same_stays : {A E : Type 0} {r : Result A E} → (HasCleanDisk (state g new.now) → IsUnchanged (state g old.now) (state g new.now)) → StaysOn g old new r
-  same_stays {r = r} same = record {
-    same_reference = same_reference;
-    survives = survives;
-    inside = λ clean inside. if_ok r ((same clean).0.mode ∙ inside);
-    kept = λ clean inside. unchanged_keeps (state g old.now) (state g new.now) (inl (same clean));
-  }
-
   module _ (sql : List ℕ) (params : Row) where
     -- it has shown these rows
     pub shown_stays : (rows : List Row) {A E : Type 0} {r : Result A E} → (HasCleanDisk (state g new.now) → Shown sql params (state g old.now) (state g new.now) rows) → StaysOn g old new r
@@ -41,6 +31,17 @@ module _ {S : Type 0} (g : Ghosts S) (old new : MutBor (Held S)) (same_reference
       same_reference = same_reference;
       survives = survives;
       inside = λ clean inside. tt;
+      kept = λ clean inside. asks_keep sql params (state g old.now) (state g new.now) inside e (failed clean);
+    }
+
+    -- it has failed, which may be told as an answer where it has changed nothing
+    pub tells_stay : (e : Error) {A E : Type 0} {r : Result A E}
+        → (HasCleanDisk (state g new.now) → FailsToQuery sql params (state g old.now) (state g new.now) e ⊎ IsTooLate sql params (state g old.now) (state g new.now) e)
+        → (HasCleanDisk (state g new.now) → OnOk r (IsUnchanged (state g old.now) (state g new.now))) → StaysOn g old new r
+    tells_stay e {r = r} failed same = record {
+      same_reference = same_reference;
+      survives = survives;
+      inside = λ clean inside. ok_then r (same clean) (λ it. it.0.mode ∙ inside);
       kept = λ clean inside. asks_keep sql params (state g old.now) (state g new.now) inside e (failed clean);
     }
 

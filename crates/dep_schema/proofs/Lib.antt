@@ -3,6 +3,7 @@ pub mod Missing
 pub mod MadeTables
 pub mod BesideRows
 pub mod Version
+pub mod Refusing
 pub mod Again
 pub mod Transactions
 pub mod Prepared

@@ -22,9 +22,11 @@ use Rattle.sqlite_resolve.specs.Compile.{compiled, first, is_attached, with_comm
 use Rattle.dep_statements.specs.Adding.{Adds, AddsAll}
 use Rattle.dep_statements.proofs.Adding.{IsMaking, adds, adds_append}
 use Rattle.dep_tables.proofs.Chains.{Stays, clean_before, stays_then, stays_ok}
-use Rattle.dep_tables.specs.Clauses.{StaysWithin}
+use Rattle.dep_tables.specs.Clauses.{StaysWithin, FailsToRun}
+use Rattle.dep_types.specs.declared.store_fault.StoreFault.{StoreFault}
+use Rattle.dep_schema.specs.OpenFaults.{FailsToCreate}
 use Rattle.dep_tables.specs.Schema.{our_tables, format_table, state_table, objects_table, metadata_table, files_table, uploads_table, segments_table, timed_out_table, blocks_table}
-use Rattle.dep_schema.specs.Texts.{create_format_text, create_state_text, create_objects_text, create_metadata_text, create_files_text, create_uploads_text, create_segments_text, create_timed_out_text, create_blocks_text}
+use Rattle.dep_schema.specs.Texts.{create_texts, create_format_text, create_state_text, create_objects_text, create_metadata_text, create_files_text, create_uploads_text, create_segments_text, create_timed_out_text, create_blocks_text}
 
 -- what a schema has of a name: an object that is kept as it is, a table, a view, an index
 pub record Taken : Type 0 where
@@ -136,9 +138,6 @@ all_makings =
     (create_format_text, format_table) ∷ (create_state_text, state_table) ∷ (create_objects_text, objects_table) ∷ (create_metadata_text, metadata_table) ∷ (create_files_text, files_table)
     ∷ (create_uploads_text, uploads_table) ∷ (create_segments_text, segments_table) ∷ (create_timed_out_text, timed_out_table) ∷ (create_blocks_text, blocks_table) ∷ []
 
-abbrev create_texts : List (List ℕ)
-create_texts = map (λ (m : Making). m.0) all_makings
-
 abbrev MakeEach : List Making → Type 0
 MakeEach = AllByRecursion (λ (m : Making). MakesTable m.0 m.1)
 
@@ -196,6 +195,18 @@ module _ {T L : Type 0} (lenders : T → L) (state : T → State) (texts : List 
               (adds_append (take n our_tables) (get_or our_tables n format_table ∷ []) (state old).now (state mid).now (state new).now (made.adds before inside)
               ((state new).now, added, refl));
           stays = stays_ok (stays_then made.stays stays);
+        }
+
+    -- the next one is not, since its text failed
+    pub one_failed : (mid : T) (text : Bor (List ℕ)) (fault : StoreFault) → n < 9 → AreMadeTo lenders state texts n old mid → HasCleanDisk (state mid) → IsTrue (state old).in_transaction
+        → FailsToRun (get_or texts n text).now [] (state mid) (state new) fault → FailsToCreate state old new fault
+    one_failed mid text fault below made clean inside failed =
+        let count = simp length-map at (ap length made.texts_are) in
+        let is : (get_or texts n text).now ≡ get_or create_texts n [] = sym (get_or-map (λ t. t.now) texts n text [] (omega arith)) ∙ ap (λ ts. get_or ts n []) made.texts_are in
+        record {
+          at = mid;
+          since = made.stays.survives;
+          by = (n, below, made.adds clean inside, subst (λ t. FailsToRun t [] (state mid) (state new) fault) is failed);
         }
 
     -- no text is behind the ninth

@@ -32,26 +32,26 @@ use Rattle.dep_schema.proofs.Missing.{find_missing}
 use Rattle.dep_tables.specs.Tables.{tables_of, IsOurs}
 use Rattle.dep_tables.specs.Versions.{our_version, HasVersion}
 use Rattle.dep_schema.specs.Standing.{no_schema, Sees, Holds, IsBeside, GainsOurs, StandsBeside, CommitsBySchema, first_tables}
-use Rattle.dep_schema.specs.OpenFaults.{open_fault_for}
+use Rattle.dep_schema.specs.OpenFaults.{open_fault_for, AreOurVersion}
 use Rattle.dep_types.specs.declared.store_fault.StoreFault.{StoreFault}
 use Rattle.dep_types.specs.declared.store_fault.StoreFault.TheVariants.{Store, Memory}
 use Rattle.dep_schema.specs.declared.opening.OpenFault.{OpenFault}
 use Rattle.dep_schema.specs.declared.opening.OpenFault.TheVariants.{UnknownVersion}
 
-abbrev shows : List Term
+abbrev pub shows : List Term
 shows = col 1 0 ∷ col 1 2 ∷ []
 
-abbrev asked : Program
+abbrev pub asked : Program
 asked = plainly (one_table 0 [] shows [] no_limit)
 
-abbrev names : List (List ℕ)
+abbrev pub names : List (List ℕ)
 names = codes "id" ∷ codes "version" ∷ []
 
-find_is : (command_of (understood our_schema find_format_text) ≡ Select asked names) × (reads_listing our_schema find_format_text ≡ false)
+pub find_is : (command_of (understood our_schema find_format_text) ≡ Select asked names) × (reads_listing our_schema find_format_text ≡ false)
 unfolding understood everything
 find_is = (refl, refl)
 
-find_plain : IsPlain (understood our_schema find_format_text)
+pub find_plain : IsPlain (understood our_schema find_format_text)
 unfolding understood everything
 find_plain = (refl, refl)
 
@@ -74,10 +74,7 @@ finds_rows old new rows ours h =
     let picked = selected our_schema find_format_text [] old new ours.schema find_plain 0 [] shows [] no_limit names find_is.0 find_is.1 refl rows h in
     subst (λ xs. IsPermutation (map (shown_of [] shows) xs) rows) (all_pass [] (old.now.trees 0)) (in_any_order 0 [] shows [] [] (filter (passes [] []) (old.now.trees 0)) rows picked)
 
-abbrev pub IsKnown : List Row → Type 0
-IsKnown rows = (found : Row) × (rows ≡ found ∷ []) × (column found 0 ≡ Int (pos 1)) × (column found 1 ≡ Int (pos 1))
-
-known_told : (format rows : List Row) → IsPermutation (told format) rows → IsKnown rows → told format ≡ (Int (pos 1) ∷ Int (pos 1) ∷ []) ∷ []
+known_told : (format rows : List Row) → IsPermutation (told format) rows → AreOurVersion rows → told format ≡ (Int (pos 1) ∷ Int (pos 1) ∷ []) ∷ []
 known_told format rows same known =
     let one = one_permutation known.0 (told format) (IsPermutation-sym (told format) (known.0 ∷ []) (subst (IsPermutation (told format)) known.1 same)) in
     go format one
@@ -91,10 +88,10 @@ known_told format rows same known =
         λ i. (first i ∷ second i ∷ []) ∷ []
     go (r ∷ x ∷ more) e = absurd (cc)
 
-told_known : (format rows : List Row) → IsPermutation (told format) rows → told format ≡ (Int (pos 1) ∷ Int (pos 1) ∷ []) ∷ [] → IsKnown rows
+told_known : (format rows : List Row) → IsPermutation (told format) rows → told format ≡ (Int (pos 1) ∷ Int (pos 1) ∷ []) ∷ [] → AreOurVersion rows
 told_known format rows same is = (Int (pos 1) ∷ Int (pos 1) ∷ [], one_permutation (Int (pos 1) ∷ Int (pos 1) ∷ []) rows (subst (λ xs. IsPermutation xs rows) is same), refl, refl)
 
-pub found_version : (old new : State) (rows : List Row) → IsOurs old → Shown find_format_text [] old new rows → IsKnown rows ↔ HasVersion our_version (tables_of old)
+pub found_version : (old new : State) (rows : List Row) → IsOurs old → Shown find_format_text [] old new rows → AreOurVersion rows ↔ HasVersion our_version (tables_of old)
 found_version old new rows ours h = (known_told (tables_of old).format rows (finds_rows old new rows ours h), told_known (tables_of old).format rows (finds_rows old new rows ours h))
 
 pub find_stays : (old new : State) (rows : List Row) → IsOurs old → Shown find_format_text [] old new rows → IsUnchanged old new

@@ -1,9 +1,143 @@
--- The fault of an open that stands for a fault of the store.
+-- Why a database is not opened: by what the query for its version shows, or by a statement that fails.
+use Rattle.std.specs.Prelude.{◌≡◌, ◌≢◌, ◌⊎◌, ◌<◌, ℕ, pos, List, [], ◌∷◌, Bool, true, false, Result, Ok, Err, IsSome, take, length, slice_index_or}
+use Rattle.sqlite.specs.Order.{Row, column}
+use Rattle.sqlite.specs.declared.types.Value.TheVariants.{Int}
+use Rattle.sqlite.specs.declared.error.Error.{Error}
+use Rattle.sqlite.specs.declared.error.Error.TheVariants.{SqlInputError}
+use Rattle.sqlite.specs.State.{State, Shown, FailsToQuery, IsTooLate, Fails, HasCause, ExecutesInside, store_error}
+use Rattle.sqlite.specs.Held.{Held, state}
+use Rattle.sqlite_trees.specs.declared.store.Store.{Ghosts}
+use Rattle.sqlite_trees.specs.declared.error.StoreError.{StoreError}
+use Rattle.sqlite_resolve.specs.declared.error.CompileError.{CompileError}
+use Rattle.sqlite_resolve.specs.declared.error.CompileError.TheVariants.{NoSuchTable}
+use Rattle.dep_statements.specs.Adding.{AddsAll}
 use Rattle.dep_types.specs.declared.store_fault.StoreFault.{StoreFault}
 use Rattle.dep_types.specs.declared.store_fault.StoreFault.TheVariants as store
+use Rattle.dep_staging.specs.Causes.{FailsSince}
+use Rattle.dep_tables.specs.Clauses.{CommitsNothing, FailsToRun}
+use Rattle.dep_tables.specs.Faults.{fault_for}
+use Rattle.dep_tables.specs.Schema.{our_tables}
+use Rattle.dep_tables.specs.Tables.{tables_of}
+use Rattle.dep_tables.specs.Versions.{our_version, HasVersion}
+use Rattle.dep_schema.specs.Texts.{create_texts, find_format_text, add_format_text, add_state_text}
 use Rattle.dep_schema.specs.declared.opening.OpenFault.{OpenFault}
 use Rattle.dep_schema.specs.declared.opening.OpenFault.TheVariants as open_fault
 
 abbrev pub open_fault_for : StoreFault → OpenFault
 open_fault_for store.Store = open_fault.Store
 open_fault_for store.Memory = open_fault.Memory
+
+abbrev pub open_fault_number : OpenFault → ℕ
+open_fault_number open_fault.UnknownVersion = 1
+open_fault_number open_fault.Store = 2
+open_fault_number open_fault.Memory = 3
+
+-- the fault tells this error of SQLite
+abbrev pub TellsError : Error → OpenFault → Type 0
+TellsError e fault = fault ≡ open_fault_for (fault_for e)
+
+-- what an error of the query for the version comes to: there is no `format`, or it has no such columns;
+-- and else SQLite failed
+abbrev pub told_by : Error → Result Bool OpenFault
+told_by (SqlInputError NoSuchTable) = Ok false
+told_by (SqlInputError _) = Err open_fault.UnknownVersion
+told_by e = Err (open_fault_for (fault_for e))
+
+-- what the query for the version shows of our version: just one row, of id 1 and version 1
+abbrev pub AreOurVersion : List Row → Type 0
+AreOurVersion rows = (found : Row) × (rows ≡ found ∷ [])
+    × (column found 0 ≡ Int (pos 1)) × (column found 1 ≡ Int (pos 1))
+
+module _ (old new : State) where
+  -- the query for the version shows ours
+  abbrev pub ShowsOurs : Type 0
+  ShowsOurs = (rows : List Row) × Shown find_format_text [] old new rows × AreOurVersion rows
+
+  -- it fails with this error
+  abbrev pub FailsToTell : Error → Type 0
+  FailsToTell e = FailsToQuery find_format_text [] old new e ⊎ IsTooLate find_format_text [] old new e
+
+  -- there is no `format`
+  abbrev pub ShowsNone : Type 0
+  ShowsNone = FailsToTell (SqlInputError NoSuchTable)
+
+  -- it shows something else, or can't be asked of the `format` that is there
+  abbrev pub ShowsOther : Type 0
+  ShowsOther =
+      ((rows : List Row) × Shown find_format_text [] old new rows × (AreOurVersion rows → ⊥))
+      ⊎ ((why : CompileError) × FailsToTell (SqlInputError why) × (why ≢ NoSuchTable))
+
+  -- it fails otherwise than by its text
+  abbrev pub FailsOtherwise : OpenFault → Type 0
+  FailsOtherwise fault = (e : Error) × FailsToTell e
+      × ((why : CompileError) → e ≢ SqlInputError why) × TellsError e fault
+
+  -- why the query for the version opens nothing
+  abbrev pub FailsToFind : OpenFault → Type 0
+  FailsToFind fault = ((fault ≡ open_fault.UnknownVersion) × ShowsOther) ⊎ FailsOtherwise fault
+
+  -- SQLite gave out: memory was refused, a fault of the disk was counted, or the store was shut; or the
+  -- query for the version was stopped at its limit of steps
+  abbrev pub GivesOut : OpenFault → Type 0
+  GivesOut fault =
+      ((cause : StoreError) × HasCause old new ⊥ cause × TellsError (store_error cause) fault)
+      ⊎ ((fault ≡ open_fault.Store) × IsSome old.step_limit)
+
+  -- why a database with our schema is not opened: its version is another, and else SQLite gave out
+  abbrev pub RefusesOurs : OpenFault → Type 0
+  RefusesOurs fault =
+      ((fault ≡ open_fault.UnknownVersion) × (HasVersion our_version (tables_of old) → ⊥))
+      ⊎ GivesOut fault
+
+module _ {T : Type 0} (state : T → State) (old new : T) where
+  -- one of the texts that make the tables failed, once those before it had made theirs
+  abbrev pub FailsToCreate : StoreFault → Type 0
+  FailsToCreate = FailsSince state (λ at now fault. (made : ℕ) × (made < length create_texts)
+      × AddsAll (take made our_tables) (state old).now at.now
+      × FailsToRun (slice_index_or create_texts made []) [] at now fault) old new
+
+  -- the row of the version could not be added, or behind it that of the state
+  abbrev pub FailsToAddRows : StoreFault → Type 0
+  FailsToAddRows fault =
+      FailsToRun add_format_text [] (state old) (state new) fault
+      ⊎ FailsSince state (λ at now fault.
+      ((count : ℕ) × ExecutesInside 0 add_format_text [] (state old) at (Ok count))
+      × FailsToRun add_state_text [] at now fault) old new fault
+
+module _ {T : Type 0} (state : T → State) (old new : T) where
+  -- why no tables are made: a statement failed, as where a name is taken
+  abbrev pub FailsToMake : StoreFault → Type 0
+  FailsToMake fault =
+      FailsToCreate state old new fault
+      ⊎ ((made : T) × AddsAll our_tables (state old).now (state made).now
+      × CommitsNothing (state old) (state made) × FailsToAddRows state made new fault)
+
+-- ---- over a connection, from the beginning of the transaction on
+
+module _ {S : Type 0} (g : Ghosts S) (old new : Held S) where
+  -- why no tables are found or made
+  abbrev pub FailsToFindOrMake : OpenFault → Type 0
+  FailsToFindOrMake fault =
+      FailsToFind (state g old) (state g new) fault
+      ⊎ ((asked : Held S) × (told : StoreFault) × ShowsNone (state g old) (state g asked)
+      × CommitsNothing (state g old) (state g asked) × FailsToMake (state g) asked new told
+      × (fault ≡ open_fault_for told))
+
+abbrev pub begun : {S : Type 0} → Held S → Held S
+begun h = record h { in_transaction = true }
+
+module _ {S : Type 0} (g : Ghosts S) (old new : Held S) where
+  -- why an open fails: no tables are found or made, and its transaction is given up; or the store
+  -- failed to commit it
+  abbrev pub FailsToOpen : OpenFault → Type 0
+  FailsToOpen fault =
+      ((last : Held S) × FailsToFindOrMake g (begun old) last fault
+      × CommitsNothing (state g last) (state g new))
+      ⊎ ((last : Held S) × (e : Error) × CommitsNothing (state g old) (state g last)
+      × Fails (state g last) (state g new) ⊥ e × TellsError e fault)
+
+module _ {S : Type 0} (g : Ghosts S) (old : Held S) where
+  -- why tables may be found or made: our version is shown, or there is no `format`
+  abbrev pub ShowsOursOrNone : Type 0
+  ShowsOursOrNone = (asked : Held S)
+      × (ShowsOurs (state g old) (state g asked) ⊎ ShowsNone (state g old) (state g asked))

@@ -1,5 +1,5 @@
 -- The texts that make the tables and look for their version.
-use Rattle.std.specs.Prelude.{ℕ, List, codes}
+use Rattle.std.specs.Prelude.{ℕ, List, [], ◌∷◌, codes}
 
 abbrev pub create_format_text : List ℕ
 create_format_text = codes "CREATE TABLE format (id INTEGER PRIMARY KEY, version INTEGER NOT NULL) STRICT"
@@ -27,6 +27,12 @@ create_timed_out_text = codes "CREATE TABLE timed_out (upload INTEGER PRIMARY KE
 
 abbrev pub create_blocks_text : List ℕ
 create_blocks_text = codes "CREATE TABLE blocks (kind INTEGER NOT NULL, owner INTEGER NOT NULL, part INTEGER NOT NULL, place INTEGER NOT NULL, bytes BLOB NOT NULL, PRIMARY KEY (kind, owner, part, place)) STRICT"
+
+-- the texts that make the tables, in the order of their trees
+abbrev pub create_texts : List (List ℕ)
+create_texts =
+    create_format_text ∷ create_state_text ∷ create_objects_text ∷ create_metadata_text ∷ create_files_text
+    ∷ create_uploads_text ∷ create_segments_text ∷ create_timed_out_text ∷ create_blocks_text ∷ []
 
 abbrev pub add_format_text : List ℕ
 add_format_text = codes "INSERT INTO format (id, version) VALUES (1, 1)"

@@ -1,15 +1,17 @@
 //! The tables of a new store, and their first rows, beside what is there.
 
-ghost use Rattle.std.specs.Prelude.{◌≡◌, ◌∷◌, [], IsTrue, OnOk};
-ghost use Rattle.sqlite.specs.State.{HasCleanDisk};
+ghost use Rattle.std.specs.Prelude.{◌≡◌, ℕ, [], IsTrue, OnOk, IfErr};
+ghost use Rattle.sqlite.specs.State.{HasCleanDisk, ExecutesInside};
 ghost use Rattle.sqlite.specs.Schema.{Schema};
 ghost use Rattle.sqlite.specs.Effect.{Database};
 ghost use Rattle.sqlite_catalog.specs.Change.{created, next_tree};
 ghost use Rattle.dep_statements.specs.Adding.{AddsAll, Puts};
 ghost use Rattle.dep_tables.specs.Schema.{our_tables, format_table};
 ghost use Rattle.dep_tables.specs.Rows.{stored_format, stored_state};
-ghost use Rattle.dep_tables.specs.Clauses.{StaysWithin};
+ghost use Rattle.dep_tables.specs.Clauses.{StaysWithin, FailsToRun};
 ghost use Rattle.dep_schema.specs.Beside.{AreFree, with_ours};
+ghost use Rattle.dep_schema.specs.OpenFaults.{FailsToCreate, FailsToAddRows, FailsToMake};
+ghost use Rattle.dep_schema.specs.Texts.{add_format_text, add_state_text};
 ghost use Rattle.dep_tables.specs.Versions.{our_version};
 ghost use Rattle.dep_schema.specs.Standing.{Turns, Sees, GainsOurs, no_schema, first_tables, first_state};
 
@@ -46,6 +48,11 @@ fn add_format<T: Statements>(tx: &mut T) -> Result<(), StoreFault>
         → (T.state tx.old).now.schema ≡ with_ours others
         → OnOk result (Puts (next_tree others) (stored_format our_version)
         (T.state tx.old).now (T.state tx.new).now) }
+    ensures ran { HasCleanDisk (T.state tx.new) → IsTrue (T.state tx.old).in_transaction
+        → OnOk result ((count : ℕ) × ExecutesInside 0 add_format_text [] (T.state tx.old) (T.state tx.new)
+        (Ok count)) }
+    ensures cause { HasCleanDisk (T.state tx.new) → IsTrue (T.state tx.old).in_transaction
+        → IfErr result (FailsToRun add_format_text [] (T.state tx.old) (T.state tx.new)) }
     ensures stays { StaysWithin T.lenders T.state tx.old tx.new result }
 {
     tx.run("INSERT INTO format (id, version) VALUES (1, 1)", &[])
@@ -59,6 +66,8 @@ fn add_state<T: Statements>(tx: &mut T) -> Result<(), StoreFault>
         → (T.state tx.old).now.schema ≡ with_ours others
         → OnOk result (Puts (next_tree (created others format_table)) (stored_state first_state)
         (T.state tx.old).now (T.state tx.new).now) }
+    ensures cause { HasCleanDisk (T.state tx.new) → IsTrue (T.state tx.old).in_transaction
+        → IfErr result (FailsToRun add_state_text [] (T.state tx.old) (T.state tx.new)) }
     ensures stays { StaysWithin T.lenders T.state tx.old tx.new result }
 {
     tx.run(
@@ -70,6 +79,8 @@ fn add_state<T: Statements>(tx: &mut T) -> Result<(), StoreFault>
 /// All tables, one after another.
 fn create_tables<T: Statements>(tx: &mut T) -> Result<(), StoreFault>
     ensures adds { Turns (T.state tx.old) (T.state tx.new) result (AddsAll our_tables) }
+    ensures cause { HasCleanDisk (T.state tx.new) → IsTrue (T.state tx.old).in_transaction
+        → IfErr result (FailsToCreate T.state tx.old tx.new) }
     ensures stays { StaysWithin T.lenders T.state tx.old tx.new result }
 {
     for text in &TABLES {
@@ -88,6 +99,8 @@ fn add_rows<T: Statements>(tx: &mut T) -> Result<(), StoreFault>
         × Puts (next_tree others) (stored_format our_version) (T.state tx.old).now next
         × Puts (next_tree (created others format_table)) (stored_state first_state) next
         (T.state tx.new).now) }
+    ensures cause { HasCleanDisk (T.state tx.new) → IsTrue (T.state tx.old).in_transaction
+        → IfErr result (FailsToAddRows T.state tx.old tx.new) }
     ensures stays { StaysWithin T.lenders T.state tx.old tx.new result }
 {
     add_format(tx)?;
@@ -101,6 +114,8 @@ pub(crate) fn make_tables<T: Statements>(tx: &mut T) -> Result<(), StoreFault>
         → (T.state tx.old).now.schema ≡ no_schema
         → OnOk result (Sees (T.state tx.new) first_tables) }
     ensures gains { Turns (T.state tx.old) (T.state tx.new) result GainsOurs }
+    ensures cause { HasCleanDisk (T.state tx.new) → IsTrue (T.state tx.old).in_transaction
+        → IfErr result (FailsToMake T.state tx.old tx.new) }
     ensures stays { StaysWithin T.lenders T.state tx.old tx.new result }
 {
     create_tables(tx)?;

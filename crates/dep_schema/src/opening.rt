@@ -1,6 +1,6 @@
 //! Opening a database of the store.
 
-ghost use Rattle.std.specs.Prelude.{◌≡◌, ◌≢◌, ◌⊎◌, false, ◌↔◌, pos, ◌∷◌, [], IsTrue, IfOk, IfErr, OnOk, OnErr, MatchResult, Err};
+ghost use Rattle.std.specs.Prelude.{◌≡◌, ◌≢◌, ◌⊎◌, false, ◌↔◌, pos, IsTrue, IfOk, IfErr, OnOk, OnErr, MatchResult, MatchBool, Err};
 ghost use Rattle.sqlite.specs.declared.types.Value.TheVariants.{Int};
 ghost use Rattle.sqlite.specs.Order.{column};
 ghost use Rattle.sqlite.specs.State.{HasCleanDisk, IsUnchanged, Survives};
@@ -10,6 +10,7 @@ ghost use Rattle.dep_tables.specs.Versions.{our_version, HasVersion};
 ghost use Rattle.dep_schema.specs.Standing.{no_schema, Holds, HoldsNone, Sees, Stands, IsOpenable, CommitsBySchema, CommitsOpen, IsBack, HasOtherVersion, GainsOurs, StandsBeside, StaysOn, first_tables};
 ghost use Rattle.dep_statements.specs.Adding.{HasCounters};
 ghost use Rattle.dep_schema.specs.Beside.{LacksFormat, AreFree};
+ghost use Rattle.dep_schema.specs.OpenFaults.{open_fault_number, told_by, AreOurVersion, ShowsOurs, ShowsNone, FailsToFind, ShowsOursOrNone, FailsToFindOrMake, begun, FailsToOpen, RefusesOurs};
 
 use crate::lending::Lent;
 use crate::making::make_tables;
@@ -45,6 +46,19 @@ impl From<StoreFault> for OpenFault {
     }
 }
 
+impl OpenFault {
+    /// The number of the fault: 1, 2 or 3.
+    pub fn number(self) -> u8
+        ensures { result ≡ open_fault_number self }
+    {
+        match self {
+            OpenFault::UnknownVersion => 1,
+            OpenFault::Store => 2,
+            OpenFault::Memory => 3,
+        }
+    }
+}
+
 impl fmt::Display for OpenFault {
     fn fmt<W: fmt::Write>(&self, f: &mut fmt::Formatter<W>) -> fmt::Result {
         match self {
@@ -73,9 +87,7 @@ fn is_known(row: &Row) -> bool
 
 /// Whether it is the one row of id 1 and version 1.
 fn are_known(rows: &[Row]) -> bool
-    ensures { IsTrue result
-        ↔ ((found : _) × (rows.now ≡ found ∷ []) × (column found 0 ≡ Int (pos 1))
-        × (column found 1 ≡ Int (pos 1))) }
+    ensures { IsTrue result ↔ AreOurVersion rows.now }
 {
     match rows {
         [row] => is_known(row),
@@ -83,11 +95,15 @@ fn are_known(rows: &[Row]) -> bool
     }
 }
 
-/// Whether the text names a table that is not there.
-fn is_missing(fault: &CompileError) -> bool
-    ensures { IsTrue result ↔ fault.now ≡ CompileError.NoSuchTable }
+/// What an error of the query for the version comes to: that no table `format` is there, or a fault.
+fn told_by(error: Error) -> Result<bool, OpenFault>
+    ensures { result ≡ told_by error }
 {
-    matches!(fault, CompileError::NoSuchTable)
+    match error {
+        Error::SqlInputError(CompileError::NoSuchTable) => Ok(false),
+        Error::SqlInputError(_) => Err(OpenFault::UnknownVersion),
+        other => Err(OpenFault::from(fault_of(other))),
+    }
 }
 
 /// Whether there is a table `format`, which then has to tell version 1.
@@ -110,6 +126,11 @@ fn find_format<S: Alter>(tx: &mut Transaction<'_, S>) -> Result<bool, OpenFault>
     ensures left { HasCleanDisk (state S.Store tx.new.conn.now)
         → LacksFormat (state S.Store tx.old.conn.now).now.schema
         → OnOk result (IsUnchanged (state S.Store tx.old.conn.now) (state S.Store tx.new.conn.now)) }
+    ensures told { HasCleanDisk (state S.Store tx.new.conn.now) → MatchResult result
+        (λ found. MatchBool found
+        (ShowsOurs (state S.Store tx.old.conn.now) (state S.Store tx.new.conn.now))
+        (ShowsNone (state S.Store tx.old.conn.now) (state S.Store tx.new.conn.now)))
+        (FailsToFind (state S.Store tx.old.conn.now) (state S.Store tx.new.conn.now)) }
     ensures stays { StaysOn S.Store tx.old.conn tx.new.conn result }
 {
     match tx.query_all("SELECT id, version FROM format", &[]) {
@@ -120,14 +141,7 @@ fn find_format<S: Alter>(tx: &mut Transaction<'_, S>) -> Result<bool, OpenFault>
                 Err(OpenFault::UnknownVersion)
             }
         }
-        Err(Error::SqlInputError(fault)) => {
-            if is_missing(&fault) {
-                Ok(false)
-            } else {
-                Err(OpenFault::UnknownVersion)
-            }
-        }
-        Err(error) => Err(OpenFault::from(fault_of(error))),
+        Err(error) => told_by(error),
     }
 }
 
@@ -151,6 +165,10 @@ fn find_or_make<S: Alter>(tx: &mut Transaction<'_, S>) -> Result<(), OpenFault>
     ensures lacking { HasCleanDisk (state S.Store tx.new.conn.now)
         → result ≡ Err OpenFault.UnknownVersion
         → LacksFormat (state S.Store tx.old.conn.now).now.schema → ⊥ }
+    ensures told { HasCleanDisk (state S.Store tx.new.conn.now)
+        → IsTrue (state S.Store tx.old.conn.now).in_transaction
+        → MatchResult result (λ _. ShowsOursOrNone S.Store tx.old.conn.now)
+        (FailsToFindOrMake S.Store tx.old.conn.now tx.new.conn.now) }
     ensures stays { StaysOn S.Store tx.old.conn tx.new.conn result }
 {
     if find_format(tx)? {
@@ -176,6 +194,13 @@ fn prepare<S: Alter>(connection: &mut Connection<S>) -> Result<(), OpenFault>
     ensures lacking { HasCleanDisk (state S.Store connection.new)
         → result ≡ Err OpenFault.UnknownVersion
         → LacksFormat (state S.Store connection.old).now.schema → ⊥ }
+    ensures told { HasCleanDisk (state S.Store connection.new)
+        → MatchResult result (λ _. ShowsOursOrNone S.Store (begun connection.old))
+        (FailsToOpen S.Store connection.old connection.new) }
+    ensures ours { HasCleanDisk (state S.Store connection.new)
+        → IsOurs (state S.Store connection.old)
+        → IfErr result
+        (RefusesOurs (state S.Store connection.old) (state S.Store connection.new)) }
     ensures free { HasCleanDisk (state S.Store connection.new)
         → LacksFormat (state S.Store connection.old).now.schema
         → OnOk result (AreFree (state S.Store connection.old).now.schema) }
@@ -224,6 +249,15 @@ pub fn open<S: Alter>(
         → StandsBeside (state S.Store connection) (state S.Store schema.connection)) }
     ensures version { IfErr result (λ e. HasCleanDisk (state S.Store e.1)
         → e.0 ≡ OpenFault.UnknownVersion → IsOpenable (state S.Store connection) → ⊥) }
+    // A fault has a cause, and an Ok has one: a database is opened only by our version or for want of `format`.
+    ensures told { MatchResult result
+        (λ schema. HasCleanDisk (state S.Store schema.connection)
+        → ShowsOursOrNone S.Store (begun connection))
+        (λ e. HasCleanDisk (state S.Store e.1) → FailsToOpen S.Store connection e.1 e.0) }
+    // Our tables with another version are refused by that fault, unless SQLite gave out.
+    ensures ours { IfErr result (λ e. HasCleanDisk (state S.Store e.1)
+        → IsOurs (state S.Store connection)
+        → RefusesOurs (state S.Store connection) (state S.Store e.1) e.0) }
     ensures left { IfErr result (λ e. HasCleanDisk (state S.Store e.1)
         → IsTrue (state S.Store e.1).is_open → IsBack (state S.Store connection) (state S.Store e.1)) }
     // No open opens a store that was shut.

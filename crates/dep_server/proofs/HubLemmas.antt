@@ -1,9 +1,9 @@
 -- What a hub stands for, after each of its calls.
-use Rattle.std.proofs.Common.{◌≡◌, ◌≢◌, ◌⊎◌, ℕ, ◌==◌, Bool, true, false, List, [], ◌∷◌, ◌++◌, get_or, set, Option, Some, None, if◌then◌else◌, IsTrue, refl, sym, ap, subst, ◌∙◌, arith, inl, inr}
+use Rattle.std.proofs.Common.{◌≡◌, ◌≢◌, ◌⊎◌, ℕ, ◌==◌, Bool, true, false, List, [], ◌∷◌, ◌++◌, get_or, set, Option, Some, None, if◌then◌else◌, IsTrue, refl, sym, ap, subst, ◌∙◌, append_assoc, arith, inl, inr}
 use Rattle.std.specs.Io.KnownBytes.{Keeps}
 use Rattle.std.specs.Prelude.{IsSome}
 use Rattle.std.proofs.lemmas.Bool.{eqb-true, eq-eqb}
-use Rattle.dep_types.specs.State.{State}
+use Rattle.dep_types.specs.State.{State, empty_state}
 use Rattle.dep_types.specs.Writing.{HasRisen}
 use Rattle.dep_types.specs.declared.config.Config.{Config}
 use Rattle.dep_head.specs.Head.{head_end}
@@ -11,13 +11,14 @@ use Rattle.dep_message.specs.Places.{Place, Open, Shut, Reading, IsOpen, HasByte
 use Rattle.dep_message.specs.Stream.{Item, Reads, Waits}
 use Rattle.dep_message.proofs.Reading.{reads_more, reads_append}
 use Rattle.dep_types.specs.Conditions.{Condition, StandsFor, Leaves}
-use Rattle.dep_server.specs.Machine.{Serves, serves_all, step_fails, gives_up, answer_at_place}
+use Rattle.dep_server.specs.Machine.{Serves, serves_all, step_fails, gives_up, given_up, cut_short, answer_at_place}
 use Rattle.dep_server.specs.Stops.{LeftByServing}
-use Rattle.dep_server.specs.Records.{Event, Connect, Arrive, Close, Record, stopped, Line, Absent, Live, ShutLine, World, first_world, with_line, line_after, ReadsBeyond, Arrives, at_live, at_shut_line, LeftByArrival, connects, closes, arrives, Run, goes_on, stops, breaks}
+use Rattle.dep_server.specs.Records.{Event, Connect, Arrive, Close, Record, stopped, Line, Absent, Live, ShutLine, World, first_world, with_line, line_after, ReadsBeyond, Arrives, at_live, at_shut_line, LeftByArrival, MayShut, connects, closes, arrives, Run, goes_on, stops, breaks}
 use Rattle.dep_server.specs.Causes.{EndsInContent, IsCutWhileStreaming}
 use Rattle.dep_server.specs.Sending.{Outside, outside}
-use Rattle.dep_server.specs.Serving.{arrival_of, ServesFrom, ServesOver}
-use Rattle.dep_server.specs.Standing.{intake_of, KeepsRest, IsKeptAs, StandsAt, StandsAfter, StopsAfter, Adds, Moves, ArrivesTo, ArrivesOver, ComesTo, store_of, IsClean, IsHonest}
+use Rattle.dep_server.specs.Serving.{IsDeadIfShut, arrival_of, ServesFrom, ServesOver}
+use Rattle.dep_server.specs.Standing.{intake_of, KeepsRest, IsKeptAs, StandsAt, StandsAfter, StopsAfter, Adds, Moves, ArrivesTo, ArrivesShut, ArrivesOver, ComesTo, store_of, IsClean, IsHonest}
+use Rattle.dep_server.specs.Shut.{IfShut}
 use Rattle.dep_server.specs.Numbers.{index_of, Ascends, Ascends-prop}
 use Rattle.dep_server.specs.declared.arrived.Arrived.{Arrived}
 use Rattle.dep_server.specs.declared.arrived.Arrived.TheVariants.{Open as StaysOpen, Closed, Cut, NoSuch}
@@ -41,7 +42,7 @@ kept_put limit n line lines o old new k ks e m =
     (kept_if limit (m == n) line (lines m) o (intake_of old m) k (ks m))
 
 -- a fresh connection
-pub kept_fresh : (limit : ℕ) → KeepsRest limit [] (record { limit = limit; place = Open false [] })
+pub kept_fresh : (limit : ℕ) → KeepsRest limit [] (record { limit = limit; place = Open false []; is_dead = false })
 unfolding head_end
 kept_fresh limit = record { items = []; same_limit = refl; spells = record { reads = refl; waits = inl (refl, omega arith) }; is_open = tt }
 
@@ -75,6 +76,11 @@ serves_rest : {config : Config} {s left : State} {moment : ℕ} {sent : List ℕ
 serves_rest p (serves_all items r w) o = (items, r, w)
 serves_rest p (step_fails items item at r x) o = absurd o
 serves_rest p (gives_up items at r b x) o = absurd o
+
+-- what is open is not shut
+open_shut : (at : Place) → IsOpen at → at ≡ Shut → ⊥
+open_shut (Open continued rest) o e = cc
+open_shut Shut o e = o
 
 -- nothing is read behind an end
 ends_read : (limit : ℕ) (items : List Item) (item : Item) (at : Place) → Reads limit Shut (items ++ item ∷ []) at → ⊥
@@ -126,36 +132,37 @@ pub record NextLine (config : Config) (piece : List ℕ) (moment : ℕ) (line : 
   pub stop : Leaves new.store (LeftByArrival arrival)
   pub cause : answer ≡ Cut → HasRisen old.failures new.failures ⊎ IsCutWhileStreaming arrival
 
-after_live : (config : Config) (stream piece : List ℕ) (s left : State) (moment : ℕ) (sent : List ℕ) (at : Place) (answer : Arrived) (now : ℕ) → now ≡ config.max_upload
-    → Serves config (ReadsBeyond config.max_upload stream piece) s moment sent left at answer → IsKeptAs config.max_upload (line_after (stream ++ piece) at) (Some (record { limit = now; place = at }))
-after_live config stream piece s left moment sent (Open continued rest) answer now l v =
+after_live : (config : Config) (stream piece : List ℕ) (s left : State) (moment : ℕ) (sent : List ℕ) (at : Place) (answer : Arrived) (now : ℕ) (is_dead : Bool) → now ≡ config.max_upload → (at ≡ Shut → is_dead ≡ true)
+    → Serves config (ReadsBeyond config.max_upload stream piece) s moment sent left at answer → IsKeptAs config.max_upload (line_after (stream ++ piece) at) (Some (record { limit = now; place = at; is_dead = is_dead }))
+after_live config stream piece s left moment sent (Open continued rest) answer now is_dead l d v =
     let r = serves_rest (ReadsBeyond config.max_upload stream piece) v tt in
     record { items = r.1.0 ++ r.0; same_limit = l; spells = record { reads = r.1.3; waits = r.2 }; is_open = tt }
-after_live config stream piece s left moment sent Shut answer now l v = record { same_limit = l; shut = refl }
+after_live config stream piece s left moment sent Shut answer now is_dead l d v = record { same_limit = l; shut = refl; dead = d refl }
 
-ended_next : (config : Config) (piece : List ℕ) (moment : ℕ) (old new : Outside) (limit : ℕ) {s left : State} {sent : List ℕ} {at : Place} {answer : Arrived}
-    → limit ≡ config.max_upload → Nothing s sent left at answer → (IsTrue new.store.is_open → StandsFor new.store left) → Leaves new.store (λ found. found ≡ s)
-    → NextLine config piece moment ShutLine s sent old new (record { limit = limit; place = at }) answer
-ended_next config piece moment old new limit same nothing stands stop = record {
+ended_next : (config : Config) (piece : List ℕ) (moment : ℕ) (old new : Outside) (limit : ℕ) (is_dead : Bool) {s left : State} {sent : List ℕ} {at : Place} {answer : Arrived}
+    → limit ≡ config.max_upload → (at ≡ Shut → is_dead ≡ true) → Nothing s sent left at answer → (IsTrue new.store.is_open → StandsFor new.store left) → Leaves new.store (λ found. found ≡ s)
+    → NextLine config piece moment ShutLine s sent old new (record { limit = limit; place = at; is_dead = is_dead }) answer
+ended_next config piece moment old new limit is_dead same dead nothing stands stop = record {
   left = _;
   becomes = ShutLine;
   arrival = at_shut_line;
   stands = stands;
   stays_clean = λ e. cc;
-  kept = record { same_limit = same; shut = refl };
+  kept = record { same_limit = same; shut = refl; dead = dead refl };
   stop = stop;
   cause = λ e. cc;
 }
 
 -- an arrival at a line, by what is kept of it
 pub arrival : (config : Config) (piece : List ℕ) (moment : ℕ) (line : Line) (s : State) (sent : List ℕ) (before after : Outside) (old new : Reading) (answer : Arrived)
-    → new.limit ≡ old.limit
+    → new.limit ≡ old.limit → (IsDeadIfShut old → IsDeadIfShut new)
     → IsKeptAs config.max_upload line (Some old)
-    → (old.limit ≡ config.max_upload → ServesFrom config (arrival_of old piece moment) s sent before after new.place answer)
+    → (old.limit ≡ config.max_upload → IsDeadIfShut old → ServesFrom config (arrival_of old piece moment) s sent before after new.place answer)
     → NextLine config piece moment line s sent before after new answer
-arrival config piece moment Absent s sent before after old new answer m k v = absurd k
-arrival config piece moment (Live stream) s sent before after old new answer m k v =
-    let t = v k.same_limit in
+arrival config piece moment Absent s sent before after old new answer m d k v = absurd k
+arrival config piece moment (Live stream) s sent before after old new answer m d k v =
+    let dead : IsDeadIfShut old = λ shut. absurd (open_shut old.place k.is_open shut) in
+    let t = v k.same_limit dead in
     let Given : List Item → Place → Type 0 = λ items at. Reads old.limit (place_with old.place piece) items at in
     let Beyond : List Item → Place → Type 0 = ReadsBeyond config.max_upload stream piece in
     let f : (items : List Item) (at : Place) → Given items at → Beyond items at =
@@ -167,19 +174,81 @@ arrival config piece moment (Live stream) s sent before after old new answer m k
       arrival = at_live w;
       stands = t.stands;
       stays_clean = t.stays_clean;
-      kept = after_live config stream piece s t.left moment sent new.place answer new.limit (m ∙ k.same_limit) w;
+      kept = after_live config stream piece s t.left moment sent new.place answer new.limit new.is_dead (m ∙ k.same_limit) (d dead) w;
       stop = leaves_wider after.store _ _ (λ c h. left_map Given Beyond f t.serves c h) t.stop;
       cause = λ e. elim (t.cause e) [ inl risen ↦ inl risen | inr content ↦ inr (content_map Given Beyond f t.serves content) ];
     }
-arrival config piece moment ShutLine s sent before after old new answer m k v =
-    let t = v k.same_limit in
+arrival config piece moment ShutLine s sent before after old new answer m d k v =
+    let dead : IsDeadIfShut old = λ _. k.dead in
+    let t = v k.same_limit dead in
     let Given : List Item → Place → Type 0 = λ items at. Reads old.limit (place_with old.place piece) items at in
     let AtEnd : List Item → Place → Type 0 = λ items at. Reads old.limit Shut items at in
     let f : (items : List Item) (at : Place) → Given items at → AtEnd items at =
     λ items at r. subst (λ p. Reads old.limit (place_with p piece) items at) k.shut r in
     let w : Serves config AtEnd s moment sent t.left new.place answer = serves_map Given AtEnd f t.serves in
-    ended_next config piece moment before after new.limit (m ∙ k.same_limit) (serves_ended old.limit w) t.stands
+    ended_next config piece moment before after new.limit new.is_dead (m ∙ k.same_limit) (d dead) (serves_ended old.limit w) t.stands
     (leaves_wider after.store _ _ (λ c h. ended_left old.limit w c (left_map Given AtEnd f t.serves c h)) t.stop)
+
+-- an arrival that the machine answers from any state, and stays at it
+pub record StillLine (config : Config) (piece : List ℕ) (moment : ℕ) (line : Line) (sent : List ℕ) (reading : Reading) (answer : Arrived) : Type 0 where
+  pub becomes : Line
+  pub arrival : (s : State) → Arrives config piece moment line s sent s becomes answer
+  pub kept : IsKeptAs config.max_upload becomes (Some reading)
+
+ended_still : (config : Config) (piece : List ℕ) (moment : ℕ) {s left : State} {sent : List ℕ} {at : Place} {answer : Arrived}
+    → Nothing s sent left at answer → (at ≡ Shut) × ((t : State) → Arrives config piece moment ShutLine t sent t ShutLine answer)
+ended_still config piece moment nothing = (refl, λ t. at_shut_line)
+
+pub still_arrival : (config : Config) (piece : List ℕ) (moment : ℕ) (line : Line) (sent : List ℕ) (old new : Reading) (answer : Arrived)
+    → new.limit ≡ old.limit → (IsDeadIfShut old → IsDeadIfShut new)
+    → IsKeptAs config.max_upload line (Some old)
+    → (old.limit ≡ config.max_upload → IsDeadIfShut old → (s : State) → Serves config (λ items at. Reads old.limit (place_with old.place piece) items at) s moment sent s new.place answer)
+    → StillLine config piece moment line sent new answer
+still_arrival config piece moment Absent sent old new answer m d k v = absurd k
+still_arrival config piece moment (Live stream) sent old new answer m d k v =
+    let dead : IsDeadIfShut old = λ shut. absurd (open_shut old.place k.is_open shut) in
+    let Given : List Item → Place → Type 0 = λ items at. Reads old.limit (place_with old.place piece) items at in
+    let Beyond : List Item → Place → Type 0 = ReadsBeyond config.max_upload stream piece in
+    let f : (items : List Item) (at : Place) → Given items at → Beyond items at =
+    λ items at r. beyond config.max_upload stream piece old k items at (subst (λ n. Reads n (place_with old.place piece) items at) k.same_limit r) in
+    let w : (s : State) → Serves config Beyond s moment sent s new.place answer = λ s. serves_map Given Beyond f (v k.same_limit dead s) in
+    record {
+      becomes = line_after (stream ++ piece) new.place;
+      arrival = λ s. at_live (w s);
+      kept = after_live config stream piece empty_state empty_state moment sent new.place answer new.limit new.is_dead (m ∙ k.same_limit) (d dead) (w empty_state);
+    }
+still_arrival config piece moment ShutLine sent old new answer m d k v =
+    let dead : IsDeadIfShut old = λ _. k.dead in
+    let Given : List Item → Place → Type 0 = λ items at. Reads old.limit (place_with old.place piece) items at in
+    let AtEnd : List Item → Place → Type 0 = λ items at. Reads old.limit Shut items at in
+    let f : (items : List Item) (at : Place) → Given items at → AtEnd items at =
+    λ items at r. subst (λ p. Reads old.limit (place_with p piece) items at) k.shut r in
+    let w : Serves config AtEnd empty_state moment sent empty_state new.place answer = serves_map Given AtEnd f (v k.same_limit dead empty_state) in
+    let t = ended_still config piece moment (serves_ended old.limit w) in
+    record { becomes = ShutLine; arrival = t.1; kept = record { same_limit = m ∙ k.same_limit; shut = t.0; dead = d dead t.0 } }
+
+-- ---- a stop at the end of an arrival
+
+-- what is found is what the arrival left, but where a fixed reply was sent in place of an item's own
+may_shut : {config : Config} {piece : List ℕ} {moment : ℕ} {line after : Line} {s left : State} {sent : List ℕ} {answer : Arrived}
+    (a : Arrives config piece moment line s sent left after answer) (found : State) → LeftByArrival a found → MayShut a ⊎ (found ≡ left)
+may_shut (at_live (serves_all items r w)) found l = inr l
+may_shut (at_live (step_fails items item at r (given_up fixed sends leaves))) found l = inl tt
+may_shut (at_live (step_fails items item at r (cut_short part leaves))) found l = inr l
+may_shut (at_live (gives_up items at r b x)) found l = inr l
+may_shut at_shut_line found l = inr l
+
+pub stopped_run : (config : Config) {first : State} {records : List Record} {w : World} (r : Run config first records w) (n : ℕ) {piece : List ℕ} {moment : ℕ} {sent : List ℕ}
+    {left : State} {line : Line} {answer : Arrived} (a : Arrives config piece moment (w.line n) w.state sent left line answer) (found : State) → LeftByArrival a found
+    → Run config first (records ++ record { event = Arrive n piece moment; sent = sent } ∷ stopped ∷ []) (first_world found)
+stopped_run config {first} {records} r n {piece} {moment} {sent} {left} a found l = elim (may_shut a found l) [
+  | inl shut ↦ breaks found r a shut l
+  | inr same ↦ (
+      let one : Record = record { event = Arrive n piece moment; sent = sent } in
+      subst (λ (s : State). Run config first (records ++ one ∷ stopped ∷ []) (first_world s)) (sym same)
+      (subst (λ (rs : List Record). Run config first rs (first_world left)) (append_assoc records (one ∷ []) (stopped ∷ [])) (stops (goes_on r (arrives a))))
+      )
+]
 
 pub none_there : (o : Option Reading) → o ≡ None → IsSome o → ⊥
 none_there None e s = cc
@@ -205,7 +274,7 @@ module _ {A : Type 0} (condition : A → Condition) (old new : Hub A) (n i : ℕ
     (index : index_of n old.connections.items ≡ Some i) (item : c ≡ get_or old.connections.items i c)
     (config : new.config ≡ old.config)
     (changed : new.connections.items ≡ set old.connections.items i (record { number = c.number; intake = now }))
-    (limit : now.limit ≡ c.intake.limit) (law : IsClean condition new → IsHonest condition new) (settles : Settles (store_of condition new))
+    (limit : now.limit ≡ c.intake.limit) (dead : IsDeadIfShut c.intake → IsDeadIfShut now) (law : IsClean condition new → IsHonest condition new) (settles : Settles (store_of condition new))
     (held holds : Option (List ℕ)) (failures failures_after : ℕ) where
   abbrev Over : Arrived → Type 0
   Over answer = ServesOver old.config (arrival_of c.intake piece moment) (outside held failures (store_of condition old)) (outside holds failures_after (store_of condition new)) now.place answer
@@ -217,7 +286,7 @@ module _ {A : Type 0} (condition : A → Condition) (old new : Hub A) (n i : ℕ
       let found = index_some n i old.connections.items c index item in
       let kept : IsKeptAs old.config.max_upload (w.line n) (Some c.intake) = subst (λ o. IsKeptAs old.config.max_upload (w.line n) o) found.1 (at.kept n) in
       let r = arrival old.config piece moment (w.line n) w.state v.sent (outside held failures (store_of condition old)) (outside holds failures_after (store_of condition new))
-      c.intake now answer limit kept (λ same. v.serves same honest w.state at.state) in
+      c.intake now answer limit dead kept (λ same still. v.serves same still honest w.state at.state) in
       record {
         left = r.left;
         line = r.becomes;
@@ -247,7 +316,26 @@ module _ {A : Type 0} (condition : A → Condition) (old new : Hub A) (n i : ℕ
   arrives_stops : (answer : Arrived) (v : Over answer) → StopsAfter condition old new (Arrive n piece moment) v.sent
   arrives_stops answer v honest first records h =
       let a = arrives_at answer v honest h.world h.at in
-      leaves_wider (store_of condition new) _ _ (λ c l. breaks c h.run a.arrives l) a.stop
+      leaves_wider (store_of condition new) _ _ (λ c l. stopped_run old.config h.run n a.arrives c l) a.stop
+
+  -- over a store that was shut
+  arrives_shut : (answer : Arrived) (v : Over answer) → IfShut (store_of condition old) (store_of condition new) (ArrivesShut condition old new n piece moment v.sent answer)
+  arrives_shut answer v disk shut =
+      let found = index_some n i old.connections.items c index item in
+      let both = v.shut disk shut in
+      record {
+        sends = both.0;
+        leaves = both.1;
+        goes_on = λ lines keeps.
+            let kept : IsKeptAs old.config.max_upload (lines n) (Some c.intake) = subst (λ o. IsKeptAs old.config.max_upload (lines n) o) found.1 (keeps n) in
+            let r = still_arrival old.config piece moment (lines n) v.sent c.intake now answer limit dead kept (v.still disk shut) in (
+              r.becomes,
+              r.arrival,
+              subst (λ (x : _). (m : ℕ) → IsKeptAs x.max_upload (with_line n r.becomes lines m) (intake_of new.connections.items m)) (sym config)
+                  (kept_put old.config.max_upload n r.becomes lines (Some now) old.connections.items new.connections.items r.kept keeps
+                  (λ m. ap (λ cs. intake_of cs m) changed ∙ intake_set n i old.connections.items (record { number = c.number; intake = now }) index found.0 m)),
+            );
+      }
 
   over : (answer : Arrived) → Over answer → ArrivesOver condition held holds failures failures_after old new n piece moment answer
   over answer v = record {
@@ -259,6 +347,7 @@ module _ {A : Type 0} (condition : A → Condition) (old new : Hub A) (n i : ℕ
       clean = v.passes.clean;
       honest = v.passes.honest;
       answers = arrives_at answer v;
+      shut = arrives_shut answer v;
     };
   }
 
@@ -310,10 +399,10 @@ module _ {A : Type 0} (condition : A → Condition) (old new : Hub A) (config : 
 
   -- a connection is opened
   pub connects_moves : (n : ℕ) → new.store ≡ old.store → n ≡ old.next
-      → new.connections.items ≡ old.connections.items ++ record { number = n; intake = record { limit = old.config.max_upload; place = Open false [] } } ∷ []
+      → new.connections.items ≡ old.connections.items ++ record { number = n; intake = record { limit = old.config.max_upload; place = Open false []; is_dead = false } } ∷ []
       → Moves condition old new (Connect n) []
   connects_moves n store this items w at =
-      let d : Connection = record { number = n; intake = record { limit = old.config.max_upload; place = Open false [] } } in
+      let d : Connection = record { number = n; intake = record { limit = old.config.max_upload; place = Open false []; is_dead = false } } in
       let low : Ascends 0 old.connections.items n = subst (λ k. Ascends 0 old.connections.items k) (sym this) old.ascends in (
         record { state = w.state; line = with_line n (Live []) w.line },
         connects,

@@ -6,3 +6,4 @@ mod ConnectionLemmas
 pub mod HubLemmas
 pub mod TalkLemmas
 mod TurnLemmas
+mod ShutLemmas

@@ -1,5 +1,5 @@
 -- How the serving of an arrival goes on, and how it ends.
-use Rattle.std.proofs.Common.{◌≡◌, ◌≢◌, ◌⊎◌, inl, inr, ℕ, Bool, List, [], ◌∷◌, ◌++◌, IsTrue, refl, sym, ap, subst, ◌∙◌, append_assoc, Option}
+use Rattle.std.proofs.Common.{◌≡◌, ◌≢◌, ◌⊎◌, inl, inr, ℕ, Bool, true, false, if◌then◌else◌, List, [], ◌∷◌, ◌++◌, IsTrue, refl, sym, ap, subst, ◌∙◌, append_assoc, Option}
 use Rattle.std.proofs.lemmas.List.{append-nil}
 use Rattle.std.specs.Io.KnownBytes.{Appends}
 use Rattle.dep_types.specs.State.{State}
@@ -8,15 +8,20 @@ use Rattle.dep_types.specs.Writing.{IsProperPrefix, HasRisen}
 use Rattle.dep_types.specs.declared.refusal.Refusal.{Refusal}
 use Rattle.dep_types.specs.declared.store_fault.StoreFault.{StoreFault}
 use Rattle.dep_types.specs.declared.store_fault.StoreFault.TheVariants.{Store, Memory}
-use Rattle.dep_message.specs.Places.{Place, Open, Shut, IsOpen, HasBytes, place_with}
-use Rattle.dep_message.specs.Stream.{Item, Fault, FirstAt, Waits}
+use Rattle.dep_message.specs.Places.{Place, Open, Shut, Reading, HasBytes, place_with}
+use Rattle.dep_message.specs.Heads.{closes}
+use Rattle.dep_message.specs.Stream.{Item, Fault, Continue, Request, FirstAt, Waits}
+use Rattle.dep_message.specs.declared.message.Message.{Message}
 use Rattle.dep_message.proofs.Reading.{reads_one}
 use Rattle.dep_answers.specs.Steps.{sent_by}
 use Rattle.dep_types.specs.Conditions.{Condition, StandsFor, HasCleanDisk, Leaves}
-use Rattle.dep_server.specs.Machine.{starting_state, step, replies, state_after, given_up, cut_short, serves_all, step_fails, gives_up, SendsUpTo, all, cut, want_of_memory, store_fault, answer_at_place}
+use Rattle.dep_server.specs.Machine.{starting_state, step, replies, state_after, continue_line, Fails, Serves, given_up, cut_short, serves_all, step_fails, gives_up, SendsUpTo, all, cut, want_of_memory, store_fault, answer_at_place}
 use Rattle.dep_server.specs.Causes.{IsCutInContent}
-use Rattle.dep_server.specs.Sending.{IsSentUpTo, SendsOver, SendsReply, Outside, Passes, SendsStep, reply_to}
-use Rattle.dep_server.specs.Serving.{Arrival, FailsFrom, IsAnsweredBy, Answers, Progress, ServesFrom, ServesOver, answer_after}
+use Rattle.dep_server.specs.Sending.{IsReplySent, SendsOver, SendsReply, Outside, Passes, SendsStep, reply_to}
+use Rattle.dep_server.specs.Serving.{Arrival, IsDeadIfShut, FailsFrom, IsAnsweredBy, IsFixedSent, IsAnsweredShut, OnlyContinues, IsStill, ReadsWith, Answers, Progress, ServesFrom, ServesOver, answer_after}
+use Rattle.dep_server.specs.Shut.{LeavesNoMore, IfShut, EndsFixed, has_ended}
+use Rattle.dep_server.specs.Shut as fixed
+use Rattle.dep_server.proofs.ShutLemmas.{leaves_same, leaves_both, shut_both, sends_up_to, is_fixed, continues_more, ends_fixed, sends_behind, sends_no_more}
 use Rattle.dep_server.specs.declared.arrived.Arrived.{Arrived}
 use Rattle.dep_server.specs.declared.arrived.Arrived.TheVariants.{Open as StaysOpen, Closed, Cut, NoSuch}
 use Rattle.dep_server.specs.declared.sending.Answered.{Answered}
@@ -46,7 +51,32 @@ served_none config came at = record {
   reads = refl;
   passes = passes_none at;
   replied = λ disk s stands. record { stands = stands; whole = refl; failures = refl };
+  shut = λ disk none. ((0, refl), leaves_same at.store);
+  still = λ disk none s. (refl, refl);
 }
+
+-- what tells a client to go on leaves any state as it is
+still_more : (config : Config) (items : List Item) (item : Item) (moment : ℕ) (front sent : List ℕ) → IsStill config items moment front → IsAnsweredShut item sent Sent
+    → IsStill config (items ++ item ∷ []) moment (front ++ sent)
+unfolding step
+still_more config items Continue moment front sent still h s = (
+  state_after_more config s items Continue moment ∙ (still s).0,
+  replies_more config s items Continue moment ∙ ap (λ bytes. bytes ++ (continue_line ++ [])) (still s).1 ∙ ap (λ bytes. front ++ bytes) (append-nil continue_line ∙ sym h),
+)
+still_more config items (Fault r bare) moment front sent still h s = absurd h.2
+still_more config items (Request m) moment front sent still h s = absurd h.2
+
+-- the last item fails, and any state stays
+fails_still : (config : Config) (s : State) (item : Item) (moment : ℕ) (sent : List ℕ) (answer : Answered) → answer ≢ Sent → IsAnsweredShut item sent answer
+    → Fails config s item moment sent s (answer_after answer)
+unfolding step
+fails_still config s item moment sent Sent never h = absurd (never refl)
+fails_still config s Continue moment sent GaveUp never h = absurd h
+fails_still config s Continue moment sent CutShort never h = cut_short (subst (λ (bytes : List ℕ). IsProperPrefix sent bytes) (sym (append-nil continue_line)) h) refl
+fails_still config s (Fault r bare) moment sent GaveUp never h = given_up h.1 (sends_up_to h.0 sent GaveUp h.2) (inl refl)
+fails_still config s (Fault r bare) moment sent CutShort never h = given_up h.1 (sends_up_to h.0 sent CutShort h.2) (inl refl)
+fails_still config s (Request m) moment sent GaveUp never h = given_up h.1 (sends_up_to h.0 sent GaveUp h.2) (inl refl)
+fails_still config s (Request m) moment sent CutShort never h = given_up h.1 (sends_up_to h.0 sent CutShort h.2) (inl refl)
 
 -- an item more is answered
 pub served_more : {config : Config} {came : Arrival} {old mid new : Outside} {at next : Place} (item : Item)
@@ -66,13 +96,13 @@ served_more {config} {came} {old} {mid} {new} {at} {next} item v f a =
             whole = ap (λ bytes. bytes ++ a.sent) b.whole ∙ (ap (λ bytes. replies config s v.items came.moment ++ bytes) x.whole ∙ sym (replies_more config s v.items item came.moment));
             failures = x.failures ∙ b.failures;
           };
+      shut = λ disk none.
+          let both = shut_both _ _ old mid new v.passes a.passes v.shut a.shut disk none in
+          (continues_more item v.sent a.sent both.0.0 both.1.0, leaves_both old.store mid.store new.store both.0.1 both.1.1);
+      still = λ disk none.
+          let both = shut_both _ _ old mid new v.passes a.passes v.still a.shut disk none in
+          still_more config v.items item came.moment v.sent a.sent both.0 both.1.0;
     }
-
--- a fixed reply is sent up to its end or cut
-pub sends_up_to : (whole sent : List ℕ) (answer : Answered) → IsSentUpTo whole sent answer → SendsUpTo whole sent (answer_after answer)
-sends_up_to whole sent Sent h = absurd h
-sends_up_to whole sent GaveUp h = subst (λ bytes. SendsUpTo whole bytes Closed) (sym h) all
-sends_up_to whole sent CutShort h = cut h
 
 -- what a failed step may leave
 pub record GivesUp (config : Config) (s : State) (item : Item) (moment : ℕ) (new : Condition) : Type 0 where
@@ -81,14 +111,12 @@ pub record GivesUp (config : Config) (s : State) (item : Item) (moment : ℕ) (n
   pub stands : IsTrue new.is_open → StandsFor new left
   pub stop : Leaves new (λ found. (found ≡ s) ⊎ ((found ≡ starting_state config s item moment) ⊎ (found ≡ (step config s item moment).state)))
 
-pub is_fixed : (fault : StoreFault) → (reply_to fault ≡ want_of_memory) ⊎ (reply_to fault ≡ store_fault)
-is_fixed Store = inr refl
-is_fixed Memory = inl refl
-
 -- a fixed reply in place of the step's
 module _ (config : Config) (old new : Outside) (item : Item) (moment : ℕ) (fault : StoreFault)
     (honest : HasCleanDisk new.store → HasCleanDisk old.store) (clean : IsTrue new.store.is_open → IsTrue old.store.is_open)
-    (gives : HasCleanDisk new.store → (s : State) → StandsFor old.store s → GivesUp config s item moment new.store) where
+    (gives : HasCleanDisk new.store → (s : State) → StandsFor old.store s → GivesUp config s item moment new.store)
+    (asks : (sent : List ℕ) (answer : Answered) → IsFixedSent sent answer → IsAnsweredShut item sent answer)
+    (shut : IfShut old.store new.store (LeavesNoMore old.store new.store)) where
   pub answers_fixed : (answer : Answered) → SendsOver old.taken new.taken (reply_to fault) answer → (answer ≡ CutShort → HasRisen old.failures new.failures)
       → Answers config old new item moment answer
   answers_fixed Sent x cause = absurd x.2
@@ -102,6 +130,7 @@ module _ (config : Config) (old new : Outside) (item : Item) (moment : ℕ) (fau
       stop = v.stop;
       cause = λ e. cc;
     };
+    shut = λ disk none. (asks x.0 GaveUp (reply_to fault, is_fixed fault, x.2), shut disk none);
   }
   answers_fixed CutShort x cause = record {
     sent = x.0;
@@ -113,6 +142,7 @@ module _ (config : Config) (old new : Outside) (item : Item) (moment : ℕ) (fau
       stop = v.stop;
       cause = λ e. inl (cause refl);
     };
+    shut = λ disk none. (asks x.0 CutShort (reply_to fault, is_fixed fault, x.2), shut disk none);
   }
 
 -- an item's own reply, once its step was made
@@ -151,14 +181,16 @@ made_from config s item moment sent old mid new CutShort e h = record {
 pub answers_reply : (config : Config) (held holds : Option (List ℕ)) (before after : ℕ) (store : Condition) (item : Item) (moment : ℕ) (answer : Answered) (reply : List ℕ)
     → Settles store → SendsReply held holds reply answer → (answer ≡ Sent → after ≡ before) → (answer ≡ CutShort → HasRisen before after)
     → ((s : State) → StandsFor store s → StandsFor store (step config s item moment).state × (reply ≡ sent_by (step config s item moment)))
+    → ((sent : List ℕ) → IsReplySent reply sent answer → IsAnsweredShut item sent answer)
     → Answers config (record { taken = held; failures = before; store = store }) (record { taken = holds; failures = after; store = store }) item moment answer
-answers_reply config held holds before after store item moment Sent reply settles x kept cause made = record {
+answers_reply config held holds before after store item moment Sent reply settles x kept cause made asks = record {
   sent = x.0;
   passes = passes_at held holds before after store x.0 x.1;
   steps = λ disk s stands. let b = made s stands in record { stands = b.0; whole = x.2 ∙ b.1; failures = kept refl };
+  shut = λ disk none. (asks x.0 x.2, leaves_same store);
 }
-answers_reply config held holds before after store item moment GaveUp reply settles x kept cause made = absurd x.2
-answers_reply config held holds before after store item moment CutShort reply settles x kept cause made = record {
+answers_reply config held holds before after store item moment GaveUp reply settles x kept cause made asks = absurd x.2
+answers_reply config held holds before after store item moment CutShort reply settles x kept cause made asks = record {
   sent = x.0;
   passes = passes_at held holds before after store x.0 x.1;
   steps = λ disk s stands. let b = made s stands in record {
@@ -168,24 +200,35 @@ answers_reply config held holds before after store item moment CutShort reply se
     stop = stays_as store (step config s item moment).state settles b.0;
     cause = λ e. inl (cause refl);
   };
+  shut = λ disk none. (asks x.0 x.2, leaves_same store);
 }
 
-pub answer_open : (at : Place) → IsOpen at → answer_at_place at ≡ StaysOpen
-answer_open (Open continued rest) o = refl
-answer_open Shut o = absurd o
+true_false : ◌≡◌ {A = Bool} true false → ⊥
+true_false e = cc
+
+pub never_open : (continued : Bool) (rest : List ℕ) → Open continued rest ≡ Shut → ⊥
+never_open continued rest e = cc
+
+-- an intake that is not dead reads on
+pub answer_open : (reading : Reading) → IsDeadIfShut reading → reading.is_dead ≡ false → StaysOpen ≡ answer_at_place reading.place
+answer_open reading dead lives = by_place reading.place dead
+  where
+    by_place : (at : Place) → (at ≡ Shut → reading.is_dead ≡ true) → StaysOpen ≡ answer_at_place at
+    by_place (Open continued rest) d = refl
+    by_place Shut d = absurd (true_false (sym (d refl) ∙ lives))
 
 module _ (config : Config) (came : Arrival) (old now : Outside) (at : Place) (v : Progress config came old now at) where
   -- no item is complete any more
-  pub serves_waiting : Settles now.store → (p : Place) → p ≡ at → (answer : Arrived) → answer ≡ answer_at_place at → answer ≢ Cut
+  pub serves_waiting : Settles now.store → (p : Place) → p ≡ at → (answer : Arrived) → (IsDeadIfShut came.reading → answer ≡ answer_at_place at) → answer ≢ Cut → EndsFixed [] answer
       → (came.reading.limit ≡ config.max_upload → Waits config.max_upload at)
       → ServesOver config came old now p answer
-  serves_waiting settles p e answer r never w = record {
+  serves_waiting settles p e answer r never ends w = record {
     sent = v.sent;
     passes = v.passes;
-    serves = λ same disk s stands.
+    serves = λ same dead disk s stands.
         let b = v.replied disk s stands in
         subst (λ q. ServesFrom config came s v.sent old now q answer) (sym e)
-        (subst (λ a. ServesFrom config came s v.sent old now at a) (sym r)
+        (subst (λ a. ServesFrom config came s v.sent old now at a) (sym (r dead))
         (subst (λ bytes. ServesFrom config came s bytes old now at (answer_at_place at)) (sym b.whole)
         (record {
           left = state_after config s v.items came.moment;
@@ -193,19 +236,28 @@ module _ (config : Config) (came : Arrival) (old now : Outside) (at : Place) (v 
           stands = λ _. b.stands;
           stays_clean = λ _. now.store.open_if_kept (state_after config s v.items came.moment) b.stands;
           stop = stays_as now.store (state_after config s v.items came.moment) settles b.stands;
-          cause = λ c. absurd (never (r ∙ c));
+          cause = λ c. absurd (never (r dead ∙ c));
         })));
+    shut = λ disk none. let so_far = v.shut disk none in (sends_no_more v.sent answer ends so_far.0, so_far.1);
+    still = λ disk none same dead s.
+        let t = v.still disk none s in
+        subst (λ q. Serves config (ReadsWith came) s came.moment v.sent s q answer) (sym e)
+        (subst (λ a. Serves config (ReadsWith came) s came.moment v.sent s at a) (sym (r dead))
+        (subst (λ left. Serves config (ReadsWith came) s came.moment v.sent left at (answer_at_place at)) t.0
+        (subst (λ bytes. Serves config (ReadsWith came) s came.moment bytes (state_after config s v.items came.moment) at (answer_at_place at)) t.1
+        (serves_all v.items v.reads (w same)))));
   }
 
   -- a step fails
   pub serves_failed : (new : Outside) (next : Place) (item : Item) (answer : Arrived) (sent : List ℕ) → answer ≢ StaysOpen
       → FirstAt came.reading.limit at item next → Passes now new sent
       → (HasCleanDisk new.store → (s : State) → StandsFor now.store s → FailsFrom config s item came.moment sent now new answer)
+      → IfShut now.store new.store (EndsFixed sent answer × LeavesNoMore now.store new.store × ((s : State) → Fails config s item came.moment sent s answer))
       → ServesOver config came old new Shut answer
-  serves_failed new next item answer sent ends f p fails = record {
+  serves_failed new next item answer sent ends f p fails shut = record {
     sent = v.sent ++ sent;
     passes = passes_both v.passes p;
-    serves = λ same disk s stands.
+    serves = λ same dead disk s stands.
         let b = v.replied (p.honest disk) s stands in
         let x = fails disk (state_after config s v.items came.moment) b.stands in
         subst (λ bytes. ServesFrom config came s (bytes ++ sent) old new Shut answer) (sym b.whole)
@@ -217,20 +269,29 @@ module _ (config : Config) (came : Arrival) (old now : Outside) (at : Place) (v 
           stop = x.stop;
           cause = λ c. subst (λ n. HasRisen n new.failures ⊎ IsCutInContent x.fails) b.failures (x.cause c);
         });
+    shut = λ disk none.
+        let both = shut_both _ _ old now new v.passes p v.shut shut disk none in
+        (sends_behind v.sent sent answer both.0.0 both.1.0, leaves_both old.store now.store new.store both.0.1 both.1.1);
+    still = λ disk none same dead s.
+        let both = shut_both _ _ old now new v.passes p v.still shut disk none in
+        let t = both.0 s in
+        subst (λ bytes. Serves config (ReadsWith came) s came.moment (bytes ++ sent) s Shut answer) t.1
+        (step_fails v.items item next (reads_one came.reading.limit v.items item (place_with came.reading.place came.piece) at next v.reads f)
+        (subst (λ at_state. Fails config at_state item came.moment sent s answer) (sym t.0) (both.1.2 s)));
   }
 
   -- memory runs out before the next item
-  pub serves_gives_up : (then : Option (List ℕ)) (after : ℕ) → Settles now.store → (answer : Arrived) → HasBytes at
-      → (sent : List ℕ) × Appends now.taken then sent × SendsUpTo want_of_memory sent answer → (answer ≡ Cut → HasRisen now.failures after)
+  pub serves_gives_up : (holds : Option (List ℕ)) (after : ℕ) → Settles now.store → (answer : Arrived) → HasBytes at
+      → (sent : List ℕ) × Appends now.taken holds sent × SendsUpTo want_of_memory sent answer → (answer ≡ Cut → HasRisen now.failures after)
       → (p : Place) → p ≡ Shut
-      → ServesOver config came old (record { taken = then; failures = after; store = now.store }) p answer
-  serves_gives_up then after settles answer has a cause p e = record {
+      → ServesOver config came old (record { taken = holds; failures = after; store = now.store }) p answer
+  serves_gives_up holds after settles answer has a cause p e = record {
     sent = v.sent ++ a.0;
-    passes = passes_both v.passes (passes_at now.taken then now.failures after now.store a.0 a.1);
-    serves = λ same disk s stands.
+    passes = passes_both v.passes (passes_at now.taken holds now.failures after now.store a.0 a.1);
+    serves = λ same dead disk s stands.
         let b = v.replied disk s stands in
-        subst (λ q. ServesFrom config came s (v.sent ++ a.0) old (record { taken = then; failures = after; store = now.store }) q answer) (sym e)
-        (subst (λ bytes. ServesFrom config came s (bytes ++ a.0) old (record { taken = then; failures = after; store = now.store }) Shut answer) (sym b.whole)
+        subst (λ q. ServesFrom config came s (v.sent ++ a.0) old (record { taken = holds; failures = after; store = now.store }) q answer) (sym e)
+        (subst (λ bytes. ServesFrom config came s (bytes ++ a.0) old (record { taken = holds; failures = after; store = now.store }) Shut answer) (sym b.whole)
         (record {
           left = state_after config s v.items came.moment;
           serves = gives_up v.items at v.reads has a.2;
@@ -239,6 +300,13 @@ module _ (config : Config) (came : Arrival) (old now : Outside) (at : Place) (v 
           stop = stays_as now.store (state_after config s v.items came.moment) settles b.stands;
           cause = λ c. inl (subst (λ n. HasRisen n after) b.failures (cause c));
         }));
+    shut = λ disk none. let so_far = v.shut disk none in (sends_behind v.sent a.0 answer so_far.0 (fixed.gives_up (inl refl) a.2), so_far.1);
+    still = λ disk none same dead s.
+        let t = v.still disk none s in
+        subst (λ q. Serves config (ReadsWith came) s came.moment (v.sent ++ a.0) s q answer) (sym e)
+        (subst (λ left. Serves config (ReadsWith came) s came.moment (v.sent ++ a.0) left Shut answer) t.0
+        (subst (λ bytes. Serves config (ReadsWith came) s came.moment (bytes ++ a.0) (state_after config s v.items came.moment) Shut answer) t.1
+        (gives_up v.items at v.reads has a.2)));
   }
 
 -- an item is answered, and it is the last
@@ -246,10 +314,12 @@ module _ (config : Config) (came : Arrival) (old now new : Outside) (at next : P
   last : (item : Item) (answer : Answered) → FirstAt came.reading.limit at item next → (answer ≡ Sent → next ≡ Shut)
       → Answers config now new item came.moment answer → ServesOver config came old new Shut (answer_after answer)
   last item Sent f e a =
-      serves_waiting config came old new next (served_more item v f a) settles Shut (sym (e refl)) Closed (ap answer_at_place (sym (e refl))) (λ c. cc)
+      serves_waiting config came old new next (served_more item v f a) settles Shut (sym (e refl)) Closed (λ dead. ap answer_at_place (sym (e refl))) (λ c. cc) has_ended
       (λ same. subst (λ q. Waits config.max_upload q) (sym (e refl)) tt)
   last item GaveUp f e a = serves_failed config came old now at v new next item Closed a.sent (λ c. cc) f a.passes a.steps
+      (λ disk none. let h = a.shut disk none in (ends_fixed item a.sent GaveUp (λ c. cc) h.0, h.1, λ s. fails_still config s item came.moment a.sent GaveUp (λ c. cc) h.0))
   last item CutShort f e a = serves_failed config came old now at v new next item Cut a.sent (λ c. cc) f a.passes a.steps
+      (λ disk none. let h = a.shut disk none in (ends_fixed item a.sent CutShort (λ c. cc) h.0, h.1, λ s. fails_still config s item came.moment a.sent CutShort (λ c. cc) h.0))
 
   pub serves_last : (item : Item) (answer : Answered) → FirstAt came.reading.limit at item next → (answer ≡ Sent → next ≡ Shut)
       → Answers config now new item came.moment answer → (p : Place) → p ≡ Shut → (b : Arrived) → b ≡ answer_after answer
@@ -266,6 +336,31 @@ first_at old limit at next item e f = subst (λ n. FirstAt n at item next) e f
 pub fault_shuts : (limit : ℕ) (at next : Place) (refusal : Refusal) (bare : Bool) → FirstAt limit at (Fault refusal bare) next → next ≡ Shut
 fault_shuts limit (Open continued bytes) next refusal bare f = f.goes_on
 fault_shuts limit Shut next refusal bare f = absurd f
+
+-- so is a request that closes, and no other
+request_at : (limit : ℕ) (at next : Place) (m : Message) (ends : Bool) → closes m.head ≡ ends → FirstAt limit at (Request m) next
+    → (behind : List ℕ) × (next ≡ (if ends then Shut else Open false behind))
+request_at limit (Open continued bytes) next m ends e f = (f.behind, f.goes_on ∙ ap (λ (b : Bool). if b then Shut else Open false f.behind) e)
+request_at limit Shut next m ends e f = absurd f
+
+pub request_shuts : (limit : ℕ) (at next : Place) (m : Message) → closes m.head ≡ true → FirstAt limit at (Request m) next → next ≡ Shut
+request_shuts limit at next m e f = (request_at limit at next m true e f).1
+
+pub request_goes_on : (limit : ℕ) (at next : Place) (m : Message) → closes m.head ≡ false → FirstAt limit at (Request m) next → next ≡ Shut → ⊥
+request_goes_on limit at next m e f shut =
+    let r = request_at limit at next m false e f in never_open false r.0 (sym r.1 ∙ shut)
+
+pub continue_goes_on : (limit : ℕ) (at next : Place) → FirstAt limit at Continue next → next ≡ Shut → ⊥
+continue_goes_on limit (Open continued bytes) next f shut = never_open true (f.text ++ f.behind) (sym f.goes_on ∙ shut)
+continue_goes_on limit Shut next f shut = f
+
+-- bytes that come leave an end where it is
+pub fed_dead : (reading : Reading) (piece : List ℕ) → IsDeadIfShut reading → IsDeadIfShut (record reading { place = place_with reading.place piece })
+fed_dead reading piece dead = by_place reading.place dead
+  where
+    by_place : (at : Place) → (at ≡ Shut → reading.is_dead ≡ true) → place_with at piece ≡ Shut → reading.is_dead ≡ true
+    by_place (Open continued rest) d e = absurd (never_open continued (rest ++ piece) e)
+    by_place Shut d e = d refl
 
 -- an item was answered over a connection that is there
 pub never_such : (answer : Answered) → answer_after answer ≢ NoSuch

@@ -1,10 +1,11 @@
 -- What is ready is the reply of a step.
-use Rattle.std.proofs.Common.{◌≡◌, ◌⊎◌, inl, inr, ℕ, Bool, List, Option, Some, None, ap, subst, ◌∙◌}
+use Rattle.std.proofs.Common.{◌≡◌, ◌⊎◌, inl, inr, ℕ, Bool, List, [], Option, Some, None, ap, subst, ◌∙◌}
 use Rattle.dep_types.specs.State.{State}
 use Rattle.dep_types.specs.declared.config.Config.{Config}
 use Rattle.dep_types.specs.declared.refusal.Refusal.{Refusal}
 use Rattle.dep_types.specs.declared.refusal.Refusal.TheVariants as why
 use Rattle.dep_types.specs.declared.target.Target.{Target}
+use Rattle.dep_head.specs.Head.{HeadParts}
 use Rattle.dep_message.specs.Heads.{is_bare, closes}
 use Rattle.dep_message.specs.declared.message.Message.{Message}
 use Rattle.dep_router.specs.Targets.{target}
@@ -66,3 +67,15 @@ module _ (config : Config) (s : State) (op it : Operation) (store : Condition) w
   pub leaves_same : op ≡ it → Leaves store (λ found. (found ≡ s) ⊎ (found ≡ (operation_step config s op).state))
       → Leaves store (λ found. (found ≡ s) ⊎ (found ≡ (operation_step config s it).state))
   leaves_same e h = leaves_wider store _ _ (λ c x. elim x [ inl same ↦ inl same | inr next ↦ inr (next ∙ ap (λ (x : Operation). (operation_step config s x).state) e) ]) h
+
+-- what is asked for doesn't hang on the path, which the resource was read from
+pub same_operation : (m : Message) (h : HeadParts) (t : Target) → h ≡ record { method = m.head.method; path = []; minor = m.head.minor; fields = m.head.fields }
+    → operation_of (record { head = h; content = m.content }) t ≡ operation_of m t
+unfolding closes
+same_operation m h t e = ap (λ (x : HeadParts). operation_of (record { head = x; content = m.content }) t) e
+
+-- the method and the path that are asked for are those of the head from which they were taken
+pub asked_same : (head left : HeadParts) (method path : List ℕ) → method ≡ left.method
+    → left ≡ record { method = head.method; path = []; minor = head.minor; fields = head.fields } → path ≡ head.path
+    → target method path ≡ target head.method head.path
+asked_same head left method path m rest p = λ i. target ((m ∙ ap (λ (h : HeadParts). h.method) rest) i) (p i)

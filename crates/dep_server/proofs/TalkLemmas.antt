@@ -1,5 +1,5 @@
 -- How a conversation goes on, and how it ends.
-use Rattle.std.proofs.Common.{arith, ◌+◌, ◌<◌, length, ◌≡◌, ℕ, List, [], ◌∷◌, ◌++◌, Option, Some, None, map, refl, sym, ap, subst, ◌∙◌, append_assoc}
+use Rattle.std.proofs.Common.{arith, ◌+◌, ◌<◌, ◌≤◌, ◌⊎◌, inl, inr, zero, suc, length, ◌≡◌, ℕ, List, [], ◌∷◌, ◌++◌, Option, Some, None, map, refl, sym, ap, subst, ◌∙◌, append_assoc}
 use Rattle.std.proofs.lemmas.List.{append-nil}
 use Rattle.std.specs.List.{flat_map, FoldsTo}
 use Rattle.std.specs.Io.KnownBytes.{Appends, Consumes, Keeps}
@@ -7,16 +7,19 @@ use Rattle.std.specs.Prelude.{IsTrue}
 use Rattle.dep_types.specs.State.{State}
 use Rattle.dep_types.specs.declared.config.Config.{Config}
 use Rattle.dep_types.specs.Conditions.{Condition, HasCleanDisk, Leaves}
-use Rattle.dep_server.specs.Records.{World, Line, with_line, Connect, Close, Record, stopped, first_world, Run, goes_on, stops, breaks, Arrives, LeftByArrival, Happens, connects, closes, arrives}
+use Rattle.dep_types.specs.Writing.{next_count}
+use Rattle.dep_types.specs.declared.inlet.LastRead.TheVariants.{Bytes}
+use Rattle.dep_server.specs.Records.{World, Line, with_line, Connect, Close, Record, stopped, first_world, Run, goes_on, stops, Arrives, LeftByArrival, Happens, connects, closes, arrives}
 use Rattle.dep_server.specs.Standing.{StandsAt, StandsAfter, IsClean, IsHonest, Moves, intake_of, store_of}
 use Rattle.dep_server.specs.declared.hub.Hub.{Hub}
 use Rattle.dep_server.specs.declared.arrived.Arrived.{Arrived}
 use Rattle.dep_server.specs.declared.arrived.Arrived.TheVariants.{Open as StaysOpen, Closed as HasClosed, Cut}
 use Rattle.dep_server.proofs.Leaving.{Settles, stays_as, leaves_wider}
 use Rattle.dep_server.proofs.SendingLemmas.{appends_none, appends_both}
-use Rattle.dep_server.proofs.HubLemmas.{keeps_same}
-use Rattle.dep_server.specs.Turns.{Turn, pieces_of, replies_of, record_of, records_of, EndsAs, last_answer, IsPiece, ArePieces, most_reads, with_opened, with_closed, Exchanges, none_yet, one_more, LeftByExchanges, IsEndedBy}
-use Rattle.dep_server.specs.Conversation.{Wire, Session, session, Transfers, Rests, Clocks, Converses, IsAnswered, IsUnserved, ConversesOver, next_after, AddsAll, StopsAll, Talk, OneTurn, NoTurn, TurnsTo, TalksUntil, Talks, silent, turn}
+use Rattle.dep_server.proofs.HubLemmas.{keeps_same, stopped_run}
+use Rattle.dep_server.proofs.ShutLemmas.{conversation_shut}
+use Rattle.dep_server.specs.Turns.{Turn, pieces_of, replies_of, record_of, records_of, EndsAs, last_answer, IsPiece, ArePieces, most_reads, reads_made, reads_after, with_opened, with_closed, Exchanges, none_yet, one_more, LeftByExchanges, IsEndedBy}
+use Rattle.dep_server.specs.Conversation.{Wire, Session, session, Transfers, Rests, GivesNothing, Clocks, Converses, IsAnswered, IsUnserved, ConversesOver, next_after, AddsAll, StopsAll, Talk, OneTurn, NoTurn, TurnsTo, TalksUntil, Talks, silent, turn}
 use Rattle.dep_server.specs.declared.connection.Served.{Served}
 use Rattle.dep_server.specs.declared.connection.Served.TheVariants.{Ended, Closed, Unserved, ReadFault, WriteFault, Bound}
 
@@ -75,8 +78,39 @@ transfers_both a b c xs ys us vs t u = record {
   replies = appends_both a.taken b.taken c.taken us vs t.replies u.replies;
 }
 
-rests_transfers : (a b : Wire) → Rests a b → Transfers a b [] []
+rests_transfers : (a b : Wire) → GivesNothing a b → Transfers a b [] []
 rests_transfers a b r = record { pieces = keeps_consumes a.unread b.unread r.pieces; replies = keeps_appends a.taken b.taken r.replies }
+
+-- ---- the reads
+
+-- one read more
+pub reads_more : (reads k : ℕ) → reads_after reads (k + 1) ≡ next_count (reads_after reads k)
+reads_more reads k = ap (λ m. reads_after reads m) (one_more_read k)
+  where
+    one_more_read : (m : ℕ) → m + 1 ≡ suc m
+    one_more_read m = omega arith
+
+one_read : (old mid new k made : ℕ) → made ≡ k + 1 → mid ≡ reads_after old k → new ≡ next_count mid → new ≡ reads_after old made
+one_read old mid new k made e before after = after ∙ (ap next_count before ∙ (sym (reads_more old k) ∙ ap (λ m. reads_after old m) (sym e)))
+
+none_at_most : (k : ℕ) → k ≡ 0 → k ≡ most_reads → ⊥
+none_at_most k none most = omega (arith, none, most)
+
+-- a count rises by no more than what is read
+reads_least : (reads n : ℕ) → reads_after reads n ≤ reads + n
+reads_least reads zero = omega arith
+reads_least reads (suc n) = let before = reads_least reads n in omega (arith, before)
+
+few_more : (old new n : ℕ) → new ≡ reads_after old n → n ≤ most_reads → new ≤ old + most_reads
+few_more old new n e few = let least = reads_least old n in omega (arith, e, few, least)
+
+few_made : (unread : Option (List ℕ)) (turns : List Turn) (served : Served) → EndsAs unread turns served → reads_made turns served ≤ most_reads
+few_made unread turns Ended ends = omega (arith, ends.2)
+few_made unread turns ReadFault ends = omega (arith, ends.1)
+few_made unread turns Closed ends = ends.1
+few_made unread turns WriteFault ends = ends.1
+few_made unread turns Bound ends = omega (arith, ends.1)
+few_made unread turns Unserved ends = absurd ends
 
 module _ {A : Type 0} (condition : A → Condition) where
   -- no turn yet
@@ -122,37 +156,45 @@ module _ {A : Type 0} (condition : A → Condition) where
     counted = t.counted;
     sizes = t.sizes;
     talks = subst (λ h. Talks condition n old.hub old.wire.failures t.turns h new.wire.failures) (sym o.same_hub)
-        (subst (λ k. Talks condition n old.hub old.wire.failures t.turns mid.hub k) (sym o.rests.failures) t.talks);
+        (subst (λ k. Talks condition n old.hub old.wire.failures t.turns mid.hub k) (sym o.nothing.failures) t.talks);
     transfers = subst (λ l. Transfers old.wire new.wire l (replies_of t.turns)) (append-nil (pieces_of t.turns))
         (subst (λ l. Transfers old.wire new.wire (pieces_of t.turns ++ []) l) (append-nil (replies_of t.turns))
-        (transfers_both old.wire mid.wire new.wire (pieces_of t.turns) [] (replies_of t.turns) [] t.transfers (rests_transfers mid.wire new.wire o.rests)));
+        (transfers_both old.wire mid.wire new.wire (pieces_of t.turns) [] (replies_of t.turns) [] t.transfers (rests_transfers mid.wire new.wire o.nothing)));
     moments = subst (λ c. Clocks ticks old.clock t.turns c) (sym o.same_clock) t.moments;
     answered = t.answered;
   }
 
   -- a turn that was the last
   pub talk_last : {C : Type 0} (ticks : C → ℕ → C → Type 0) (n : ℕ) (old mid new : Session condition C) (served : Served) (k : ℕ)
-      → k < most_reads → mid.hub.config ≡ old.hub.config
+      → k < most_reads → mid.hub.config ≡ old.hub.config → mid.wire.reads ≡ reads_after old.wire.reads k
       → Talk condition ticks n old mid k StaysOpen → TurnsTo condition ticks n mid new (Some served) → TalksUntil condition ticks n old new served
-  talk_last ticks n old mid new Closed k b same t o =
+  talk_last ticks n old mid new Closed k b same count t o =
       let u = talk_more ticks n old mid new HasClosed k same t o in
-      record { count = k + 1; answer = HasClosed; talk = u; ends = (u.answered, (omega (arith, b, u.counted))) }
-  talk_last ticks n old mid new WriteFault k b same t o =
+      record { count = k + 1; answer = HasClosed; talk = u; ends = (u.answered, (omega (arith, b, u.counted))); reads = one_read old.wire.reads mid.wire.reads new.wire.reads k (length u.turns) u.counted count o.reads; last = o.last }
+  talk_last ticks n old mid new WriteFault k b same count t o =
       let u = talk_more ticks n old mid new Cut k same t o in
-      record { count = k + 1; answer = Cut; talk = u; ends = (u.answered, (omega (arith, b, u.counted))) }
-  talk_last ticks n old mid new Ended k b same t o =
+      record { count = k + 1; answer = Cut; talk = u; ends = (u.answered, (omega (arith, b, u.counted))); reads = one_read old.wire.reads mid.wire.reads new.wire.reads k (length u.turns) u.counted count o.reads; last = o.last }
+  talk_last ticks n old mid new Ended k b same count t o =
       let u = talk_same ticks n old mid new k t o.0 in
-      record { count = k; answer = StaysOpen; talk = u; ends = (o.1, u.answered, (omega (arith, b, u.counted))) }
-  talk_last ticks n old mid new ReadFault k b same t o =
-      let u = talk_same ticks n old mid new k t o in
-      record { count = k; answer = StaysOpen; talk = u; ends = (u.answered, (omega (arith, b, u.counted))) }
-  talk_last ticks n old mid new Unserved k b same t o = absurd o
-  talk_last ticks n old mid new Bound k b same t o = absurd o
+      record { count = k; answer = StaysOpen; talk = u; ends = (o.1, u.answered, (omega (arith, b, u.counted))); reads = one_read old.wire.reads mid.wire.reads new.wire.reads k (length u.turns + 1) (ap (λ m. m + 1) u.counted) count o.0.nothing.reads; last = o.2 }
+  talk_last ticks n old mid new ReadFault k b same count t o =
+      let u = talk_same ticks n old mid new k t o.0 in
+      record { count = k; answer = StaysOpen; talk = u; ends = (u.answered, (omega (arith, b, u.counted))); reads = one_read old.wire.reads mid.wire.reads new.wire.reads k (length u.turns + 1) (ap (λ m. m + 1) u.counted) count o.0.nothing.reads; last = o.1 }
+  talk_last ticks n old mid new Unserved k b same count t o = absurd o
+  talk_last ticks n old mid new Bound k b same count t o = absurd o
 
   -- as many turns as there may be
   pub talk_bound : {C : Type 0} (ticks : C → ℕ → C → Type 0) (n : ℕ) (old new : Session condition C) (k : ℕ)
-      → k ≡ most_reads → Talk condition ticks n old new k StaysOpen → TalksUntil condition ticks n old new Bound
-  talk_bound ticks n old new k e t = record { count = k; answer = StaysOpen; talk = t; ends = (t.answered, t.counted ∙ e) }
+      → k ≡ most_reads → new.wire.reads ≡ reads_after old.wire.reads k → (k ≡ 0) ⊎ (new.wire.last ≡ Bytes)
+      → Talk condition ticks n old new k StaysOpen → TalksUntil condition ticks n old new Bound
+  talk_bound ticks n old new k e count last t = record {
+    count = k;
+    answer = StaysOpen;
+    talk = t;
+    ends = (t.answered, t.counted ∙ e);
+    reads = count ∙ ap (λ m. reads_after old.wire.reads m) (sym t.counted);
+    last = elim last [ inl none ↦ absurd (none_at_most k none e) | inr bytes ↦ bytes ];
+  }
 
   -- whoever was served took one number
   pub next_served : {C : Type 0} (ticks : C → ℕ → C → Type 0) (n : ℕ) (old new : Session condition C) (end : Served)
@@ -322,7 +364,7 @@ module _ {A : Type 0} (condition : A → Condition) where
       (λ c l. subst (λ rs. Run old.config first rs (first_world c))
       (sym (append_assoc (records ++ map (record_of n) before) (record_of n t ∷ []) (stopped ∷ []))
       ∙ ap (λ rs. rs ++ stopped ∷ []) (append_assoc records (map (record_of n) before) (record_of n t ∷ []) ∙ ap (λ l. records ++ l) (sym (map_more n before t))))
-      (let x = left_same mid.config old.config same b.arrives c l in breaks c so_far x.0 x.1))
+      (let x = left_same mid.config old.config same b.arrives c l in stopped_run old.config so_far n x.0 c x.1))
       b.stop
 
   module _ (n : ℕ) (old opened talked new : Hub A) (failures failures_after : ℕ) (turns : List Turn)
@@ -373,10 +415,10 @@ module _ {A : Type 0} (condition : A → Condition) where
   module _ {C : Type 0} (ticks : C → ℕ → C → Type 0) (n : ℕ) (old : Session condition C) (opened talked new : Hub A) (wire : Wire) (now : C)
       (is_next : n ≡ old.hub.next) (fresh : intake_of old.hub.connections.items n ≡ None)
       (opens : Moves condition old.hub opened (Connect n) []) (closes : Moves condition talked new (Close n) []) (settles : Settles (store_of condition opened)) (law : IsClean condition new → IsHonest condition new)
-      (same_opened : opened.config ≡ old.hub.config) (same_new : new.config ≡ old.hub.config) (same_store : new.store ≡ talked.store)
+      (same_opened : opened.config ≡ old.hub.config) (same_new : new.config ≡ old.hub.config) (same_store : new.store ≡ talked.store) (same_first : opened.store ≡ old.hub.store)
       (gone : intake_of new.connections.items n ≡ None) where
     converses : (end : Served) → TalksUntil condition ticks n (session condition opened old.wire old.clock) (session condition talked wire now) end
-        → Converses condition ticks old new wire end
+        → Converses condition ticks old (session condition new wire now) end
     converses end u =
         let t = u.talk in
         record {
@@ -394,13 +436,17 @@ module _ {A : Type 0} (condition : A → Condition) where
           adds = all_added n old.hub opened talked new old.wire.failures wire.failures t.turns opens closes settles same_opened same_new same_store t.talks law;
           stops = all_stops n old.hub opened talked new old.wire.failures wire.failures t.turns opens closes settles same_opened same_new same_store t.talks;
           transfers = t.transfers;
-          moments = (now, t.moments);
+          moments = t.moments;
           ends = u.ends;
           sizes = t.sizes;
+          reads = u.reads;
+          few_reads = few_more old.wire.reads wire.reads (reads_made t.turns end) u.reads (few_made wire.unread t.turns end u.ends);
+          last = u.last;
+          shut = conversation_shut condition n old.hub opened talked new old.wire.failures wire.failures t.turns same_first same_store t.talks;
         }
 
     pub serves_whole : (served : Served) → TalksUntil condition ticks n (session condition opened old.wire old.clock) (session condition talked wire now) served
-        → ConversesOver condition ticks old new wire served
+        → ConversesOver condition ticks old (session condition new wire now) served
     serves_whole Closed t = converses Closed t
     serves_whole WriteFault t = converses WriteFault t
     serves_whole Ended t = converses Ended t
@@ -416,14 +462,15 @@ module _ {A : Type 0} (condition : A → Condition) where
   later_honest ticks n old new served t honest = talks_honest n old.hub new.hub old.wire.failures new.wire.failures t.talk.turns t.talk.talks honest
 
   -- not opened
-  pub unserved : (old new : Hub A) (wire : Wire) → ((w : World) → StandsAt condition old w → StandsAt condition new w) → new.store ≡ old.store
+  pub unserved : {C : Type 0} (clock : C) (old new : Hub A) (wire : Wire) → ((w : World) → StandsAt condition old w → StandsAt condition new w) → new.store ≡ old.store
       → ((w : World) → StandsAt condition old w → Leaves (store_of condition new) (λ found. found ≡ w.state))
       → ((first : State) (records : List Record) → StandsAfter condition old first records → StandsAfter condition new first records)
-      → IsUnserved condition old new wire wire
-  unserved old new wire at store stays same = record {
+      → IsUnserved condition (session condition old wire clock) (session condition new wire clock)
+  unserved clock old new wire at store stays same = record {
     same = at;
     same_store = store;
     stays = stays;
     adds = λ clean first records h. subst (λ rs. StandsAfter condition new first rs) (sym (append-nil records)) (same first records h);
-    rests = record { pieces = keeps_same wire.unread; replies = keeps_same wire.taken; failures = refl };
+    rests = record { pieces = keeps_same wire.unread; reads = refl; last = refl; replies = keeps_same wire.taken; failures = refl };
+    same_clock = refl;
   }

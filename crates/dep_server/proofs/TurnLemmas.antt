@@ -1,7 +1,11 @@
 -- One turn of a connection.
-use Rattle.std.proofs.Common.{◌≡◌, ◌≤◌, ◌<◌, ℕ, List, ◌++◌, length, take, drop, sym, ap, subst, ◌∙◌, arith, Option, Some, None, refl, take_at}
+use Rattle.std.proofs.Common.{◌≡◌, ◌≤◌, ◌<◌, ℕ, zero, suc, Ok, List, ◌++◌, length, take, drop, sym, ap, subst, ◌∙◌, arith, Option, Some, None, refl, take_at}
 use Rattle.std.specs.Io.KnownBytes.{Consumes, Keeps}
 use Rattle.dep_types.specs.Conditions.{Condition}
+use Rattle.dep_types.specs.Writing.{next_count}
+use Rattle.dep_types.specs.Reading.{end_of_read}
+use Rattle.dep_types.specs.declared.inlet.ReadFailed.{ReadFailed}
+use Rattle.dep_types.specs.declared.inlet.LastRead.TheVariants.{Bytes, Nothing}
 use Rattle.dep_server.specs.Turns.{most_read}
 use Rattle.dep_server.specs.Standing.{ArrivesOver}
 use Rattle.dep_server.specs.Conversation.{Session, OneTurn, NoTurn}
@@ -42,6 +46,14 @@ none_read n buffer None left none c = tt
 none_read n buffer (Some xs) None none c = absurd c
 none_read n buffer (Some xs) (Some ys) none c = sym (c ∙ ap (λ k. take k buffer ++ ys) none)
 
+-- how such a read ended
+pub gives_bytes : (n : ℕ) → (n ≡ 0 → ⊥) → end_of_read {E = ReadFailed} (Ok n) ≡ Bytes
+gives_bytes zero some = absurd (some refl)
+gives_bytes (suc n) some = refl
+
+pub gives_none : (n : ℕ) → n ≡ 0 → end_of_read {E = ReadFailed} (Ok n) ≡ Nothing
+gives_none n none = ap (λ k. end_of_read {E = ReadFailed} (Ok k)) none
+
 keeps_itself : (o : Option (List ℕ)) → Keeps o o
 keeps_itself None = tt
 keeps_itself (Some xs) = refl
@@ -54,11 +66,12 @@ module _ {A : Type 0} (condition : A → Condition) where
       → given ≡ items → length items ≡ most_read
       → n ≤ length buffer → n ≡ length (take n buffer) → (n ≡ 0 → ⊥)
       → Consumes before.wire.unread after.wire.unread (take n buffer)
+      → after.wire.reads ≡ next_count before.wire.reads → after.wire.last ≡ Bytes
       → ticks before.clock moment after.clock
       → ArrivesOver condition before.wire.taken after.wire.taken before.wire.failures after.wire.failures
       before.hub after.hub number (take n whole) moment answer
       → OneTurn condition ticks number before after answer
-  one_turn ticks number before after answer n len moment buffer rest given items whole e b s same room fits long not_none read ticked arrival =
+  one_turn ticks number before after answer n len moment buffer rest given items whole e b s same room fits long not_none read count last ticked arrival =
       let is_whole : whole ≡ buffer = read_whole len buffer rest given whole e b s in
       let came : ArrivesOver condition before.wire.taken after.wire.taken before.wire.failures after.wire.failures
       before.hub after.hub number (take n buffer) moment answer = subst (λ (xs : List ℕ). ArrivesOver condition before.wire.taken after.wire.taken before.wire.failures after.wire.failures
@@ -68,6 +81,8 @@ module _ {A : Type 0} (condition : A → Condition) where
         moment = moment;
         sent = came.sent;
         arrives = came.arrival;
+        reads = count;
+        last = last;
         some = some_read n buffer long not_none;
         small = small_read n buffer given items fits long b same room;
         transfers = record { pieces = read; replies = came.appends };
@@ -77,11 +92,12 @@ module _ {A : Type 0} (condition : A → Condition) where
   -- nothing was read
   pub no_turn : {C : Type 0} (before after : Session condition C)
       → after.hub ≡ before.hub → after.clock ≡ before.clock → after.wire.taken ≡ before.wire.taken → after.wire.failures ≡ before.wire.failures
-      → Keeps before.wire.unread after.wire.unread → NoTurn condition before after
-  no_turn before after hub clock taken failures kept = record {
+      → Keeps before.wire.unread after.wire.unread → after.wire.reads ≡ next_count before.wire.reads → NoTurn condition before after
+  no_turn before after hub clock taken failures kept count = record {
     same_hub = hub;
-    rests = record {
+    nothing = record {
       pieces = kept;
+      reads = count;
       replies = subst (λ (o : Option (List ℕ)). Keeps before.wire.taken o) (sym taken) (keeps_itself before.wire.taken);
       failures = failures;
     };

@@ -4,24 +4,32 @@ use Rattle.std.specs.List.{FoldsTo}
 use Rattle.std.specs.Io.KnownBytes.{Appends, Consumes, Keeps, IsAtEnd}
 use Rattle.dep_types.specs.State.{State}
 use Rattle.dep_types.specs.Conditions.{Condition, Leaves}
+use Rattle.dep_types.specs.Writing.{next_count}
+use Rattle.dep_types.specs.declared.inlet.LastRead.{LastRead}
+use Rattle.dep_types.specs.declared.inlet.LastRead.TheVariants as read
 use Rattle.dep_server.specs.Records.{World, Connect, Close, Record, stopped, Run, first_world}
 use Rattle.dep_server.specs.Standing.{StandsAt, StandsAfter, IsClean, IsHonest, Moves, IsArrival, intake_of, store_of}
-use Rattle.dep_server.specs.Turns.{Turn, pieces_of, replies_of, record_of, records_of, most_read, ArePieces, last_answer, with_opened, with_closed, Exchanges, LeftByExchanges, EndsAs}
+use Rattle.dep_server.specs.Turns.{Turn, pieces_of, replies_of, record_of, records_of, most_read, most_reads, reads_made, reads_after, HasLastRead, ArePieces, last_answer, with_opened, with_closed, Exchanges, LeftByExchanges, EndsAs}
+use Rattle.dep_server.specs.Shut.{LeavesNoMore, IfShut, SendsFixed}
 use Rattle.dep_server.specs.declared.hub.Hub.{Hub}
 use Rattle.dep_server.specs.declared.arrived.Arrived.{Arrived}
 use Rattle.dep_server.specs.declared.arrived.Arrived.TheVariants.{Open as StaysOpen, Closed as HasClosed, Cut}
 use Rattle.dep_server.specs.declared.connection.Served.{Served}
 use Rattle.dep_server.specs.declared.connection.Served.TheVariants.{Ended, Closed, Unserved, ReadFault, WriteFault, Bound}
 
--- the bytes that a reader has left, and those that an outlet took, where they tell them; and how
--- often the outlet has failed
+-- the bytes that an inlet has left, how many reads it made and how the last one ended; the bytes that
+-- an outlet took, and how often it has failed
 pub record Wire : Type 0 where
   pub unread : Option (List ℕ)
+  pub reads : ℕ
+  pub last : LastRead
   pub taken : Option (List ℕ)
   pub failures : ℕ
 
-abbrev pub wire : (unread taken : Option (List ℕ)) (failures : ℕ) → Wire
-wire unread taken failures = record { unread = unread; taken = taken; failures = failures }
+abbrev pub wire : (unread : Option (List ℕ)) (reads : ℕ) (last : LastRead)
+    (taken : Option (List ℕ)) (failures : ℕ) → Wire
+wire unread reads last taken failures =
+    record { unread = unread; reads = reads; last = last; taken = taken; failures = failures }
 
 -- what was read is these bytes, and these were sent
 pub record Transfers (before after : Wire) (read sent : List ℕ) : Type 0 where
@@ -31,6 +39,15 @@ pub record Transfers (before after : Wire) (read sent : List ℕ) : Type 0 where
 -- nothing is read or sent
 pub record Rests (before after : Wire) : Type 0 where
   pub pieces : Keeps before.unread after.unread
+  pub reads : after.reads ≡ before.reads
+  pub last : after.last ≡ before.last
+  pub replies : Keeps before.taken after.taken
+  pub failures : after.failures ≡ before.failures
+
+-- one read gave no byte, and nothing is sent
+pub record GivesNothing (before after : Wire) : Type 0 where
+  pub pieces : Keeps before.unread after.unread
+  pub reads : after.reads ≡ next_count before.reads
   pub replies : Keeps before.taken after.taken
   pub failures : after.failures ≡ before.failures
 
@@ -47,6 +64,11 @@ next_after next Closed = next + 1
 next_after next ReadFault = next + 1
 next_after next WriteFault = next + 1
 next_after next Bound = next + 1
+
+-- in each turn the client was sent a fixed reply at most, behind what tells it to go on
+abbrev pub AreFixed : List Turn → Type 0
+AreFixed [] = Unit {0}
+AreFixed (t ∷ turns) = SendsFixed t.sent t.answer × AreFixed turns
 
 module _ {A : Type 0} (condition : A → Condition) where
   -- where the serving of a connection stands
@@ -104,6 +126,8 @@ module _ {A : Type 0} (condition : A → Condition) where
     pub sent : List ℕ
     pub arrives : IsArrival condition before.hub after.hub number piece moment sent
         before.wire.failures after.wire.failures answer
+    pub reads : after.wire.reads ≡ next_count before.wire.reads
+    pub last : after.wire.last ≡ read.Bytes
     pub some : 0 < length piece
     pub small : length piece ≤ most_read
     pub transfers : Transfers before.wire after.wire piece sent
@@ -112,7 +136,7 @@ module _ {A : Type 0} (condition : A → Condition) where
   -- nothing was read
   pub record NoTurn {C : Type 0} (before after : Session C) : Type 0 where
     pub same_hub : after.hub ≡ before.hub
-    pub rests : Rests before.wire after.wire
+    pub nothing : GivesNothing before.wire after.wire
     pub same_clock : after.clock ≡ before.clock
 
   abbrev pub TurnsTo : {C : Type 0} → (C → ℕ → C → Type 0) → ℕ → (before after : Session C)
@@ -121,8 +145,10 @@ module _ {A : Type 0} (condition : A → Condition) where
   TurnsTo ticks number before after None = OneTurn ticks number before after StaysOpen
   TurnsTo ticks number before after (Some Closed) = OneTurn ticks number before after HasClosed
   TurnsTo ticks number before after (Some WriteFault) = OneTurn ticks number before after Cut
-  TurnsTo ticks number before after (Some Ended) = NoTurn before after × IsAtEnd after.wire.unread
-  TurnsTo ticks number before after (Some ReadFault) = NoTurn before after
+  TurnsTo ticks number before after (Some Ended) =
+      NoTurn before after × IsAtEnd after.wire.unread × (after.wire.last ≡ read.Nothing)
+  TurnsTo ticks number before after (Some ReadFault) =
+      NoTurn before after × (after.wire.last ≡ read.Failed)
   TurnsTo ticks number before after (Some Unserved) = ⊥
   TurnsTo ticks number before after (Some Bound) = ⊥
 
@@ -134,6 +160,8 @@ module _ {A : Type 0} (condition : A → Condition) where
     pub answer : Arrived
     pub talk : Talk ticks number before after count answer
     pub ends : EndsAs after.wire.unread talk.turns served
+    pub reads : after.wire.reads ≡ reads_after before.wire.reads (reads_made talk.turns served)
+    pub last : HasLastRead after.wire.last served
 
   -- what the machine makes of the turns, from whatever machine the hub kept: it answers them as
   -- they were answered, and the hub keeps what it comes to, if its store is open; a stop then
@@ -149,9 +177,8 @@ module _ {A : Type 0} (condition : A → Condition) where
 
   -- one connection: what was read are its pieces, what was written is what was sent, each at the
   -- clock's answer
-  pub record Converses {C : Type 0} (ticks : C → ℕ → C → Type 0)
-      (before : Session C) (new : Hub A)
-      (after : Wire) (served : Served) : Type 0 where
+  pub record Converses {C : Type 0} (ticks : C → ℕ → C → Type 0) (before after : Session C)
+      (served : Served) : Type 0 where
     pub number : ℕ
     pub turns : List Turn
     pub is_next : number ≡ before.hub.next
@@ -159,35 +186,42 @@ module _ {A : Type 0} (condition : A → Condition) where
     pub opened : Hub A
     pub opens : Moves condition before.hub opened (Connect number) []
     pub talked : Hub A
-    pub talks : Talks number opened before.wire.failures turns talked after.failures
-    pub closes : Moves condition talked new (Close number) []
-    pub gone : intake_of new.connections.items number ≡ None
-    pub answers : IsHonest condition new → (w : World) → StandsAt condition before.hub w
-        → IsAnswered before.hub new number turns w
-    pub adds : AddsAll before.hub new (records_of number turns)
-    pub stops : StopsAll before.hub new
+    pub talks : Talks number opened before.wire.failures turns talked after.wire.failures
+    pub closes : Moves condition talked after.hub (Close number) []
+    pub gone : intake_of after.hub.connections.items number ≡ None
+    pub answers : IsHonest condition after.hub → (w : World) → StandsAt condition before.hub w
+        → IsAnswered before.hub after.hub number turns w
+    pub adds : AddsAll before.hub after.hub (records_of number turns)
+    pub stops : StopsAll before.hub after.hub
         (record { event = Connect number; sent = [] } ∷ map (record_of number) turns)
-    pub transfers : Transfers before.wire after (pieces_of turns) (replies_of turns)
-    pub moments : (last : C) × Clocks ticks before.clock turns last
-    pub ends : EndsAs after.unread turns served
+    pub transfers : Transfers before.wire after.wire (pieces_of turns) (replies_of turns)
+    pub moments : Clocks ticks before.clock turns after.clock
+    pub ends : EndsAs after.wire.unread turns served
     pub sizes : ArePieces turns
+    -- each turn took one read, and there were no more reads than there may be
+    pub reads : after.wire.reads ≡ reads_after before.wire.reads (reads_made turns served)
+    pub few_reads : after.wire.reads ≤ before.wire.reads + most_reads
+    pub last : HasLastRead after.wire.last served
+    -- over a hub whose store was shut
+    pub shut : IfShut (store_of condition before.hub) (store_of condition after.hub)
+        (AreFixed turns
+        × LeavesNoMore (store_of condition before.hub) (store_of condition after.hub))
 
   -- nothing is read or written, and the hub stands for what it did
-  pub record IsUnserved (old new : Hub A) (before after : Wire) : Type 0 where
-    pub same : (w : World) → StandsAt condition old w → StandsAt condition new w
-    pub same_store : new.store ≡ old.store
-    pub stays : (w : World) → StandsAt condition old w
-        → Leaves (store_of condition new) (λ found. found ≡ w.state)
-    pub adds : AddsAll old new []
-    pub rests : Rests before after
+  pub record IsUnserved {C : Type 0} (before after : Session C) : Type 0 where
+    pub same : (w : World) → StandsAt condition before.hub w → StandsAt condition after.hub w
+    pub same_store : after.hub.store ≡ before.hub.store
+    pub stays : (w : World) → StandsAt condition before.hub w
+        → Leaves (store_of condition after.hub) (λ found. found ≡ w.state)
+    pub adds : AddsAll before.hub after.hub []
+    pub rests : Rests before.wire after.wire
+    pub same_clock : after.clock ≡ before.clock
 
-  abbrev pub ConversesOver : {C : Type 0} → (C → ℕ → C → Type 0) → (before : Session C)
-      → (new : Hub A)
-      → (after : Wire)
+  abbrev pub ConversesOver : {C : Type 0} → (C → ℕ → C → Type 0) → (before after : Session C)
       → Served → Type 0
-  ConversesOver ticks before new after Unserved = IsUnserved before.hub new before.wire after
-  ConversesOver ticks before new after Ended = Converses ticks before new after Ended
-  ConversesOver ticks before new after Closed = Converses ticks before new after Closed
-  ConversesOver ticks before new after ReadFault = Converses ticks before new after ReadFault
-  ConversesOver ticks before new after WriteFault = Converses ticks before new after WriteFault
-  ConversesOver ticks before new after Bound = Converses ticks before new after Bound
+  ConversesOver ticks before after Unserved = IsUnserved before after
+  ConversesOver ticks before after Ended = Converses ticks before after Ended
+  ConversesOver ticks before after Closed = Converses ticks before after Closed
+  ConversesOver ticks before after ReadFault = Converses ticks before after ReadFault
+  ConversesOver ticks before after WriteFault = Converses ticks before after WriteFault
+  ConversesOver ticks before after Bound = Converses ticks before after Bound

@@ -9,3 +9,5 @@ pub mod Turns
 pub mod Conversation
 pub mod Numbers
 pub mod Performing
+pub mod Faults
+pub mod Shut

@@ -5,7 +5,7 @@ use Rattle.dep_types.specs.declared.config.Config.{Config}
 use Rattle.dep_message.specs.Places.{Place, Open, Shut}
 use Rattle.dep_message.specs.Stream.{Item, Reads, Spells}
 use Rattle.dep_server.specs.Machine.{Serves}
-use Rattle.dep_server.specs.Stops.{LeftByServing}
+use Rattle.dep_server.specs.Stops.{LeftByServing, EndsGivenUp}
 use Rattle.dep_server.specs.declared.arrived.Arrived.{Arrived}
 use Rattle.dep_server.specs.declared.arrived.Arrived.TheVariants.{Closed}
 
@@ -69,6 +69,14 @@ abbrev pub LeftByArrival : {config : Config} {piece : List ℕ} {moment : ℕ} {
 LeftByArrival (at_live serves) found = LeftByServing serves found
 LeftByArrival {s = s} at_shut_line found = found ≡ s
 
+-- the last item that the arrival began was sent a fixed reply in place of its own
+abbrev pub MayShut : {config : Config} {piece : List ℕ} {moment : ℕ} {line after : Line}
+    {s left : State}
+    {sent : List ℕ} {answer : Arrived}
+    → Arrives config piece moment line s sent left after answer → Type 0
+MayShut (at_live serves) = EndsGivenUp serves
+MayShut at_shut_line = ⊥
+
 -- what may happen to the machine
 pub data Happens (config : Config) (w : World) : Event → List ℕ → World → Type 0 where
   connects : {n : ℕ}
@@ -93,12 +101,13 @@ pub data Run (config : Config) (first : State) : List Record → World → Type 
   -- it stops between two calls, or at the end of one that left all well
   stops : {records : List Record} {w : World} → Run config first records w
       → Run config first (records ++ stopped ∷ []) (first_world w.state)
-  -- it stops at the end of an arrival, and what is found is what that arrival may leave
+  -- it stops at the end of an arrival after which the store may be shut, and what is found is what that
+  -- arrival may leave
   breaks : {records : List Record} {n moment : ℕ} {piece sent : List ℕ} {w : World} {left : State}
       {line : Line} {answer : Arrived} (found : State)
       → Run config first records w
       → (a : Arrives config piece moment (w.line n) w.state sent left line answer)
-      → LeftByArrival a found
+      → MayShut a → LeftByArrival a found
       → Run config first
       (records ++ record { event = Arrive n piece moment; sent = sent } ∷ stopped ∷ [])
       (first_world found)

@@ -1,5 +1,5 @@
 -- What a hub stands for: the lists of records that may have led to what it keeps.
-use Rattle.std.specs.Prelude.{◌≡◌, ◌==◌, ℕ, List, [], ◌∷◌, ◌++◌, if◌then◌else◌, Option, None, Some, IsTrue}
+use Rattle.std.specs.Prelude.{◌≡◌, ◌==◌, ℕ, true, List, [], ◌∷◌, ◌++◌, if◌then◌else◌, Option, None, Some, IsTrue}
 use Rattle.std.specs.Io.KnownBytes.{Appends, Keeps}
 use Rattle.dep_types.specs.State.{State}
 use Rattle.dep_types.specs.declared.config.Config.{Config}
@@ -11,6 +11,7 @@ use Rattle.dep_server.specs.declared.arrived.Arrived.{Arrived}
 use Rattle.dep_server.specs.declared.arrived.Arrived.TheVariants.{Open as StaysOpen, Closed, Cut, NoSuch}
 use Rattle.dep_server.specs.declared.connections.Connection.{Connection}
 use Rattle.dep_server.specs.Causes.{HasCause}
+use Rattle.dep_server.specs.Shut.{LeavesNoMore, IfShut, SendsFixed}
 use Rattle.dep_server.specs.declared.hub.Hub.{Hub}
 
 -- the intake of a connection, if it is there
@@ -26,10 +27,11 @@ pub record KeepsRest (limit : ℕ) (stream : List ℕ) (reading : Reading) : Typ
   pub spells : Spells limit stream items reading.place
   pub is_open : IsOpen reading.place
 
--- an ended connection reads no more
+-- an ended connection reads no more, and its intake is dead
 pub record IsShut (limit : ℕ) (reading : Reading) : Type 0 where
   pub same_limit : reading.limit ≡ limit
   pub shut : reading.place ≡ Shut
+  pub dead : reading.is_dead ≡ true
 
 -- how a connection of the machine is kept
 abbrev pub IsKeptAs : ℕ → Line → Option Reading → Type 0
@@ -53,11 +55,15 @@ module _ {A : Type 0} (condition : A → Condition) where
   abbrev pub IsHonest : Hub A → Type 0
   IsHonest hub = HasCleanDisk (store_of hub)
 
+  -- the hub keeps each of these lines
+  abbrev pub KeepsLines : Hub A → (ℕ → Line) → Type 0
+  KeepsLines hub lines = (number : ℕ)
+      → IsKeptAs hub.config.max_upload (lines number) (intake_of hub.connections.items number)
+
   -- the hub keeps what the machine is
   pub record StandsAt (hub : Hub A) (w : World) : Type 0 where
     pub state : StandsFor (store_of hub) w.state
-    pub kept : (number : ℕ)
-        → IsKeptAs hub.config.max_upload (w.line number) (intake_of hub.connections.items number)
+    pub kept : KeepsLines hub w.line
 
   -- the machine may be there after these records
   pub record StandsAfter (hub : Hub A) (first : State) (records : List Record) : Type 0 where
@@ -98,6 +104,18 @@ module _ {A : Type 0} (condition : A → Condition) where
       → Leaves (store_of new) (λ found. Run old.config first
       (records ++ record { event = event; sent = sent } ∷ stopped ∷ []) (first_world found))
 
+  -- An arrival at a hub whose store was shut. The client is sent a fixed reply at most, behind what
+  -- tells it to go on, and a crash leaves what it could leave before. Whatever lines the hub kept, the
+  -- machine may answer so from any state, and stay at that state.
+  pub record ArrivesShut (old new : Hub A) (number : ℕ) (piece : List ℕ) (moment : ℕ)
+      (sent : List ℕ) (answer : Arrived) : Type 0 where
+    pub sends : SendsFixed sent answer
+    pub leaves : LeavesNoMore (store_of old) (store_of new)
+    pub goes_on : (lines : ℕ → Line) → KeepsLines old lines → (line : Line)
+        × ((s : State)
+        → Arrives old.config piece moment (lines number) s sent s line answer)
+        × KeepsLines new (with_line number line lines)
+
   -- an arrival at a connection that is there: what is sent for it is a run's, and so is the answer
   pub record IsArrival (old new : Hub A) (number : ℕ) (piece : List ℕ) (moment : ℕ)
       (sent : List ℕ)
@@ -108,6 +126,7 @@ module _ {A : Type 0} (condition : A → Condition) where
     pub honest : IsHonest new → IsHonest old
     pub answers : IsHonest new → (w : World) → StandsAt old w
         → ArrivesTo old.config new number piece moment sent failures failures_after answer w
+    pub shut : IfShut (store_of old) (store_of new) (ArrivesShut old new number piece moment sent answer)
 
   -- what was sent over an outlet for an arrival, by what the outlet tells before and after
   pub record ArrivesOver (held holds : Option (List ℕ)) (failures failures_after : ℕ)

@@ -26,3 +26,19 @@ abbrev pub LeftByServing : {config : Config} {reads : List Item → Place → Ty
 LeftByServing {left = left} (serves_all items reads waits) found = found ≡ left
 LeftByServing (step_fails items item at reads fails) found = LeftByFailure fails found
 LeftByServing {left = left} (gives_up items at reads some sends) found = found ≡ left
+
+-- A fixed reply was sent in place of the item's own. Only then may a fault have shut the store with the
+-- item's step kept or not; everywhere else a stop leaves what the arrival left.
+abbrev pub IsGivenUp : {config : Config} {s : State} {item : Item} {moment : ℕ} {sent : List ℕ}
+    {left : State} {answer : Arrived}
+    → Fails config s item moment sent left answer → Type 0
+IsGivenUp (given_up fixed sends leaves) = Unit {0}
+IsGivenUp (cut_short part leaves) = ⊥
+
+abbrev pub EndsGivenUp : {config : Config} {reads : List Item → Place → Type 0}
+    {s : State} {moment : ℕ}
+    {sent : List ℕ} {left : State} {at : Place} {answer : Arrived}
+    → Serves config reads s moment sent left at answer → Type 0
+EndsGivenUp (serves_all items reads waits) = ⊥
+EndsGivenUp (step_fails items item at reads fails) = IsGivenUp fails
+EndsGivenUp (gives_up items at reads some sends) = ⊥

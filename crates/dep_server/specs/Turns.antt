@@ -1,8 +1,11 @@
 -- The turns of one connection, and how the machine answers them.
-use Rattle.std.specs.Prelude.{◌<◌, ◌≤◌, length, ◌≡◌, ℕ, List, [], ◌∷◌, ◌++◌, Option, map}
+use Rattle.std.specs.Prelude.{◌<◌, ◌≤◌, ◌+◌, length, ◌≡◌, ℕ, zero, suc, List, [], ◌∷◌, ◌++◌, Option, map}
 use Rattle.std.specs.List.{flat_map}
 use Rattle.std.specs.Io.KnownBytes.{IsAtEnd}
 use Rattle.dep_types.specs.State.{State}
+use Rattle.dep_types.specs.Writing.{next_count}
+use Rattle.dep_types.specs.declared.inlet.LastRead.{LastRead}
+use Rattle.dep_types.specs.declared.inlet.LastRead.TheVariants as read
 use Rattle.dep_types.specs.declared.config.Config.{Config}
 use Rattle.dep_server.specs.Records.{World, Line, Live, Absent, with_line, Connect, Arrive, Close, Record, Arrives, LeftByArrival}
 use Rattle.dep_server.specs.declared.arrived.Arrived.{Arrived}
@@ -86,6 +89,29 @@ EndsAs left turns WriteFault = (last_answer turns ≡ Cut) × (length turns ≤ 
 EndsAs left turns ReadFault = (last_answer turns ≡ StaysOpen) × (length turns < most_reads)
 EndsAs left turns Bound = (last_answer turns ≡ StaysOpen) × (length turns ≡ most_reads)
 EndsAs left turns Unserved = ⊥
+
+-- how many reads were made: one for each turn, and one that gave nothing or failed
+abbrev pub reads_made : List Turn → Served → ℕ
+reads_made turns Ended = length turns + 1
+reads_made turns ReadFault = length turns + 1
+reads_made turns Closed = length turns
+reads_made turns WriteFault = length turns
+reads_made turns Bound = length turns
+reads_made turns Unserved = 0
+
+-- a count of reads after so many more
+abbrev pub reads_after : (reads : ℕ) → (more : ℕ) → ℕ
+reads_after reads zero = reads
+reads_after reads (suc more) = next_count (reads_after reads more)
+
+-- how the last read ended
+abbrev pub HasLastRead : LastRead → Served → Type 0
+HasLastRead last Ended = last ≡ read.Nothing
+HasLastRead last ReadFault = last ≡ read.Failed
+HasLastRead last Closed = last ≡ read.Bytes
+HasLastRead last WriteFault = last ≡ read.Bytes
+HasLastRead last Bound = last ≡ read.Bytes
+HasLastRead last Unserved = ⊥
 
 -- what the answer to a turn says of the turns behind it, and of why the connection was served no
 -- longer

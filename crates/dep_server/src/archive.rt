@@ -9,6 +9,7 @@ ghost use Rattle.dep_fields.specs.Fit.{AreFit};
 ghost use Rattle.dep_answers.specs.Steps.{operation_step};
 ghost use Rattle.dep_types.specs.Conditions.{Condition, StandsFor, HasCleanDisk, Leaves};
 ghost use Rattle.dep_server.specs.Performing.{Performs};
+ghost use Rattle.dep_server.specs.Shut.{IfShut, LeavesNoMore};
 
 use dep_answers::{Performed, Service};
 use dep_decisions::Operation;
@@ -36,7 +37,12 @@ pub trait Archive {
         ensures stop { HasCleanDisk (condition self.new)
             → (s : State) → StandsFor (condition self.old) s
             → Leaves (condition self.new)
-            (λ left. (left ≡ s) ⊎ (left ≡ tick config.now s moment)) };
+            (λ left. (left ≡ s) ⊎ (left ≡ tick config.now s moment)) }
+        // On an archive that was shut it fails, and a crash leaves what it could leave before.
+        ensures opened { HasCleanDisk (condition self.new)
+            → OnOk result (IsTrue (condition self.old).is_open) }
+        ensures shut { IfShut (condition self.old) (condition self.new)
+            (LeavesNoMore (condition self.old) (condition self.new)) };
 
     /// Does what a request asks for, once the clock has gone on, all of it or nothing. The reply is
     /// made before it is kept, so an `Err` changes nothing.
@@ -58,7 +64,12 @@ pub trait Archive {
         ensures stop { HasCleanDisk (condition self.new) → AreFit operation.now.fields
             → (s : State) → StandsFor (condition self.old) s
             → Leaves (condition self.new)
-            (λ left. (left ≡ s) ⊎ (left ≡ (operation_step service.now s operation.now).state)) };
+            (λ left. (left ≡ s) ⊎ (left ≡ (operation_step service.now s operation.now).state)) }
+        // On an archive that was shut it fails, and a crash leaves what it could leave before.
+        ensures opened { HasCleanDisk (condition self.new)
+            → OnOk result (IsTrue (condition self.old).is_open) }
+        ensures shut { IfShut (condition self.old) (condition self.new)
+            (LeavesNoMore (condition self.old) (condition self.new)) };
 
     /// Sends the content of the file of this number, one block at a time.
     fn stream<O: Outlet>(&mut self, file: u64, out: &mut O) -> Result<(), StreamFault>
@@ -78,6 +89,11 @@ pub trait Archive {
         ensures stop { HasCleanDisk (condition self.new)
             → (s : State) → StandsFor (condition self.old) s
             → Leaves (condition self.new) (λ left. left ≡ s) }
+        // On an archive that was shut it fails, and a crash leaves what it could leave before.
+        ensures opened { HasCleanDisk (condition self.new)
+            → OnOk result (IsTrue (condition self.old).is_open) }
+        ensures shut { IfShut (condition self.old) (condition self.new)
+            (LeavesNoMore (condition self.old) (condition self.new)) }
         ensures kept { OnOk result (O.failures out.new ≡ O.failures out.old) }
         ensures cause { result ≡ Err StreamFault.Writer
             → HasRisen (O.failures out.old) (O.failures out.new) }

@@ -1,4 +1,4 @@
-//! One connection over a reader and an outlet.
+//! One connection over an inlet and an outlet.
 ghost use Rattle.std.specs.Prelude.{◌≡◌, ◌<◌, IsSome, length};
 ghost use Rattle.dep_server.specs.Standing.{intake_of, IsClean, IsHonest};
 ghost use Rattle.dep_server.specs.Turns.{most_read};
@@ -9,20 +9,19 @@ use crate::arrived::Arrived;
 use crate::connections::ConnId;
 use crate::hub::Hub;
 use dep_moment::Moment;
-use dep_types::Outlet;
+use dep_types::{Inlet, Outlet, ReadFailed};
 use std::alloc::Global;
-use std::io::Read;
 
 /// Why a connection was served no longer.
 #[derive(Clone, Copy, Debug, PartialEq, Eq)]
 pub enum Served {
-    /// The reader had no more.
+    /// The last read gave nothing.
     Ended,
     /// The connection was closed after a reply.
     Closed,
     /// It could not be opened.
     Unserved,
-    /// The reader failed.
+    /// The last read failed.
     ReadFault,
     /// The outlet failed.
     WriteFault,
@@ -41,21 +40,25 @@ struct Incoming {
     buffer: Vec<u8>,
 }
 
-/// Serves one fresh connection, from its opening to its close.
-pub fn serve_connection<A: Archive, R: Read, W: Outlet, C: FnMut() -> Moment>(
+/// Serves one fresh connection, from its opening to its close. It makes at most 1,048,576 reads, of at most
+/// 65,536 bytes each, and asks the clock once for each piece.
+pub fn serve_connection<A: Archive, R: Inlet, W: Outlet, C: FnMut() -> Moment>(
     alloc: Global,
     reader: &mut R,
     writer: &mut W,
     hub: &mut Hub<A>,
-    mut clock: C,
+    clock: &mut C,
 ) -> Served
-    requires { C.IsAlwaysCallable clock }
+    requires { C.IsAlwaysCallable clock.old }
+    ensures call { C.IsAlwaysCallable clock.new }
     ensures config { hub.new.config ≡ hub.old.config }
     ensures converses { ConversesOver A.condition C.step
         (session A.condition hub.old
-        (wire (R.remaining reader.old) (W.taken writer.old) (W.failures writer.old)) clock)
-        hub.new (wire (R.remaining reader.new) (W.taken writer.new)
-        (W.failures writer.new)) result }
+        (wire (R.unread reader.old) (R.reads reader.old) (R.last reader.old)
+        (W.taken writer.old) (W.failures writer.old)) clock.old)
+        (session A.condition hub.new
+        (wire (R.unread reader.new) (R.reads reader.new) (R.last reader.new)
+        (W.taken writer.new) (W.failures writer.new)) clock.new) result }
     ensures clean { IsClean A.condition hub.new → IsClean A.condition hub.old }
     ensures honest { IsHonest A.condition hub.new → IsHonest A.condition hub.old }
     ensures next { hub.new.next ≡ next_after hub.old.next result }
@@ -67,13 +70,13 @@ pub fn serve_connection<A: Archive, R: Read, W: Outlet, C: FnMut() -> Moment>(
         return Served::Unserved;
     };
     let mut incoming = Incoming { connection, buffer };
-    let served = converse(reader, writer, hub, &mut clock, &mut incoming);
+    let served = converse(reader, writer, hub, clock, &mut incoming);
     hub.close(connection);
     served
 }
 
 /// Serves a connection until it ends.
-fn converse<A: Archive, R: Read, W: Outlet, C: FnMut() -> Moment>(
+fn converse<A: Archive, R: Inlet, W: Outlet, C: FnMut() -> Moment>(
     reader: &mut R,
     writer: &mut W,
     hub: &mut Hub<A>,
@@ -83,14 +86,16 @@ fn converse<A: Archive, R: Read, W: Outlet, C: FnMut() -> Moment>(
     requires call { C.IsAlwaysCallable clock.old }
     requires there { IsSome (intake_of hub.old.connections.items incoming.old.connection) }
     requires room { length incoming.old.buffer.items ≡ most_read }
+    ensures call { C.IsAlwaysCallable clock.new }
     ensures config { hub.new.config ≡ hub.old.config }
     ensures next { hub.new.next ≡ hub.old.next }
     ensures talks { TalksUntil A.condition C.step incoming.old.connection
         (session A.condition hub.old
-        (wire (R.remaining reader.old) (W.taken writer.old) (W.failures writer.old)) clock.old)
+        (wire (R.unread reader.old) (R.reads reader.old) (R.last reader.old)
+        (W.taken writer.old) (W.failures writer.old)) clock.old)
         (session A.condition hub.new
-        (wire (R.remaining reader.new) (W.taken writer.new)
-        (W.failures writer.new)) clock.new) result }
+        (wire (R.unread reader.new) (R.reads reader.new) (R.last reader.new)
+        (W.taken writer.new) (W.failures writer.new)) clock.new) result }
 {
     for count in 0..MOST_READS {
         if let Some(end) = turn(reader, writer, hub, clock, incoming) {
@@ -101,7 +106,7 @@ fn converse<A: Archive, R: Read, W: Outlet, C: FnMut() -> Moment>(
 }
 
 /// Reads a piece, and has it served.
-fn turn<A: Archive, R: Read, W: Outlet, C: FnMut() -> Moment>(
+fn turn<A: Archive, R: Inlet, W: Outlet, C: FnMut() -> Moment>(
     reader: &mut R,
     writer: &mut W,
     hub: &mut Hub<A>,
@@ -119,13 +124,14 @@ fn turn<A: Archive, R: Read, W: Outlet, C: FnMut() -> Moment>(
     ensures next { hub.new.next ≡ hub.old.next }
     ensures turn { TurnsTo A.condition C.step incoming.old.connection
         (session A.condition hub.old
-        (wire (R.remaining reader.old) (W.taken writer.old) (W.failures writer.old)) clock.old)
+        (wire (R.unread reader.old) (R.reads reader.old) (R.last reader.old)
+        (W.taken writer.old) (W.failures writer.old)) clock.old)
         (session A.condition hub.new
-        (wire (R.remaining reader.new) (W.taken writer.new)
-        (W.failures writer.new)) clock.new) result }
+        (wire (R.unread reader.new) (R.reads reader.new) (R.last reader.new)
+        (W.taken writer.new) (W.failures writer.new)) clock.new) result }
 {
     match reader.read(incoming.buffer.as_mut_slice()) {
-        Err(_) => Some(Served::ReadFault),
+        Err(ReadFailed) => Some(Served::ReadFault),
         Ok(0) => Some(Served::Ended),
         Ok(n) => {
             let moment = clock();

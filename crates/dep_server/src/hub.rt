@@ -9,14 +9,13 @@ ghost use Rattle.dep_server.specs.Numbers.{Ascends, Ascends-prop, most_connectio
 use crate::archive::Archive;
 use crate::arrived::Arrived;
 use crate::connections::{ConnId, Connection, index_among};
+use crate::faults::{ConnectFault, HubFault};
 use crate::serving::{Piece, serve};
 use dep_answers::Service;
 use dep_message::Intake;
 use dep_moment::Moment;
 use dep_types::{Config, ConfigFault, Outlet};
 use std::alloc::Global;
-use std::error::Error;
-use std::fmt;
 
 /// All connections, and the one store that they share.
 #[derive(Drop)]
@@ -32,46 +31,6 @@ pub struct Hub<A> {
 const MOST_CONNECTIONS: usize = 1_024;
 
 const LAST_NUMBER: u64 = 4_000_000_000_000_000_000;
-
-/// Why a hub is refused.
-#[derive(Clone, Copy, Debug, PartialEq, Eq)]
-pub enum HubFault {
-    /// The configuration breaks a rule of its check.
-    Config,
-    /// There was no memory for the check, or for the service document.
-    Memory,
-}
-
-/// Why a connection is refused.
-#[derive(Clone, Copy, Debug, PartialEq, Eq)]
-pub enum ConnectFault {
-    /// There are as many connections as there may be, or their numbers have ended.
-    Full,
-    /// There was no memory for it.
-    Memory,
-}
-
-impl fmt::Display for HubFault {
-    fn fmt<W: fmt::Write>(&self, f: &mut fmt::Formatter<W>) -> fmt::Result {
-        match self {
-            HubFault::Config => write!(f, "the configuration breaks a rule"),
-            HubFault::Memory => write!(f, "out of memory"),
-        }
-    }
-}
-
-impl Error for HubFault {}
-
-impl fmt::Display for ConnectFault {
-    fn fmt<W: fmt::Write>(&self, f: &mut fmt::Formatter<W>) -> fmt::Result {
-        match self {
-            ConnectFault::Full => write!(f, "no more connections can be opened"),
-            ConnectFault::Memory => write!(f, "out of memory"),
-        }
-    }
-}
-
-impl Error for ConnectFault {}
 
 impl<A: Archive> Hub<A> {
     ghost use Rattle.dep_server.specs.Standing.{StandsAfter, StandsAt, IsClean, IsHonest, store_of, Adds, Moves, ComesTo, intake_of};

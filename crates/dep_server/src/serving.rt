@@ -3,16 +3,16 @@ ghost use Rattle.std.specs.Prelude.{◌≡◌, ◌≢◌, ℕ, List};
 ghost use Rattle.std.specs.Io.KnownBytes.{Appends};
 ghost use Rattle.dep_types.specs.Writing.{HasRisen};
 ghost use Rattle.dep_server.specs.Machine.{SendsUpTo, want_of_memory};
-ghost use Rattle.dep_message.specs.Places.{Reading, Shut};
+ghost use Rattle.dep_message.specs.Places.{Reading, shut_reading};
 ghost use Rattle.dep_server.specs.Sending.{outside};
-ghost use Rattle.dep_server.specs.Serving.{ServesOver, arrival_of, answer_after};
+ghost use Rattle.dep_server.specs.Serving.{ServesOver, IsDeadIfShut, arrival_of, answer_after};
 
 use crate::archive::Archive;
 use crate::arrived::Arrived;
 use crate::sending::{Answered, send_want_of_memory};
 use crate::step::{StreamRefusal, answer_continue, answer_fault, answer_message};
 use dep_answers::Service;
-use dep_message::{Intake, Step};
+use dep_message::{Intake, Step, closes};
 use dep_moment::Moment;
 use dep_types::Outlet;
 use std::alloc::AllocError;
@@ -38,6 +38,7 @@ pub(crate) fn serve<A: Archive, O: Outlet>(
         (outside (O.taken out.new) (O.failures out.new)
         (A.condition store.new)) intake.new.place result }
     ensures limit { intake.new.limit ≡ intake.old.limit }
+    ensures dead { IsDeadIfShut intake.old → IsDeadIfShut intake.new }
     ensures there { result ≢ Arrived.NoSuch }
 {
     if let Err(AllocError) = intake.feed(piece.bytes) {
@@ -58,8 +59,13 @@ pub(crate) fn serve<A: Archive, O: Outlet>(
                 answer => return end(intake, answer),
             },
             Ok(Step::Message(message)) => {
+                let is_last = closes(&message.head);
                 match answer_message(service, store, message, piece.moment, out) {
-                    Answered::Sent => {}
+                    Answered::Sent => {
+                        if is_last {
+                            return end(intake, Answered::Sent);
+                        }
+                    }
                     answer => return end(intake, answer),
                 }
             }
@@ -70,7 +76,7 @@ pub(crate) fn serve<A: Archive, O: Outlet>(
 fn give_up<O: Outlet>(intake: &mut Intake, out: &mut O) -> Arrived
     ensures sent { (sent : List ℕ) × Appends (O.taken out.old) (O.taken out.new) sent
         × SendsUpTo want_of_memory sent result }
-    ensures shut { intake.new ≡ record intake.old { place = Shut } }
+    ensures shut { intake.new ≡ shut_reading intake.old }
     ensures cause { result ≡ Arrived.Cut → HasRisen (O.failures out.old) (O.failures out.new) }
     ensures there { result ≢ Arrived.NoSuch }
 {
@@ -80,7 +86,7 @@ fn give_up<O: Outlet>(intake: &mut Intake, out: &mut O) -> Arrived
 
 fn end(intake: &mut Intake, answer: Answered) -> Arrived
     ensures answer { result ≡ answer_after answer }
-    ensures shut { intake.new ≡ record intake.old { place = Shut } }
+    ensures shut { intake.new ≡ shut_reading intake.old }
 {
     intake.shut();
     match answer {

@@ -137,20 +137,18 @@ fn perform<A: Archive>(
         closes: closes(&message.head),
     };
     let alloc = service.alloc();
-    match Routes::new(alloc).route(message.head.method(), message.head.path()) {
-        Ok(Routed::To(target)) => operate(service, store, message, target),
-        Ok(Routed::NotFound) => {
+    let mut message = message;
+    let path = message.head.take_path();
+    match Routes.route(message.head.method(), path) {
+        Routed::To(target) => operate(service, store, message, target),
+        Routed::NotFound => {
             drop(message);
             refuse(alloc, Refusal::NotFound, None, delivery)
         }
-        Ok(Routed::NotAllowed(methods)) => {
+        Routed::NotAllowed(methods) => {
             drop(message);
             let allow = Some(methods.as_str());
             refuse(alloc, Refusal::MethodNotAllowed, allow, delivery)
-        }
-        Err(AllocError) => {
-            drop(message);
-            Err(StoreFault::Memory)
         }
     }
 }

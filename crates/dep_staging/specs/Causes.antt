@@ -8,7 +8,7 @@ use Rattle.dep_types.specs.Maps.{Numbered}
 use Rattle.dep_types.specs.State.{State, Upload, clock_at, expires, tick}
 use Rattle.dep_types.specs.declared.config.Config.{Config}
 use Rattle.dep_types.specs.declared.store_fault.StoreFault.{StoreFault}
-use Rattle.dep_tables.specs.Clauses.{AtMostOne, FailsToRead, FailsToRun, JustOne}
+use Rattle.dep_tables.specs.Clauses.{AtMostOne, FailsToRead, FailsToReadNumbers, FailsToRun, JustOne}
 use Rattle.dep_tables.specs.Rows.{IsBytesRow, IsNumberRow, IsSegmentRow, IsStateRow, IsUploadRow, key_values, owner_values, state_values}
 use Rattle.dep_tables.specs.Texts.{delete_blocks_text, delete_segments_text, delete_upload_text, find_upload_text, insert_timed_out_text, next_upload_text, read_block_text, read_state_text, segments_of_text, write_state_text}
 use Rattle.dep_tables.specs.declared.owner.BlockOwner.TheVariants as owner
@@ -58,10 +58,10 @@ pub data FailsToExpire (u : ℕ) (at new : db.State) (fault : StoreFault) : Type
 pub data FailsToExpireAll (config : Config) (clock : ℕ) (uploads : Numbered Upload)
     (at new : db.State) (fault : StoreFault) : Type 0 where
   next : (u : ℕ)
-      → FailsToRead (AtMostOne IsNumberRow) next_upload_text (Int (pos u) ∷ []) at new fault
+      → FailsToReadNumbers (AtMostOne IsNumberRow) next_upload_text (Int (pos u) ∷ []) at new fault
       → FailsToExpireAll config clock uploads at new fault
   found : (u : ℕ)
-      → FailsToRead (AtMostOne IsUploadRow) find_upload_text (Int (pos u) ∷ []) at new fault
+      → FailsToReadNumbers (AtMostOne IsUploadRow) find_upload_text (Int (pos u) ∷ []) at new fault
       → FailsToExpireAll config clock uploads at new fault
   ended : (u : ℕ) → IsTrue (expires config clock uploads u) → FailsToExpire u at new fault
       → FailsToExpireAll config clock uploads at new fault
@@ -69,7 +69,7 @@ pub data FailsToExpireAll (config : Config) (clock : ℕ) (uploads : Numbered Up
 -- one of those of a tick
 pub data FailsToTick (config : Config) (s : State) (moment : ℕ)
     (at new : db.State) (fault : StoreFault) : Type 0 where
-  read : FailsToRead (JustOne IsStateRow) read_state_text [] at new fault
+  read : FailsToReadNumbers (JustOne IsStateRow) read_state_text [] at new fault
       → FailsToTick config s moment at new fault
   written : FailsToRun write_state_text (state_values (state_row (tick config s moment)))
       at new fault

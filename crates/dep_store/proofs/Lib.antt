@@ -7,3 +7,4 @@ pub mod WalkLemmas
 pub mod TellLemmas
 pub mod LineLemmas
 pub mod StartingLemmas
+pub mod ShutLemmas

@@ -23,8 +23,8 @@ use Rattle.dep_store.specs.Telling.{IsToldObject, IsPartOfObject, IsTold, IsTold
 use Rattle.dep_store.specs.declared.audit_fault.AuditFault.{AuditFault}
 use Rattle.dep_streams.specs.declared.auditing.Audit.{Audit}
 use Rattle.dep_store.specs.declared.tally.Tally.{Tally}
-use Rattle.dep_store.specs.declared.outcome.Outcome.{Outcome}
-use Rattle.dep_store.specs.declared.outcome.Outcome.TheVariants.{Damaged}
+use Rattle.dep_program.specs.declared.outcome.Outcome.{Outcome}
+use Rattle.dep_program.specs.declared.outcome.Outcome.TheVariants.{Damaged}
 use Rattle.dep_store.specs.declared.audit_fault.AuditFault.TheVariants.{Store, Writer}
 use Rattle.dep_store.proofs.WalkLemmas.{next_row, no_row}
 

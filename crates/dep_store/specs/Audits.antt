@@ -8,8 +8,8 @@ use Rattle.dep_tables.specs.Tables.{Tables}
 use Rattle.dep_types.specs.Sinks.{IsFront}
 use Rattle.dep_streams.specs.declared.auditing.Audit.{Audit}
 use Rattle.dep_store.specs.Auditing.{IsObjectAudited}
-use Rattle.dep_store.specs.declared.outcome.Outcome.{Outcome}
-use Rattle.dep_store.specs.declared.outcome.Outcome.TheVariants.{Done, Usage, NoSuchObject, StoreFault, TransferFault, Damaged}
+use Rattle.dep_program.specs.declared.outcome.Outcome.{Outcome}
+use Rattle.dep_program.specs.declared.outcome.Outcome.TheVariants.{Done, Usage, NoSuchObject, StoreFault, TransferFault, Damaged}
 
 -- an object, and what the audit of its files found
 pub record Audited : Type 0 where

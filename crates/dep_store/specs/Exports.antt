@@ -3,8 +3,8 @@ use Rattle.std.specs.Prelude.{◌≡◌, ◌⊎◌, ℕ, List, [], None}
 use Rattle.std.specs.FinMap as map
 use Rattle.dep_types.specs.State.{State}
 use Rattle.dep_bag.specs.Exports.{OfObject, IsGivenInPart, bag_transcript}
-use Rattle.dep_store.specs.declared.outcome.Outcome.{Outcome}
-use Rattle.dep_store.specs.declared.outcome.Outcome.TheVariants.{Done, Usage, NoSuchObject, StoreFault, TransferFault, Damaged}
+use Rattle.dep_program.specs.declared.outcome.Outcome.{Outcome}
+use Rattle.dep_program.specs.declared.outcome.Outcome.TheVariants.{Done, Usage, NoSuchObject, StoreFault, TransferFault, Damaged}
 
 -- The object's whole bag was given; or there is no such object, and nothing was; or the sink failed, and a front of the
 -- bag was given; or the store failed, and a front of the bag was given, if anything.

@@ -1,8 +1,8 @@
 pub mod Auditing
 pub mod Remembering
+pub mod Shut
 pub mod Opening
 pub mod Archive
-pub mod Outcomes
 pub mod Exports
 pub mod Audits
 pub mod Telling

@@ -28,6 +28,10 @@ pub record Recalls (m : Remembered) (s : State) : Type 0 where
 abbrev pub IsRecalled : db.State → Option Remembered → Type 0
 IsRecalled d found = (m : Remembered) → found ≡ Some m → (s : State) → StandsFor d s → Recalls m s
 
+-- it is remembered of a store that is open, where the disk has told no lie that was taken as true
+abbrev pub IsOfOpen : db.State → Option Remembered → Type 0
+IsOfOpen d found = (m : Remembered) → found ≡ Some m → db.HasCleanDisk d → IsTrue d.is_open
+
 -- the request reads the service document
 pub record ReadsService (op : Operation) : Type 0 where
   pub resource : op.target.resource ≡ Service

@@ -9,8 +9,8 @@ use Rattle.dep_store.specs.Auditing.{IsObjectAudited}
 use Rattle.dep_store.specs.Audits.{Audited, AreAudits, object_rows, damaged_lines, lines_of, checked_in, damaged_in, IsBegun}
 use Rattle.dep_store.specs.declared.audit_fault.AuditFault.{AuditFault}
 use Rattle.dep_store.specs.declared.audit_fault.AuditFault.TheVariants.{Store, Writer}
-use Rattle.dep_store.specs.declared.outcome.Outcome.{Outcome}
-use Rattle.dep_store.specs.declared.outcome.Outcome.TheVariants.{StoreFault, TransferFault}
+use Rattle.dep_program.specs.declared.outcome.Outcome.{Outcome}
+use Rattle.dep_program.specs.declared.outcome.Outcome.TheVariants.{StoreFault, TransferFault}
 use Rattle.dep_store.specs.declared.tally.Tally.{Tally}
 
 -- all of a text was written, or after a fault a front of it

@@ -7,8 +7,8 @@ ghost use Rattle.dep_types.specs.Conditions.{StandsFor, HasCleanDisk};
 ghost use Rattle.dep_bag.specs.Source.{StandsStill};
 ghost use Rattle.dep_store.specs.Exports.{Exports};
 
-use crate::outcome::Outcome;
 use dep_bag::{BagSource, ExportFault, export};
+use dep_program::Outcome;
 use dep_types::BagSink;
 use std::alloc::Global;
 

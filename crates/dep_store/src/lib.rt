@@ -9,7 +9,6 @@ mod auditing;
 mod exporting;
 mod lines;
 mod opening;
-mod outcome;
 mod reading;
 mod remembering;
 mod showing;
@@ -22,7 +21,6 @@ mod ticking;
 
 pub use dep_streams::{Unwatched, Watch};
 pub use exporting::export_object;
-pub use outcome::Outcome;
 pub use starting::{StartFault, open_hub};
 pub use store::Store;
 pub use telling::audit_all;

@@ -133,7 +133,7 @@ fn look_back<S: Alter>(
 }
 
 /// Prepares a statement, which fails where the store was shut.
-fn check_open<S: Alter>(connection: &mut Connection<S>) -> Result<(), StoreFault>
+pub(crate) fn check_open<S: Alter>(connection: &mut Connection<S>) -> Result<(), StoreFault>
     requires settled { (state S.Store connection.old).in_transaction ≡ false }
     ensures opened { HasCleanDisk (state S.Store connection.new)
         → OnOk result (IsTrue (state S.Store connection.new).is_open) }

@@ -8,10 +8,11 @@ ghost use Rattle.dep_fields.specs.Fit.{AreFit};
 ghost use Rattle.dep_rulings.specs.Rulings.{IsRuling};
 ghost use Rattle.dep_answers.specs.Performing.{IsReady};
 ghost use Rattle.dep_answers.specs.Steps.{operation_step};
-ghost use Rattle.dep_store.specs.Remembering.{IsRecalled, Recalls, ReadsService, service_view};
+ghost use Rattle.dep_store.specs.Remembering.{IsRecalled, IsOfOpen, Recalls, ReadsService, service_view};
+ghost use Rattle.dep_store.specs.Shut.{FailsIfShut};
 ghost use Rattle.dep_schema.specs.Transactions.{Transacts, OverStates};
 
-use crate::remembering::Remembered;
+use crate::remembering::{Remembered, check_open};
 use dep_answers::{Performed, Service, Shown};
 use dep_decisions::Operation;
 use dep_requests::{accept, delivery_at, refuse};
@@ -121,7 +122,7 @@ fn recalled(remembered: &Option<Remembered>, operation: &Operation<'_>) -> Optio
 }
 
 /// Does what a request asks for: by what is remembered, or in a transaction, whose work is not
-/// remembered.
+/// remembered. Over a store that was shut none is begun.
 pub(crate) fn serve<S: Alter>(
     connection: &mut Connection<S>,
     remembered: &mut Option<Remembered>,
@@ -131,7 +132,10 @@ pub(crate) fn serve<S: Alter>(
 ) -> Result<Performed, StoreFault>
     requires settled { (state S.Store connection.old).in_transaction ≡ false }
     requires recalls { IsRecalled (state S.Store connection.old) remembered.old }
+    requires of_open { IsOfOpen (state S.Store connection.old) remembered.old }
     ensures recalls { IsRecalled (state S.Store connection.new) remembered.new }
+    ensures of_open { IsOfOpen (state S.Store connection.new) remembered.new }
+    ensures shut { FailsIfShut (state S.Store connection.old) (state S.Store connection.new) result }
     ensures transacts { Transacts (state S.Store connection.old) (state S.Store connection.new) result
         (λ t p after. AreFit operation.now.fields → OverStates
         (λ s p. IsReady (operation_step service.now s operation.now) p)
@@ -141,5 +145,6 @@ pub(crate) fn serve<S: Alter>(
         return show_service(alloc, service, operation, &it);
     }
     *remembered = None;
+    check_open(connection)?;
     perform_request(connection, alloc, service, operation)
 }

@@ -20,11 +20,12 @@ ghost use Rattle.dep_store.specs.Auditing.{IsObjectAudited};
 ghost use Rattle.dep_schema.specs.States.{StandsFor, IsLeftAs, Leaves};
 ghost use Rattle.dep_schema.specs.Performing.{Performs};
 ghost use Rattle.dep_store.specs.Opening.{OpenLeaves};
+ghost use Rattle.dep_store.specs.Shut.{LeavesNoMore};
 
 use crate::auditing::audit_object;
 use crate::opening::open_tables;
 use crate::reading::{find_next, view_object};
-use crate::remembering::Remembered;
+use crate::remembering::{Remembered, check_open};
 use crate::showing::serve;
 use crate::ticking::advance;
 use dep_answers::{Performed, Service};
@@ -47,7 +48,7 @@ pub struct Store<S: Alter> {
 
 impl<S: Alter> Model for Store<S> {
     ghost use Rattle.sqlite.specs.Held.{Held, held_code, state};
-    ghost use Rattle.dep_store.specs.Remembering.{IsRecalled};
+    ghost use Rattle.dep_store.specs.Remembering.{IsRecalled, IsOfOpen};
 
     ghost Value = { Held S };
 
@@ -55,7 +56,8 @@ impl<S: Alter> Model for Store<S> {
 
     ghost view = { λ s. s.connection };
 
-    ghost invariant = { λ s. IsRecalled (state S.Store s.connection) s.remembered };
+    ghost invariant = { λ s. IsRecalled (state S.Store s.connection) s.remembered
+        × IsOfOpen (state S.Store s.connection) s.remembered };
 }
 
 impl<S: Alter> Store<S> {
@@ -124,6 +126,10 @@ impl<S: Alter> Store<S> {
         ensures stop { HasCleanDisk (state S.Store self.new)
             → (s : State) → StandsFor (state S.Store self.old) s
             → Leaves (state S.Store self.new) (λ left. (left ≡ s) ⊎ (left ≡ tick config.now s moment)) }
+        // On a store that was shut it fails, and a crash leaves what it could leave before.
+        ensures opened { HasCleanDisk (state S.Store self.new)
+            → OnOk result (IsTrue (state S.Store self.old).is_open) }
+        ensures shut { LeavesNoMore (state S.Store self.old) (state S.Store self.new) }
     {
         if !self.connection.is_autocommit() {
             return Err(StoreFault::Store);
@@ -157,6 +163,10 @@ impl<S: Alter> Store<S> {
             → (s : State) → StandsFor (state S.Store self.old) s
             → Leaves (state S.Store self.new)
             (λ left. (left ≡ s) ⊎ (left ≡ (operation_step service.now s operation.now).state)) }
+        // On a store that was shut it fails, and a crash leaves what it could leave before.
+        ensures opened { HasCleanDisk (state S.Store self.new)
+            → OnOk result (IsTrue (state S.Store self.old).is_open) }
+        ensures shut { LeavesNoMore (state S.Store self.old) (state S.Store self.new) }
     {
         if !self.connection.is_autocommit() {
             return Err(StoreFault::Store);
@@ -188,6 +198,10 @@ impl<S: Alter> Store<S> {
         ensures stop { HasCleanDisk (state S.Store self.new)
             → (s : State) → StandsFor (state S.Store self.old) s
             → Leaves (state S.Store self.new) (λ left. left ≡ s) }
+        // On a store that was shut it fails, and a crash leaves what it could leave before.
+        ensures opened { HasCleanDisk (state S.Store self.new)
+            → OnOk result (IsTrue (state S.Store self.old).is_open) }
+        ensures shut { LeavesNoMore (state S.Store self.old) (state S.Store self.new) }
         ensures kept { OnOk result (O.failures out.new ≡ O.failures out.old) }
         ensures cause { result ≡ Err StreamFault.Writer
             → HasRisen (O.failures out.old) (O.failures out.new) }
@@ -197,7 +211,11 @@ impl<S: Alter> Store<S> {
             return Err(StreamFault::Store);
         }
         self.remembered = None;
-        stream_content(&mut self.connection, file, out)
+        match check_open(&mut self.connection) {
+            Ok(()) => stream_content(&mut self.connection, file, out),
+            Err(StoreFault::Store) => Err(StreamFault::Store),
+            Err(StoreFault::Memory) => Err(StreamFault::Memory),
+        }
     }
 
     /// The object of this number, if there is one, with its metadata and its files.

@@ -13,9 +13,9 @@ ghost use Rattle.dep_store.specs.Telling.{TellsObject, TellsObjects, IsQuiet, Ha
 
 use crate::audit_fault::AuditFault;
 use crate::lines::{tell_count, tell_damaged};
-use crate::outcome::Outcome;
 use crate::store::Store;
 use crate::tally::Tally;
+use dep_program::Outcome;
 use dep_streams::Watch;
 use dep_types::Outlet;
 use sqlite::Alter;

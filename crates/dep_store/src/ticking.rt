@@ -4,7 +4,8 @@ ghost use Rattle.std.specs.Prelude.{◌≡◌, ◌≤◌, ℕ, false, Some};
 ghost use Rattle.sqlite.specs.Held.{state};
 ghost use Rattle.dep_types.specs.State.{tick};
 ghost use Rattle.dep_schema.specs.Transactions.{Transacts, OverStates};
-ghost use Rattle.dep_store.specs.Remembering.{IsRecalled};
+ghost use Rattle.dep_store.specs.Remembering.{IsRecalled, IsOfOpen};
+ghost use Rattle.dep_store.specs.Shut.{FailsIfShut};
 
 use crate::remembering::{Remembered, look};
 use dep_moment::Moment;
@@ -61,7 +62,10 @@ pub(crate) fn advance<S: Alter>(
 ) -> Result<Moment, StoreFault>
     requires settled { (state S.Store connection.old).in_transaction ≡ false }
     requires recalls { IsRecalled (state S.Store connection.old) remembered.old }
+    requires of_open { IsOfOpen (state S.Store connection.old) remembered.old }
     ensures recalls { IsRecalled (state S.Store connection.new) remembered.new }
+    ensures of_open { IsOfOpen (state S.Store connection.new) remembered.new }
+    ensures shut { FailsIfShut (state S.Store connection.old) (state S.Store connection.new) result }
     ensures transacts { Transacts (state S.Store connection.old) (state S.Store connection.new) result
         (OverStates (λ s clock. clock ≡ (tick config.now s moment).clock)
         (λ s. tick config.now s moment)) }

@@ -8,7 +8,7 @@ use Rattle.dep_types.specs.declared.stream_fault.StreamFault.{StreamFault}
 use Rattle.dep_types.specs.declared.stream_fault.StreamFault.TheVariants.{Writer, NoSuchFile}
 use Rattle.dep_streams.specs.declared.fault.BlockFault.{BlockFault}
 use Rattle.dep_streams.specs.declared.fault.BlockFault.TheVariants as blocks_fault
-use Rattle.dep_streams.specs.Faults.{fault_of_store, fault_of_blocks}
+use Rattle.dep_streams.specs.Faults.{fault_of_store, fault_of_blocks, stopped_by, IsStoppedBy, IsStreamStoppedBy}
 
 abbrev fails : StreamFault → Result (Unit {0}) StreamFault
 fails fault = Err fault
@@ -34,6 +34,26 @@ no_file_failed e = cc
 
 pub store_stopped : stops blocks_fault.Store ≢ stops blocks_fault.Writer
 store_stopped e = cc
+
+-- the cause of a fault of the store, as it is told of the blocks, and of the file
+pub stopped_for : (causes : StoreFault → Type 0) (fault : StoreFault) → causes fault → IsStoppedBy causes (stopped_by fault)
+stopped_for causes store.Store why = why
+stopped_for causes store.Memory why = why
+
+pub told_for : (causes : StoreFault → Type 0) (fault : StoreFault) → causes fault → IsStreamStoppedBy causes (fault_of_store fault)
+told_for causes store.Store why = why
+told_for causes store.Memory why = why
+
+-- causes of the blocks are causes of the file
+pub stopped_then : (P Q : StoreFault → Type 0) (fault : BlockFault) → ((of : StoreFault) → P of → Q of) → IsStoppedBy P fault → IsStreamStoppedBy Q (fault_of_blocks fault)
+stopped_then P Q blocks_fault.Writer more why = tt
+stopped_then P Q blocks_fault.Store more why = more store.Store why
+stopped_then P Q blocks_fault.Memory more why = more store.Memory why
+
+pub stopped_more : (P Q : StoreFault → Type 0) (fault : BlockFault) → ((of : StoreFault) → P of → Q of) → IsStoppedBy P fault → IsStoppedBy Q fault
+stopped_more P Q blocks_fault.Writer more why = tt
+stopped_more P Q blocks_fault.Store more why = more store.Store why
+stopped_more P Q blocks_fault.Memory more why = more store.Memory why
 
 store_failed : (fault : StoreFault) → fault_of_store fault ≢ Writer
 store_failed store.Store e = cc

@@ -1,10 +1,10 @@
 -- Rows that are read one at a time, by a query that only shows, whose bytes are hashed.
-use Rattle.std.proofs.Common.{◌≡◌, ◌⊎◌, ◌++◌, ℕ, List, [], ◌∷◌, Option, Some, None, Result, Ok, Err, IfOk, IfErr, OnOk, OnErr, inl, subst, sym}
+use Rattle.std.proofs.Common.{◌≡◌, ◌⊎◌, ◌++◌, ◌+◌, ℕ, length, length-append, ap, ◌∙◌, List, [], ◌∷◌, Option, Some, None, Result, Ok, Err, IfOk, IfErr, OnOk, OnErr, inl, subst, sym}
 use Rattle.std.specs.Borrow.{Bor}
 use Rattle.sha2.specs.Hashers.{Holds256}
 use Rattle.sha2.specs.Sha256.{sha256}
 use Rattle.sha2.specs.declared.Sha256.{Sha256}
-use Rattle.sqlite.specs.Order.{Row}
+use Rattle.sqlite.specs.Order.{Row, column}
 use Rattle.sqlite.specs.State.{State, HasCleanDisk, Survives, CommitsShowing, FailsToQuery, IsUnchanged, IsRolledBack}
 use Rattle.sqlite.specs.Held.{Held, state}
 use Rattle.sqlite.specs.Given.{HasGiven, IsPlain, IsRefused}
@@ -15,19 +15,26 @@ use Rattle.sqlite.specs.declared.rows.stream.Rows.{Rows}
 use Rattle.sqlite_trees.specs.declared.store.Store.{Ghosts}
 use Rattle.dep_streams.specs.Sent.{blob_of, joined}
 use Rattle.dep_streams.proofs.NextRow.{clean_before, survives_on, unchanged_on}
-use Rattle.dep_streams.proofs.SendingLemmas.{clean_was, commits_nothing, failed_then, joined_push, refused_left}
+use Rattle.dep_streams.proofs.SendingLemmas.{begins_from, clean_was, commits_nothing, failed_then, fails_from, joined_push, refused_left}
 use Rattle.dep_types.specs.declared.store_fault.StoreFault.{StoreFault}
+use Rattle.dep_types.specs.declared.store_fault.StoreFault.TheVariants.{Store}
+use Rattle.dep_tables.specs.Faults.{fault_for}
+use Rattle.dep_tables.specs.Rows.{IsBytesValue}
+use Rattle.sqlite.proofs.Callers.{given_begin}
+use Rattle.dep_streams.specs.Causes.{FailsToGive}
+use Rattle.dep_streams.specs.Causes.FailsToGive.{query_failed, unread}
 use Rattle.dep_streams.specs.Fixity.{HashesShown}
 use Rattle.dep_streams.proofs.ShownFrom.{shown_from}
 
 -- the hasher holds the rows that were given so far
-abbrev pub Hashed : {S : Type 0} → Ghosts S → List ℕ → Row → State → Held S → Sha256 → Type 0
-Hashed g sql params first now hasher =
-    (given : List Row) × HasGiven g sql params now given × IsUnchanged first (state g now) × Holds256 hasher (joined given)
+abbrev pub Hashed : {S : Type 0} → Ghosts S → List ℕ → Row → State → Held S → ℕ → Sha256 → Type 0
+Hashed g sql params first now count hasher =
+    (given : List Row) × HasGiven g sql params now given × IsUnchanged first (state g now) × Holds256 hasher (joined given) × (length given ≡ count)
 
 -- what the hashing of a query's rows leaves, by what it answers
 pub record EndsHashing (sql : List ℕ) (params : Row) (first new : State) (result : Result (List ℕ) StoreFault) : Type 0 where
   pub hashes : HasCleanDisk new → IsPlain (understood first.now.schema sql) → IfOk result (HashesShown sql params first)
+  pub cause : HasCleanDisk new → IsPlain (understood first.now.schema sql) → IfErr result (FailsToGive sql params None first new)
   pub same : HasCleanDisk new → IsPlain (understood first.now.schema sql) → OnOk result (IsUnchanged first new)
   pub err : HasCleanDisk new → IsPlain (understood first.now.schema sql) → OnErr result (IsUnchanged first new ⊎ IsRolledBack first new)
   pub clean : HasCleanDisk new → HasCleanDisk first
@@ -35,15 +42,16 @@ pub record EndsHashing (sql : List ℕ) (params : Row) (first new : State) (resu
 
 -- no query began
 pub not_begun : {S X : Type 0} (g : Ghosts S) (sql : List ℕ) (params : Row) (old new : Held S) (result : Result X Error) (error : Error) (fault : StoreFault)
-    → OnErr result (IsRefused g sql params old result new) → result ≡ Err error → EndsHashing sql params (state g old) (state g new) (Err fault)
-not_begun {X = X} g sql params old new result error fault left is =
+    → OnErr result (IsRefused g sql params old result new) → result ≡ Err error → fault ≡ fault_for error → EndsHashing sql params (state g old) (state g new) (Err fault)
+not_begun {X = X} g sql params old new result error fault left is of =
     let it : IsRefused g sql params old result new = subst (λ (r : Result X Error). OnErr r (IsRefused g sql params old result new)) is left in
+    let failed : HasCleanDisk (state g new) → FailsToQuery sql params (state g old) (state g new) error =
+    λ late. subst (λ (r : Result X Error). IfErr r (FailsToQuery sql params (state g old) (state g new))) is (it.err late) in
     record {
       hashes = λ late plain. tt;
+      cause = λ late plain. query_failed (error, inl (failed late), of);
       same = λ late plain. tt;
-      err = λ late plain.
-          refused_left sql params (state g old) (state g new) error plain
-          (subst (λ (r : Result X Error). IfErr r (FailsToQuery sql params (state g old) (state g new))) is (it.err late));
+      err = λ late plain. refused_left sql params (state g old) (state g new) error plain (failed late);
       clean = clean_was (state g old) (state g new) (CommitsShowing sql params (state g old)) it.survives;
       survives = λ plain. commits_nothing sql params (state g old) (state g new) plain it.survives;
     }
@@ -59,7 +67,7 @@ module _ {S : Type 0} (g : Ghosts S) (old new : Rows S g) (result : Result (Opti
   survived : (first : State) → Survives first (state g old.conn.now) (λ _. ⊥) → Survives first (state g new.conn.now) (λ _. ⊥)
   survived = survives_on g old new result moved
 
-  module _ (sql : List ℕ) (params : Row) (first : State) (hasher : Sha256) (was : Hashed g sql params first old.conn.now hasher) (late : HasCleanDisk (state g new.conn.now)) where
+  module _ (sql : List ℕ) (params : Row) (first : State) (count : ℕ) (hasher : Sha256) (was : Hashed g sql params first old.conn.now count hasher) (late : HasCleanDisk (state g new.conn.now)) where
     pub hashed_all : result ≡ Ok None → IsPlain (understood first.now.schema sql) → (digest : List ℕ)
         → ((message : List ℕ) → Holds256 hasher message → digest ≡ sha256 message) → HashesShown sql params first digest
     hashed_all is plain digest made =
@@ -70,29 +78,41 @@ module _ {S : Type 0} (g : Ghosts S) (old new : Rows S g) (result : Result (Opti
         }
 
     pub hashed_more : (row : Bor Row) (after : Sha256) → result ≡ Ok (Some row)
-        → ((message : List ℕ) → Holds256 hasher message → Holds256 after (message ++ blob_of row.now)) → Hashed g sql params first new.conn.now after
+        → ((message : List ℕ) → Holds256 hasher message → Holds256 after (message ++ blob_of row.now)) → Hashed g sql params first new.conn.now (count + 1) after
     hashed_more row after is more = (
       was.0 ++ row.now ∷ [],
       (rw is at (moved.ok late)) sql params was.0 was.1,
       unchanged first (Some row) is late was.2,
       subst (Holds256 after) (sym (joined_push was.0 row.now)) (more (joined was.0) was.3),
+      length-append was.0 (row.now ∷ []) ∙ ap (λ n. n + 1) was.4,
     )
+
+    failed : (error : Error) → result ≡ Err error → FailsToQuery sql params (state g old.conn.now) (state g new.conn.now) error
+    failed error is = (rw is at (moved.err late)) sql params was.0 was.1
 
     pub failed_on : (error : Error) → result ≡ Err error → IsPlain (understood first.now.schema sql)
         → IsUnchanged first (state g new.conn.now) ⊎ IsRolledBack first (state g new.conn.now)
-    failed_on error is plain =
-        let failed = (rw is at (moved.err late)) sql params was.0 was.1 in
-        failed_then sql params first (state g old.conn.now) (state g new.conn.now) error plain was.2 failed
+    failed_on error is plain = failed_then sql params first (state g old.conn.now) (state g new.conn.now) error plain was.2 (failed error is)
 
-  module _ (sql : List ℕ) (params : Row) (first : State) (hasher : Sha256)
+    pub why_failed : (error : Error) → result ≡ Err error → (fault : StoreFault) → fault ≡ fault_for error → IsPlain (understood first.now.schema sql) → Survives first (state g old.conn.now) (λ _. ⊥)
+        → FailsToGive sql params None first (state g new.conn.now) fault
+    why_failed error is fault of plain kept = query_failed (error, inl (fails_from sql params first (state g old.conn.now) (state g new.conn.now) error plain was.2 kept (failed error is)), of)
+
+    pub why_refused : (row : Bor Row) → result ≡ Ok (Some row) → (fault : StoreFault) → (¬ (IsBytesValue (column row.now 2))) × (fault ≡ Store) → FailsToGive sql params None first (state g new.conn.now) fault
+    why_refused row is fault none =
+        unread was.0 row.now (begins_from sql params first (state g new.conn.now) (was.0 ++ row.now ∷ []) (unchanged first (Some row) is late was.2)
+        (given_begin g sql params new.conn.now (was.0 ++ row.now ∷ []) ((rw is at (moved.ok late)) sql params was.0 was.1))) (inl none.0) none.1
+
+  module _ (sql : List ℕ) (params : Row) (first : State) (count : ℕ) (hasher : Sha256)
       (before : IsPlain (understood first.now.schema sql) → Survives first (state g old.conn.now) (λ _. ⊥))
-      (was : HasCleanDisk (state g old.conn.now) → IsPlain (understood first.now.schema sql) → Hashed g sql params first old.conn.now hasher)
+      (was : HasCleanDisk (state g old.conn.now) → IsPlain (understood first.now.schema sql) → Hashed g sql params first old.conn.now count hasher)
       (clean : HasCleanDisk (state g old.conn.now) → HasCleanDisk first) where
     -- all rows were hashed
     pub ends_whole : result ≡ Ok None → (digest : List ℕ) → ((message : List ℕ) → Holds256 hasher message → digest ≡ sha256 message)
         → EndsHashing sql params first (state g new.conn.now) (Ok digest)
     ends_whole is digest made = record {
-      hashes = λ late plain. hashed_all sql params first hasher (was (earlier late) plain) late is plain digest made;
+      hashes = λ late plain. hashed_all sql params first count hasher (was (earlier late) plain) late is plain digest made;
+      cause = λ late plain. tt;
       same = λ late plain. unchanged first None is late (was (earlier late) plain).2;
       err = λ late plain. tt;
       clean = λ late. clean (earlier late);
@@ -100,21 +120,23 @@ module _ {S : Type 0} (g : Ghosts S) (old new : Rows S g) (result : Result (Opti
     }
 
     -- one was not given
-    pub ends_failed : (error : Error) → result ≡ Err error → (fault : StoreFault)
+    pub ends_failed : (error : Error) → result ≡ Err error → (fault : StoreFault) → fault ≡ fault_for error
         → EndsHashing sql params first (state g new.conn.now) (Err fault)
-    ends_failed error is fault = record {
+    ends_failed error is fault of = record {
       hashes = λ late plain. tt;
+      cause = λ late plain. why_failed sql params first count hasher (was (earlier late) plain) late error is fault of plain (before plain);
       same = λ late plain. tt;
-      err = λ late plain. failed_on sql params first hasher (was (earlier late) plain) late error is plain;
+      err = λ late plain. failed_on sql params first count hasher (was (earlier late) plain) late error is plain;
       clean = λ late. clean (earlier late);
       survives = λ plain. survived first (before plain);
     }
 
     -- one has no bytes
-    pub ends_refused : (row : Bor Row) → result ≡ Ok (Some row) → (fault : StoreFault)
+    pub ends_refused : (row : Bor Row) → result ≡ Ok (Some row) → (fault : StoreFault) → (¬ (IsBytesValue (column row.now 2))) × (fault ≡ Store)
         → EndsHashing sql params first (state g new.conn.now) (Err fault)
-    ends_refused row is fault = record {
+    ends_refused row is fault none = record {
       hashes = λ late plain. tt;
+      cause = λ late plain. why_refused sql params first count hasher (was (earlier late) plain) late row is fault none;
       same = λ late plain. tt;
       err = λ late plain. inl (unchanged first (Some row) is late (was (earlier late) plain).2);
       clean = λ late. clean (earlier late);

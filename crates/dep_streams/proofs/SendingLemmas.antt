@@ -1,5 +1,5 @@
 -- Rows that are sent one at a time.
-use Rattle.std.proofs.Common.{◌≡◌, ◌⊎◌, inl, inr, List, ℕ, [], ◌∷◌, ◌++◌, ◌<◌, length, append-nil, append_assoc, Result, Ok, Err, OnOk, OnErr, Option, IsTrue, sym, ap, subst, ◌∙◌, ◌+◌, ◌-◌, ◌≤◌, length-append, arith}
+use Rattle.std.proofs.Common.{◌≡◌, ◌⊎◌, inl, inr, List, ℕ, [], ◌∷◌, ◌++◌, ◌<◌, length, append-nil, append_assoc, Result, Ok, Err, OnOk, OnErr, Option, IsTrue, true, false, sym, ap, subst, ◌∙◌, ◌+◌, ◌-◌, ◌≤◌, length-append, arith}
 use Rattle.std.specs.Io.KnownBytes.{Appends}
 use Rattle.std.proofs.KnownBytes.{Appends-trans}
 use Rattle.sqlite.specs.Order.{Row}
@@ -7,13 +7,21 @@ use Rattle.sqlite_trees.specs.Tree.{Trees}
 use Rattle.sqlite.specs.Effect.{Database}
 use Rattle.sqlite.specs.declared.error.Error.{Error}
 use Rattle.sqlite.specs.Listing.{understood, IsSourceOf, reads_listing}
-use Rattle.sqlite.specs.State.{State, Survives, CommitsShowing, IsUnchanged, IsRolledBack, Begins, FailsToQuery, FailsToShow, IsNotRun, HasCleanDisk}
+use Rattle.sqlite.specs.State.{State, Survives, CommitsShowing, IsUnchanged, IsRolledBack, Begins, FailsToQuery, FailsToShow, IsNotRun, IsTooLate, HasCleanDisk}
 use Rattle.sqlite.specs.Clock.{timed}
+use Rattle.sqlite.specs.Effect.{RefusesToRead}
+use Rattle.sqlite.proofs.StreamLemmas.{fails_since}
+use Rattle.dep_streams.proofs.ShownFrom.{shown_from}
+use Rattle.dep_streams.specs.Causes.{FailsToGive}
+use Rattle.dep_streams.specs.Causes.FailsToGive.{query_failed, too_few, unread, uncounted}
 use Rattle.sqlite.proofs.StateLemmas.{survives_weaker}
 use Rattle.sqlite.proofs.Callers.{IsPlain, never_commits, unchanged_then}
 use Rattle.dep_streams.specs.declared.fault.BlockFault.{BlockFault}
 use Rattle.dep_streams.specs.declared.fault.BlockFault.TheVariants.{Writer, Store, Memory}
-use Rattle.dep_streams.specs.Sent.{blob_of, joined, IsOfStore, GivesRow, StopsBetween, SendsSized}
+use Rattle.dep_types.specs.declared.store_fault.StoreFault.{StoreFault}
+use Rattle.dep_types.specs.declared.store_fault.StoreFault.TheVariants as store
+use Rattle.dep_streams.specs.Faults.{stopped_by}
+use Rattle.dep_streams.specs.Sent.{blob_of, joined, GivesRow, StopsBetween, SendsSized}
 
 pub commits_nothing : (sql : List ℕ) (params : Row) (old new : State) → IsPlain (understood old.now.schema sql) → Survives old new (CommitsShowing sql params old) → Survives old new (λ _. ⊥)
 commits_nothing sql params old new plain = survives_weaker old new _ _ (λ _ db. never_commits sql params old db plain)
@@ -59,6 +67,10 @@ none_before before after fewer none = omega arith
 pub clean_was : (old new : State) (Commits : Trees → Type 0) → Survives old new Commits → HasCleanDisk new → HasCleanDisk old
 clean_was old new Commits kept late = none_before _ _ kept.clean late
 
+-- a plain query shows no rows of a write
+never_late : (sql : List ℕ) (params : Row) (old new : State) (e : Error) → IsPlain (understood old.now.schema sql) → IsTooLate sql params old new e → ⊥
+never_late sql params old new e plain late = let none = (subst IsPlain late.1.is plain).0 in let never : false ≡ true = rw none at late.2 in cc
+
 -- a plain query that does not begin
 pub refused_left : (sql : List ℕ) (params : Row) (old new : State) (e : Error) → IsPlain (understood old.now.schema sql) → FailsToQuery sql params old new e → IsUnchanged old new ⊎ IsRolledBack old new
 unfolding FailsToQuery IsNotRun
@@ -77,9 +89,9 @@ pub left_by : {A E : Type 0} (r : Result A E) (a b : State) → OnOk r (IsUnchan
 left_by (Ok x) a b ok err = inl ok
 left_by (Err e) a b ok err = err
 
-pub stops_sized : (sql : List ℕ) (params : Row) (old : State) (size : ℕ) (sent : List ℕ) (fault : BlockFault) → IsOfStore fault → length sent < size → StopsBetween sql params old sent → SendsSized sql params old size sent (Err fault)
-stops_sized sql params old size sent fault (inl e) low h = rw e (h, low)
-stops_sized sql params old size sent fault (inr e) low h = rw e (h, low)
+pub stops_sized : (sql : List ℕ) (params : Row) (old : State) (size : ℕ) (sent : List ℕ) (fault : StoreFault) → length sent < size → StopsBetween sql params old sent → SendsSized sql params old size sent (Err (stopped_by fault))
+stops_sized sql params old size sent store.Store low h = (h, low)
+stops_sized sql params old size sent store.Memory low h = (h, low)
 
 pub cut_sized : (sql : List ℕ) (params : Row) (old : State) (size : ℕ) (start held next : Option (List ℕ)) (sent : List ℕ) (row : Row) (Clean Plain : Type 0) (fault : BlockFault)
     → Appends start held sent → GivesRow held next (blob_of row) (Err fault) → length sent < size
@@ -116,3 +128,33 @@ none_less left more size none is = omega arith
 pub all_sent : (left n size : ℕ) (sent bytes : List ℕ) → left - n ≡ 0 → n ≤ left → n ≡ length bytes → left + length sent ≡ size → length (sent ++ bytes) ≡ size
 all_sent left n size sent bytes none fits is was =
     none_less (left - n) (length (sent ++ bytes)) size none (less_left left n size sent bytes fits is was)
+
+-- a query that fails at a later row, where all was as at first, fails
+pub fails_from : (sql : List ℕ) (params : Row) (first old new : State) (e : Error) → IsPlain (understood first.now.schema sql) → IsUnchanged first old → Survives first old (λ _. ⊥) → FailsToQuery sql params old new e → FailsToQuery sql params first new e
+unfolding FailsToQuery IsNotRun
+fails_from sql params first old new e plain same kept (inl (inl h)) = inl (inl (rw (← same.0.now_is) h.0, unchanged_then first old new same h.1))
+fails_from sql params first old new e plain same kept (inl (inr h)) = inl (inr (fails_since first old new same kept.counts e h))
+fails_from sql params first old new e plain same kept (inr h) =
+    let now = same.0.now_is in
+    let here : understood first.now.schema sql ≡ Ok h.0 = subst (λ (d : Database). understood d.schema sql ≡ Ok h.0) now h.1.is in
+    let none = (subst IsPlain here plain).0 in
+    let full = timed params h.0.formats h.1.now in
+    let it = subst (FailsToShow old new sql h.0 full e) none h.2 in
+    inr (
+      h.0,
+      record { is = here; whole = h.1.whole; given = h.1.given; now = h.1.now },
+      subst (FailsToShow first new sql h.0 full e) (sym none)
+          (it.0, subst (λ (d : Database). IsSourceOf (reads_listing d.schema sql) d it.0) now it.1, subst (λ l. RefusesToRead l h.0.command it.0 full e) kept.limit it.2, unchanged_then first old new same it.3),
+    )
+
+-- the same of all that can hinder it
+pub gives_from : (sql : List ℕ) (params : Row) (size : Option ℕ) (first old new : State) (fault : StoreFault) → IsPlain (understood first.now.schema sql) → IsUnchanged first old → Survives first old (λ _. ⊥)
+    → FailsToGive sql params size old new fault → FailsToGive sql params size first new fault
+gives_from sql params size first old new fault plain same kept (query_failed failed) = query_failed (failed.0, asked_from failed.1, failed.2)
+  where
+    asked_from : {e : Error} → FailsToQuery sql params old new e ⊎ IsTooLate sql params old new e → FailsToQuery sql params first new e ⊎ IsTooLate sql params first new e
+    asked_from (inl h) = inl (fails_from sql params first old new _ plain same kept h)
+    asked_from (inr late) = absurd (never_late sql params old new _ (subst (λ (d : Database). IsPlain (understood d.schema sql)) (sym same.0.now_is) plain) late)
+gives_from sql params size first old new fault plain same kept (too_few rows shown less is) = too_few rows (shown_from sql params first old old rows same plain shown) less is
+gives_from sql params size first old new fault plain same kept (unread given next begun none is) = unread given next (begins_from sql params first old (given ++ next ∷ []) same begun) none is
+gives_from sql params size first old new fault plain same kept (uncounted given begun many is) = uncounted given (begins_from sql params first old given same begun) many is

@@ -34,6 +34,15 @@ use Rattle.dep_streams.specs.Sizes.{size_values, shown_size}
 use Rattle.dep_types.specs.Streams.{HasNoFile, IsStreamed}
 use Rattle.dep_streams.specs.Reading.{IsKept}
 use Rattle.dep_streams.specs.Faults.{fault_of_blocks}
+use Rattle.sqlite.specs.Given.{IsPlain}
+use Rattle.sqlite.specs.Listing.{understood}
+use Rattle.dep_types.specs.declared.store_fault.StoreFault.{StoreFault}
+use Rattle.dep_tables.specs.Rows.{owner_values}
+use Rattle.dep_tables.specs.Texts.{blocks_of_text}
+use Rattle.dep_tables.specs.declared.owner.BlockOwner.{BlockOwner}
+use Rattle.dep_streams.specs.Causes.{FailsToGiveBlocks}
+use Rattle.dep_streams.specs.Causes.FailsToGiveBlocks.{no_owner, not_given}
+use Rattle.dep_streams.proofs.SendingLemmas.{gives_from}
 use Rattle.dep_files.proofs.Cuts.{blocks_join}
 use Rattle.dep_files.proofs.FileCalls.{file_is}
 
@@ -178,3 +187,9 @@ shown_open sql params old new rows h = either h.0.returning h.2
 pub left_open : (old new : db.State) → IsUnchanged old new ⊎ IsRolledBack old new → IsTrue new.is_open → IsTrue old.is_open
 left_open old new (inl same) is_open = same.0.was_open
 left_open old new (inr back) is_open = back.was_open is_open
+
+-- what hinders the blocks, where all was as at first
+pub blocks_from : (o : BlockOwner) (size : Option ℕ) (first old new : db.State) (fault : StoreFault) → IsPlain (understood first.now.schema blocks_of_text) → IsUnchanged first old → db.Survives first old (λ _. ⊥)
+    → FailsToGiveBlocks o size old new fault → FailsToGiveBlocks o size first new fault
+blocks_from o size first old new fault plain same kept (no_owner none is) = no_owner none is
+blocks_from o size first old new fault plain same kept (not_given failed) = not_given (gives_from blocks_of_text (owner_values o) size first old new fault plain same kept failed)

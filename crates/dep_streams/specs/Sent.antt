@@ -25,9 +25,6 @@ abbrev pub joined : List Row → List ℕ
 joined [] = []
 joined (row ∷ rows) = blob_of row ++ joined rows
 
-abbrev pub IsOfStore : BlockFault → Type 0
-IsOfStore fault = (fault ≡ Store) ⊎ (fault ≡ Memory)
-
 abbrev pub GivesRow : Option (List ℕ) → Option (List ℕ) → List ℕ → Result (Unit {0}) BlockFault → Type 0
 GivesRow old new bytes (Ok done) = Appends old new bytes
 GivesRow old new bytes (Err Writer) = TakesPart old new bytes

@@ -2,6 +2,8 @@
 use Rattle.std.specs.Prelude.{ℕ, pos, List, [], ◌∷◌, codes}
 use Rattle.sqlite.specs.declared.types.Value.TheVariants.{Int}
 use Rattle.sqlite_value.specs.Order.{Row, column}
+use Rattle.dep_tables.specs.Rows.{HasKinds}
+use Rattle.dep_tables.specs.declared.columns.ColumnKind.TheVariants as kind
 use Rattle.dep_streams.specs.declared.sizes.FileSize.{FileSize}
 
 abbrev pub find_size_text : List ℕ
@@ -9,6 +11,10 @@ find_size_text = codes "SELECT object, size FROM files WHERE file = ?1"
 
 abbrev pub size_values : FileSize → Row
 size_values f = Int (pos f.object) ∷ Int (pos f.size) ∷ []
+
+-- two numbers
+abbrev pub IsSizeRow : Row → Type 0
+IsSizeRow = HasKinds (kind.Number ∷ kind.Number ∷ [])
 
 -- the object and the size of a stored row
 abbrev pub shown_size : Row → Row

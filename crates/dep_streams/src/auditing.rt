@@ -1,11 +1,12 @@
 //! Files whose bytes are not those that were deposited.
 
-ghost use Rattle.std.specs.Prelude.{◌⊎◌, IsTrue, IfOk, OnOk, OnErr};
+ghost use Rattle.std.specs.Prelude.{◌⊎◌, IsTrue, IfOk, IfErr, OnOk, OnErr};
 ghost use Rattle.sqlite.specs.State.{HasCleanDisk, Survives, IsUnchanged, IsRolledBack};
 ghost use Rattle.sqlite.specs.Held.{state};
 ghost use Rattle.dep_tables.specs.Tables.{tables_of, IsOurs};
 ghost use Rattle.dep_streams.specs.Reading.{IsKept};
 ghost use Rattle.dep_streams.specs.Fixity.{IsAudited, KeepsDamaged};
+ghost use Rattle.dep_streams.specs.Causes.{FailsToCheck, FailsToAudit};
 
 use crate::hashing::hash_blocks;
 use crate::watch::Watch;
@@ -34,6 +35,9 @@ fn keep_damaged<S: Alter, W: Watch>(
     ensures notes { HasCleanDisk (state S.Store connection.new) → IsOurs (state S.Store connection.old)
         → OnOk result (KeepsDamaged (tables_of (state S.Store connection.old)) row.now
         damaged.old.items damaged.new.items) }
+    ensures cause { HasCleanDisk (state S.Store connection.new) → IsOurs (state S.Store connection.old)
+        → IfErr result (FailsToCheck row.now (state S.Store connection.old)
+        (state S.Store connection.new)) }
     ensures same { HasCleanDisk (state S.Store connection.new) → IsOurs (state S.Store connection.old)
         → OnOk result (IsUnchanged (state S.Store connection.old) (state S.Store connection.new)) }
     ensures err { HasCleanDisk (state S.Store connection.new) → IsOurs (state S.Store connection.old)
@@ -67,6 +71,8 @@ pub fn audit_files<S: Alter, W: Watch>(
 ) -> Result<Audit, StoreFault>
     ensures audits { HasCleanDisk (state S.Store connection.new) → IsOurs (state S.Store connection.old)
         → IfOk result (IsAudited (tables_of (state S.Store connection.old)) files.now) }
+    ensures cause { HasCleanDisk (state S.Store connection.new) → IsOurs (state S.Store connection.old)
+        → IfErr result (FailsToAudit (state S.Store) files.now connection.old connection.new) }
     ensures ok { HasCleanDisk (state S.Store connection.new) → IsOurs (state S.Store connection.old)
         → IsTrue (state S.Store connection.old).is_open
         → OnOk result (IsUnchanged (state S.Store connection.old) (state S.Store connection.new)) }

@@ -1,6 +1,6 @@
 //! The blocks of an owner, sent one at a time.
 
-ghost use Rattle.std.specs.Prelude.{◌≡◌, ◌≢◌, OnOk, Err, filter};
+ghost use Rattle.std.specs.Prelude.{◌≡◌, ◌≢◌, OnOk, IfErr, Err, Some, filter};
 ghost use Rattle.dep_types.specs.Writing.{HasRisen};
 ghost use Rattle.sqlite.specs.State.{HasCleanDisk};
 ghost use Rattle.sqlite.specs.Held.{state};
@@ -9,8 +9,11 @@ ghost use Rattle.dep_tables.specs.Tables.{tables_of, IsOurs};
 ghost use Rattle.dep_tables.specs.Clauses.{CommitsNothing};
 ghost use Rattle.dep_streams.specs.Clauses.{GivesBytes, LeavesOurs, FailsOverOurs};
 ghost use Rattle.dep_streams.specs.Sent.{SendsBlocks};
+ghost use Rattle.dep_streams.specs.Causes.{FailsToGiveBlocks};
+ghost use Rattle.dep_streams.specs.Faults.{IsStoppedBy};
 
 use crate::fault::BlockFault;
+use crate::query::blocks_query;
 use crate::sending::stream_sized;
 use dep_tables::{BlockOwner, is_storable_owner, owner_params};
 use dep_types::Outlet;
@@ -28,6 +31,9 @@ pub fn stream_blocks<S: Alter, O: Outlet>(
         HasCleanDisk (state S.Store connection.new) → IsOurs (state S.Store connection.old)
         → SendsBlocks (filter (is_block_of owner) (tables_of (state S.Store connection.old)).blocks)
         size sent result) }
+    ensures why { HasCleanDisk (state S.Store connection.new) → IsOurs (state S.Store connection.old)
+        → IfErr result (IsStoppedBy (FailsToGiveBlocks owner (Some size)
+        (state S.Store connection.old) (state S.Store connection.new))) }
     ensures ok { LeavesOurs S.Store connection.old connection.new result }
     ensures err { FailsOverOurs S.Store connection.old connection.new result }
     ensures clean { HasCleanDisk (state S.Store connection.new)
@@ -45,11 +51,5 @@ pub fn stream_blocks<S: Alter, O: Outlet>(
     if !is_storable_owner(owner) {
         return Err(BlockFault::Store);
     }
-    stream_sized(
-        connection,
-        "SELECT part, place, bytes FROM blocks WHERE kind = ?1 AND owner = ?2 ORDER BY part, place",
-        &owner_params(owner),
-        size,
-        out,
-    )
+    stream_sized(connection, blocks_query(), &owner_params(owner), size, out)
 }

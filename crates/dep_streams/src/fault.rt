@@ -1,6 +1,8 @@
 //! Why blocks were not all sent.
 
-ghost use Rattle.dep_streams.specs.Sent.{IsOfStore};
+ghost use Rattle.std.specs.Prelude.{◌≡◌};
+ghost use Rattle.dep_tables.specs.Faults.{fault_for};
+ghost use Rattle.dep_streams.specs.Faults.{stopped_by};
 
 use sqlite::{Error, ErrorCode};
 use std::fmt;
@@ -28,8 +30,9 @@ impl fmt::Display for BlockFault {
 
 impl std::error::Error for BlockFault {}
 
+/// Memory where memory was refused, else a fault of the store.
 pub(crate) fn block_fault_of(error: Error) -> BlockFault
-    ensures { IsOfStore result }
+    ensures { result ≡ stopped_by (fault_for error) }
 {
     match error {
         Error::SqliteFailure(ErrorCode::OutOfMemory) => BlockFault::Memory,

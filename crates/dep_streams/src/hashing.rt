@@ -1,6 +1,6 @@
 //! The SHA-256 of the blocks of an owner, read one at a time.
 
-ghost use Rattle.std.specs.Prelude.{◌≡◌, ◌⊎◌, ◌++◌, ℕ, List, IsTrue, IfOk, OnOk, OnErr};
+ghost use Rattle.std.specs.Prelude.{◌≡◌, ◌⊎◌, ◌++◌, ℕ, List, None, IsTrue, IfOk, IfErr, OnOk, OnErr};
 ghost use Rattle.sha2.specs.Hashers.{Holds256};
 ghost use Rattle.sqlite.specs.State.{HasCleanDisk, Survives, IsUnchanged, IsRolledBack};
 ghost use Rattle.sqlite.specs.Held.{state};
@@ -9,8 +9,13 @@ ghost use Rattle.sqlite.specs.Listing.{understood};
 ghost use Rattle.sqlite.specs.Values.{bound};
 ghost use Rattle.dep_streams.specs.Sent.{blob_of};
 ghost use Rattle.dep_tables.specs.Tables.{tables_of, IsOurs};
+ghost use Rattle.sqlite.specs.Order.{column};
+ghost use Rattle.dep_types.specs.declared.store_fault.StoreFault.TheVariants.{Store};
+ghost use Rattle.dep_tables.specs.Rows.{IsBytesValue};
 ghost use Rattle.dep_streams.specs.Fixity.{IsDigestOf, HashesShown};
+ghost use Rattle.dep_streams.specs.Causes.{FailsToGive, FailsToGiveBlocks};
 
+use crate::query::blocks_query;
 use crate::watch::Watch;
 use dep_tables::{BlockOwner, fault_of, is_storable_owner, owner_params};
 use dep_types::StoreFault;
@@ -19,7 +24,9 @@ use sqlite::types::ValueRef;
 use sqlite::{Alter, Connection, Row};
 
 fn hash_row<W: Watch>(row: &Row, hasher: &mut Sha256, watch: &mut W) -> Result<(), StoreFault>
-    ensures { OnOk result ((message : List ℕ) → Holds256 hasher.old message
+    ensures refused { IfErr result
+        (λ fault. (¬ (IsBytesValue (column row.now 2))) × (fault ≡ Store)) }
+    ensures holds { OnOk result ((message : List ℕ) → Holds256 hasher.old message
         → Holds256 hasher.new (message ++ blob_of row.now)) }
 {
     match row.get_ref(2) {
@@ -42,6 +49,10 @@ fn hash_rows<S: Alter, W: Watch>(
     ensures hashes { HasCleanDisk (state S.Store connection.new)
         → IsPlain (understood connection.old.schema sql.now)
         → IfOk result (HashesShown sql.now (bound params.now) (state S.Store connection.old)) }
+    ensures cause { HasCleanDisk (state S.Store connection.new)
+        → IsPlain (understood connection.old.schema sql.now)
+        → IfErr result (FailsToGive sql.now (bound params.now) None
+        (state S.Store connection.old) (state S.Store connection.new)) }
     ensures same { HasCleanDisk (state S.Store connection.new)
         → IsPlain (understood connection.old.schema sql.now)
         → OnOk result (IsUnchanged (state S.Store connection.old) (state S.Store connection.new)) }
@@ -84,6 +95,9 @@ pub(crate) fn hash_blocks<S: Alter, W: Watch>(
 ) -> Result<[u8; 32], StoreFault>
     ensures hashes { HasCleanDisk (state S.Store connection.new) → IsOurs (state S.Store connection.old)
         → IfOk result (IsDigestOf (tables_of (state S.Store connection.old)) owner) }
+    ensures cause { HasCleanDisk (state S.Store connection.new) → IsOurs (state S.Store connection.old)
+        → IfErr result (FailsToGiveBlocks owner None
+        (state S.Store connection.old) (state S.Store connection.new)) }
     ensures same { HasCleanDisk (state S.Store connection.new) → IsOurs (state S.Store connection.old)
         → OnOk result (IsUnchanged (state S.Store connection.old) (state S.Store connection.new)) }
     ensures err { HasCleanDisk (state S.Store connection.new) → IsOurs (state S.Store connection.old)
@@ -98,10 +112,5 @@ pub(crate) fn hash_blocks<S: Alter, W: Watch>(
     if !is_storable_owner(owner) {
         return Err(StoreFault::Store);
     }
-    hash_rows(
-        connection,
-        "SELECT part, place, bytes FROM blocks WHERE kind = ?1 AND owner = ?2 ORDER BY part, place",
-        &owner_params(owner),
-        watch,
-    )
+    hash_rows(connection, blocks_query(), &owner_params(owner), watch)
 }

@@ -1,13 +1,17 @@
 //! The rows of a query of blocks, sent one at a time.
 
-ghost use Rattle.std.specs.Prelude.{◌≡◌, ◌≢◌, ◌⊎◌, ◌≤◌, ◌<◌, OnOk, IfOk, OnErr, Err};
+ghost use Rattle.std.specs.Prelude.{◌≡◌, ◌≢◌, ◌⊎◌, ◌≤◌, ◌<◌, OnOk, IfOk, IfErr, OnErr, Err, Some, length};
 ghost use Rattle.dep_types.specs.Writing.{HasRisen};
 ghost use Rattle.sqlite.specs.State.{HasCleanDisk, IsUnchanged, IsRolledBack};
 ghost use Rattle.sqlite.specs.Held.{state};
 ghost use Rattle.sqlite.specs.Given.{IsPlain};
 ghost use Rattle.sqlite.specs.Listing.{understood};
 ghost use Rattle.sqlite.specs.Values.{bound};
+ghost use Rattle.sqlite.specs.Order.{column};
+ghost use Rattle.dep_tables.specs.Rows.{IsBytesValue};
 ghost use Rattle.dep_tables.specs.Clauses.{CommitsNothing};
+ghost use Rattle.dep_streams.specs.Causes.{FailsToGive};
+ghost use Rattle.dep_streams.specs.Faults.{IsStoppedBy};
 ghost use Rattle.dep_streams.specs.Clauses.{GivesBytes};
 ghost use Rattle.dep_streams.specs.Sent.{blob_of, GivesSized, SendsSized};
 
@@ -20,6 +24,8 @@ use sqlite::{Alter, Connection, Row};
 fn give_sized<O: Outlet>(row: &Row, most: u64, out: &mut O) -> Result<u64, BlockFault>
     ensures gives { GivesSized (O.taken out.old) (O.taken out.new) (blob_of row.now) result }
     ensures fits { IfOk result (λ n. n ≤ most) }
+    ensures refused { result ≡ Err BlockFault.Store
+        → (¬ (IsBytesValue (column row.now 2))) ⊎ (most < length (blob_of row.now)) }
     ensures kept { OnOk result (O.failures out.new ≡ O.failures out.old) }
     ensures cause { result ≡ Err BlockFault.Writer
         → HasRisen (O.failures out.old) (O.failures out.new) }
@@ -52,6 +58,10 @@ pub(crate) fn stream_sized<S: Alter, O: Outlet>(
     ensures streams { GivesBytes (O.taken out.old) (O.taken out.new) (λ sent.
         HasCleanDisk (state S.Store connection.new) → IsPlain (understood connection.old.schema sql.now)
         → SendsSized sql.now (bound params.now) (state S.Store connection.old) size sent result) }
+    ensures why { HasCleanDisk (state S.Store connection.new)
+        → IsPlain (understood connection.old.schema sql.now)
+        → IfErr result (IsStoppedBy (FailsToGive sql.now (bound params.now) (Some size)
+        (state S.Store connection.old) (state S.Store connection.new))) }
     ensures ok { HasCleanDisk (state S.Store connection.new)
         → IsPlain (understood connection.old.schema sql.now)
         → OnOk result (IsUnchanged (state S.Store connection.old) (state S.Store connection.new)) }

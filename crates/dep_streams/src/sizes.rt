@@ -1,6 +1,6 @@
 //! How many bytes a file has, asked outside a transaction.
 
-ghost use Rattle.std.specs.Prelude.{◌≡◌, ◌⊎◌, ◌∷◌, [], ◌<◌, ◌^◌, ℕ, List, pos, IsTrue, IfOk, OnOk, OnErr, map, option_map};
+ghost use Rattle.std.specs.Prelude.{◌≡◌, ◌⊎◌, ◌∷◌, [], ◌<◌, ◌^◌, ℕ, List, pos, IsTrue, IfOk, IfErr, OnOk, OnErr, map, option_map};
 ghost use Rattle.std.specs.Option.{option_to_list};
 ghost use Rattle.sqlite.specs.State.{HasCleanDisk, Survives, IsUnchanged, IsRolledBack};
 ghost use Rattle.sqlite.specs.Held.{state};
@@ -8,9 +8,11 @@ ghost use Rattle.sqlite.specs.Values.{bound};
 ghost use Rattle.sqlite.specs.declared.types.Value.TheVariants.{Int};
 ghost use Rattle.dep_statements.specs.Rows.{row_at, columns_from};
 ghost use Rattle.dep_tables.specs.Tables.{tables_of, IsOurs};
-ghost use Rattle.dep_streams.specs.Sizes.{size_values, shown_size};
+ghost use Rattle.dep_tables.specs.Clauses.{AtMostOne, IsFaultAt};
+ghost use Rattle.dep_streams.specs.Sizes.{IsSizeRow, size_values, shown_size};
+ghost use Rattle.dep_streams.specs.Causes.{FailsToFindSize};
 
-use dep_tables::{LIMIT, fault_of};
+use dep_tables::{LIMIT, fault_of, number_at};
 use dep_types::StoreFault;
 use sqlite::types::ValueRef;
 use sqlite::{Alter, Connection, Error, Row};
@@ -32,23 +34,25 @@ fn key_param(file: u64) -> [ValueRef<'static>; 1]
 }
 
 fn size_in(row: &Row) -> Result<FileSize, Error>
-    ensures { IfOk result (λ found. size_values found ≡ columns_from 0 2 row.now) }
+    ensures told { IfOk result (λ found. size_values found ≡ columns_from 0 2 row.now) }
+    ensures refused { IfErr result (λ _. ¬ (IsSizeRow row.now)) }
 {
     Ok(FileSize {
-        object: row.get(0)?,
-        size: row.get(1)?,
+        object: number_at(row, 0)?,
+        size: number_at(row, 1)?,
     })
 }
 
 fn only(rows: &[Row]) -> Result<Option<FileSize>, StoreFault>
-    ensures { IfOk result
+    ensures told { IfOk result
         (λ found. map size_values (option_to_list found) ≡ map (columns_from 0 2) rows.now) }
+    ensures refused { IfErr result (IsFaultAt ⊥ (AtMostOne IsSizeRow) rows.now) }
 {
     match rows {
         [] => Ok(None),
         [row] => match size_in(row) {
             Ok(found) => Ok(Some(found)),
-            Err(error) => Err(fault_of(error)),
+            Err(_) => Err(StoreFault::Store),
         },
         _ => Err(StoreFault::Store),
     }
@@ -69,6 +73,9 @@ pub(crate) fn find_size<S: Alter>(
         → OnErr result ((connection.new ≡ connection.old)
         ⊎ (IsUnchanged (state S.Store connection.old) (state S.Store connection.new)
         ⊎ IsRolledBack (state S.Store connection.old) (state S.Store connection.new))) }
+    ensures cause { HasCleanDisk (state S.Store connection.new)
+        → IfErr result (FailsToFindSize file (state S.Store connection.old)
+        (state S.Store connection.new)) }
     ensures found { HasCleanDisk (state S.Store connection.new)
         → OnOk result (IsTrue (state S.Store connection.old).is_open) }
     ensures open { HasCleanDisk (state S.Store connection.new)

@@ -1,6 +1,6 @@
 //! The content of a file, sent one block at a time, outside a transaction.
 
-ghost use Rattle.std.specs.Prelude.{◌≡◌, ◌≢◌, ◌⊎◌, ℕ, List, IsTrue, IfOk, OnOk, OnErr, Err};
+ghost use Rattle.std.specs.Prelude.{◌≡◌, ◌≢◌, ◌⊎◌, ℕ, List, IsTrue, IfErr, OnOk, OnErr, Err};
 ghost use Rattle.std.specs.Io.KnownBytes.{Appends};
 ghost use Rattle.sqlite.specs.State.{HasCleanDisk, IsUnchanged, Survives};
 ghost use Rattle.sqlite.specs.Held.{state};
@@ -10,7 +10,8 @@ ghost use Rattle.dep_types.specs.Writing.{HasRisen};
 ghost use Rattle.dep_tables.specs.Tables.{tables_of, IsOurs};
 ghost use Rattle.dep_row_maps.specs.TablesAre.{TablesAre};
 ghost use Rattle.dep_streams.specs.Reading.{IsKept};
-ghost use Rattle.dep_streams.specs.Faults.{fault_of_store, fault_of_blocks};
+ghost use Rattle.dep_streams.specs.Faults.{fault_of_store, fault_of_blocks, IsStreamStoppedBy};
+ghost use Rattle.dep_streams.specs.Causes.{FailsToStream};
 
 use crate::blocks::stream_blocks;
 use crate::fault::BlockFault;
@@ -49,6 +50,9 @@ pub fn stream_content<S: Alter, O: Outlet>(
         × (HasCleanDisk (state S.Store connection.new) → IsOurs (state S.Store connection.old)
         → (s : State) → TablesAre (tables_of (state S.Store connection.old)) s
         → IsStreamed s file sent result) }
+    ensures why { HasCleanDisk (state S.Store connection.new) → IsOurs (state S.Store connection.old)
+        → IfErr result (IsStreamStoppedBy (FailsToStream file
+        (state S.Store connection.old) (state S.Store connection.new))) }
     ensures ok { HasCleanDisk (state S.Store connection.new) → IsOurs (state S.Store connection.old)
         → OnOk result (IsUnchanged (state S.Store connection.old) (state S.Store connection.new)) }
     ensures same { HasCleanDisk (state S.Store connection.new) → IsOurs (state S.Store connection.old)

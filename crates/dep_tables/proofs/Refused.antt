@@ -1,5 +1,6 @@
 -- Why a value was not read.
-use Rattle.std.proofs.Common.{◌≡◌, ◌≢◌, ℕ, List, ◌∷◌, Result, Ok, Err, IfErr, IsErrAnd, Option, None, Some, IfSome, IsUtf8, length, inl, inr, refl, sym, ap, subst, ◌∙◌, arith}
+use Rattle.std.proofs.Common.{◌≡◌, ◌≢◌, ◌<◌, ℕ, List, ◌∷◌, get_or, Result, Ok, Err, IfErr, IsErr, IsErrAnd, Option, None, Some, IfSome, IsUtf8, length, inl, inr, refl, sym, ap, subst, ◌∙◌, arith}
+use Rattle.std.specs.Prelude.{⊤}
 use Rattle.sqlite.specs.Order.{Row}
 use Rattle.sqlite.specs.declared.types.Value.{Value}
 use Rattle.sqlite.specs.declared.types.Value.TheVariants.{Text, Blob}
@@ -11,8 +12,10 @@ use Rattle.dep_types.specs.declared.store_fault.StoreFault.{StoreFault}
 use Rattle.dep_types.specs.declared.store_fault.StoreFault.TheVariants.{Store, Memory}
 use Rattle.dep_tables.specs.Faults.{fault_for, IsMemoryWhere}
 use Rattle.sqlite.specs.State.{State}
-use Rattle.dep_tables.specs.Clauses.{FailsToRead, AtMostOne, JustOne}
-use Rattle.dep_tables.specs.Rows.{HasAt, IsNumberValue, IsFlagValue, IsTextValue, IsDigestValue, IsNullOr, IsStateRow, state_values, IsObjectRow, object_values, IsMetadataRow, metadata_values, IsFileRow, file_values, IsUploadRow, upload_values, IsSegmentRow, segment_values, IsPlaceRow, place_values}
+use Rattle.dep_tables.specs.Clauses.{FailsToReadNumbers, AtMostOne, JustOne}
+use Rattle.dep_tables.specs.Rows.{HasAt, HasKinds, IsOfKind}
+use Rattle.dep_tables.specs.declared.columns.ColumnKind.{ColumnKind}
+use Rattle.dep_tables.specs.declared.columns.ColumnKind.TheVariants as kind
 
 -- an error that can be nothing else is want of memory
 pub only_memory : (e : Error) → (e ≢ SqliteFailure OutOfMemory → ⊥) → fault_for e ≡ Memory
@@ -23,101 +26,25 @@ only_memory e other = go (fault_for e) refl
     go Store is = absurd (other (λ memory. let both : Memory ≡ Store = ap fault_for (sym memory) ∙ is in cc))
 
 -- what is refused of one row at most is refused of just one
-pub refused_one : (is_ours : Row → Type 0) (sql : List ℕ) (params : Row) (old new : State) (fault : StoreFault) → FailsToRead (AtMostOne is_ours) sql params old new fault → FailsToRead (JustOne is_ours) sql params old new fault
+pub refused_one : (is_ours : Row → Type 0) (sql : List ℕ) (params : Row) (old new : State) (fault : StoreFault) → FailsToReadNumbers (AtMostOne is_ours) sql params old new fault → FailsToReadNumbers (JustOne is_ours) sql params old new fault
 refused_one is_ours sql params old new fault (inl asked) = inl asked
-refused_one is_ours sql params old new fault (inr read) = inr (read.0, read.1, λ ours. read.2 (ours.0, omega (arith, ours.1)))
+refused_one is_ours sql params old new fault (inr (rows, shown, inl others)) = inr (rows, shown, inl (λ ours. others.0 (ours.0, omega (arith, ours.1)), others.1))
+refused_one is_ours sql params old new fault (inr (rows, shown, inr wanting)) = absurd wanting.0
 
--- an error that is passed on: with a row of ours the column is of its type, so it is want of memory
-pub passed_on : {A Ours Has : Type 0} (r : Result A Error) (e : Error) → IsErrAnd r (λ x. x ≡ e) → IsMemoryWhere Has e → (Ours → Has) → IfErr r (IsMemoryWhere Ours)
-passed_on (Ok x) e is refused has = tt
-passed_on (Err x) e is refused has = λ ours. ap fault_for is ∙ refused (has ours)
+-- what a row has in a column
+pub kind_at : (kinds : List ColumnKind) (row : Row) (at : ℕ) → at < length kinds → HasKinds kinds row → HasAt (IsOfKind (get_or kinds at kind.Number)) row at
+kind_at kinds row at inside has = (subst (λ n. at < n) (sym has.width) inside, has.each at kind.Number inside)
+
+-- an error that is passed on, of a value that takes no memory: no row of these columns has it
+pub passed_on : {A Ours Has : Type 0} (copies : Type 0) (r : Result A Error) → IsErr r → ¬ Has → (Ours → Has) → IfErr r (λ x. Ours → copies × (fault_for x ≡ Memory))
+passed_on copies (Ok x) is refused has = tt
+passed_on copies (Err x) is refused has = λ ours. absurd (refused (has ours))
+
+-- and of one that is copied: with such a row it is want of memory
+pub copied_on : {A Ours Has : Type 0} (r : Result A Error) (e : Error) → IsErrAnd r (λ x. x ≡ e) → IsMemoryWhere Has e → (Ours → Has) → IfErr r (λ x. Ours → ⊤ × (fault_for x ≡ Memory))
+copied_on (Ok x) e is refused has = tt
+copied_on (Err x) e is refused has = λ ours. (tt, ap fault_for is ∙ refused (has ours))
 
 -- what is told of a row, column by column
 pub next_column : {v w : Value} {vs ws : Row} → w ≡ v → vs ≡ ws → v ∷ vs ≡ w ∷ ws
 next_column {v} {w} {vs} {ws} head tail = ap (λ x. x ∷ vs) (sym head) ∙ ap (λ xs. w ∷ xs) tail
-
--- a row that is equal to a good one has its columns
-pub has_at : (is_ours : Value → Type 0) (row good : Row) (at : ℕ) → row ≡ good → HasAt is_ours good at → HasAt is_ours row at
-has_at is_ours row good at same has = subst (λ r. HasAt is_ours r at) (sym same) has
-
--- a value that may be missing
-null_or_text : (t : Option (List ℕ)) → IfSome t IsUtf8 → IsNullOr IsTextValue (or_null Text t)
-null_or_text None good = inl refl
-null_or_text (Some t) good = inr (t, refl, good)
-
-null_or_digest : (d : Option (List ℕ)) → IfSome d (λ b. length b ≡ 32) → IsNullOr IsDigestValue (or_null Blob d)
-null_or_digest None good = inl refl
-null_or_digest (Some b) good = inr (b, refl, good)
-
--- ---- the columns of each kind of row
-
-pub state_row : (row : Row) → IsStateRow row → HasAt IsNumberValue row 0 × HasAt IsNumberValue row 1 × HasAt IsNumberValue row 2 × HasAt IsNumberValue row 3 × HasAt IsNumberValue row 4
-state_row row ours =
-    let at = λ (is_ours : Value → Type 0) (n : ℕ). has_at is_ours row (state_values ours.given) n ours.is in (
-      at IsNumberValue 0 (omega arith, (_, refl)),
-      at IsNumberValue 1 (omega arith, (_, refl)),
-      at IsNumberValue 2 (omega arith, (_, refl)),
-      at IsNumberValue 3 (omega arith, (_, refl)),
-      at IsNumberValue 4 (omega arith, (_, refl)),
-    )
-
-pub object_row : (row : Row) → IsObjectRow row → HasAt IsNumberValue row 0 × HasAt IsFlagValue row 1 × HasAt IsNumberValue row 2 × HasAt IsNumberValue row 3 × HasAt IsNumberValue row 4 × HasAt IsNumberValue row 5
-object_row row ours =
-    let at = λ (is_ours : Value → Type 0) (n : ℕ). has_at is_ours row (object_values ours.given) n ours.is in (
-      at IsNumberValue 0 (omega arith, (_, refl)),
-      at IsFlagValue 1 (omega arith, (_, refl)),
-      at IsNumberValue 2 (omega arith, (_, refl)),
-      at IsNumberValue 3 (omega arith, (_, refl)),
-      at IsNumberValue 4 (omega arith, (_, refl)),
-      at IsNumberValue 5 (omega arith, (_, refl)),
-    )
-
-pub metadata_row : (row : Row) → IsMetadataRow row → HasAt IsNumberValue row 0 × HasAt IsTextValue row 1 × HasAt IsNumberValue row 2 × HasAt IsTextValue row 3
-metadata_row row ours =
-    let at = λ (is_ours : Value → Type 0) (n : ℕ). has_at is_ours row (metadata_values ours.given) n ours.is in (
-      at IsNumberValue 0 (omega arith, (_, refl)),
-      at IsTextValue 1 (omega arith, (_, refl, ours.name)),
-      at IsNumberValue 2 (omega arith, (_, refl)),
-      at IsTextValue 3 (omega arith, (_, refl, ours.value)),
-    )
-
-pub file_row : (row : Row) → IsFileRow row → HasAt IsNumberValue row 0 × HasAt IsNumberValue row 1 × HasAt IsTextValue row 2 × HasAt IsTextValue row 3 × HasAt IsNumberValue row 4 × HasAt IsNumberValue row 5 × HasAt IsNumberValue row 6 × HasAt (IsNullOr IsTextValue) row 7 × HasAt IsFlagValue row 8 × HasAt IsDigestValue row 9
-file_row row ours =
-    let at = λ (is_ours : Value → Type 0) (n : ℕ). has_at is_ours row (file_values ours.given) n ours.is in (
-      at IsNumberValue 0 (omega arith, (_, refl)),
-      at IsNumberValue 1 (omega arith, (_, refl)),
-      at IsTextValue 2 (omega arith, (_, refl, ours.name)),
-      at IsTextValue 3 (omega arith, (_, refl, ours.media)),
-      at IsNumberValue 4 (omega arith, (_, refl)),
-      at IsNumberValue 5 (omega arith, (_, refl)),
-      at IsNumberValue 6 (omega arith, (_, refl)),
-      at (IsNullOr IsTextValue) 7 (omega arith, null_or_text ours.given.behalf ours.behalf),
-      at IsFlagValue 8 (omega arith, (_, refl)),
-      at IsDigestValue 9 (omega arith, (_, refl, ours.sha256)),
-    )
-
-pub upload_row : (row : Row) → IsUploadRow row → HasAt IsNumberValue row 0 × HasAt IsNumberValue row 1 × HasAt IsNumberValue row 2 × HasAt IsNumberValue row 3 × HasAt (IsNullOr IsDigestValue) row 4 × HasAt IsNumberValue row 5
-upload_row row ours =
-    let at = λ (is_ours : Value → Type 0) (n : ℕ). has_at is_ours row (upload_values ours.given) n ours.is in (
-      at IsNumberValue 0 (omega arith, (_, refl)),
-      at IsNumberValue 1 (omega arith, (_, refl)),
-      at IsNumberValue 2 (omega arith, (_, refl)),
-      at IsNumberValue 3 (omega arith, (_, refl)),
-      at (IsNullOr IsDigestValue) 4 (omega arith, null_or_digest ours.given.sha256 ours.sha256),
-      at IsNumberValue 5 (omega arith, (_, refl)),
-    )
-
-pub segment_row : (row : Row) → IsSegmentRow row → HasAt IsNumberValue row 0 × HasAt IsNumberValue row 1 × HasAt IsNumberValue row 2
-segment_row row ours =
-    let at = λ (is_ours : Value → Type 0) (n : ℕ). has_at is_ours row (segment_values ours.given) n ours.is in (
-      at IsNumberValue 0 (omega arith, (_, refl)),
-      at IsNumberValue 1 (omega arith, (_, refl)),
-      at IsNumberValue 2 (omega arith, (_, refl)),
-    )
-
-pub place_row : (row : Row) → IsPlaceRow row → HasAt IsNumberValue row 0 × HasAt IsNumberValue row 1
-place_row row ours =
-    let at = λ (is_ours : Value → Type 0) (n : ℕ). has_at is_ours row (place_values ours.given) n ours.is in (
-      at IsNumberValue 0 (omega arith, (_, refl)),
-      at IsNumberValue 1 (omega arith, (_, refl)),
-    )

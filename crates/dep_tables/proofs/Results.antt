@@ -17,6 +17,10 @@ pub if_failed : {A E P : Type 0} (r : Result A E) → P → OnErr r P
 if_failed (Ok x) p = tt
 if_failed (Err e) p = p
 
+pub if_err : {A E : Type 0} {P Q : E → Type 0} (r : Result A E) → IfErr r P → ((e : E) → P e → Q e) → IfErr r Q
+if_err (Ok x) p f = tt
+if_err (Err e) p f = f e p
+
 pub err_then : {A E : Type 0} {P Q : E → Type 0} (r : Result A E) → IsErrAnd r P → ((e : E) → P e → Q e) → IfErr r Q
 err_then (Ok x) p f = tt
 err_then (Err e) p f = f e p

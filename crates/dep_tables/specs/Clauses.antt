@@ -1,5 +1,5 @@
 -- What the clauses of the statements say of the states before and after.
-use Rattle.std.specs.Prelude.{◌≡◌, ◌⊎◌, ◌≤◌, ℕ, List, All, IsTrue, Result, Err, OnOk, OnErr, IfOk, IfErr, length, map}
+use Rattle.std.specs.Prelude.{◌≡◌, ◌≢◌, ◌⊎◌, ◌≤◌, ⊤, ℕ, List, [], All, IsTrue, Result, Err, OnOk, OnErr, IfOk, IfErr, length, map}
 use Rattle.sqlite.specs.Order.{Row}
 use Rattle.sqlite.specs.declared.error.Error.{Error}
 use Rattle.sqlite.specs.State.{State, HasCleanDisk, KeepsCommit, IsUnchanged, IsRolledBack, Survives, ExecutesInside, FailsToQuery, IsTooLate, Shown}
@@ -80,11 +80,27 @@ AtMostOne is_ours rows = All is_ours rows × (length rows ≤ 1)
 abbrev pub JustOne : (Row → Type 0) → List Row → Type 0
 JustOne is_ours rows = All is_ours rows × (length rows ≡ 1)
 
--- The same, or it showed rows: where these are ours, the fault is want of memory.
-abbrev pub FailsToRead : (List Row → Type 0) → List ℕ → Row → State → State → StoreFault → Type 0
-FailsToRead are_ours sql params old new fault =
+-- Rows that are not ours are a fault of the store. For ours only memory can be wanting, where there are
+-- some, and where what is read of them is copied.
+abbrev pub IsFaultAt : Type 0 → (List Row → Type 0) → List Row → StoreFault → Type 0
+IsFaultAt copies are_ours rows fault =
+    ((are_ours rows → ⊥) × (fault ≡ Store))
+    ⊎ (copies × are_ours rows × (rows ≢ []) × (fault ≡ Memory))
+
+-- the query failed, or the fault is one at the rows that it showed
+abbrev pub FailsWithRows : Type 0 → (List Row → Type 0) → List ℕ → Row → State → State → StoreFault
+    → Type 0
+FailsWithRows copies are_ours sql params old new fault =
     FailsToAsk sql params old new fault
-    ⊎ ((rows : List Row) × Shown sql params old new rows × (are_ours rows → fault ≡ Memory))
+    ⊎ ((rows : List Row) × Shown sql params old new rows × IsFaultAt copies are_ours rows fault)
+
+-- of rows that are copied; of a row of numbers and digests, for which no memory is taken
+abbrev pub FailsToRead : (List Row → Type 0) → List ℕ → Row → State → State → StoreFault → Type 0
+FailsToRead = FailsWithRows ⊤
+
+abbrev pub FailsToReadNumbers : (List Row → Type 0) → List ℕ → Row → State → State → StoreFault
+    → Type 0
+FailsToReadNumbers = FailsWithRows ⊥
 
 -- the query of this text showed rows, whose first columns are these values
 abbrev pub ShowsColumns : List ℕ → Row → State → State → ℕ → List Row → Type 0
@@ -106,7 +122,12 @@ module _ {A : Type 0} (old new : State) (result : Result A StoreFault) where
   FailsByRunning storable sql params = storable → HasCleanDisk new → IsTrue old.in_transaction
       → IfErr result (FailsToRun sql params old new)
 
-  -- the same of a query, which does not fail at rows of ours either, but for memory
+  -- the same of a query, which fails at the rows that it showed too
   abbrev pub FailsByReading : Type 0 → List ℕ → Row → (List Row → Type 0) → Type 0
   FailsByReading storable sql params are_ours = storable → HasCleanDisk new
       → IfErr result (FailsToRead are_ours sql params old new)
+
+  -- and of one whose rows are numbers and digests
+  abbrev pub FailsByReadingNumbers : Type 0 → List ℕ → Row → (List Row → Type 0) → Type 0
+  FailsByReadingNumbers storable sql params are_ours = storable → HasCleanDisk new
+      → IfErr result (FailsToReadNumbers are_ours sql params old new)

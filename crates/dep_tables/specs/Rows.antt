@@ -1,6 +1,6 @@
 -- Rows of the tables as they are stored, where the column of a key is NULL, and as they are given and shown.
--- Is..Row says that a row is what a query shows of one that was given.
-use Rattle.std.specs.Prelude.{◌≡◌, ◌⊎◌, ℕ, ◌<◌, ◌^◌, pos, Bool, if◌then◌else◌, ◌&&◌, ◌||◌, List, [], ◌∷◌, length, IfSome, IsUtf8}
+-- Is..Row says that a row, as a query shows it, has the columns of one that was given.
+use Rattle.std.specs.Prelude.{◌≡◌, ◌⊎◌, ℕ, ◌<◌, ◌^◌, pos, Bool, if◌then◌else◌, ◌&&◌, ◌||◌, List, [], ◌∷◌, length, get_or, IsUtf8}
 use Rattle.std.specs.declared.cmp.Ordering.{Ordering}
 use Rattle.std.specs.Ordering.{ordering_then, is_eq}
 use Rattle.sqlite.specs.declared.types.Value.{Value}
@@ -12,6 +12,8 @@ use Rattle.dep_statements.specs.Rows.{has_number, exceeds_number, columns_from}
 use Rattle.dep_types.specs.declared.rows.ObjectRow.{ObjectRow}
 use Rattle.dep_types.specs.declared.rows.FileRow.{FileRow}
 use Rattle.dep_types.specs.declared.rows.UploadRow.{UploadRow}
+use Rattle.dep_tables.specs.declared.columns.ColumnKind.{ColumnKind}
+use Rattle.dep_tables.specs.declared.columns.ColumnKind.TheVariants as kind
 use Rattle.dep_tables.specs.declared.state.StateRow.{StateRow}
 use Rattle.dep_tables.specs.declared.metadata.MetadataRow.{MetadataRow}
 use Rattle.dep_tables.specs.declared.segments.SegmentRow.{SegmentRow}
@@ -42,6 +44,24 @@ flag b = Int (pos (if b then 1 else 0))
 abbrev pub IsFlagValue : Value → Type 0
 IsFlagValue v = (b : Bool) × (v ≡ flag b)
 
+abbrev pub IsBytesValue : Value → Type 0
+IsBytesValue v = (b : List ℕ) × (v ≡ Blob b)
+
+abbrev pub IsOfKind : ColumnKind → Value → Type 0
+IsOfKind kind.Number = IsNumberValue
+IsOfKind kind.Flag = IsFlagValue
+IsOfKind kind.Text = IsTextValue
+IsOfKind kind.TextOrNull = IsNullOr IsTextValue
+IsOfKind kind.Digest = IsDigestValue
+IsOfKind kind.DigestOrNull = IsNullOr IsDigestValue
+IsOfKind kind.Bytes = IsBytesValue
+
+-- the row has as many columns, each of its kind
+pub record HasKinds (kinds : List ColumnKind) (row : Row) : Type 0 where
+  pub width : length row ≡ length kinds
+  pub each : (at : ℕ) (none : ColumnKind) → at < length kinds
+      → IsOfKind (get_or kinds at none) (column row at)
+
 -- ---- format
 
 -- the one row of `format`
@@ -70,9 +90,11 @@ pub record IsStorableState (r : StateRow) : Type 0 where
   pub upload : r.next.upload < 2 ^ 63
   pub change : r.next.change < 2 ^ 63
 
-pub record IsStateRow (row : Row) : Type 0 where
-  pub given : StateRow
-  pub is : row ≡ state_values given
+abbrev pub state_kinds : List ColumnKind
+state_kinds = kind.Number ∷ kind.Number ∷ kind.Number ∷ kind.Number ∷ kind.Number ∷ []
+
+abbrev pub IsStateRow : Row → Type 0
+IsStateRow = HasKinds state_kinds
 
 -- ---- objects
 
@@ -97,9 +119,11 @@ pub record IsStorableObject (r : ObjectRow) : Type 0 where
   pub files_tag : r.files_tag < 2 ^ 63
   pub changed : r.changed < 2 ^ 63
 
-pub record IsObjectRow (row : Row) : Type 0 where
-  pub given : ObjectRow
-  pub is : row ≡ object_values given
+abbrev pub object_kinds : List ColumnKind
+object_kinds = kind.Number ∷ kind.Flag ∷ kind.Number ∷ kind.Number ∷ kind.Number ∷ kind.Number ∷ []
+
+abbrev pub IsObjectRow : Row → Type 0
+IsObjectRow = HasKinds object_kinds
 
 -- ---- metadata
 
@@ -125,11 +149,11 @@ pub record IsStorableMetadata (r : MetadataRow) : Type 0 where
   pub object : r.object < 2 ^ 63
   pub place : r.place < 2 ^ 63
 
-pub record IsMetadataRow (row : Row) : Type 0 where
-  pub given : MetadataRow
-  pub name : IsUtf8 given.name
-  pub value : IsUtf8 given.value
-  pub is : row ≡ metadata_values given
+abbrev pub metadata_kinds : List ColumnKind
+metadata_kinds = kind.Number ∷ kind.Text ∷ kind.Number ∷ kind.Text ∷ []
+
+abbrev pub IsMetadataRow : Row → Type 0
+IsMetadataRow = HasKinds metadata_kinds
 
 -- ---- files
 
@@ -154,13 +178,11 @@ pub record IsStorableFile (r : FileRow) : Type 0 where
   pub tag : r.tag < 2 ^ 63
   pub deposited : r.deposited < 2 ^ 63
 
-pub record IsFileRow (row : Row) : Type 0 where
-  pub given : FileRow
-  pub name : IsUtf8 given.name
-  pub media : IsUtf8 given.media
-  pub behalf : IfSome given.behalf IsUtf8
-  pub sha256 : length given.sha256 ≡ 32
-  pub is : row ≡ file_values given
+abbrev pub file_kinds : List ColumnKind
+file_kinds = kind.Number ∷ kind.Number ∷ kind.Text ∷ kind.Text ∷ kind.Number ∷ kind.Number ∷ kind.Number ∷ kind.TextOrNull ∷ kind.Flag ∷ kind.Digest ∷ []
+
+abbrev pub IsFileRow : Row → Type 0
+IsFileRow = HasKinds file_kinds
 
 -- ---- uploads
 
@@ -185,10 +207,11 @@ pub record IsStorableUpload (r : UploadRow) : Type 0 where
   pub segment_size : r.segment_size < 2 ^ 63
   pub last : r.last < 2 ^ 63
 
-pub record IsUploadRow (row : Row) : Type 0 where
-  pub given : UploadRow
-  pub sha256 : IfSome given.sha256 (λ digest. length digest ≡ 32)
-  pub is : row ≡ upload_values given
+abbrev pub upload_kinds : List ColumnKind
+upload_kinds = kind.Number ∷ kind.Number ∷ kind.Number ∷ kind.Number ∷ kind.DigestOrNull ∷ kind.Number ∷ []
+
+abbrev pub IsUploadRow : Row → Type 0
+IsUploadRow = HasKinds upload_kinds
 
 -- ---- segments
 
@@ -210,9 +233,11 @@ pub record IsStorableSegment (r : SegmentRow) : Type 0 where
   pub number : r.number < 2 ^ 63
   pub size : r.size < 2 ^ 63
 
-pub record IsSegmentRow (row : Row) : Type 0 where
-  pub given : SegmentRow
-  pub is : row ≡ segment_values given
+abbrev pub segment_kinds : List ColumnKind
+segment_kinds = kind.Number ∷ kind.Number ∷ kind.Number ∷ []
+
+abbrev pub IsSegmentRow : Row → Type 0
+IsSegmentRow = HasKinds segment_kinds
 
 -- ---- timed_out
 
@@ -221,9 +246,11 @@ abbrev pub stored_number : ℕ → Row
 stored_number n = Int (pos n) ∷ Null ∷ []
 
 -- a number alone
-pub record IsNumberRow (row : Row) : Type 0 where
-  pub given : ℕ
-  pub is : row ≡ Int (pos given) ∷ []
+abbrev pub number_kinds : List ColumnKind
+number_kinds = kind.Number ∷ []
+
+abbrev pub IsNumberRow : Row → Type 0
+IsNumberRow = HasKinds number_kinds
 
 -- ---- blocks
 
@@ -271,14 +298,18 @@ shown_place = columns_from 3 2
 abbrev pub bytes_in : Row → Value
 bytes_in stored = column stored 5
 
-pub record IsPlaceRow (row : Row) : Type 0 where
-  pub given : BlockPlace
-  pub is : row ≡ place_values given
+abbrev pub place_kinds : List ColumnKind
+place_kinds = kind.Number ∷ kind.Number ∷ []
+
+abbrev pub IsPlaceRow : Row → Type 0
+IsPlaceRow = HasKinds place_kinds
 
 -- bytes alone
-pub record IsBytesRow (row : Row) : Type 0 where
-  pub given : List ℕ
-  pub is : row ≡ Blob given ∷ []
+abbrev pub bytes_kinds : List ColumnKind
+bytes_kinds = kind.Bytes ∷ []
+
+abbrev pub IsBytesRow : Row → Type 0
+IsBytesRow = HasKinds bytes_kinds
 
 -- by part and place, of rows as they are shown
 abbrev pub by_part_and_place : Row → Row → Ordering

@@ -6,10 +6,11 @@ ghost use Rattle.sqlite.specs.declared.types.Value.TheVariants.{Int, Blob};
 ghost use Rattle.sqlite.specs.Values.{bound};
 ghost use Rattle.dep_tables.specs.Rows.{IsStorableOwner, owner_values, IsStorableKey, key_values, block_values, move_values, place_values, IsBytesRow, IsPlaceRow};
 ghost use Rattle.dep_tables.specs.Edits.{with_new_block, without_blocks_of, with_part_moved, LacksBlock, AreBytesAt, IsBlockAfter};
-ghost use Rattle.dep_tables.specs.Clauses.{AtMostOne, Changes, Shows, Reads, ReadsOnly, FailsWhole, FailsReading, RefusesNumbers, FailsByRunning, FailsByReading, StaysWithin};
+ghost use Rattle.dep_tables.specs.Clauses.{AtMostOne, Changes, Shows, Reads, ReadsOnly, FailsWhole, FailsReading, RefusesNumbers, FailsByRunning, FailsByReading, FailsByReadingNumbers, StaysWithin};
 ghost use Rattle.dep_tables.specs.Texts.{insert_block_text, delete_blocks_text, move_part_text, read_block_text, next_block_text};
 
 use crate::calls::Statements;
+use crate::columns::ColumnKind::{self, Bytes, Number};
 use crate::numbers::{LIMIT, number_at};
 use crate::owner::{
     BlockKey, BlockOwner, BlockPlace, is_storable_key, is_storable_owner, key_params, owner_params,
@@ -110,13 +111,19 @@ pub fn move_part<T: Statements>(
 }
 
 impl FromRow for BlockPlace {
-    ghost use Rattle.dep_tables.specs.Rows.{place_values, IsPlaceRow};
+    ghost use Rattle.dep_tables.specs.Rows.{place_values, place_kinds};
 
     ghost width = { 2 };
 
     ghost values = { place_values };
 
-    ghost is_ours = { IsPlaceRow };
+    ghost columns = { place_kinds };
+
+    ghost copies = { ⊥ };
+
+    fn kinds() -> &'static [ColumnKind] {
+        &[Number, Number]
+    }
 
     fn from_row(row: &Row) -> Result<BlockPlace, Error> {
         Ok(BlockPlace {
@@ -127,15 +134,21 @@ impl FromRow for BlockPlace {
 }
 
 impl FromRow for Vec<u8> {
-    ghost use Rattle.dep_tables.specs.Rows.{IsBytesRow};
-    ghost use Rattle.std.specs.Prelude.{◌∷◌, []};
+    ghost use Rattle.dep_tables.specs.Rows.{bytes_kinds};
+    ghost use Rattle.std.specs.Prelude.{⊤, ◌∷◌, []};
     ghost use Rattle.sqlite.specs.declared.types.Value.TheVariants.{Blob};
 
     ghost width = { 1 };
 
     ghost values = { λ bytes. Blob bytes.items ∷ [] };
 
-    ghost is_ours = { IsBytesRow };
+    ghost columns = { bytes_kinds };
+
+    ghost copies = { ⊤ };
+
+    fn kinds() -> &'static [ColumnKind] {
+        &[Bytes]
+    }
 
     fn from_row(row: &Row) -> Result<Vec<u8>, Error> {
         row.get(0)
@@ -174,7 +187,7 @@ pub fn next_block<T: Statements>(
     ensures same { ReadsOnly (T.state tx.old) (T.state tx.new) result }
     ensures numbers { RefusesNumbers (T.state tx.old) (T.state tx.new) result
         (IsStorableKey after.now) }
-    ensures cause { FailsByReading (T.state tx.old) (T.state tx.new) result
+    ensures cause { FailsByReadingNumbers (T.state tx.old) (T.state tx.new) result
         (IsStorableKey after.now) next_block_text (key_values after.now) (AtMostOne IsPlaceRow) }
     ensures err { FailsReading (T.state tx.old) (T.state tx.new) result }
     ensures stays { StaysWithin T.lenders T.state tx.old tx.new result }

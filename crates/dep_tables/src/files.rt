@@ -9,6 +9,7 @@ ghost use Rattle.dep_tables.specs.Clauses.{AtMostOne, Changes, Shows, Reads, Rea
 ghost use Rattle.dep_tables.specs.Texts.{insert_file_text, delete_file_text, delete_files_text, find_file_text, files_of_text};
 
 use crate::calls::Statements;
+use crate::columns::ColumnKind::{self, Digest, Flag, Number, Text, TextOrNull};
 use crate::numbers::{LIMIT, flag_at, flag_number, key_param, number, number_at};
 use crate::reading::{FromRow, ask_all, ask_one};
 use crate::texts::{digest_at, text_at, text_or_null, text_or_null_at, text_value};
@@ -96,13 +97,22 @@ pub fn delete_files<T: Statements>(tx: &mut T, object: u64) -> Result<(), StoreF
 }
 
 impl FromRow for FileRow {
-    ghost use Rattle.dep_tables.specs.Rows.{file_values, IsFileRow};
+    ghost use Rattle.dep_tables.specs.Rows.{file_values, file_kinds};
+    ghost use Rattle.std.specs.Prelude.{⊤};
 
     ghost width = { 10 };
 
     ghost values = { file_values };
 
-    ghost is_ours = { IsFileRow };
+    ghost columns = { file_kinds };
+
+    ghost copies = { ⊤ };
+
+    fn kinds() -> &'static [ColumnKind] {
+        &[
+            Number, Number, Text, Text, Number, Number, Number, TextOrNull, Flag, Digest,
+        ]
+    }
 
     fn from_row(row: &Row) -> Result<FileRow, Error> {
         // The texts are read last, so that few are held, and let go, where another column is refused.

@@ -3,6 +3,7 @@
 
 mod blocks;
 mod calls;
+mod columns;
 mod fault;
 mod files;
 mod metadata;
@@ -18,10 +19,11 @@ mod uploads;
 
 pub use blocks::{delete_blocks, insert_block, move_part, next_block, read_block};
 pub use calls::Statements;
+pub use columns::ColumnKind;
 pub use fault::fault_of;
 pub use files::{delete_file, delete_files, files_of, find_file, insert_file};
 pub use metadata::{MetadataRow, delete_metadata, insert_metadata, metadata_of};
-pub use numbers::LIMIT;
+pub use numbers::{LIMIT, number_at};
 pub use objects::{delete_object, find_object, insert_object, next_object, write_object};
 pub use owner::{BlockKey, BlockOwner, BlockPlace, is_storable_owner, owner_params, part_params};
 pub use segments::{SegmentRow, delete_segments, insert_segment, segments_of};

@@ -9,6 +9,7 @@ ghost use Rattle.dep_tables.specs.Clauses.{Changes, Shows, Reads, ReadsOnly, Fai
 ghost use Rattle.dep_tables.specs.Texts.{insert_metadata_text, delete_metadata_text, metadata_of_text};
 
 use crate::calls::Statements;
+use crate::columns::ColumnKind::{self, Number};
 use crate::numbers::{LIMIT, key_param, number, number_at};
 use crate::reading::{FromRow, ask_all};
 use crate::texts::{text_at, text_value};
@@ -84,13 +85,20 @@ pub fn delete_metadata<T: Statements>(tx: &mut T, object: u64) -> Result<(), Sto
 }
 
 impl FromRow for MetadataRow {
-    ghost use Rattle.dep_tables.specs.Rows.{metadata_values, IsMetadataRow};
+    ghost use Rattle.dep_tables.specs.Rows.{metadata_values, metadata_kinds};
+    ghost use Rattle.std.specs.Prelude.{⊤};
 
     ghost width = { 4 };
 
     ghost values = { metadata_values };
 
-    ghost is_ours = { IsMetadataRow };
+    ghost columns = { metadata_kinds };
+
+    ghost copies = { ⊤ };
+
+    fn kinds() -> &'static [ColumnKind] {
+        &[Number, ColumnKind::Text, Number, ColumnKind::Text]
+    }
 
     fn from_row(row: &Row) -> Result<MetadataRow, Error> {
         Ok(MetadataRow {

@@ -5,9 +5,8 @@ ghost use Rattle.sqlite.specs.declared.types.Value.TheVariants.{Int};
 ghost use Rattle.sqlite.specs.Order.{column};
 ghost use Rattle.sqlite.specs.Values.{bound};
 ghost use Rattle.dep_tables.specs.Rows.{flag, HasAt, IsNumberValue, IsFlagValue};
-ghost use Rattle.dep_tables.specs.Faults.{IsMemoryWhere};
 
-use sqlite::types::ValueRef;
+use sqlite::types::{Type, ValueRef};
 use sqlite::{Error, Row};
 
 /// One above the greatest number that SQL keeps.
@@ -29,12 +28,15 @@ pub(crate) fn key_param(key: u64) -> [ValueRef<'static>; 1]
     [ValueRef::Int(number(key))]
 }
 
-/// A number that `number` wrote.
-pub(crate) fn number_at(row: &Row, at: usize) -> Result<u64, Error>
+/// A number that `number` wrote. It takes no memory.
+pub fn number_at(row: &Row, at: usize) -> Result<u64, Error>
     ensures told { IfOk result (λ n. column row.now at ≡ Int (pos n)) }
-    ensures refused { IfErr result (IsMemoryWhere (HasAt IsNumberValue row.now at)) }
+    ensures refused { IfErr result (λ _. ¬ (HasAt IsNumberValue row.now at)) }
 {
-    row.get(at)
+    match row.get_ref(at)? {
+        ValueRef::Int(n) if n >= 0 => Ok(n as u64),
+        other => Err(Error::InvalidColumnType(at, Type::of(other))),
+    }
 }
 
 /// A flag as SQL keeps it.
@@ -44,10 +46,10 @@ pub(crate) fn flag_number(b: bool) -> i64
     if b { 1 } else { 0 }
 }
 
-/// A flag that `flag_number` wrote.
+/// A flag that `flag_number` wrote. It takes no memory.
 pub(crate) fn flag_at(row: &Row, at: usize) -> Result<bool, Error>
     ensures told { IfOk result (λ b. column row.now at ≡ flag b) }
-    ensures refused { IfErr result (IsMemoryWhere (HasAt IsFlagValue row.now at)) }
+    ensures refused { IfErr result (λ _. ¬ (HasAt IsFlagValue row.now at)) }
 {
     match number_at(row, at)? {
         0 => Ok(false),

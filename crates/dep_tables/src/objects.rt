@@ -5,10 +5,11 @@ ghost use Rattle.sqlite.specs.declared.types.Value.TheVariants.{Int};
 ghost use Rattle.sqlite.specs.Values.{bound};
 ghost use Rattle.dep_tables.specs.Rows.{IsStorableObject, object_values, IsNumberRow, IsObjectRow};
 ghost use Rattle.dep_tables.specs.Edits.{with_new_object_row, with_object_row, without_object_row, LacksObjectRow, IsObjectRowAt, IsObjectAfter};
-ghost use Rattle.dep_tables.specs.Clauses.{AtMostOne, Changes, Shows, Reads, ReadsOnly, FailsWhole, FailsReading, RefusesNumbers, FailsByRunning, FailsByReading, StaysWithin};
+ghost use Rattle.dep_tables.specs.Clauses.{AtMostOne, Changes, Shows, Reads, ReadsOnly, FailsWhole, FailsReading, RefusesNumbers, FailsByRunning, FailsByReadingNumbers, StaysWithin};
 ghost use Rattle.dep_tables.specs.Texts.{insert_object_text, write_object_text, delete_object_text, find_object_text, next_object_text};
 
 use crate::calls::Statements;
+use crate::columns::ColumnKind::{self, Flag, Number};
 use crate::numbers::{LIMIT, flag_at, flag_number, key_param, number, number_at};
 use crate::reading::{FromRow, ask_one};
 use dep_types::{ObjectRow, StoreFault};
@@ -94,13 +95,19 @@ pub fn delete_object<T: Statements>(tx: &mut T, object: u64) -> Result<(), Store
 }
 
 impl FromRow for ObjectRow {
-    ghost use Rattle.dep_tables.specs.Rows.{object_values, IsObjectRow};
+    ghost use Rattle.dep_tables.specs.Rows.{object_values, object_kinds};
 
     ghost width = { 6 };
 
     ghost values = { object_values };
 
-    ghost is_ours = { IsObjectRow };
+    ghost columns = { object_kinds };
+
+    ghost copies = { ⊥ };
+
+    fn kinds() -> &'static [ColumnKind] {
+        &[Number, Flag, Number, Number, Number, Number]
+    }
 
     fn from_row(row: &Row) -> Result<ObjectRow, Error> {
         Ok(ObjectRow {
@@ -119,7 +126,7 @@ pub fn find_object<T: Statements>(tx: &mut T, object: u64) -> Result<Option<Obje
     ensures ok { Reads (T.state tx.old) (T.state tx.new) result (IsObjectRowAt object) }
     ensures same { ReadsOnly (T.state tx.old) (T.state tx.new) result }
     ensures numbers { RefusesNumbers (T.state tx.old) (T.state tx.new) result (object < 2 ^ 63) }
-    ensures cause { FailsByReading (T.state tx.old) (T.state tx.new) result
+    ensures cause { FailsByReadingNumbers (T.state tx.old) (T.state tx.new) result
         (object < 2 ^ 63) find_object_text (Int (pos object) ∷ []) (AtMostOne IsObjectRow) }
     ensures err { FailsReading (T.state tx.old) (T.state tx.new) result }
     ensures stays { StaysWithin T.lenders T.state tx.old tx.new result }
@@ -139,7 +146,7 @@ pub fn next_object<T: Statements>(tx: &mut T, after: u64) -> Result<Option<u64>,
     ensures ok { Reads (T.state tx.old) (T.state tx.new) result (IsObjectAfter after) }
     ensures same { ReadsOnly (T.state tx.old) (T.state tx.new) result }
     ensures numbers { RefusesNumbers (T.state tx.old) (T.state tx.new) result (after < 2 ^ 63) }
-    ensures cause { FailsByReading (T.state tx.old) (T.state tx.new) result
+    ensures cause { FailsByReadingNumbers (T.state tx.old) (T.state tx.new) result
         (after < 2 ^ 63) next_object_text (Int (pos after) ∷ []) (AtMostOne IsNumberRow) }
     ensures err { FailsReading (T.state tx.old) (T.state tx.new) result }
     ensures stays { StaysWithin T.lenders T.state tx.old tx.new result }

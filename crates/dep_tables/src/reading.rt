@@ -1,6 +1,6 @@
 //! What is read from the rows that a query shows.
 
-ghost use Rattle.std.specs.Prelude.{◌≡◌, ℕ, ◌∷◌, [], pos, All, IfOk, IfErr, OnOk, map};
+ghost use Rattle.std.specs.Prelude.{◌≡◌, ⊤, ℕ, List, ◌∷◌, [], pos, All, IfOk, IfErr, OnOk, map};
 ghost use Rattle.std.specs.Option.{option_to_list};
 ghost use Rattle.sqlite.specs.Order.{Row as Values};
 ghost use Rattle.sqlite.specs.declared.types.Value.TheVariants.{Int};
@@ -8,11 +8,14 @@ ghost use Rattle.sqlite.specs.State.{HasCleanDisk, IsUnchanged};
 ghost use Rattle.sqlite.specs.Values.{bound};
 ghost use Rattle.dep_statements.specs.Rows.{columns_from};
 ghost use Rattle.dep_types.specs.declared.store_fault.StoreFault.TheVariants.{Memory};
-ghost use Rattle.dep_tables.specs.Faults.{IsMemoryWhere};
-ghost use Rattle.dep_tables.specs.Rows.{IsNumberRow};
-ghost use Rattle.dep_tables.specs.Clauses.{AtMostOne, FailsToRead, FailsWhole, ShowsColumns, IsPlainIn, StaysWithin};
+ghost use Rattle.dep_tables.specs.declared.columns.ColumnKind.{ColumnKind};
+ghost use Rattle.dep_tables.specs.Faults.{fault_for};
+ghost use Rattle.dep_tables.specs.Rows.{HasKinds, number_kinds};
+ghost use Rattle.dep_tables.specs.Clauses.{AtMostOne, IsFaultAt, FailsWithRows, FailsToRead, FailsWhole, ShowsColumns, IsPlainIn, StaysWithin};
 
 use crate::calls::Statements;
+use crate::columns::ColumnKind::{self, Number};
+use crate::columns::{has_kinds, have_kinds};
 use crate::fault::fault_of;
 use crate::numbers::number_at;
 use dep_types::StoreFault;
@@ -28,13 +31,21 @@ pub(crate) trait FromRow: Sized {
     /// The values of its columns.
     ghost values: { Self → Values };
 
-    /// Whether a query shows such a row of one that our statements write.
-    ghost is_ours: { Values → Type 0 };
+    /// What its columns hold.
+    ghost columns: { List ColumnKind };
 
-    /// What the row stands for, if each column is of its type. With a row of ours it fails only for memory.
+    /// Whether reading it takes memory.
+    ghost copies: { Type 0 };
+
+    /// What its columns hold.
+    fn kinds() -> &'static [ColumnKind]
+        ensures { result.now ≡ columns };
+
+    /// What the row stands for. Where each column is of its kind it fails only for memory, if it takes any.
     fn from_row(row: &Row) -> Result<Self, Error>
         ensures told { IfOk result (λ r. values r ≡ columns_from 0 width row.now) }
-        ensures refused { IfErr result (IsMemoryWhere (is_ours row.now)) };
+        ensures refused { IfErr result (λ error. HasKinds columns row.now
+            → copies × (fault_for error ≡ Memory)) };
 }
 
 impl FromRow for u64 {
@@ -42,22 +53,29 @@ impl FromRow for u64 {
 
     ghost values = { λ n. Int (pos n) ∷ [] };
 
-    ghost is_ours = { IsNumberRow };
+    ghost columns = { number_kinds };
+
+    ghost copies = { ⊥ };
+
+    fn kinds() -> &'static [ColumnKind] {
+        &[Number]
+    }
 
     fn from_row(row: &Row) -> Result<u64, Error> {
         number_at(row, 0)
     }
 }
 
-/// What at most one row stands for. It is a fault of the store where there are more.
+/// What at most one row stands for. It is a fault of the store where there are more, and where a column is of another kind.
 fn at_most_one<R: FromRow>(rows: &[Row]) -> Result<Option<R>, StoreFault>
     ensures told { IfOk result
         (λ found. map R.values (option_to_list found) ≡ map (columns_from 0 R.width) rows.now) }
-    ensures refused { IfErr result (λ fault. AtMostOne R.is_ours rows.now → fault ≡ Memory) }
+    ensures refused { IfErr result
+        (IsFaultAt R.copies (AtMostOne (HasKinds R.columns)) rows.now) }
 {
     match rows {
         [] => Ok(None),
-        [row] => match R::from_row(row) {
+        [row] if has_kinds(row, R::kinds()) => match R::from_row(row) {
             Ok(read) => Ok(Some(read)),
             Err(error) => Err(fault_of(error)),
         },
@@ -65,12 +83,15 @@ fn at_most_one<R: FromRow>(rows: &[Row]) -> Result<Option<R>, StoreFault>
     }
 }
 
-/// What each row stands for.
+/// What each row stands for. It is a fault of the store where a column of any of them is of another kind.
 fn all<R: FromRow + Drop>(alloc: Global, rows: &[Row]) -> Result<Vec<R>, StoreFault>
     ensures told { IfOk result
         (λ found. map R.values found.items ≡ map (columns_from 0 R.width) rows.now) }
-    ensures refused { IfErr result (λ fault. All R.is_ours rows.now → fault ≡ Memory) }
+    ensures refused { IfErr result (IsFaultAt ⊤ (All (HasKinds R.columns)) rows.now) }
 {
+    if !have_kinds(rows, R::kinds()) {
+        return Err(StoreFault::Store);
+    }
     let mut found = Vec::new(alloc);
     'rows: for row in rows {
         let read = match R::from_row(row) {
@@ -94,8 +115,8 @@ pub(crate) fn ask_one<T: Statements, R: FromRow>(
         → IfOk result (λ found. ShowsColumns sql.now (bound params.now)
         (T.state tx.old) (T.state tx.new) R.width (map R.values (option_to_list found))) }
     ensures cause { HasCleanDisk (T.state tx.new)
-        → IfErr result (FailsToRead (AtMostOne R.is_ours) sql.now (bound params.now)
-        (T.state tx.old) (T.state tx.new)) }
+        → IfErr result (FailsWithRows R.copies (AtMostOne (HasKinds R.columns))
+        sql.now (bound params.now) (T.state tx.old) (T.state tx.new)) }
     ensures same { HasCleanDisk (T.state tx.new)
         → IsPlainIn (T.state tx.old) sql.now
         → OnOk result (IsUnchanged (T.state tx.old) (T.state tx.new)) }
@@ -118,7 +139,7 @@ pub(crate) fn ask_all<T: Statements, R: FromRow + Drop>(
         → IfOk result (λ found. ShowsColumns sql.now (bound params.now)
         (T.state tx.old) (T.state tx.new) R.width (map R.values found.items)) }
     ensures cause { HasCleanDisk (T.state tx.new)
-        → IfErr result (FailsToRead (All R.is_ours) sql.now (bound params.now)
+        → IfErr result (FailsToRead (All (HasKinds R.columns)) sql.now (bound params.now)
         (T.state tx.old) (T.state tx.new)) }
     ensures same { HasCleanDisk (T.state tx.new)
         → IsPlainIn (T.state tx.old) sql.now

@@ -9,6 +9,7 @@ ghost use Rattle.dep_tables.specs.Clauses.{Changes, Shows, Reads, ReadsOnly, Fai
 ghost use Rattle.dep_tables.specs.Texts.{insert_segment_text, delete_segments_text, segments_of_text};
 
 use crate::calls::Statements;
+use crate::columns::ColumnKind::{self, Number};
 use crate::numbers::{LIMIT, key_param, number, number_at};
 use crate::reading::{FromRow, ask_all};
 use dep_types::StoreFault;
@@ -80,13 +81,19 @@ pub fn delete_segments<T: Statements>(tx: &mut T, upload: u64) -> Result<(), Sto
 }
 
 impl FromRow for SegmentRow {
-    ghost use Rattle.dep_tables.specs.Rows.{segment_values, IsSegmentRow};
+    ghost use Rattle.dep_tables.specs.Rows.{segment_values, segment_kinds};
 
     ghost width = { 3 };
 
     ghost values = { segment_values };
 
-    ghost is_ours = { IsSegmentRow };
+    ghost columns = { segment_kinds };
+
+    ghost copies = { ⊥ };
+
+    fn kinds() -> &'static [ColumnKind] {
+        &[Number, Number, Number]
+    }
 
     fn from_row(row: &Row) -> Result<SegmentRow, Error> {
         Ok(SegmentRow {

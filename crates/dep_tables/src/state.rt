@@ -6,10 +6,11 @@ ghost use Rattle.sqlite.specs.State.{HasCleanDisk};
 ghost use Rattle.sqlite.specs.Values.{bound};
 ghost use Rattle.dep_tables.specs.Rows.{IsStorableState, IsStateRow, state_values};
 ghost use Rattle.dep_tables.specs.Edits.{with_state_row, HasStateRow};
-ghost use Rattle.dep_tables.specs.Clauses.{Changes, Reads, ReadsOnly, FailsWhole, FailsReading, RefusesNumbers, FailsByRunning, FailsToRead, JustOne, StaysWithin};
+ghost use Rattle.dep_tables.specs.Clauses.{Changes, Reads, ReadsOnly, FailsWhole, FailsReading, RefusesNumbers, FailsByRunning, FailsToReadNumbers, JustOne, StaysWithin};
 ghost use Rattle.dep_tables.specs.Texts.{write_state_text, read_state_text};
 
 use crate::calls::Statements;
+use crate::columns::ColumnKind::{self, Number};
 use crate::numbers::{LIMIT, number, number_at};
 use crate::reading::{FromRow, ask_one};
 use dep_types::{Counters, StoreFault};
@@ -68,13 +69,19 @@ pub fn write_state<T: Statements>(tx: &mut T, row: &StateRow) -> Result<(), Stor
 }
 
 impl FromRow for StateRow {
-    ghost use Rattle.dep_tables.specs.Rows.{state_values, IsStateRow};
+    ghost use Rattle.dep_tables.specs.Rows.{state_values, state_kinds};
 
     ghost width = { 5 };
 
     ghost values = { state_values };
 
-    ghost is_ours = { IsStateRow };
+    ghost columns = { state_kinds };
+
+    ghost copies = { ⊥ };
+
+    fn kinds() -> &'static [ColumnKind] {
+        &[Number, Number, Number, Number, Number]
+    }
 
     fn from_row(row: &Row) -> Result<StateRow, Error> {
         Ok(StateRow {
@@ -94,7 +101,7 @@ pub fn read_state<T: Statements>(tx: &mut T) -> Result<StateRow, StoreFault>
     ensures ok { Reads (T.state tx.old) (T.state tx.new) result HasStateRow }
     ensures same { ReadsOnly (T.state tx.old) (T.state tx.new) result }
     ensures cause { HasCleanDisk (T.state tx.new)
-        → IfErr result (FailsToRead (JustOne IsStateRow) read_state_text []
+        → IfErr result (FailsToReadNumbers (JustOne IsStateRow) read_state_text []
         (T.state tx.old) (T.state tx.new)) }
     ensures err { FailsReading (T.state tx.old) (T.state tx.new) result }
     ensures stays { StaysWithin T.lenders T.state tx.old tx.new result }

@@ -1,6 +1,6 @@
 //! Texts and digests as SQL keeps them.
 
-ghost use Rattle.std.specs.Prelude.{◌≡◌, IfOk, IfErr, length};
+ghost use Rattle.std.specs.Prelude.{◌≡◌, IfOk, IfErr};
 ghost use Rattle.sqlite.specs.declared.types.Value.TheVariants.{Text as TextValue, Blob};
 ghost use Rattle.sqlite.specs.Order.{column};
 ghost use Rattle.sqlite.specs.Values.{or_null};
@@ -59,32 +59,27 @@ pub(crate) fn digest_or_null(digest: &Option<[u8; 32]>) -> ValueRef<'_>
     }
 }
 
-fn digest_of(bytes: Vec<u8>, at: usize) -> Result<[u8; 32], Error>
-    ensures told { IfOk result (λ digest. digest ≡ bytes.items) }
-    ensures refused { IfErr result (IsMemoryWhere (length bytes.items ≡ 32)) }
+/// A digest of 32 bytes. It takes no memory.
+pub(crate) fn digest_at(row: &Row, at: usize) -> Result<[u8; 32], Error>
+    ensures told { IfOk result (λ read. column row.now at ≡ Blob read) }
+    ensures refused { IfErr result (λ _. ¬ (HasAt IsDigestValue row.now at)) }
 {
+    let ValueRef::Blob(bytes) = row.get_ref(at)? else {
+        return Err(Error::InvalidColumnIndex(at));
+    };
     match <[u8; 32]>::try_from(bytes) {
         Ok(digest) => Ok(digest),
         Err(_) => Err(Error::InvalidColumnIndex(at)),
     }
 }
 
-/// A digest of 32 bytes.
-pub(crate) fn digest_at(row: &Row, at: usize) -> Result<[u8; 32], Error>
-    ensures told { IfOk result (λ read. column row.now at ≡ Blob read) }
-    ensures refused { IfErr result (IsMemoryWhere (HasAt IsDigestValue row.now at)) }
-{
-    digest_of(row.get(at)?, at)
-}
-
-/// A digest that `digest_or_null` wrote.
+/// A digest that `digest_or_null` wrote. It takes no memory.
 pub(crate) fn digest_or_null_at(row: &Row, at: usize) -> Result<Option<[u8; 32]>, Error>
     ensures told { IfOk result (λ read. column row.now at ≡ or_null Blob read) }
-    ensures refused { IfErr result (IsMemoryWhere (HasAt (IsNullOr IsDigestValue) row.now at)) }
+    ensures refused { IfErr result (λ _. ¬ (HasAt (IsNullOr IsDigestValue) row.now at)) }
 {
-    let bytes: Option<Vec<u8>> = row.get(at)?;
-    match bytes {
-        Some(bytes) => Ok(Some(digest_of(bytes, at)?)),
-        None => Ok(None),
+    match row.get_ref(at)? {
+        ValueRef::Null => Ok(None),
+        _ => Ok(Some(digest_at(row, at)?)),
     }
 }

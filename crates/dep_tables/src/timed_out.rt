@@ -4,7 +4,7 @@ ghost use Rattle.std.specs.Prelude.{◌≡◌, pos, is_some, ◌<◌, ◌^◌, �
 ghost use Rattle.sqlite.specs.declared.types.Value.TheVariants.{Int};
 ghost use Rattle.dep_tables.specs.Rows.{IsNumberRow};
 ghost use Rattle.dep_tables.specs.Edits.{with_timed_out, LacksTimedOut, has_timed_out};
-ghost use Rattle.dep_tables.specs.Clauses.{AtMostOne, Changes, Shows, Reads, ReadsOnly, FailsWhole, FailsReading, RefusesNumbers, FailsByRunning, FailsByReading, StaysWithin};
+ghost use Rattle.dep_tables.specs.Clauses.{AtMostOne, Changes, Shows, Reads, ReadsOnly, FailsWhole, FailsReading, RefusesNumbers, FailsByRunning, FailsByReadingNumbers, StaysWithin};
 ghost use Rattle.dep_tables.specs.Texts.{insert_timed_out_text, find_timed_out_text};
 
 use crate::calls::Statements;
@@ -36,7 +36,7 @@ fn find_number<T: Statements>(tx: &mut T, upload: u64) -> Result<Option<u64>, St
         (λ t found. is_some found ≡ has_timed_out upload t) }
     ensures same { ReadsOnly (T.state tx.old) (T.state tx.new) result }
     ensures numbers { RefusesNumbers (T.state tx.old) (T.state tx.new) result (upload < 2 ^ 63) }
-    ensures cause { FailsByReading (T.state tx.old) (T.state tx.new) result
+    ensures cause { FailsByReadingNumbers (T.state tx.old) (T.state tx.new) result
         (upload < 2 ^ 63) find_timed_out_text (Int (pos upload) ∷ []) (AtMostOne IsNumberRow) }
     ensures err { FailsReading (T.state tx.old) (T.state tx.new) result }
     ensures stays { StaysWithin T.lenders T.state tx.old tx.new result }
@@ -57,7 +57,7 @@ pub fn find_timed_out<T: Statements>(tx: &mut T, upload: u64) -> Result<bool, St
         (λ t found. found ≡ has_timed_out upload t) }
     ensures same { ReadsOnly (T.state tx.old) (T.state tx.new) result }
     ensures numbers { RefusesNumbers (T.state tx.old) (T.state tx.new) result (upload < 2 ^ 63) }
-    ensures cause { FailsByReading (T.state tx.old) (T.state tx.new) result
+    ensures cause { FailsByReadingNumbers (T.state tx.old) (T.state tx.new) result
         (upload < 2 ^ 63) find_timed_out_text (Int (pos upload) ∷ []) (AtMostOne IsNumberRow) }
     ensures err { FailsReading (T.state tx.old) (T.state tx.new) result }
     ensures stays { StaysWithin T.lenders T.state tx.old tx.new result }

@@ -5,10 +5,11 @@ ghost use Rattle.sqlite.specs.declared.types.Value.TheVariants.{Int};
 ghost use Rattle.sqlite.specs.Values.{bound};
 ghost use Rattle.dep_tables.specs.Rows.{IsStorableUpload, upload_values, IsNumberRow, IsUploadRow};
 ghost use Rattle.dep_tables.specs.Edits.{with_new_upload_row, with_upload_row, without_upload_row, LacksUploadRow, IsUploadRowAt, IsUploadAfter};
-ghost use Rattle.dep_tables.specs.Clauses.{AtMostOne, Changes, Shows, Reads, ReadsOnly, FailsWhole, FailsReading, RefusesNumbers, FailsByRunning, FailsByReading, StaysWithin};
+ghost use Rattle.dep_tables.specs.Clauses.{AtMostOne, Changes, Shows, Reads, ReadsOnly, FailsWhole, FailsReading, RefusesNumbers, FailsByRunning, FailsByReadingNumbers, StaysWithin};
 ghost use Rattle.dep_tables.specs.Texts.{insert_upload_text, write_upload_text, delete_upload_text, find_upload_text, next_upload_text};
 
 use crate::calls::Statements;
+use crate::columns::ColumnKind::{self, DigestOrNull, Number};
 use crate::numbers::{LIMIT, key_param, number, number_at};
 use crate::reading::{FromRow, ask_one};
 use crate::texts::{digest_or_null, digest_or_null_at};
@@ -95,13 +96,19 @@ pub fn delete_upload<T: Statements>(tx: &mut T, upload: u64) -> Result<(), Store
 }
 
 impl FromRow for UploadRow {
-    ghost use Rattle.dep_tables.specs.Rows.{upload_values, IsUploadRow};
+    ghost use Rattle.dep_tables.specs.Rows.{upload_values, upload_kinds};
 
     ghost width = { 6 };
 
     ghost values = { upload_values };
 
-    ghost is_ours = { IsUploadRow };
+    ghost columns = { upload_kinds };
+
+    ghost copies = { ⊥ };
+
+    fn kinds() -> &'static [ColumnKind] {
+        &[Number, Number, Number, Number, DigestOrNull, Number]
+    }
 
     fn from_row(row: &Row) -> Result<UploadRow, Error> {
         Ok(UploadRow {
@@ -120,7 +127,7 @@ pub fn find_upload<T: Statements>(tx: &mut T, upload: u64) -> Result<Option<Uplo
     ensures ok { Reads (T.state tx.old) (T.state tx.new) result (IsUploadRowAt upload) }
     ensures same { ReadsOnly (T.state tx.old) (T.state tx.new) result }
     ensures numbers { RefusesNumbers (T.state tx.old) (T.state tx.new) result (upload < 2 ^ 63) }
-    ensures cause { FailsByReading (T.state tx.old) (T.state tx.new) result
+    ensures cause { FailsByReadingNumbers (T.state tx.old) (T.state tx.new) result
         (upload < 2 ^ 63) find_upload_text (Int (pos upload) ∷ []) (AtMostOne IsUploadRow) }
     ensures err { FailsReading (T.state tx.old) (T.state tx.new) result }
     ensures stays { StaysWithin T.lenders T.state tx.old tx.new result }
@@ -140,7 +147,7 @@ pub fn next_upload<T: Statements>(tx: &mut T, after: u64) -> Result<Option<u64>,
     ensures ok { Reads (T.state tx.old) (T.state tx.new) result (IsUploadAfter after) }
     ensures same { ReadsOnly (T.state tx.old) (T.state tx.new) result }
     ensures numbers { RefusesNumbers (T.state tx.old) (T.state tx.new) result (after < 2 ^ 63) }
-    ensures cause { FailsByReading (T.state tx.old) (T.state tx.new) result
+    ensures cause { FailsByReadingNumbers (T.state tx.old) (T.state tx.new) result
         (after < 2 ^ 63) next_upload_text (Int (pos after) ∷ []) (AtMostOne IsNumberRow) }
     ensures err { FailsReading (T.state tx.old) (T.state tx.new) result }
     ensures stays { StaysWithin T.lenders T.state tx.old tx.new result }

@@ -5,6 +5,7 @@ pub mod Base
 pub mod Limits
 pub mod Config
 pub mod Writing
+pub mod Reading
 pub mod Through
 pub mod Uploads
 pub mod Names

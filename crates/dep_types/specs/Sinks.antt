@@ -1,5 +1,5 @@
 -- What a sink of files was given, as one transcript: bytes stand for themselves, and marks above
--- all bytes say where a folder or a file begins.
+-- all bytes say where a folder was made, and where a file begins and ends.
 use Rattle.std.specs.Prelude.{◌≡◌, ℕ, List, [], ◌∷◌, ◌++◌, flat_map}
 
 -- a path and its bytes
@@ -15,6 +15,9 @@ file_mark = 257
 abbrev pub path_end : ℕ
 path_end = 258
 
+abbrev pub file_end : ℕ
+file_end = 259
+
 -- a folder was made
 abbrev pub folder_made : (path : List ℕ) → List ℕ
 folder_made path = folder_mark ∷ path ++ path_end ∷ []
@@ -23,9 +26,13 @@ folder_made path = folder_mark ∷ path ++ path_end ∷ []
 abbrev pub file_begun : (path : List ℕ) → List ℕ
 file_begun path = file_mark ∷ path ++ path_end ∷ []
 
--- a whole file
+-- the file that was begun last was ended
+abbrev pub file_ended : List ℕ
+file_ended = file_end ∷ []
+
+-- a whole file, from its beginning to its end
 abbrev pub file_given : Entry → List ℕ
-file_given file = file_begun file.0 ++ file.1
+file_given file = file_begun file.0 ++ file.1 ++ file_ended
 
 -- these folders, and then these files
 abbrev pub transcript : (folders : List (List ℕ)) (files : List Entry) → List ℕ

@@ -2,7 +2,7 @@
 ghost use Rattle.std.specs.Prelude.{◌≡◌, OnOk, OnErr};
 ghost use Rattle.std.specs.Io.KnownBytes.{Appends, Keeps};
 ghost use Rattle.dep_types.specs.Writing.{HasRisen};
-ghost use Rattle.dep_types.specs.Sinks.{folder_made, file_begun};
+ghost use Rattle.dep_types.specs.Sinks.{folder_made, file_begun, file_ended};
 
 use crate::outlet::Outlet;
 use std::error::Error;
@@ -42,7 +42,8 @@ pub trait BagSink: Outlet {
 
     /// Ends the file that was begun last.
     fn finish(&mut self) -> Result<(), SinkFailed>
-        ensures ok { OnOk result (Keeps (Self.taken self.old) (Self.taken self.new)) }
+        ensures ok { OnOk result
+            (Appends (Self.taken self.old) (Self.taken self.new) file_ended) }
         ensures err { OnErr result (Keeps (Self.taken self.old) (Self.taken self.new)) }
         ensures count { OnOk result (Self.failures self.new ≡ Self.failures self.old) }
         ensures cause { OnErr result (HasRisen (Self.failures self.old) (Self.failures self.new)) };

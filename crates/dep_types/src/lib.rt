@@ -5,12 +5,14 @@ mod bag_sink;
 mod base;
 mod config;
 mod counters;
+mod inlet;
 pub mod laws;
 mod limits;
 mod metadata;
 mod names;
 mod octets;
 mod outlet;
+mod reader_inlet;
 mod refusal;
 mod rows;
 mod store_fault;
@@ -25,11 +27,13 @@ pub use config::{
     GREATEST_STAGING_MAX_IDLE,
 };
 pub use counters::{Counters, GREATEST_NUMBER};
+pub use inlet::{Inlet, LastRead, ReadFailed};
 pub use limits::GREATEST_MOMENT;
 pub use metadata::{Metadata, MetadataEntry, TextList};
 pub use names::{BINARY_PACKAGING, METADATA_FORMAT, is_good_name, is_kept_name, is_media};
 pub use octets::Octets;
 pub use outlet::{Outlet, WriteFailed};
+pub use reader_inlet::ReaderInlet;
 pub use refusal::Refusal;
 pub use rows::{FileRow, FileRows, ObjectRow, ObjectView, UploadRow};
 pub use store_fault::StoreFault;

@@ -2,7 +2,7 @@
 
 use dep_moment::Moment;
 use dep_server::{Archive, Arrived, ConnId, ConnectFault, Hub, HubFault, Served, serve_connection};
-use dep_types::Through;
+use dep_types::{ReaderInlet, Through};
 use example_text::{Exchange, Page, Settings, Source, Trouble};
 use std::alloc::{AllocError, Global};
 
@@ -116,10 +116,11 @@ impl<A: Archive + Drop> Server<A> {
         answer: &str,
         page: &mut Page,
     ) -> Result<&'static str, Trouble> {
-        let mut source = Source::of(exchange);
+        let mut source = ReaderInlet::new(Source::of(exchange));
         let mut out = Through::new(page);
         let moment = Moment::new(exchange.moment);
-        let served = serve_connection(alloc, &mut source, &mut out, &mut self.hub, || moment);
+        let served = serve_connection(alloc, &mut source, &mut out, &mut self.hub, &mut || moment);
+        let reads = source.into_inner().reads();
         let came = match served {
             Served::Ended => "ended",
             Served::Closed => "served",
@@ -129,7 +130,7 @@ impl<A: Archive + Drop> Server<A> {
             Served::Bound => "bound",
         };
         if came == answer {
-            exchange.has_read(source.reads())?;
+            exchange.has_read(reads)?;
         }
         Ok(came)
     }

@@ -1,6 +1,7 @@
 //! Calls of a store that no request makes.
 
-use dep_store::{Outcome, Store, Unwatched, audit_all, export_object};
+use dep_program::Outcome;
+use dep_store::{Store, Unwatched, audit_all, export_object};
 use dep_types::{StoreFault, Through};
 use example_player::Shelf;
 use example_text::{ArchiveCall, Page, Trouble};

@@ -4,8 +4,10 @@
 
 mod archive;
 mod calls;
+mod sockets;
 
 use crate::archive::MemoryArchive;
+use crate::sockets::play_socket;
 use example_player::{Verdict, play_file};
 use example_text::Words;
 use std::process::ExitCode;
@@ -28,6 +30,9 @@ fn main(rt: HostRuntime) -> io::Result<ExitCode> {
             break;
         }
         verdict = verdict.and(played(&rt, &mut words, name.as_str())?);
+    }
+    if !matches!(verdict, Verdict::Unknown) {
+        verdict = verdict.and(play_socket(&rt, &words)?);
     }
     Ok(verdict.status())
 }

@@ -1,2 +1,1 @@
 pub mod ReplayLemmas
-pub mod ServeLemmas

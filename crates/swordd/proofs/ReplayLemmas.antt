@@ -18,7 +18,7 @@ use Rattle.dep_server.proofs.TalkLemmas.{conversation_run}
 use Rattle.dep_server.specs.declared.connection.Served.{Served}
 use Rattle.dep_server.specs.declared.connection.Served.TheVariants.{Ended, Closed, Unserved, ReadFault, WriteFault, Bound}
 use Rattle.dep_server.specs.declared.hub.Hub.{Hub}
-use Rattle.swordd.specs.Setup.{program_config}
+use Rattle.dep_program.specs.Setup.{program_config}
 use Rattle.swordd.specs.Replays.{IsReplayed, Replays, replayed, not_begun, outcome_of}
 
 all_none : (P : Turn → Type 0) → All P []
@@ -41,7 +41,7 @@ world_at_first : {config : Config} {first : State} {records : List Record} {w : 
 world_at_first begins e = refl
 world_at_first (goes_on {records} {event} {sent} r h) e = absurd (not_nil records (record { event = event; sent = sent }) e)
 world_at_first (stops {records} r) e = absurd (not_nil records stopped e)
-world_at_first (breaks {records} {n} {moment} {piece} {sent} found r a l) e =
+world_at_first (breaks {records} {n} {moment} {piece} {sent} found r a shut l) e =
     absurd (not_nil_more records (record { event = Arrive n piece moment; sent = sent }) stopped e)
 
 module _ {A : Type 0} (condition : A → Condition) {C : Type 0} (ticks : C → ℕ → C → Type 0) (moment : ℕ) (tells : C → Type 0)
@@ -54,9 +54,9 @@ module _ {A : Type 0} (condition : A → Condition) {C : Type 0} (ticks : C → 
       let s = same clock f.0 t.moment p f.1 in
       all_more (λ (u : Turn). u.moment ≡ moment) t turns s.0 (all_at turns f.0 last s.1 f.2)
 
-  module _ (base : List ℕ) (before : Session condition C) (new : Hub A) (after : Wire) (first : StandsAfter condition before.hub empty_state [])
-      (honest : IsHonest condition new) (given : before.hub.config ≡ program_config base) (told : tells before.clock) where
-    replays : (end : Served) → Converses condition ticks before new after end → IsReplayed base moment before.wire after end
+  module _ (base : List ℕ) (before after : Session condition C) (first : StandsAfter condition before.hub empty_state [])
+      (honest : IsHonest condition after.hub) (given : before.hub.config ≡ program_config base) (told : tells before.clock) where
+    replays : (end : Served) → Converses condition ticks before after end → IsReplayed base moment before.wire after.wire end
     replays end v =
         let fresh = world_at_first first.run refl in
         let answers = v.answers honest (first_world empty_state) (subst (λ w. StandsAt condition before.hub w) fresh first.at) in
@@ -68,13 +68,16 @@ module _ {A : Type 0} (condition : A → Condition) {C : Type 0} (ticks : C → 
           talked = answers.talked;
           exchanges = exchanges;
           run = conversation_run (program_config base) v.number empty_state [] (first_world empty_state) answers.talked v.turns begins exchanges;
-          moments = all_at v.turns before.clock v.moments.0 told v.moments.1;
+          moments = all_at v.turns before.clock after.clock told v.moments;
           sizes = v.sizes;
           transfers = v.transfers;
           ends = v.ends;
+          reads = v.reads;
+          few_reads = v.few_reads;
+          last = v.last;
         }
 
-    pub comes_to : (end : Served) → ConversesOver condition ticks before new after end → Replays base moment before.wire after (outcome_of end)
+    pub comes_to : (end : Served) → ConversesOver condition ticks before after end → Replays base moment before.wire after.wire (outcome_of end)
     comes_to Unserved v = not_begun v.rests
     comes_to Ended v = replayed Ended (replays Ended v)
     comes_to Closed v = replayed Closed (replays Closed v)
@@ -83,7 +86,7 @@ module _ {A : Type 0} (condition : A → Condition) {C : Type 0} (ticks : C → 
     comes_to Bound v = replayed Bound (replays Bound v)
 
 pub rests_same : (at : Wire) → Rests at at
-rests_same at = record { pieces = keeps_same at.unread; replies = keeps_same at.taken; failures = refl }
+rests_same at = record { pieces = keeps_same at.unread; reads = refl; last = refl; replies = keeps_same at.taken; failures = refl }
 
 -- a new database in memory has no table
 pub empty_holds_none : (d : db.State) → IsEmpty d → HoldsNone d.now.trees

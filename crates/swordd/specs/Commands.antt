@@ -2,6 +2,10 @@
 use Rattle.std.specs.Prelude.{ℕ, zero, suc, ◌-◌, ◌^◌, List, [], ◌∷◌, Option, Some, None, option_map, codes, bytes_eq, if◌then◌else◌}
 use Rattle.dep_octets.specs.Octets.{decimal_number, value_of}
 use Rattle.dep_types.specs.Numbers.{number_in}
+use Rattle.std_io.specs.declared.io.kind.ErrorKind.{ErrorKind}
+use Rattle.std_io.specs.declared.io.kind.ErrorKind.TheVariants.{OutOfMemory}
+use Rattle.dep_program.specs.declared.outcome.Outcome.{Outcome}
+use Rattle.dep_program.specs.declared.outcome.Outcome.TheVariants.{Usage, StoreFault}
 use Rattle.swordd.specs.declared.command.Command.{Command}
 use Rattle.swordd.specs.declared.command.Command.TheVariants as command
 
@@ -69,3 +73,8 @@ asked_in (command.Replay moment base) = replay moment base.now
 asked_in (command.Serve port file count) = serve port file.now count
 asked_in (command.Export file object folder) = export file.now object folder.now
 asked_in (command.Audit file) = audit file.now
+
+-- what it comes to where the words can't be had: a word that isn't UTF-8 is a wrong one
+abbrev pub unread_outcome : ErrorKind → Outcome
+unread_outcome OutOfMemory = StoreFault
+unread_outcome _ = Usage

@@ -1,15 +1,15 @@
 -- One connection, replayed over an archive that is empty at first.
-use Rattle.std.specs.Prelude.{◌≡◌, ℕ, List, All}
+use Rattle.std.specs.Prelude.{◌≡◌, ◌≤◌, ◌+◌, ℕ, List, All}
 use Rattle.dep_types.specs.State.{empty_state}
 use Rattle.dep_types.specs.Config.{IsChecked}
 use Rattle.dep_server.specs.Records.{World, first_world, Run}
-use Rattle.dep_server.specs.Turns.{Turn, pieces_of, replies_of, records_of, ArePieces, with_opened, with_closed, Exchanges, EndsAs}
+use Rattle.dep_server.specs.Turns.{Turn, pieces_of, replies_of, records_of, ArePieces, with_opened, with_closed, Exchanges, EndsAs, most_reads, reads_made, reads_after, HasLastRead}
 use Rattle.dep_server.specs.Conversation.{Wire, Transfers, Rests}
 use Rattle.dep_server.specs.declared.connection.Served.{Served}
 use Rattle.dep_server.specs.declared.connection.Served.TheVariants.{Ended, Closed, Unserved, ReadFault, WriteFault, Bound}
-use Rattle.swordd.specs.Setup.{program_config}
-use Rattle.dep_store.specs.declared.outcome.Outcome.{Outcome}
-use Rattle.dep_store.specs.declared.outcome.Outcome.TheVariants.{Done, Usage, StoreFault, TransferFault}
+use Rattle.dep_program.specs.Setup.{program_config}
+use Rattle.dep_program.specs.declared.outcome.Outcome.{Outcome}
+use Rattle.dep_program.specs.declared.outcome.Outcome.TheVariants.{Done, Usage, StoreFault, TransferFault}
 
 -- what the program says of a connection
 abbrev pub outcome_of : Served → Outcome
@@ -36,6 +36,9 @@ pub record IsReplayed (base : List ℕ) (moment : ℕ) (before after : Wire) (se
   pub sizes : ArePieces turns
   pub transfers : Transfers before after (pieces_of turns) (replies_of turns)
   pub ends : EndsAs after.unread turns served
+  pub reads : after.reads ≡ reads_after before.reads (reads_made turns served)
+  pub few_reads : after.reads ≤ before.reads + most_reads
+  pub last : HasLastRead after.last served
 
 -- what a replay comes to
 pub data Replays (base : List ℕ) (moment : ℕ) (before after : Wire) : Outcome → Type 0 where

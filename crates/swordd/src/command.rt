@@ -1,10 +1,12 @@
 //! The words of the command line.
 ghost use Rattle.std.specs.Prelude.{◌≡◌, map, string_bytes, option_map};
 ghost use Rattle.dep_octets.specs.Octets.{decimal_number, value_of};
-ghost use Rattle.swordd.specs.Commands.{asked_in, asked_of, replay_of, serve_of, export_of, audit_of, moment_of, from_one};
+ghost use Rattle.swordd.specs.Commands.{asked_in, asked_of, replay_of, serve_of, export_of, audit_of, moment_of, from_one, unread_outcome};
 
 use dep_octets::{Number, decimal, positive_decimal};
+use dep_program::Outcome;
 use dep_types::GREATEST_NUMBER;
+use std::io::ErrorKind;
 
 /// What the words ask for.
 #[derive(Drop)]
@@ -120,5 +122,16 @@ fn number_in(word: &str, most: u64) -> Option<u64>
         Number::Value(0) => None,
         Number::Value(number) => Some(number),
         Number::NotDigits | Number::Above => None,
+    }
+}
+
+/// What the program comes to where the words can't be had: without memory it is a fault of the store, and a word that
+/// isn't UTF-8 is a wrong word.
+pub fn unread(kind: ErrorKind) -> Outcome
+    ensures { result ≡ unread_outcome kind }
+{
+    match kind {
+        ErrorKind::OutOfMemory => Outcome::StoreFault,
+        _ => Outcome::Usage,
     }
 }

@@ -7,19 +7,17 @@ mod folder_sink;
 pub mod laws;
 mod progress;
 mod replay;
-mod serve;
 mod service;
-mod setup;
 mod store_file;
 
-use crate::command::Command;
+use crate::command::{Command, unread};
 pub use crate::replay::replay;
-pub use crate::serve::serve_on;
-use crate::service::Door;
-use crate::store_file::{Job, work_on};
+use crate::store_file::{Examination, Job, work_on};
 use dep_moment::Moment;
-pub use dep_store::{Outcome, audit_all, export_object};
-use dep_types::Through;
+use dep_program::Door;
+pub use dep_program::{Outcome, serve_on};
+pub use dep_store::{audit_all, export_object};
+use dep_types::{ReaderInlet, Through};
 use std::process::ExitCode;
 use std::{env, io};
 
@@ -32,8 +30,9 @@ fn main(rt: HostRuntime) -> ExitCode {
 }
 
 fn run(rt: &HostRuntime) -> Outcome {
-    let Ok(words) = words(rt) else {
-        return Outcome::StoreFault;
+    let words = match words(rt) {
+        Ok(words) => words,
+        Err(error) => return unread(error.kind()),
     };
     match Command::read(&words) {
         None => Outcome::Usage,
@@ -48,8 +47,12 @@ fn run(rt: &HostRuntime) -> Outcome {
                 object,
                 folder,
             },
-        ) => work_on(rt, file, Job::Export { object, folder }),
-        Some(Command::Audit { file }) => work_on(rt, file, Job::Audit),
+        ) => work_on(
+            rt,
+            file,
+            Job::Examine(Examination::Export { object, folder }),
+        ),
+        Some(Command::Audit { file }) => work_on(rt, file, Job::Examine(Examination::Audit)),
     }
 }
 
@@ -59,7 +62,7 @@ fn replay_here(rt: &HostRuntime, moment: u64, base: &str) -> Outcome {
         rt.alloc(),
         Moment::new(moment),
         base,
-        &mut rt.stdin(),
+        &mut ReaderInlet::new(rt.stdin()),
         &mut Through::new(rt.stdout()),
     )
 }

@@ -7,19 +7,18 @@ ghost use Rattle.dep_schema.specs.States.{StandsFor};
 ghost use Rattle.dep_server.specs.Conversation.{wire};
 ghost use Rattle.swordd.specs.Replays.{Replays, outcome_of};
 
-use crate::setup::configuration;
 use dep_moment::Moment;
+use dep_program::{Outcome, configuration};
 use dep_schema::OpenFault;
 use dep_server::{Hub, HubFault, Served, serve_connection};
-use dep_store::{Outcome, Store};
-use dep_types::Outlet;
+use dep_store::Store;
+use dep_types::{Inlet, Outlet};
 use sqlite::{Connection, MemStore};
 use std::alloc::Global;
-use std::io::Read;
 
 /// Serves one connection over a store in memory, which is empty at first: the reader is read to its end,
 /// or until the connection is closed, each piece at the moment, and the replies go to the writer.
-pub fn replay<R: Read, W: Outlet>(
+pub fn replay<R: Inlet, W: Outlet>(
     alloc: Global,
     moment: Moment,
     base: &str,
@@ -27,8 +26,10 @@ pub fn replay<R: Read, W: Outlet>(
     writer: &mut W,
 ) -> Outcome
     ensures { Replays base.now moment
-        (wire (R.remaining reader.old) (W.taken writer.old) (W.failures writer.old))
-        (wire (R.remaining reader.new) (W.taken writer.new) (W.failures writer.new)) result }
+        (wire (R.unread reader.old) (R.reads reader.old) (R.last reader.old)
+        (W.taken writer.old) (W.failures writer.old))
+        (wire (R.unread reader.new) (R.reads reader.new) (R.last reader.new)
+        (W.taken writer.new) (W.failures writer.new)) result }
 {
     let Ok(config) = configuration(alloc, base) else {
         return Outcome::StoreFault;
@@ -41,10 +42,10 @@ pub fn replay<R: Read, W: Outlet>(
         Err((HubFault::Config, _)) => return Outcome::Usage,
         Err((HubFault::Memory, _)) => return Outcome::StoreFault,
     };
-    let clock = move || -> Moment
+    let mut clock = move || -> Moment
         ensures { result ≡ moment }
     { moment };
-    outcome_of(serve_connection(alloc, reader, writer, &mut hub, clock))
+    outcome_of(serve_connection(alloc, reader, writer, &mut hub, &mut clock))
 }
 
 /// A new store in memory.

@@ -1,46 +1,34 @@
-//! A store, served at a port of 127.0.0.1.
+//! A database, served at a port of 127.0.0.1.
+ghost use Rattle.std.specs.Prelude.{◌≡◌, false};
+ghost use Rattle.sqlite.specs.Held.{state};
 
-use crate::serve::serve_on;
-use crate::setup::configuration_at;
-use dep_moment::Moment;
-use dep_server::{Archive, Hub, HubFault};
-use dep_store::Outcome;
-use std::net::{Ipv4Addr, TcpListener};
-use std::time::{SystemTime, UNIX_EPOCH};
+use dep_program::{Door, Outcome, configuration_at, serve_at};
+use dep_server::HubFault;
+use dep_store::{StartFault, open_hub};
+use sqlite::{Alter, Connection};
+use std::alloc::Global;
+use std::net::{Net, TcpListener, TcpStream};
+use std::time::Clock;
 
-/// Where connections come from, and how many.
-#[derive(Clone, Copy)]
-pub struct Door {
-    pub port: u16,
-    pub count: u64,
-}
-
-/// Serves so many connections of 127.0.0.1 at the port, one after another, over the store, which it hands back.
-pub fn serve_store<A: Archive>(rt: &HostRuntime, door: Door, store: A) -> (Outcome, A) {
-    let Ok(config) = configuration_at(rt.alloc(), u64::from(door.port)) else {
-        return (Outcome::StoreFault, store);
+/// Opens the store in the database, serves so many connections of 127.0.0.1 at the port, one after another, and hands
+/// the database back.
+pub fn serve_database<R: Net<Listener = TcpListener, Stream = TcpStream> + Clock, S: Alter>(
+    rt: &R,
+    alloc: Global,
+    door: Door,
+    connection: Connection<S>,
+) -> (Outcome, Connection<S>)
+    requires settled { (state S.Store connection).in_transaction ≡ false }
+{
+    let Ok(config) = configuration_at(alloc, u64::from(door.port)) else {
+        return (Outcome::StoreFault, connection);
     };
-    match Hub::new(rt.alloc(), config, store) {
-        Ok(mut hub) => (listen(rt, door, &mut hub), hub.into_store()),
-        Err((HubFault::Config, store)) => (Outcome::Usage, store),
-        Err((HubFault::Memory, store)) => (Outcome::StoreFault, store),
-    }
-}
-
-fn listen<A: Archive>(rt: &HostRuntime, door: Door, hub: &mut Hub<A>) -> Outcome {
-    match TcpListener::bind(rt, (Ipv4Addr::LOCALHOST, door.port)) {
-        Ok(listener) => serve_on(rt.alloc(), &listener, door.count, hub, || now(rt)),
-        Err(_) => Outcome::TransferFault,
-    }
-}
-
-// The moment, or 0 where the clock can't be read.
-fn now(rt: &HostRuntime) -> Moment {
-    match SystemTime::now(rt) {
-        Ok(time) => match time.duration_since(UNIX_EPOCH) {
-            Ok(since) => Moment::new(since.as_secs()),
-            Err(_) => Moment::new(0),
-        },
-        Err(_) => Moment::new(0),
+    match open_hub(alloc, config, connection) {
+        Ok(mut hub) => {
+            let outcome = serve_at(rt, alloc, door, &mut hub);
+            (outcome, hub.into_store().close())
+        }
+        Err((StartFault::Hub(HubFault::Config), connection)) => (Outcome::Usage, connection),
+        Err((_, connection)) => (Outcome::StoreFault, connection),
     }
 }

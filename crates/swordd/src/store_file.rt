@@ -1,11 +1,13 @@
 //! What is done with the store in a file.
+ghost use Rattle.std.specs.Prelude.{◌≡◌, false};
+ghost use Rattle.sqlite.specs.Held.{state};
 
 use crate::folder::Folder;
 use crate::folder_sink::FolderSink;
 use crate::progress::Progress;
-use crate::service::{Door, serve_store};
-use dep_schema::OpenFault;
-use dep_store::{Outcome, Store, audit_all, export_object};
+use crate::service::serve_database;
+use dep_program::{Door, Outcome};
+use dep_store::{Store, audit_all, export_object};
 use dep_types::Through;
 use sqlite::{Alter, Connection};
 use std::io::ErrorKind;
@@ -15,6 +17,13 @@ use std::io::ErrorKind;
 pub enum Job<'a> {
     /// Connections are served.
     Serve(Door),
+    /// It is looked through, and stays as it is.
+    Examine(Examination<'a>),
+}
+
+/// What a store is looked through for.
+#[derive(Clone, Copy)]
+pub enum Examination<'a> {
     /// The bag of an object goes into a new folder.
     Export { object: u64, folder: &'a str },
     /// All files are checked.
@@ -34,36 +43,46 @@ pub fn work_on(rt: &HostRuntime, file: &str, job: Job<'_>) -> Outcome {
     }
 }
 
-// Opens the store, does the job, and hands the connection back.
+/// Does the job, and hands the database back.
 fn worked<S: Alter>(
     rt: &HostRuntime,
     job: Job<'_>,
     connection: Connection<S>,
 ) -> (Outcome, Connection<S>) {
-    match opened(rt, connection) {
-        Ok(store) => {
-            let (outcome, store) = done(rt, job, store);
+    if !connection.is_autocommit() {
+        return (Outcome::StoreFault, connection);
+    }
+    match job {
+        Job::Serve(door) => serve_database(rt, rt.alloc(), door, connection),
+        Job::Examine(examination) => examine_database(rt, examination, connection),
+    }
+}
+
+/// Opens the store in the database, and looks through it.
+fn examine_database<S: Alter>(
+    rt: &HostRuntime,
+    examination: Examination<'_>,
+    connection: Connection<S>,
+) -> (Outcome, Connection<S>)
+    requires settled { (state S.Store connection).in_transaction ≡ false }
+{
+    match Store::open(rt.alloc(), connection) {
+        Ok(mut store) => {
+            let outcome = examine(rt, examination, &mut store);
             (outcome, store.close())
         }
         Err((_, connection)) => (Outcome::StoreFault, connection),
     }
 }
 
-fn opened<S: Alter>(
+fn examine<S: Alter>(
     rt: &HostRuntime,
-    connection: Connection<S>,
-) -> Result<Store<S>, (OpenFault, Connection<S>)> {
-    if !connection.is_autocommit() {
-        return Err((OpenFault::Store, connection));
-    }
-    Store::open(rt.alloc(), connection)
-}
-
-fn done<S: Alter>(rt: &HostRuntime, job: Job<'_>, mut store: Store<S>) -> (Outcome, Store<S>) {
-    match job {
-        Job::Serve(door) => serve_store(rt, door, store),
-        Job::Export { object, folder } => (export_into(rt, &mut store, object, folder), store),
-        Job::Audit => (audit_here(rt, &mut store), store),
+    examination: Examination<'_>,
+    store: &mut Store<S>,
+) -> Outcome {
+    match examination {
+        Examination::Export { object, folder } => export_into(rt, store, object, folder),
+        Examination::Audit => audit_here(rt, store),
     }
 }
 

@@ -6,28 +6,28 @@ use Rattle.dep_answers.specs.Replies.{answer_to}
 use Rattle.dep_answers.proofs.ShownReplies.{says_as, answers}
 use Rattle.dep_answers.proofs.accepting.accepted.Goals as goal
 
-pub returns-in_ok-posted-in-Post : goal.returns-in_ok-posted-in-Post
-returns-in_ok-posted-in-Post c =
-    IfOk-weaker c.spell.result _ _
+pub returns-in_ok-posted-in-Post-clause-says : goal.returns-in_ok-posted-in-Post-clause-says
+returns-in_ok-posted-in-Post-clause-says c =
+    IfOk-weaker c.say.result _ _
     (λ p says s sound. answers c.args.service.now s c.args.shown.now c.args.delivery p c.args.target.now.resource c.args.target.now.method Post c.in-Post.is
     (λ e. says_as s _ (answer_to c.args.service.now s c.args.target.now.resource Post) c.args.delivery p
     (c.in_ok-posted-in-Post.ensures s sound e
     ∙ ap (λ (config : Config). answer_to config s c.args.target.now.resource Post) c.config.ensures) (says s)))
-    c.spell.ensures
+    c.say.ensures.says
 
-pub returns-in_ok-put-in-Put : goal.returns-in_ok-put-in-Put
-returns-in_ok-put-in-Put c =
-    IfOk-weaker c.spell-in-Put.result _ _
+pub returns-in_ok-put-in-Put-clause-says : goal.returns-in_ok-put-in-Put-clause-says
+returns-in_ok-put-in-Put-clause-says c =
+    IfOk-weaker c.say-in-Put.result _ _
     (λ p says s sound. answers c.args.service.now s c.args.shown.now c.args.delivery p c.args.target.now.resource c.args.target.now.method Put c.in-Put.is
     (λ e. says_as s _ (answer_to c.args.service.now s c.args.target.now.resource Put) c.args.delivery p
     (c.in_ok-put-in-Put.ensures s e
     ∙ ap (λ (config : Config). answer_to config s c.args.target.now.resource Put) c.config-in-Put.ensures) (says s)))
-    c.spell-in-Put.ensures
+    c.say-in-Put.ensures.says
 
-pub returns-in-Delete : goal.returns-in-Delete
-returns-in-Delete c =
-    IfOk-weaker c.spell-in-Delete.result _ _
+pub returns-in-Delete-clause-says : goal.returns-in-Delete-clause-says
+returns-in-Delete-clause-says c =
+    IfOk-weaker c.say-in-Delete.result _ _
     (λ p says s sound. answers c.args.service.now s c.args.shown.now c.args.delivery p c.args.target.now.resource c.args.target.now.method Delete c.in-Delete.is
     (λ e. says_as s _ (answer_to c.args.service.now s c.args.target.now.resource Delete) c.args.delivery p
     (c.without_content.ensures) (says s)))
-    c.spell-in-Delete.ensures
+    c.say-in-Delete.ensures.says

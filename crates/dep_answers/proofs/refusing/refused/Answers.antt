@@ -8,4 +8,4 @@ pub returns : goal.returns
 returns c =
     IfOk-weaker c.spell.result _ _
     (λ p h s. subst (λ (a : Answer). IsReply s a c.args.delivery p) c.in_ok-refusing.ensures (h s))
-    c.spell.ensures
+    c.spell.ensures.says

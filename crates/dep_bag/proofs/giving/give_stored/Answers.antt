@@ -1,7 +1,7 @@
 use Rattle.std.proofs.Common.{[], ◌++◌, ◌∙◌, Err, refl, sym, ap, subst}
 use Rattle.std.specs.Io.KnownBytes.{Appends}
 use Rattle.std.proofs.KnownBytes.{Appends-nil, Appends-trans}
-use Rattle.dep_types.specs.Sinks.{file_begun, file_given}
+use Rattle.dep_types.specs.Sinks.{file_begun, file_ended, file_given}
 use Rattle.dep_bag.specs.Giving.{IsGivenAt, IsCausedBy, unsent_fault}
 use Rattle.dep_bag.specs.Parts.{row_path}
 use Rattle.dep_bag.specs.declared.export_fault.ExportFault.TheVariants.{Sink, Memory}
@@ -30,8 +30,8 @@ returns-clause-gives g c =
     let path = row_path c.args.row.now in
     let begun = subst (λ p. Appends (g.K.Outlet.taken c.args.sink.now) (g.K.Outlet.taken c.begin.new.self) (file_begun p)) (c.as_str.ensures ∙ c.in_ok-path.ensures) c.in_ok-begin.ensures.ok in
     let all = Appends-trans (g.K.Outlet.taken c.args.sink.now) (g.K.Outlet.taken c.begin.new.self) (g.K.Outlet.taken c.stream.new.out) (file_begun path) sends.0 begun sends.1 in (
-      file_begun path ++ sends.0,
-      kept (g.K.Outlet.taken c.args.sink.now) (g.K.Outlet.taken c.stream.new.out) (g.K.Outlet.taken c.finish.new.self) (file_begun path ++ sends.0) all c.in_ok-finish.ensures.ok,
+      (file_begun path ++ sends.0) ++ file_ended,
+      Appends-trans (g.K.Outlet.taken c.args.sink.now) (g.K.Outlet.taken c.stream.new.out) (g.K.Outlet.taken c.finish.new.self) (file_begun path ++ sends.0) file_ended all c.in_ok-finish.ensures.ok,
       λ clean s at bytes has. all_sent s ((g.S.BagSource.condition c.args.source.now).sound_if_kept s at) c.args.row.now.file path sends.0 bytes (sends.2 clean s at) has,
     )
 

@@ -1,4 +1,4 @@
-use Rattle.std.proofs.Common.{◌≡◌, ◌∙◌, refl, sym, ap}
+use Rattle.std.proofs.Common.{◌≡◌, ◌∙◌, Bool, true, false, refl, sym, ap}
 use Rattle.dep_types.specs.Numbers.{counters_after}
 use Rattle.dep_types.specs.declared.counters.Counters.{Counters}
 use Rattle.dep_tables.proofs.Chains.{clean_before, stays_then}
@@ -7,7 +7,7 @@ use Rattle.dep_tables.proofs.Results.{ok_then}
 use Rattle.dep_decisions.specs.Decisions.{numbers_for}
 use Rattle.dep_changes.proofs.Chains.{ours_then}
 use Rattle.dep_changes.specs.Changed.{with_maps}
-use Rattle.dep_changes.proofs.Carried.{numbers_told, told, carried, same_counters}
+use Rattle.dep_changes.proofs.Carried.{numbers_told, told, carried, equal_counters, none_taken, same_counters}
 use Rattle.dep_changes.proofs.carrying.carry_out.Goals as goal
 
 pub returns-then-eq-clause-map : goal.returns-then-eq-clause-map
@@ -41,3 +41,17 @@ returns-clause-stays g c = stays_then c.in_ok-change_maps.ensures.stays c.set_co
 
 pub returns-clause-ours : goal.returns-clause-ours
 returns-clause-ours g c = ours_then c.in_ok-change_maps.ensures.stays c.set_counters.ensures.stays c.in_ok-change_maps.ensures.ours c.set_counters.ensures.ours
+
+pub returns-in_err-change_maps-clause-untouched : goal.returns-in_err-change_maps-clause-untouched
+returns-in_err-change_maps-clause-untouched g c show = absurd (let never = (c.in_err-change_maps.ensures.untouched show).0 in cc)
+
+pub returns-then-eq-clause-untouched : goal.returns-then-eq-clause-untouched
+returns-then-eq-clause-untouched g c show = (refl, (c.in_ok-change_maps.ensures.untouched show).1)
+
+pub returns-clause-untouched : goal.returns-clause-untouched
+returns-clause-untouched g c show =
+    let next = c.after_taking-next.result in
+    let was = c.args.view.now.next in
+    let still = none_taken next was c.numbers_for.result c.after_taking-next.ensures (c.numbers_for.ensures ∙ ap numbers_for show) in
+    let never : false ≡ true = sym c.if-eq.false ∙ c.eq.ensures ∙ equal_counters next was still in
+    absurd (cc)

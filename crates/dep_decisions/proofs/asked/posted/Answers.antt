@@ -7,14 +7,14 @@ use Rattle.dep_decisions.specs.Kinds.{kind_of}
 use Rattle.dep_decisions.proofs.AskedIs.{opened_is, received_is}
 use Rattle.dep_decisions.proofs.asked.posted.Goals as goal
 
-pub returns-in-Staging : goal.returns-in-Staging
-returns-in-Staging c =
+pub returns-in-Staging-clause-ok : goal.returns-in-Staging-clause-ok
+returns-in-Staging-clause-ok c =
     let op = c.args.operation.now in
     c.opened.ensures ∙ ap opened_by c.content_purpose.ensures ∙ opened_is (kind_of op)
     ∙ sym (ap (λ (r : Resource). asked_at (option_copied c.args.references) op r Post) c.in-Staging.is)
 
-pub returns-in-Upload : goal.returns-in-Upload
-returns-in-Upload c =
+pub returns-in-Upload-clause-ok : goal.returns-in-Upload-clause-ok
+returns-in-Upload-clause-ok c =
     let op = c.args.operation.now in
     let u = c.in-Upload.upload in
     c.received.ensures ∙ ap (received_by u) c.content_purpose-in-Upload.ensures ∙ received_is u (kind_of op)

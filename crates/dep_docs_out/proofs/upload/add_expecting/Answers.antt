@@ -12,7 +12,7 @@ use Rattle.dep_docs_out.proofs.upload.add_expecting.Goals.{in-Some, in_default+i
 
 pub loop-before-init : goal.loop-before-init
 loop-before-init c = record {
-  left = all_left c.args.received.now c.requires.first c.requires.rising;
+  left = all_left c.args.received.now c.requires;
   written = no_items_more _;
 }
 

@@ -1,6 +1,5 @@
-use Rattle.std.proofs.Common.{◌∙◌}
-use Rattle.std.proofs.lemmas.Result.{IfOk-weaker}
-use Rattle.dep_docs_out.specs.Documents.{upload_data}
+use Rattle.std.proofs.Common.{◌∙◌, Bool, List, ℕ, Some, None, if◌then◌else◌, ap}
+use Rattle.dep_docs_out.specs.Documents.{upload_data, upload_document}
 use Rattle.dep_docs_out.proofs.TokenLemmas.{whole_text}
 use Rattle.dep_docs_out.proofs.upload.upload_doc.Goals as goal
 
@@ -8,4 +7,5 @@ pub returns : goal.returns
 unfolding upload_data
 returns c =
     let told = rw (c.as_str.ensures.value, c.in_ok-place.ensures) at c.in_ok-add_upload.ensures in
-    IfOk-weaker c.ended.result _ _ (λ text e. e ∙ whole_text c.in_ok-document.ensures told) c.ended.ensures
+    ap (λ (text : List ℕ). Some text) (c.in_ok-ended.ensures ∙ whole_text c.in_ok-document.ensures told)
+    ∙ ap (λ (b : Bool). if b then Some (upload_document c.args.config.now c.args.upload.now c.args.received.now) else None) c.if-not-are_segments.ensures

@@ -1,4 +1,7 @@
-use Rattle.dep_tables.specs.Tables.{tables_of}
+use Rattle.std.proofs.Common.{ap, ◌∙◌}
+use Rattle.sqlite_trees.specs.Tree.{put_row}
+use Rattle.dep_tables.specs.Rows.{stored_file}
+use Rattle.dep_tables.specs.Tables.{Tables, tables_of}
 use Rattle.dep_tables.proofs.Results.{ok_then}
 use Rattle.dep_tables.proofs.Chains.{clean_before, stays_then}
 use Rattle.dep_files.proofs.Results.{ok_both, fails_behind}
@@ -15,6 +18,13 @@ returns-clause-map g c clean inside ours s are o file there is same =
     let first = c.in_ok-put_blocks.ensures.ok before inside ours in
     ok_both c.insert_file.result (c.insert_file.ensures.ok clean within first.ours) (c.insert_file.ensures.free clean within first.ours)
     (λ leads free. file_put (tables_of old) (tables_of mid) (tables_of new) s c.args.row.now (g.C.Content.bytes c.args.content.now) o file are ours.trees.ordered.1.1.1.1.0 ours.trees.ordered.1.1.1.1.1.1.1.1.0 there is same first.rows leads.rows free)
+
+pub returns-clause-rows : goal.returns-clause-rows
+returns-clause-rows g c clean inside ours =
+    let before = clean_before c.insert_file.ensures.stays clean in
+    let first = c.in_ok-put_blocks.ensures.ok before inside ours in
+    ok_then c.insert_file.result (c.insert_file.ensures.ok clean (c.in_ok-put_blocks.ensures.stays.inside before inside) first.ours)
+    (λ leads. record { ours = leads.ours; rows = leads.rows ∙ ap (λ (t : Tables). record t { files = put_row (stored_file c.args.row.now) t.files }) first.rows })
 
 pub returns-clause-free : goal.returns-clause-free
 returns-clause-free g c clean inside ours s are =

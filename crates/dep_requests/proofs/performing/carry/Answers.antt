@@ -3,7 +3,7 @@ use Rattle.dep_tables.proofs.Chains.{clean_before, stays_then}
 use Rattle.dep_decisions.specs.Effects.{effect}
 use Rattle.dep_changes.proofs.Chains.{ours_then}
 use Rattle.dep_decisions.proofs.Accepted.{effect_sound}
-use Rattle.dep_requests.proofs.Stepping.{next_after, shown_after}
+use Rattle.dep_requests.proofs.Stepping.{next_after, reads_alone, shown_after}
 use Rattle.dep_requests.proofs.performing.carry.Goals as goal
 
 pub returns-clause-map : goal.returns-clause-map
@@ -24,3 +24,7 @@ returns-clause-stays g c = stays_then c.in_ok-carry_out.ensures.stays c.load_sho
 pub returns-clause-ours : goal.returns-clause-ours
 returns-clause-ours g c =
     ours_then c.in_ok-carry_out.ensures.stays c.load_shown.ensures.stays c.in_ok-carry_out.ensures.ours c.load_shown.ensures.ours
+
+pub returns-clause-unchanged : goal.returns-clause-unchanged
+returns-clause-unchanged g c show =
+    reads_alone g.T.Statements.state c.args.tx.now c.carry_out.new.tx c.load_shown.new.tx c.load_shown.result (c.in_ok-carry_out.ensures.untouched show).1 c.load_shown.ensures.same

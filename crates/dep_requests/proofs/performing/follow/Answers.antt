@@ -6,6 +6,8 @@ use Rattle.dep_tables.proofs.Chains.{stays_err, stays_ok}
 use Rattle.dep_tables.proofs.Results.{if_ok}
 use Rattle.dep_row_maps.specs.Clauses.{SeesState}
 use Rattle.dep_requests.proofs.Stepping.{stays_put, delivered, refused_then, accepted_then}
+use Rattle.sqlite.proofs.StateLemmas.{unchanged}
+use Rattle.dep_requests.specs.Performing.{OnlyReads}
 use Rattle.dep_requests.proofs.performing.follow.Goals as goal
 
 pub returns-in-Refuse-clause-map : goal.returns-in-Refuse-clause-map
@@ -41,3 +43,10 @@ returns-in_ok-shown-in-Do-clause-stays g c = stays_ok c.in_ok-shown-in-Do.ensure
 
 pub returns-in_err-shown-in-Do-clause-stays : goal.returns-in_err-shown-in-Do-clause-stays
 returns-in_err-shown-in-Do-clause-stays g c = stays_err c.from_residual.ensures.0 c.in_err-shown-in-Do.ensures.stays
+
+pub returns-in-Refuse-clause-unchanged : goal.returns-in-Refuse-clause-unchanged
+returns-in-Refuse-clause-unchanged g c only is_open clean ours = if_ok c.refuse.result (unchanged (g.T.Statements.state c.args.tx.now) is_open)
+
+pub returns-in_ok-shown-in-Do-clause-unchanged : goal.returns-in_ok-shown-in-Do-clause-unchanged
+returns-in_ok-shown-in-Do-clause-unchanged g c only is_open clean ours =
+    if_ok c.accept-performed.result (c.in_ok-shown-in-Do.ensures.unchanged (subst (λ (r : Ruling). OnlyReads r) c.in-Do.is only) is_open clean ours)

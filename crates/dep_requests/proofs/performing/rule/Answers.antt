@@ -6,7 +6,7 @@ use Rattle.dep_requests.proofs.performing.rule.Goals as goal
 
 pub returns-clause-map : goal.returns-clause-map
 returns-clause-map g c clean within ours s are sound =
-    let seen : c.in_ok-view.view ≡ true_view c.args.config.now s c.args.operation.now = c.in_ok-view.ensures.map clean within ours s are sound ∙ ap (seen_at s) c.in-Ok.ensures in
+    let seen : c.in_ok-view.view ≡ true_view c.args.config.now s c.args.operation.now = c.in_ok-view.ensures.map clean within ours s are sound ∙ ap (seen_at s) c.in-Ok.ensures.ok in
     record { view = seen; ruling = c.in-Ok-decide.ensures.ruling s seen }
 
 pub returns-clause-same : goal.returns-clause-same

@@ -1,7 +1,8 @@
-use Rattle.std.proofs.Common.{Err}
+use Rattle.std.proofs.Common.{Err, inl, inr}
 use Rattle.std.proofs.lemmas.Result.{IfOk-from_err}
 use Rattle.dep_tables.proofs.Chains.{clean_before, stays_then, stays_err}
 use Rattle.dep_schema.proofs.BesideRows.{gains, first_seen}
+use Rattle.dep_schema.proofs.Refusing.{if_err_told, if_err_then}
 use Rattle.dep_schema.proofs.making.make_tables.Goals as goal
 
 pub returns-clause-gains : goal.returns-clause-gains
@@ -20,6 +21,13 @@ returns-clause-ok g c clean inside empty =
 pub returns-clause-stays : goal.returns-clause-stays
 returns-clause-stays g c = stays_then c.in_ok-create_tables.ensures.stays c.add_rows.ensures.stays
 
+pub returns-clause-cause : goal.returns-clause-cause
+returns-clause-cause g c clean inside =
+    let made = c.in_ok-create_tables.ensures in
+    let before = clean_before c.add_rows.ensures.stays clean in
+    if_err_then c.add_rows.result (c.add_rows.ensures.cause clean (made.stays.inside before inside))
+    (λ fault failed. inr (c.create_tables.new.tx, made.adds before inside, made.stays.survives, failed))
+
 -- where one was not made, nothing is said of an Ok
 pub returns-in_err-create_tables : goal.returns-in_err-create_tables
 returns-in_err-create_tables g c =
@@ -27,5 +35,6 @@ returns-in_err-create_tables g c =
     record {
       ok = λ clean inside empty. IfOk-from_err c.from_residual.result _ is_err;
       gains = λ clean inside. IfOk-from_err c.from_residual.result _ is_err;
+      cause = λ clean inside. if_err_told _ c.from_residual.result _ c.from_residual.ensures.1 (inl (c.in_err-create_tables.ensures.cause clean inside));
       stays = stays_err {r = Err c.in_err-create_tables.field-0.0} is_err c.in_err-create_tables.ensures.stays;
     }

@@ -1,12 +1,15 @@
-use Rattle.std.proofs.Common.{◌≡◌, Err, inl, inr, ap, refl, rules, subst, ◌∙◌}
+use Rattle.std.proofs.Common.{◌≡◌, Err, inl, inr, ap, refl, rules, subst, sym, ◌∙◌}
 use Rattle.std.proofs.lemmas.Bool.{both_ways}
 use Rattle.std.proofs.lemmas.Result.{IfOk-from_err}
 use Rattle.sqlite.specs.Effect.{Database}
 use Rattle.sqlite.specs.Held.{state}
+use Rattle.sqlite.specs.State.{HasCleanDisk}
+use Rattle.dep_schema.specs.OpenFaults.{FailsToMake}
 use Rattle.dep_tables.proofs.Chains.{clean_before, stays_then, stays_ok, stays_err}
 use Rattle.dep_schema.specs.Standing.{GainsOurs}
 use Rattle.dep_schema.proofs.Asking.{stays_on}
 use Rattle.dep_schema.proofs.Version.{never_named, never_refused, told_as}
+use Rattle.dep_schema.proofs.Refusing.{match_err, shows_true, shows_false, lent_fails}
 use Rattle.dep_schema.proofs.opening.find_or_make.Goals as goal
 
 -- where the tables were not looked for, nothing is said of an Ok
@@ -23,6 +26,7 @@ returns-in_err-find_format g c =
       version = λ clean said. (λ empty. told.empty clean empty (is said), λ ours. told.ours clean ours (is said));
       gains = λ clean inside lacks. IfOk-from_err result _ is_err;
       lacking = λ clean said lacks. told.lacking clean lacks (is said);
+      told = λ clean inside. match_err _ _ result fault c.from_residual.ensures.1 (inl (told.told clean));
       stays = stays_err {r = Err fault} is_err told.stays;
     }
 
@@ -37,6 +41,7 @@ returns-then-branch g c =
       version = λ clean said. absurd (never_refused _ _ said);
       gains = λ clean inside lacks. absurd (both_ways there (told.lacking clean lacks) c.if-branch.true);
       lacking = λ clean said lacks. never_refused _ _ said;
+      told = λ clean inside. (c.find_format.new.tx.conn.now, inl (shows_true _ _ there c.if-branch.true (told.told clean)));
       stays = stays_ok told.stays;
     }
 
@@ -59,6 +64,7 @@ returns-in-Ok g c =
           let before = clean_before stays clean in
           subst (λ (d : Database). GainsOurs d new.now) (told.left before lacks).0.now_is (made.gains clean (told.stays.inside before inside));
       lacking = λ clean said lacks. never_refused _ _ said;
+      told = λ clean inside. (c.find_format.new.tx.conn.now, inr (shows_false _ _ c.in_ok-find_format.field-0 c.if-branch.false (told.told (clean_before stays clean))));
       stays = stays_ok (stays_then told.stays stays);
     }
 
@@ -73,5 +79,12 @@ returns-in-Err g c =
       version = λ clean said. absurd (never_named c.in-Err.fault c.from.result c.from.ensures said);
       gains = λ clean inside lacks. tt;
       lacking = λ clean said lacks. never_named c.in-Err.fault c.from.result c.from.ensures said;
+      told = λ clean inside.
+          let before = clean_before stays clean in
+          let found = c.in_ok-find_format.ensures in
+          let last = subst (λ t. HasCleanDisk (state g.S.Store t.conn.now)) (sym same) clean in
+          let failed = subst (λ t. FailsToMake (state g.S.Store) c.find_format.new.tx.conn.now t.conn.now c.in-Err.fault) same
+          (lent_fails g.S.Store _ c.make_tables.new.tx c.in-Err.fault (c.in-Err.ensures.cause last (found.stays.inside before inside))) in
+          inr (c.find_format.new.tx.conn.now, c.in-Err.fault, shows_false _ _ c.in_ok-find_format.field-0 c.if-branch.false (found.told before), found.stays.survives, failed, c.from.ensures);
       stays = stays_err refl (stays_then {r = Err c.in-Err.fault} c.in_ok-find_format.ensures.stays stays);
     }

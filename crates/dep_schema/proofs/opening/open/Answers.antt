@@ -31,3 +31,12 @@ pub returns-in-Ok-clause-opened : goal.returns-in-Ok-clause-opened
 returns-in-Ok-clause-opened g c is_open =
     let store = c.prepare.new.connection.store in
     c.in-Ok.ensures.opened (clean_if_open (g.S.Store.view store) (g.met.S.Store.shut_if_dirty store) is_open)
+
+pub returns-in-Ok-clause-told : goal.returns-in-Ok-clause-told
+returns-in-Ok-clause-told g c clean = c.in-Ok.ensures.told clean
+
+pub returns-in-Err-clause-told : goal.returns-in-Err-clause-told
+returns-in-Err-clause-told g c clean = c.in-Err.ensures.told clean
+
+pub returns-in-Err-clause-ours : goal.returns-in-Err-clause-ours
+returns-in-Err-clause-ours g c clean ours = c.in-Err.ensures.ours clean ours

@@ -11,12 +11,12 @@ pub returns-clause-converses : goal.returns-clause-converses
 returns-clause-converses g c =
     let store = c.close.new.self.store in
     serves_whole g.A.Archive.condition _ c.in-Ok-connect.connection
-    (session g.A.Archive.condition c.args.hub.now (wire (g.R.Read.remaining c.args.reader.now) (g.W.Outlet.taken c.args.writer.now) (g.W.Outlet.failures c.args.writer.now)) c.args.clock)
+    (session g.A.Archive.condition c.args.hub.now (wire (g.R.Inlet.unread c.args.reader.now) (g.R.Inlet.reads c.args.reader.now) (g.R.Inlet.last c.args.reader.now) (g.W.Outlet.taken c.args.writer.now) (g.W.Outlet.failures c.args.writer.now)) c.args.clock.now)
     c.connect.new.self c.converse-served.new.hub c.close.new.self _ c.converse-served.new.clock
     c.in-Ok-connect.ensures.next.0 c.in-Ok-connect.ensures.fresh c.in-Ok-connect.ensures.moves c.close.ensures.moves
     (g.met.A.Archive.settled c.connect.new.self.store)
     (g.met.A.Archive.honest_if_open store)
-    c.connect.ensures.config (c.close.ensures.config ∙ (c.converse-served.ensures.config ∙ c.connect.ensures.config)) c.close.ensures.store c.close.ensures.gone
+    c.connect.ensures.config (c.close.ensures.config ∙ (c.converse-served.ensures.config ∙ c.connect.ensures.config)) c.close.ensures.store c.connect.ensures.store c.close.ensures.gone
     c.converse-served.result c.converse-served.ensures.talks
 
 pub returns-clause-clean : goal.returns-clause-clean
@@ -33,12 +33,12 @@ returns-clause-honest g c honest =
 
 pub returns-in_default-connect-clause-converses : goal.returns-in_default-connect-clause-converses
 returns-in_default-connect-clause-converses g c =
-    unserved g.A.Archive.condition c.args.hub.now c.connect.new.self (wire (g.R.Read.remaining c.args.reader.now) (g.W.Outlet.taken c.args.writer.now) (g.W.Outlet.failures c.args.writer.now))
+    unserved g.A.Archive.condition c.args.clock.now c.args.hub.now c.connect.new.self (wire (g.R.Inlet.unread c.args.reader.now) (g.R.Inlet.reads c.args.reader.now) (g.R.Inlet.last c.args.reader.now) (g.W.Outlet.taken c.args.writer.now) (g.W.Outlet.failures c.args.writer.now))
     c.in_default-connect.ensures.same c.connect.ensures.store c.connect.ensures.rests (same_stands_for g.A.Archive.condition c.args.hub.now c.connect.new.self c.connect.ensures.config c.in_default-connect.ensures.same)
 
 pub returns-in_default-clause-converses : goal.returns-in_default-clause-converses
 returns-in_default-clause-converses g c =
-    unserved g.A.Archive.condition c.args.hub.now c.args.hub.now (wire (g.R.Read.remaining c.args.reader.now) (g.W.Outlet.taken c.args.writer.now) (g.W.Outlet.failures c.args.writer.now))
+    unserved g.A.Archive.condition c.args.clock.now c.args.hub.now c.args.hub.now (wire (g.R.Inlet.unread c.args.reader.now) (g.R.Inlet.reads c.args.reader.now) (g.R.Inlet.last c.args.reader.now) (g.W.Outlet.taken c.args.writer.now) (g.W.Outlet.failures c.args.writer.now))
     (λ w at. at) refl (λ w at. stays_as (store_of g.A.Archive.condition c.args.hub.now) w.state (g.met.A.Archive.settled c.args.hub.now.store) at.state)
     (λ first records h. h)
 

@@ -1,7 +1,7 @@
 use Rattle.std.proofs.Common.{◌≡◌}
 use Rattle.dep_message.specs.Places.{left_to_read}
 use Rattle.dep_server.specs.Sending.{outside}
-use Rattle.dep_server.specs.Serving.{Progress, arrival_of}
+use Rattle.dep_server.specs.Serving.{Progress, IsDeadIfShut, arrival_of}
 use Rattle.dep_server.proofs.serving.serve.Given as goal
 
 -- what was read so far was answered
@@ -11,6 +11,7 @@ invariant-loop-intake g l = record {
       (outside (g.O.Outlet.taken l.fn.out) (g.O.Outlet.failures l.fn.out) (g.A.Archive.condition l.fn.store))
       (outside (g.O.Outlet.taken l.out) (g.O.Outlet.failures l.out) (g.A.Archive.condition l.store)) l.intake.place;
   limit : l.intake.limit ≡ l.fn.intake.limit;
+  dead : IsDeadIfShut l.fn.intake → IsDeadIfShut l.intake;
 }
 
 abbrev pub decreases-loop-intake : goal.decreases-loop-intake

@@ -12,3 +12,4 @@ returns g c = λ config moment.
     (g.A.Archive.condition c.args.store.now) Continue moment c.send.result continue_line
     (g.met.A.Archive.settled c.args.store.now)
     c.send.ensures.sends c.send.ensures.kept c.send.ensures.cause (λ s stands. (stands, sym (append-nil continue_line)))
+    (λ sent h. h)

@@ -30,6 +30,7 @@ returns-in-Ok-refused g c =
           (answers_from config s (Fault c.args.fault.refusal c.args.fault.is_bare) c.args.moment x.sent _ _ c.send_performed-answered.result
           (x.sends disk (step config s (Fault c.args.fault.refusal c.args.fault.is_bare) c.args.moment)
           (record { state = t.1; ready = refusal_ready now delivery c.in-Ok-refused.performed c.args.fault.refusal None c.args.fault.is_bare true t.0 refl refl c.in-Ok-refused.ensures })));
+      shut = λ disk none. absurd (none (c.in-Ok.ensures.opened (x.passes.honest disk)));
     }
 
 pub returns-in-Err-refused : goal.returns-in-Err-refused
@@ -47,6 +48,7 @@ returns-in-Err-refused g c =
       stop = leaves_wider new _ _ (λ found e. inr (inl e))
           (stays_as new (tick config s c.args.moment) (g.met.A.Archive.settled c.tick.new.self) t.1);
     })
+    (λ sent answer h. h) (λ disk none. absurd (none (c.in-Ok.ensures.opened disk)))
     c.send_fault.result c.send_fault.ensures.sends c.send_fault.ensures.cause
 
 pub returns-in-Err : goal.returns-in-Err
@@ -61,4 +63,5 @@ returns-in-Err g c =
       stands = λ is_open. c.in-Err.ensures.err is_open s stands;
       stop = leaves_wider new _ _ (λ found e. elim e [ inl same ↦ inl same | inr next ↦ inr (inl next) ]) ((rw c.config.ensures at c.tick.ensures.stop) disk s stands);
     })
+    (λ sent answer h. h) c.tick.ensures.shut
     c.send_fault-in-Err.result c.send_fault-in-Err.ensures.sends c.send_fault-in-Err.ensures.cause

@@ -27,6 +27,7 @@ returns-in-Ok-perform g c =
           let p = c.in-Ok-perform.ensures.ok between (tick config s c.args.moment) t.1 t.0 in
           made_from config s (Request m) c.args.moment x.sent _ _ _ c.send_performed-answered.result refl
           (answers_from config s (Request m) c.args.moment x.sent _ _ c.send_performed-answered.result (x.sends disk (step config s (Request m) c.args.moment) p));
+      shut = λ disk none. absurd (none (c.in-Ok.ensures.opened (c.perform.ensures.honest (x.passes.honest disk))));
     }
 
 pub returns-in-Err-perform : goal.returns-in-Err-perform
@@ -44,6 +45,7 @@ returns-in-Err-perform g c =
       stands = λ is_open. c.in-Err-perform.ensures.err is_open (tick config s c.args.moment) t.1;
       stop = leaves_wider new _ _ (λ found e. inr e) (c.perform.ensures.stop disk (tick config s c.args.moment) t.1);
     })
+    (λ sent answer h. h) (λ disk none. absurd (none (c.in-Ok.ensures.opened (c.perform.ensures.honest disk))))
     c.send_fault.result c.send_fault.ensures.sends c.send_fault.ensures.cause
 
 pub returns-in-Err : goal.returns-in-Err
@@ -58,4 +60,5 @@ returns-in-Err g c =
       stands = λ is_open. c.in-Err.ensures.err is_open s stands;
       stop = leaves_wider new _ _ (λ found e. elim e [ inl same ↦ inl same | inr next ↦ inr (inl next) ]) ((rw c.config.ensures at c.tick.ensures.stop) disk s stands);
     })
+    (λ sent answer h. h) c.tick.ensures.shut
     c.send_fault-in-Err.result c.send_fault-in-Err.ensures.sends c.send_fault-in-Err.ensures.cause

@@ -1,87 +1,70 @@
 use Rattle.std.proofs.Common.{◌∙◌}
 use Rattle.std.proofs.lemmas.Result.{IfOk-weaker}
-use Rattle.dep_router.specs.Targets.{target}
 use Rattle.dep_router.specs.declared.routed.Routed.TheVariants.{NotAllowed}
 use Rattle.dep_answers.specs.declared.performed.Delivery.{Delivery}
 use Rattle.dep_server.proofs.Leaving.{stays_as}
-use Rattle.dep_server.proofs.StepLemmas.{performs_none, performs_not_allowed, performs_operation, leaves_operation, leaves_it}
+use Rattle.dep_server.proofs.StepLemmas.{asked_same, performs_none, performs_not_allowed, performs_operation, performs_same, leaves_operation, leaves_same, leaves_it, same_operation}
 use Rattle.dep_server.proofs.step.perform.Goals as goal
 
-pub returns-in-Ok-To-clause-ok : goal.returns-in-Ok-To-clause-ok
-returns-in-Ok-To-clause-ok g c disk s stands clock =
-    let named = rw c.in-Ok-To.field-0-is at c.in-Ok-To.ensures.ok in
+pub returns-in-To-clause-ok : goal.returns-in-To-clause-ok
+returns-in-To-clause-ok g c disk s stands clock =
+    let same = same_operation c.args.message c.take_path-path.new.self c.in-To.target c.take_path-path.ensures.rest in
+    let after = g.A.Archive.condition c.operate.new.store in
     IfOk-weaker c.operate.result _ _
-    (λ p h. performs_operation c.args.service.now c.args.message c.in-Ok-To.target (named ∙ (λ i. target (c.method.ensures i) (c.path.ensures i))) (g.A.Archive.condition c.operate.new.store) s p h)
+    (λ p h. performs_operation c.args.service.now c.args.message c.in-To.target (c.in-To.ensures ∙ asked_same c.args.message.head c.take_path-path.new.self c.method.result.now c.take_path-path.result.items c.method.ensures c.take_path-path.ensures.rest c.take_path-path.ensures.path) after s p
+    (performs_same c.args.service.now s _ _ after p same h))
     (c.operate.ensures.ok disk s stands)
 
-pub returns-in-Ok-To-clause-stop : goal.returns-in-Ok-To-clause-stop
-returns-in-Ok-To-clause-stop g c disk s stands =
-    let named = rw c.in-Ok-To.field-0-is at c.in-Ok-To.ensures.ok in
-    leaves_operation c.args.service.now c.args.message c.in-Ok-To.target (named ∙ (λ i. target (c.method.ensures i) (c.path.ensures i))) (g.A.Archive.condition c.operate.new.store) s
-    (c.operate.ensures.stop disk s stands)
+pub returns-in-To-clause-stop : goal.returns-in-To-clause-stop
+returns-in-To-clause-stop g c disk s stands =
+    let same = same_operation c.args.message c.take_path-path.new.self c.in-To.target c.take_path-path.ensures.rest in
+    let after = g.A.Archive.condition c.operate.new.store in
+    leaves_operation c.args.service.now c.args.message c.in-To.target (c.in-To.ensures ∙ asked_same c.args.message.head c.take_path-path.new.self c.method.result.now c.take_path-path.result.items c.method.ensures c.take_path-path.ensures.rest c.take_path-path.ensures.path) after s
+    (leaves_same c.args.service.now s _ _ after same (c.operate.ensures.stop disk s stands))
 
-pub returns-in-Ok-NotFound-clause-ok : goal.returns-in-Ok-NotFound-clause-ok
-returns-in-Ok-NotFound-clause-ok g c disk s stands clock =
+pub returns-in-NotFound-clause-ok : goal.returns-in-NotFound-clause-ok
+returns-in-NotFound-clause-ok g c disk s stands clock =
     let delivery : Delivery = record { clock = c.args.clock; is_bare = c.is_without_body.result; closes = c.closes.result } in
-    let named = rw c.in-Ok-NotFound.field-0-is at c.in-Ok-NotFound.ensures.ok in
     IfOk-weaker c.refuse.result _ _
     (λ p h. performs_none c.args.service.now c.args.message delivery p c.is_without_body.ensures c.closes.ensures (g.A.Archive.condition c.args.store.now) s stands clock
-    (named ∙ (λ i. target (c.method.ensures i) (c.path.ensures i))) h)
+    (c.in-NotFound.ensures ∙ asked_same c.args.message.head c.take_path-path.new.self c.method.result.now c.take_path-path.result.items c.method.ensures c.take_path-path.ensures.rest c.take_path-path.ensures.path) h)
     c.refuse.ensures
 
-pub returns-in-Ok-NotFound-clause-stop : goal.returns-in-Ok-NotFound-clause-stop
-returns-in-Ok-NotFound-clause-stop g c disk s stands =
+pub returns-in-NotFound-clause-stop : goal.returns-in-NotFound-clause-stop
+returns-in-NotFound-clause-stop g c disk s stands =
     leaves_it (g.A.Archive.condition c.args.store.now) s _
     (stays_as (g.A.Archive.condition c.args.store.now) s (g.met.A.Archive.settled c.args.store.now) stands)
 
-pub returns-in-Ok-NotAllowed-clause-ok : goal.returns-in-Ok-NotAllowed-clause-ok
-returns-in-Ok-NotAllowed-clause-ok g c disk s stands clock =
+pub returns-in-NotAllowed-clause-ok : goal.returns-in-NotAllowed-clause-ok
+returns-in-NotAllowed-clause-ok g c disk s stands clock =
     let delivery : Delivery = record { clock = c.args.clock; is_bare = c.is_without_body.result; closes = c.closes.result } in
-    let named = rw c.in-Ok-NotAllowed.field-0-is at c.in-Ok-NotAllowed.ensures.ok in
-    IfOk-weaker c.refuse-in-Ok-NotAllowed.result _ _
+    IfOk-weaker c.refuse-in-NotAllowed.result _ _
     (λ p h. performs_not_allowed c.args.service.now c.args.message delivery p c.is_without_body.ensures c.closes.ensures (g.A.Archive.condition c.args.store.now) s stands clock
-    c.as_str.result.now ((λ i. NotAllowed (c.as_str.ensures i)) ∙ (named ∙ (λ i. target (c.method.ensures i) (c.path.ensures i)))) h)
-    c.refuse-in-Ok-NotAllowed.ensures
+    c.as_str.result.now ((λ i. NotAllowed (c.as_str.ensures i)) ∙ c.in-NotAllowed.ensures ∙ asked_same c.args.message.head c.take_path-path.new.self c.method.result.now c.take_path-path.result.items c.method.ensures c.take_path-path.ensures.rest c.take_path-path.ensures.path) h)
+    c.refuse-in-NotAllowed.ensures
 
-pub returns-in-Ok-NotAllowed-clause-stop : goal.returns-in-Ok-NotAllowed-clause-stop
-returns-in-Ok-NotAllowed-clause-stop g c disk s stands =
+pub returns-in-NotAllowed-clause-stop : goal.returns-in-NotAllowed-clause-stop
+returns-in-NotAllowed-clause-stop g c disk s stands =
     leaves_it (g.A.Archive.condition c.args.store.now) s _
     (stays_as (g.A.Archive.condition c.args.store.now) s (g.met.A.Archive.settled c.args.store.now) stands)
 
-pub returns-in-Err-clause-stop : goal.returns-in-Err-clause-stop
-returns-in-Err-clause-stop g c disk s stands =
-    leaves_it (g.A.Archive.condition c.args.store.now) s _
-    (stays_as (g.A.Archive.condition c.args.store.now) s (g.met.A.Archive.settled c.args.store.now) stands)
+pub returns-in-To-clause-err : goal.returns-in-To-clause-err
+returns-in-To-clause-err g c = c.operate.ensures.err
 
-pub returns-in-Ok-To-clause-err : goal.returns-in-Ok-To-clause-err
-returns-in-Ok-To-clause-err g c = c.operate.ensures.err
+pub returns-in-To-clause-honest : goal.returns-in-To-clause-honest
+returns-in-To-clause-honest g c = c.operate.ensures.honest
 
-pub returns-in-Ok-To-clause-honest : goal.returns-in-Ok-To-clause-honest
-returns-in-Ok-To-clause-honest g c = c.operate.ensures.honest
+pub returns-in-To-clause-open : goal.returns-in-To-clause-open
+returns-in-To-clause-open g c = c.operate.ensures.open
 
-pub returns-in-Ok-To-clause-open : goal.returns-in-Ok-To-clause-open
-returns-in-Ok-To-clause-open g c = c.operate.ensures.open
+pub returns-in-NotFound-clause-honest : goal.returns-in-NotFound-clause-honest
+returns-in-NotFound-clause-honest g c = λ h. h
 
-pub returns-in-Ok-NotFound-clause-honest : goal.returns-in-Ok-NotFound-clause-honest
-returns-in-Ok-NotFound-clause-honest g c = λ h. h
+pub returns-in-NotFound-clause-open : goal.returns-in-NotFound-clause-open
+returns-in-NotFound-clause-open g c = λ h. h
 
-pub returns-in-Ok-NotFound-clause-open : goal.returns-in-Ok-NotFound-clause-open
-returns-in-Ok-NotFound-clause-open g c = λ h. h
+pub returns-in-NotAllowed-clause-honest : goal.returns-in-NotAllowed-clause-honest
+returns-in-NotAllowed-clause-honest g c = λ h. h
 
-pub returns-in-Ok-NotAllowed-clause-honest : goal.returns-in-Ok-NotAllowed-clause-honest
-returns-in-Ok-NotAllowed-clause-honest g c = λ h. h
-
-pub returns-in-Ok-NotAllowed-clause-open : goal.returns-in-Ok-NotAllowed-clause-open
-returns-in-Ok-NotAllowed-clause-open g c = λ h. h
-
-pub returns-in-Err-clause-honest : goal.returns-in-Err-clause-honest
-returns-in-Err-clause-honest g c = λ h. h
-
-pub returns-in-Err-clause-open : goal.returns-in-Err-clause-open
-returns-in-Err-clause-open g c = λ h. h
-
-pub returns-in-Err-clause-ok : goal.returns-in-Err-clause-ok
-returns-in-Err-clause-ok g c disk s stands clock = tt
-
-pub returns-in-Err-clause-err : goal.returns-in-Err-clause-err
-returns-in-Err-clause-err g c is_open s stands = stands
+pub returns-in-NotAllowed-clause-open : goal.returns-in-NotAllowed-clause-open
+returns-in-NotAllowed-clause-open g c = λ h. h

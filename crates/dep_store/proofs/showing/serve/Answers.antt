@@ -1,6 +1,8 @@
 use Rattle.sqlite.specs.Held.{state}
 use Rattle.dep_store.proofs.Remembered.{service_made}
-use Rattle.dep_schema.proofs.Transacting.{unmoved}
+use Rattle.sqlite.proofs.StateLemmas.{clean_if_open}
+use Rattle.dep_schema.proofs.Transacting.{unmoved, after_back}
+use Rattle.dep_store.proofs.ShutLemmas.{fails_back, fails_still, was_open_then}
 use Rattle.dep_store.proofs.showing.serve.Goals as goal
 
 pub returns-in-Some-clause-transacts : goal.returns-in-Some-clause-transacts
@@ -9,3 +11,30 @@ returns-in-Some-clause-transacts g c =
     let told = c.recalled.ensures c.in-Some.it c.in-Some.is in
     unmoved d c.show_service.result _ (λ is_open trees h. g.met.S.Store.settled c.args.connection.now.store trees is_open h)
     (λ t stands. service_made d t c.args.service.now c.args.operation.now c.in-Some.it c.show_service.result stands (c.requires.recalls c.in-Some.it told.0) c.show_service.ensures)
+
+pub returns-in-Some-clause-shut : goal.returns-in-Some-clause-shut
+returns-in-Some-clause-shut g c =
+    let d = state g.S.Store c.args.connection.now in
+    let told = c.recalled.ensures c.in-Some.it c.in-Some.is in
+    was_open_then d d c.show_service.result (c.requires.of_open c.in-Some.it told.0)
+
+pub returns-in_err-check_open-clause-transacts : goal.returns-in_err-check_open-clause-transacts
+returns-in_err-check_open-clause-transacts g c =
+    fails_back (state g.S.Store c.args.connection.now) (state g.S.Store c.check_open.new.connection) c.from_residual.result _ c.from_residual.ensures.0
+    (λ is_open trees h. g.met.S.Store.settled c.args.connection.now.store trees is_open h) c.check_open.ensures.back c.check_open.ensures.survives
+
+pub returns-in_err-check_open-clause-shut : goal.returns-in_err-check_open-clause-shut
+returns-in_err-check_open-clause-shut g c =
+    fails_still (state g.S.Store c.args.connection.now) (state g.S.Store c.check_open.new.connection) c.from_residual.result c.from_residual.ensures.0 c.check_open.ensures.survives
+
+pub returns-clause-transacts : goal.returns-clause-transacts
+returns-clause-transacts g c =
+    let store = c.check_open.new.connection.store in
+    after_back (state g.S.Store c.args.connection.now) (state g.S.Store c.check_open.new.connection) (state g.S.Store c.perform_request.new.connection) c.perform_request.result _
+    (λ is_open trees h. g.met.S.Store.settled c.args.connection.now.store trees is_open h)
+    (clean_if_open (g.S.Store.view store) (g.met.S.Store.shut_if_dirty store)) c.check_open.ensures.back c.check_open.ensures.survives c.in_ok-check_open.ensures.opened c.perform_request.ensures.transacts
+
+pub returns-clause-shut : goal.returns-clause-shut
+returns-clause-shut g c =
+    was_open_then (state g.S.Store c.args.connection.now) (state g.S.Store c.perform_request.new.connection) c.perform_request.result
+    (λ clean. (c.check_open.ensures.back (c.in_ok-check_open.ensures.opened (c.perform_request.ensures.transacts.honest clean))).0)

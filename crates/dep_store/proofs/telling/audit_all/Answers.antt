@@ -1,7 +1,7 @@
 use Rattle.std.proofs.Common.{◌++◌, ◌<◌, ℕ, List, sym, ap, subst, arith}
 use Rattle.std.proofs.KnownBytes.{Appends-trans}
 use Rattle.dep_store.specs.Audits.{IsWhole, outcome_of_audit}
-use Rattle.dep_store.specs.declared.outcome.Outcome.TheVariants.{Done, Damaged}
+use Rattle.dep_program.specs.declared.outcome.Outcome.TheVariants.{Done, Damaged}
 use Rattle.dep_store.proofs.TellLemmas.{all_whole, all_begun, is_damaged, fault_begun}
 use Rattle.dep_store.proofs.telling.audit_all.Goals as goal
 

@@ -1,5 +1,6 @@
 use Rattle.std.proofs.Common.{◌≡◌, ◌∙◌, ◌++◌, ◌+◌, ℕ, List, [], ◌∷◌, take, refl, sym, ap, subst, append-nil}
-use Rattle.std.specs.List.{AllZip, flat_map, zip}
+use Rattle.std.proofs.lemmas.List.Elements.{Contains-get_or}
+use Rattle.std.specs.List.{Contains, AllZip, flat_map, zip}
 use Rattle.std.proofs.lemmas.List.{take_more, take_all}
 use Rattle.std.proofs.lemmas.Grind.{flat_map-append}
 use Rattle.sqlite.specs.Held.{state}
@@ -74,6 +75,7 @@ returns g c =
             are = subst (λ (l : List FileRow). AllZip (its (state g.S.Store c.args.connection.now)) l done.0) whole done.1;
             damaged = done.2 ∙ ap (λ (l : List FileRow). flat_map number_of (zip l done.0)) whole;
           };
+      cause = λ clean ours. tt;
       ok = λ clean ours opened. (inv.2 clean ours).unchanged opened;
       same = λ clean ours. kept_still _ _ (inv.2 clean ours);
       clean = inv.0;
@@ -89,6 +91,10 @@ returns-in-Err g c =
     let told = c.keep_damaged.ensures in
     record {
       audits = λ clean ours. tt;
+      cause = λ clean ours.
+          let still = inv.2 (told.clean clean) ours in
+          let its = subst (Contains c.args.files.now) (sym c.row-item.is) (Contains-get_or c.args.files.now c.files.row-index c.row-item.result c.files-test.true) in
+          (c.row-item.result, its, c.files.connection, still.now_is, c.in-Err.ensures.cause clean (ours_still old mid still ours));
       ok = λ clean ours opened. tt;
       same = λ clean ours.
           let still = inv.2 (told.clean clean) ours in

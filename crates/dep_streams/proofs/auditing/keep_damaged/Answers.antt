@@ -1,16 +1,17 @@
-use Rattle.std.proofs.Common.{inl}
+use Rattle.std.proofs.Common.{inl, inr, refl}
 use Rattle.dep_streams.proofs.auditing.keep_damaged.Goals as goal
 
 pub returns-in-Err : goal.returns-in-Err
 returns-in-Err g c =
     let told = c.in-Err.ensures in
-    record { notes = λ clean ours. tt; same = λ clean ours. tt; err = told.err; clean = told.clean; survives = told.survives }
+    record { notes = λ clean ours. tt; cause = λ clean ours. inl (told.cause clean ours); same = λ clean ours. tt; err = told.err; clean = told.clean; survives = told.survives }
 
 pub returns-in-Ok-note_damaged : goal.returns-in-Ok-note_damaged
 returns-in-Ok-note_damaged g c =
     let told = c.in-Ok.ensures in
     record {
       notes = λ clean ours. record { digest = c.in-Ok.digest; its = told.hashes clean ours; noted = c.in-Ok-note_damaged.ensures.ok };
+      cause = λ clean ours. tt;
       same = told.same;
       err = λ clean ours is_open. tt;
       clean = told.clean;
@@ -22,6 +23,7 @@ returns-in-Err-note_damaged g c =
     let told = c.in-Ok.ensures in
     record {
       notes = λ clean ours. tt;
+      cause = λ clean ours. inr (c.in-Ok.digest, told.hashes clean ours, c.in-Err-note_damaged.ensures.damaged, refl);
       same = λ clean ours. tt;
       err = λ clean ours is_open. inl (told.same clean ours);
       clean = told.clean;

@@ -1,4 +1,4 @@
-use Rattle.std.proofs.Common.{◌≡◌, List}
+use Rattle.std.proofs.Common.{◌≡◌, List, length}
 use Rattle.sha2.specs.Hashers.{Holds256}
 use Rattle.sqlite.specs.Order.{Row}
 use Rattle.sqlite.specs.State.{HasCleanDisk, Survives, IsUnchanged}
@@ -15,5 +15,5 @@ invariant-rows g l =
     let old = state g.S.Store l.fn.connection in
     let now = state g.S.Store l.rows.conn.now in
     (l.rows.conn.ghost_name ≡ l.initial.rows.conn.ghost_name) × (IsPlain (understood old.now.schema l.sql) → Survives old now (λ _. ⊥))
-    × (HasCleanDisk now → IsPlain (understood old.now.schema l.sql) → (given : List Row) × HasGiven g.S.Store l.sql (bound l.params) l.rows.conn.now given × IsUnchanged old now × Holds256 l.hasher (joined given))
+    × (HasCleanDisk now → IsPlain (understood old.now.schema l.sql) → (given : List Row) × HasGiven g.S.Store l.sql (bound l.params) l.rows.conn.now given × IsUnchanged old now × Holds256 l.hasher (joined given) × (length given ≡ l.counter))
     × (HasCleanDisk now → HasCleanDisk old)

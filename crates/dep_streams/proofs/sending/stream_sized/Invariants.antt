@@ -7,5 +7,5 @@ use Rattle.dep_streams.proofs.sending.stream_sized.Given as goal
 abbrev pub invariant-rows : goal.invariant-rows
 invariant-rows g l =
     (l.rows.conn.ghost_name ≡ l.initial.rows.conn.ghost_name)
-    × HasSent g.S.Store l.sql (bound l.params) (state g.S.Store l.fn.connection) l.rows.conn.now l.fn.size l.left
+    × HasSent g.S.Store l.sql (bound l.params) (state g.S.Store l.fn.connection) l.rows.conn.now l.fn.size l.left l.counter
     (g.O.Outlet.taken l.fn.out) (g.O.Outlet.taken l.out) (g.O.Outlet.failures l.fn.out) (g.O.Outlet.failures l.out)

@@ -1,4 +1,4 @@
-use Rattle.std.proofs.Common.{[], Ok, Err, filter, refl, sym, subst}
+use Rattle.std.proofs.Common.{[], Ok, Err, Some, filter, refl, sym, subst}
 use Rattle.std.proofs.KnownBytes.{Appends-nil}
 use Rattle.sqlite.specs.Held.{state}
 use Rattle.sqlite.proofs.StateLemmas.{survives_then}
@@ -8,7 +8,14 @@ use Rattle.dep_tables.specs.declared.owner.BlockOwner.TheVariants as owner
 use Rattle.dep_streams.specs.Sent.{SendsBlocks}
 use Rattle.dep_types.specs.Streams.{IsStreamed}
 use Rattle.dep_types.specs.declared.stream_fault.StreamFault.TheVariants.{Writer}
-use Rattle.dep_streams.proofs.FaultsTold.{none_failed, no_file_failed, asked_failed, writer_before, writer_after, none_streamed}
+use Rattle.dep_streams.specs.Causes.{FailsToStream, FailsToGiveBlocks}
+use Rattle.dep_streams.specs.Causes.FailsToStream.{no_size, no_blocks}
+use Rattle.dep_tables.specs.Texts.{blocks_of_text}
+use Rattle.dep_tables.proofs.Leading.{plain_here}
+use Rattle.dep_streams.proofs.OrderedBlocks.{owner_is}
+use Rattle.dep_streams.proofs.Streams.{blocks_from}
+use Rattle.dep_streams.specs.Faults.{IsStreamStoppedBy}
+use Rattle.dep_streams.proofs.FaultsTold.{none_failed, no_file_failed, asked_failed, writer_before, writer_after, none_streamed, told_for, stopped_then}
 use Rattle.dep_files.proofs.Results.{still_ours, same_tables}
 use Rattle.dep_streams.proofs.Streams.{SizeTold, size_told, all_sent, some_sent, kept_then, kept_same, kept_failed, kept_asked, still_on}
 use Rattle.dep_streams.proofs.streaming.stream_content.Goals as goal
@@ -19,6 +26,7 @@ returns-in-Err g c =
     let told = c.fault_of_store.ensures in
     record {
       streams = ([], Appends-nil _, λ clean ours s are. none_streamed s c.args.file c.in-Err.fault c.fault_of_store.result told);
+      why = λ clean ours. subst (IsStreamStoppedBy (FailsToStream c.args.file _ _)) (sym told) (told_for (FailsToStream c.args.file _ _) c.in-Err.fault (no_size (c.in-Err.ensures.cause clean)));
       ok = λ clean ours. tt;
       same = λ clean ours. kept_asked g.S.Store c.args.connection.now c.find_size.new.connection (c.in-Err.ensures.err clean ours);
       «open» = asked.«open»;
@@ -35,6 +43,7 @@ returns-in_default g c =
     let asked = c.find_size.ensures in
     record {
       streams = ([], Appends-nil _, λ clean ours s are. (refl, subst (SizeTold s c.args.file) c.in_default.is (size_told (tables_of old) s c.args.file c.in-Ok.found are ours.trees.ordered.1.1.1.1.0 (c.in-Ok.ensures.ok clean ours))));
+      why = λ clean ours. tt;
       ok = λ clean ours. tt;
       same = λ clean ours. kept_same old (state g.S.Store c.find_size.new.connection) (c.in-Ok.ensures.same clean ours);
       «open» = asked.«open»;
@@ -62,6 +71,7 @@ returns-in-Ok-stream_blocks g c =
             let sends = subst (λ (t : Tables). SendsBlocks (filter (is_block_of (owner.File c.args.file)) t.blocks) c.in-Some.found.size sent.streams.0 (Ok tt)) (same_tables old mid same) (sent.streams.2 clean (still_ours old mid same ours)) in
             all_sent (tables_of old) s c.args.file c.in-Some.found.size sent.streams.0 tt tt are told sends,
       );
+      why = λ clean ours. tt;
       ok = λ clean ours.
           let same = c.in-Ok.ensures.same (before clean) ours in
           still_on g.S.Store old c.find_size.new.connection c.stream_blocks.new.connection same (sent.ok clean (still_ours old mid same ours));
@@ -96,6 +106,11 @@ returns-in-Err-stream_blocks g c =
             let sends = subst (λ (t : Tables). SendsBlocks (filter (is_block_of (owner.File c.args.file)) t.blocks) c.in-Some.found.size sent.streams.0 (Err fault)) (same_tables old mid same) (sent.streams.2 clean (still_ours old mid same ours)) in
             subst (λ e. IsStreamed {X = Unit {0}} s c.args.file sent.streams.0 (Err e)) (sym is) (some_sent (tables_of old) s c.args.file c.in-Some.found.size sent.streams.0 fault are told sends),
       );
+      why = λ clean ours.
+          let same = c.in-Ok.ensures.same (before clean) ours in
+          let row = sym (rw c.in-Some.is at (c.in-Ok.ensures.ok (before clean) ours)) in
+          subst (IsStreamStoppedBy (FailsToStream c.args.file old new)) (sym is)
+          (stopped_then (FailsToGiveBlocks (owner.File c.args.file) (Some c.in-Some.found.size) mid new) (FailsToStream c.args.file old new) fault (λ of it. no_blocks c.in-Some.found row (blocks_from (owner.File c.args.file) (Some c.in-Some.found.size) old mid new of (plain_here old blocks_of_text ours owner_is.plain) same (c.find_size.ensures.survives ours) it)) (sent.why clean (still_ours old mid same ours)));
       ok = λ clean ours. tt;
       same = λ clean ours is_open.
           let same = c.in-Ok.ensures.same (before clean) ours in

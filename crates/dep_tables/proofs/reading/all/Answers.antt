@@ -1,7 +1,12 @@
-use Rattle.std.proofs.Common.{take_all, is_ok, not, ap, sym, subst, ◌∙◌}
+use Rattle.std.proofs.Common.{◌≢◌, ◌<◌, ℕ, List, [], ◌∷◌, length, inr, take_all, is_ok, not, ap, sym, subst, arith, ◌∙◌}
 use Rattle.dep_statements.specs.Rows.{columns_from}
 use Rattle.dep_tables.proofs.ReadRows.{told_more}
+use Rattle.dep_tables.specs.Rows.{HasKinds}
 use Rattle.dep_tables.proofs.reading.all.Goals as goal
+
+some_there : {X : Type 0} (xs : List X) (i : ℕ) → i < length xs → xs ≢ []
+some_there [] i inside none = omega (arith, inside)
+some_there (x ∷ xs) i inside none = absurd (cc)
 
 pub rows-preserved : goal.rows-preserved
 rows-preserved g c =
@@ -14,6 +19,7 @@ pub returns-clause-told : goal.returns-clause-told
 returns-clause-told g c = rw (take_all c.rows.row-index c.args.rows.now c.rows-test.false) at c.rows.invariant
 
 pub returns-in-Err-clause-refused : goal.returns-in-Err-clause-refused
-returns-in-Err-clause-refused g c all =
-    let ours = subst g.R.FromRow.is_ours (sym c.row-item.is) (all c.rows.row-index c.row-item.result c.rows-test.true) in
-    c.fault_of.ensures ∙ c.in-Err.ensures.refused ours
+returns-in-Err-clause-refused g c =
+    let ours = rw c.kinds.ensures at (c.have_kinds.ensures.0 c.if-not-have_kinds.false) in
+    let this = subst (HasKinds g.R.FromRow.columns) (sym c.row-item.is) (ours c.rows.row-index c.row-item.result c.rows-test.true) in
+    inr (tt, ours, some_there c.args.rows.now c.rows.row-index c.rows-test.true, c.fault_of.ensures ∙ (c.in-Err.ensures.refused this).1)

@@ -1,4 +1,4 @@
-use Rattle.std.proofs.Common.{◌≡◌, List, inl, inr, [], sym, ap, map, length, subst, arith, rules}
+use Rattle.std.proofs.Common.{◌≡◌, List, inl, inr, [], refl, sym, ap, map, length, subst, arith, rules}
 use Rattle.std.proofs.lemmas.Result.{IfOk-from_err}
 use Rattle.std.proofs.lemmas.List.{length-map}
 use Rattle.sqlite.specs.Order.{Row}
@@ -7,7 +7,7 @@ use Rattle.dep_tables.proofs.Chains.{stays_ok, stays_err}
 use Rattle.dep_tables.specs.Texts.{read_state_text}
 use Rattle.dep_tables.proofs.Leading.{plain_here}
 use Rattle.dep_tables.specs.Rows.{IsStateRow}
-use Rattle.dep_tables.specs.Clauses.{FailsToRead, JustOne}
+use Rattle.dep_tables.specs.Clauses.{FailsToReadNumbers, JustOne}
 use Rattle.dep_tables.proofs.Results.{err_then}
 use Rattle.dep_tables.proofs.Refused.{refused_one}
 use Rattle.dep_tables.proofs.StateTable.{reads_state, read_is}
@@ -34,7 +34,7 @@ returns-in_err-found-clause-cause g c clean =
     let old = g.T.Statements.state c.args.tx.now in
     let new = g.T.Statements.state c.ask_one.new.tx in
     let failed = refused_one IsStateRow read_state_text [] old new c.in_err-found.field-0.0 (c.in_err-found.ensures.cause clean) in
-    err_then c.from_residual.result c.from_residual.ensures.1 (λ e is. let same : e ≡ c.in_err-found.field-0.0 = cc in subst (FailsToRead (JustOne IsStateRow) read_state_text [] old new) (sym same) failed)
+    err_then c.from_residual.result c.from_residual.ensures.1 (λ e is. let same : e ≡ c.in_err-found.field-0.0 = cc in subst (FailsToReadNumbers (JustOne IsStateRow) read_state_text [] old new) (sym same) failed)
 
 pub returns-in-Some-clause-cause : goal.returns-in-Some-clause-cause
 returns-in-Some-clause-cause g c clean = tt
@@ -57,7 +57,7 @@ returns-in_err-found-clause-same g c clean ours = IfOk-from_err c.from_residual.
 pub returns-in-None-clause-cause : goal.returns-in-None-clause-cause
 returns-in-None-clause-cause g c clean =
     let shown = rw c.in-None.is at (c.in_ok-found.ensures.shown clean) in
-    inr (shown.0, shown.1, λ ours. absurd (none_shown shown.0 shown.2 ours.1))
+    inr (shown.0, shown.1, inl (λ ours. none_shown shown.0 shown.2 ours.1, refl))
 
 pub returns-in-Some-clause-stays : goal.returns-in-Some-clause-stays
 returns-in-Some-clause-stays g c = stays_ok c.in_ok-found.ensures.stays

@@ -4,30 +4,30 @@ use Rattle.dep_types.specs.declared.config.Config.{Config}
 use Rattle.sqlite.proofs.Callers.{memory_is_clean}
 use Rattle.dep_server.specs.Conversation.{wire, session}
 use Rattle.swordd.specs.Replays.{Replays, refused, not_begun}
-use Rattle.dep_store.specs.declared.outcome.Outcome.{Outcome}
+use Rattle.dep_program.specs.declared.outcome.Outcome.{Outcome}
 use Rattle.swordd.proofs.ReplayLemmas.{comes_to, rests_same}
 use Rattle.swordd.proofs.replay.replay.Goals as goal
 
 pub returns-in_default : goal.returns-in_default
-returns-in_default g c = not_begun (rests_same (wire (g.R.Read.remaining c.args.reader.now) (g.W.Outlet.taken c.args.writer.now) (g.W.Outlet.failures c.args.writer.now)))
+returns-in_default g c = not_begun (rests_same (wire (g.R.Inlet.unread c.args.reader.now) (g.R.Inlet.reads c.args.reader.now) (g.R.Inlet.last c.args.reader.now) (g.W.Outlet.taken c.args.writer.now) (g.W.Outlet.failures c.args.writer.now)))
 
 pub returns-in_default-new_store : goal.returns-in_default-new_store
-returns-in_default-new_store g c = not_begun (rests_same (wire (g.R.Read.remaining c.args.reader.now) (g.W.Outlet.taken c.args.writer.now) (g.W.Outlet.failures c.args.writer.now)))
+returns-in_default-new_store g c = not_begun (rests_same (wire (g.R.Inlet.unread c.args.reader.now) (g.R.Inlet.reads c.args.reader.now) (g.R.Inlet.last c.args.reader.now) (g.W.Outlet.taken c.args.writer.now) (g.W.Outlet.failures c.args.writer.now)))
 
 pub returns-in-Err-Memory-default : goal.returns-in-Err-Memory-default
-returns-in-Err-Memory-default g c = not_begun (rests_same (wire (g.R.Read.remaining c.args.reader.now) (g.W.Outlet.taken c.args.writer.now) (g.W.Outlet.failures c.args.writer.now)))
+returns-in-Err-Memory-default g c = not_begun (rests_same (wire (g.R.Inlet.unread c.args.reader.now) (g.R.Inlet.reads c.args.reader.now) (g.R.Inlet.last c.args.reader.now) (g.W.Outlet.taken c.args.writer.now) (g.W.Outlet.failures c.args.writer.now)))
 
 pub returns-in-Err-Config-default : goal.returns-in-Err-Config-default
 returns-in-Err-Config-default g c =
     refused (λ checked. c.in-Err-Config-default.ensures.refused c.in-Err-Config-default.field-0-0-is (subst (λ (x : Config). IsChecked x) (sym c.in-Ok.ensures) checked))
-    (rests_same (wire (g.R.Read.remaining c.args.reader.now) (g.W.Outlet.taken c.args.writer.now) (g.W.Outlet.failures c.args.writer.now)))
+    (rests_same (wire (g.R.Inlet.unread c.args.reader.now) (g.R.Inlet.reads c.args.reader.now) (g.R.Inlet.last c.args.reader.now) (g.W.Outlet.taken c.args.writer.now) (g.W.Outlet.failures c.args.writer.now)))
 
 pub returns : goal.returns
 returns g c =
-    let before = wire (g.R.Read.remaining c.args.reader.now) (g.W.Outlet.taken c.args.writer.now) (g.W.Outlet.failures c.args.writer.now) in
-    let after = wire (g.R.Read.remaining c.serve_connection.new.reader) (g.W.Outlet.taken c.serve_connection.new.writer) (g.W.Outlet.failures c.serve_connection.new.writer) in
+    let before = wire (g.R.Inlet.unread c.args.reader.now) (g.R.Inlet.reads c.args.reader.now) (g.R.Inlet.last c.args.reader.now) (g.W.Outlet.taken c.args.writer.now) (g.W.Outlet.failures c.args.writer.now) in
+    let after = wire (g.R.Inlet.unread c.serve_connection.new.reader) (g.R.Inlet.reads c.serve_connection.new.reader) (g.R.Inlet.last c.serve_connection.new.reader) (g.W.Outlet.taken c.serve_connection.new.writer) (g.W.Outlet.failures c.serve_connection.new.writer) in
     subst (λ (o : Outcome). Replays c.args.base.now c.args.moment before after o) (sym c.outcome_of.ensures)
     (comes_to _ _ c.args.moment (λ f. f.0 ≡ c.args.moment) (λ before after m p e. ((search of_calls), (search of_calls)))
-    c.args.base.now (session _ c.in-Ok-new.hub before _) c.serve_connection.new.hub after
+    c.args.base.now (session _ c.in-Ok-new.hub before _) (session _ c.serve_connection.new.hub after _)
     (c.in-Ok-new.ensures.stands _ c.in-Ok-new_store.ensures) (memory_is_clean c.serve_connection.new.hub.store) (c.in-Ok-new.ensures.config ∙ c.in-Ok.ensures) refl
     c.serve_connection.result c.serve_connection.ensures.converses)

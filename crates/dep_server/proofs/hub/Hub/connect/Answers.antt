@@ -15,7 +15,7 @@ returns-clause-moves g c =
     connects_moves g.A.Archive.condition c.args.self.now _ refl c.new-2.result refl c.new-2.ensures
     (c.in_default.ensures.items ∙ (λ i. c.args.self.now.connections.items ++ record {
       number = sym c.new-2.ensures i;
-      intake = (c.new.ensures ∙ ap (λ (x : Config). record { limit = x.max_upload; place = Open false [] }) c.config.ensures) i;
+      intake = (c.new.ensures ∙ ap (λ (x : Config). record { limit = x.max_upload; place = Open false []; is_dead = false }) c.config.ensures) i;
     } ∷ []))
 
 pub returns-clause-adds : goal.returns-clause-adds

@@ -1,36 +1,37 @@
-use Rattle.std.proofs.Common.{refl}
-use Rattle.dep_tables.proofs.Refused.{passed_on, next_column, file_row}
+use Rattle.std.proofs.Common.{refl, arith}
+use Rattle.dep_tables.specs.Rows.{file_kinds}
+use Rattle.dep_tables.proofs.Refused.{passed_on, copied_on, next_column, kind_at}
 use Rattle.dep_tables.proofs.files.FileRowFromRow.from_row.Goals as goal
 
 pub returns-in_err-number_at-clause-refused : goal.returns-in_err-number_at-clause-refused
-returns-in_err-number_at-clause-refused c = passed_on c.from_residual.result c.in_err-number_at.field-0.0 c.from_residual.ensures.1 c.in_err-number_at.ensures.refused (λ ours. (file_row c.args.row.now ours).0)
+returns-in_err-number_at-clause-refused c = passed_on _ c.from_residual.result c.from_residual.ensures.0 c.in_err-number_at.ensures.refused (kind_at file_kinds c.args.row.now 0 (omega arith))
 
 pub returns-in_err-number_at-2-clause-refused : goal.returns-in_err-number_at-2-clause-refused
-returns-in_err-number_at-2-clause-refused c = passed_on c.from_residual-in_err-number_at-2.result c.in_err-number_at-2.field-0.0 c.from_residual-in_err-number_at-2.ensures.1 c.in_err-number_at-2.ensures.refused (λ ours. (file_row c.args.row.now ours).1)
+returns-in_err-number_at-2-clause-refused c = passed_on _ c.from_residual-in_err-number_at-2.result c.from_residual-in_err-number_at-2.ensures.0 c.in_err-number_at-2.ensures.refused (kind_at file_kinds c.args.row.now 1 (omega arith))
 
 pub returns-in_err-text_at-clause-refused : goal.returns-in_err-text_at-clause-refused
-returns-in_err-text_at-clause-refused c = passed_on c.from_residual-in_err-text_at.result c.in_err-text_at.field-0.0 c.from_residual-in_err-text_at.ensures.1 c.in_err-text_at.ensures.refused (λ ours. (file_row c.args.row.now ours).2)
+returns-in_err-text_at-clause-refused c = copied_on c.from_residual-in_err-text_at.result c.in_err-text_at.field-0.0 c.from_residual-in_err-text_at.ensures.1 c.in_err-text_at.ensures.refused (kind_at file_kinds c.args.row.now 2 (omega arith))
 
 pub returns-in_err-text_at-2-clause-refused : goal.returns-in_err-text_at-2-clause-refused
-returns-in_err-text_at-2-clause-refused c = passed_on c.from_residual-in_err-text_at-2.result c.in_err-text_at-2.field-0.0 c.from_residual-in_err-text_at-2.ensures.1 c.in_err-text_at-2.ensures.refused (λ ours. (file_row c.args.row.now ours).3)
+returns-in_err-text_at-2-clause-refused c = copied_on c.from_residual-in_err-text_at-2.result c.in_err-text_at-2.field-0.0 c.from_residual-in_err-text_at-2.ensures.1 c.in_err-text_at-2.ensures.refused (kind_at file_kinds c.args.row.now 3 (omega arith))
 
 pub returns-in_err-number_at-3-clause-refused : goal.returns-in_err-number_at-3-clause-refused
-returns-in_err-number_at-3-clause-refused c = passed_on c.from_residual-in_err-number_at-3.result c.in_err-number_at-3.field-0.0 c.from_residual-in_err-number_at-3.ensures.1 c.in_err-number_at-3.ensures.refused (λ ours. (file_row c.args.row.now ours).4)
+returns-in_err-number_at-3-clause-refused c = passed_on _ c.from_residual-in_err-number_at-3.result c.from_residual-in_err-number_at-3.ensures.0 c.in_err-number_at-3.ensures.refused (kind_at file_kinds c.args.row.now 4 (omega arith))
 
 pub returns-in_err-number_at-4-clause-refused : goal.returns-in_err-number_at-4-clause-refused
-returns-in_err-number_at-4-clause-refused c = passed_on c.from_residual-in_err-number_at-4.result c.in_err-number_at-4.field-0.0 c.from_residual-in_err-number_at-4.ensures.1 c.in_err-number_at-4.ensures.refused (λ ours. (file_row c.args.row.now ours).5)
+returns-in_err-number_at-4-clause-refused c = passed_on _ c.from_residual-in_err-number_at-4.result c.from_residual-in_err-number_at-4.ensures.0 c.in_err-number_at-4.ensures.refused (kind_at file_kinds c.args.row.now 5 (omega arith))
 
 pub returns-in_err-number_at-5-clause-refused : goal.returns-in_err-number_at-5-clause-refused
-returns-in_err-number_at-5-clause-refused c = passed_on c.from_residual-in_err-number_at-5.result c.in_err-number_at-5.field-0.0 c.from_residual-in_err-number_at-5.ensures.1 c.in_err-number_at-5.ensures.refused (λ ours. (file_row c.args.row.now ours).6)
+returns-in_err-number_at-5-clause-refused c = passed_on _ c.from_residual-in_err-number_at-5.result c.from_residual-in_err-number_at-5.ensures.0 c.in_err-number_at-5.ensures.refused (kind_at file_kinds c.args.row.now 6 (omega arith))
 
 pub returns-in_err-text_or_null_at-clause-refused : goal.returns-in_err-text_or_null_at-clause-refused
-returns-in_err-text_or_null_at-clause-refused c = passed_on c.from_residual-in_err-text_or_null_at.result c.in_err-text_or_null_at.field-0.0 c.from_residual-in_err-text_or_null_at.ensures.1 c.in_err-text_or_null_at.ensures.refused (λ ours. (file_row c.args.row.now ours).7)
+returns-in_err-text_or_null_at-clause-refused c = copied_on c.from_residual-in_err-text_or_null_at.result c.in_err-text_or_null_at.field-0.0 c.from_residual-in_err-text_or_null_at.ensures.1 c.in_err-text_or_null_at.ensures.refused (kind_at file_kinds c.args.row.now 7 (omega arith))
 
 pub returns-in_err-flag_at-clause-refused : goal.returns-in_err-flag_at-clause-refused
-returns-in_err-flag_at-clause-refused c = passed_on c.from_residual-in_err-flag_at.result c.in_err-flag_at.field-0.0 c.from_residual-in_err-flag_at.ensures.1 c.in_err-flag_at.ensures.refused (λ ours. (file_row c.args.row.now ours).8)
+returns-in_err-flag_at-clause-refused c = passed_on _ c.from_residual-in_err-flag_at.result c.from_residual-in_err-flag_at.ensures.0 c.in_err-flag_at.ensures.refused (kind_at file_kinds c.args.row.now 8 (omega arith))
 
 pub returns-in_err-digest_at-clause-refused : goal.returns-in_err-digest_at-clause-refused
-returns-in_err-digest_at-clause-refused c = passed_on c.from_residual-in_err-digest_at.result c.in_err-digest_at.field-0.0 c.from_residual-in_err-digest_at.ensures.1 c.in_err-digest_at.ensures.refused (λ ours. (file_row c.args.row.now ours).9)
+returns-in_err-digest_at-clause-refused c = passed_on _ c.from_residual-in_err-digest_at.result c.from_residual-in_err-digest_at.ensures.0 c.in_err-digest_at.ensures.refused (kind_at file_kinds c.args.row.now 9 (omega arith))
 
 pub returns-clause-told : goal.returns-clause-told
 returns-clause-told c = next_column c.in_ok-number_at.ensures.told (next_column c.in_ok-number_at-2.ensures.told (next_column c.in_ok-text_at.ensures.told (next_column c.in_ok-text_at-2.ensures.told (next_column c.in_ok-number_at-3.ensures.told (next_column c.in_ok-number_at-4.ensures.told (next_column c.in_ok-number_at-5.ensures.told (next_column c.in_ok-text_or_null_at.ensures.told (next_column c.in_ok-flag_at.ensures.told (next_column c.in_ok-digest_at.ensures.told refl)))))))))

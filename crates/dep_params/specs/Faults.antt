@@ -1,0 +1,10 @@
+-- The numbers of the faults of a disposition.
+use Rattle.std.specs.Prelude.{ℕ}
+use Rattle.dep_params.specs.declared.disposition.ParamFault.{ParamFault}
+use Rattle.dep_params.specs.declared.disposition.ParamFault.TheVariants.{Malformed, Repeated, NoName, Memory}
+
+abbrev pub fault_number : ParamFault → ℕ
+fault_number Malformed = 1
+fault_number Repeated = 2
+fault_number NoName = 3
+fault_number Memory = 4

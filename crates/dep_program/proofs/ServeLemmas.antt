@@ -1,0 +1,101 @@
+-- Connections that are served one after another.
+use Rattle.std.proofs.Common.{◌≡◌, ℕ, ◌+◌, List, [], ◌∷◌, ◌++◌, length, refl, sym, subst, arith}
+use Rattle.std.proofs.lemmas.List.{append-nil, length-append, flat_map_more}
+use Rattle.std.proofs.lemmas.List.Elements.{All-nil, All-append, All-cons}
+use Rattle.std.specs.Prelude.{All, None}
+use Rattle.std.specs.List.{FoldsTo}
+use Rattle.dep_types.specs.Conditions.{Condition}
+use Rattle.dep_types.specs.declared.inlet.LastRead.{LastRead}
+use Rattle.dep_types.specs.declared.inlet.LastRead.TheVariants.{NoneYet}
+use Rattle.dep_server.specs.Standing.{StandsAfter, IsClean}
+use Rattle.dep_server.specs.Turns.{Turn, records_of, ArePieces}
+use Rattle.dep_server.specs.Conversation.{Wire, wire, session, Clocks, Converses, ConversesOver}
+use Rattle.dep_server.specs.declared.connection.Served.{Served}
+use Rattle.dep_server.specs.declared.connection.Served.TheVariants.{Ended, Closed, Unserved, ReadFault, WriteFault, Bound}
+use Rattle.dep_server.specs.declared.hub.Hub.{Hub}
+use Rattle.dep_program.specs.Serves.{ServesOne, Conversation, AreAmong, ServesThese, all_records_of, all_turns_of}
+
+-- one list of steps behind another
+folds_join : {C A : Type 0} (r : C → A → C → Type 0) (a : C) (xs ys : List A) (b c : C) → FoldsTo r a xs b → FoldsTo r b ys c → FoldsTo r a (xs ++ ys) c
+folds_join r a [] ys b c f g = subst (λ d. FoldsTo r d ys c) (sym f) g
+folds_join r a (x ∷ xs) ys b c f g = (f.0, f.1, folds_join r f.0 xs ys b c f.2 g)
+
+module _ {A : Type 0} (condition : A → Condition) {C : Type 0} (ticks : C → ℕ → C → Type 0) (clock : C) (old : Hub A) where
+  -- so many connections were served, up to this hub and this clock
+  pub record Progress (now : C) (new : Hub A) (count : ℕ) : Type 0 where
+    pub talks : List Conversation
+    pub among : AreAmong talks count
+    pub these : ServesThese condition old new talks
+    pub moments : Clocks ticks clock (all_turns_of talks) now
+
+  pub none_served : Progress clock old 0
+  none_served = record {
+    talks = [];
+    among = (0, refl);
+    these = record {
+      sizes = All-nil (λ (t : Conversation). ArePieces t.turns);
+      adds = λ clean first records h. subst (λ r. StandsAfter condition old first r) (sym (append-nil records)) h;
+    };
+    moments = refl;
+  }
+
+  module _ (now later : C) (mid new : Hub A) (count : ℕ) (p : Progress now mid count) (back : IsClean condition new → IsClean condition mid) where
+    unserved_more : (before after : Wire) → ConversesOver condition ticks (session condition mid before now) (session condition new after later) Unserved → Progress later new (count + 1)
+    unserved_more before after v = record {
+      talks = p.talks;
+      among = (p.among.0 + 1, let e = p.among.1 in omega arith);
+      these = record {
+        sizes = p.these.sizes;
+        adds = λ clean first records h. subst (λ r. StandsAfter condition new first r) (append-nil (records ++ all_records_of p.talks))
+            (v.adds clean first (records ++ all_records_of p.talks) (p.these.adds (back clean) first records h));
+      };
+      moments = subst (λ c. Clocks ticks clock (all_turns_of p.talks) c) (sym v.same_clock) p.moments;
+    }
+
+    talk_more : (before after : Wire) (end : Served) → Converses condition ticks (session condition mid before now) (session condition new after later) end → Progress later new (count + 1)
+    talk_more before after end v =
+        let talk : Conversation = record { number = v.number; turns = v.turns } in
+        let long = length-append p.talks (talk ∷ []) in
+        let counted = p.among.1 in
+        record {
+          talks = p.talks ++ talk ∷ [];
+          among = (p.among.0, omega arith);
+          these = record {
+            sizes = All-append (λ (t : Conversation). ArePieces t.turns) p.talks (talk ∷ []) p.these.sizes
+                (All-cons (λ (t : Conversation). ArePieces t.turns) talk [] v.sizes (All-nil (λ (t : Conversation). ArePieces t.turns)));
+            adds = λ clean first records h. subst (λ r. StandsAfter condition new first r) (flat_map_more (λ (t : Conversation). records_of t.number t.turns) records p.talks talk)
+                (v.adds clean first (records ++ all_records_of p.talks) (p.these.adds (back clean) first records h));
+          };
+          moments = subst (λ turns. Clocks ticks clock turns later) (flat_map_more (λ (t : Conversation). t.turns) [] p.talks talk)
+              (folds_join (λ before (t : Turn) after. ticks before t.moment after) clock (all_turns_of p.talks) v.turns now later p.moments v.moments);
+        }
+
+    more : (served : Served) (before after : Wire) → ConversesOver condition ticks (session condition mid before now) (session condition new after later) served → Progress later new (count + 1)
+    more Unserved before after v = unserved_more before after v
+    more Ended before after v = talk_more before after Ended v
+    more Closed before after v = talk_more before after Closed v
+    more ReadFault before after v = talk_more before after ReadFault v
+    more WriteFault before after v = talk_more before after WriteFault v
+    more Bound before after v = talk_more before after Bound v
+
+    pub one_served : (served : Served) (v : ServesOne condition ticks now later mid new served) → Progress later new (count + 1)
+    one_served served v = more served _ v.after v.converses
+
+-- a connection over a socket at which nothing was read, and to which no write has failed
+pub over_socket : {A : Type 0} (condition : A → Condition) {C : Type 0} (ticks : C → ℕ → C → Type 0) (clock now : C) (old new : Hub A) (end : Served)
+    (reads failures : ℕ) (last : LastRead) (after : Wire) → reads ≡ 0 → last ≡ NoneYet → failures ≡ 0
+    → ConversesOver condition ticks (session condition old (wire None reads last None failures) clock) (session condition new after now) end
+    → ServesOne condition ticks clock now old new end
+over_socket condition ticks clock now old new end reads failures last after r l f converses = record {
+  after = after;
+  converses = subst (λ n. ConversesOver condition ticks (session condition old (wire None 0 NoneYet None n) clock) (session condition new after now) end) f
+      (subst (λ x. ConversesOver condition ticks (session condition old (wire None 0 x None failures) clock) (session condition new after now) end) l
+      (subst (λ n. ConversesOver condition ticks (session condition old (wire None n last None failures) clock) (session condition new after now) end) r converses));
+}
+
+-- the same over the same hub
+pub same_served : {A : Type 0} (condition : A → Condition) (old mid new : Hub A) (talks : List Conversation) → new ≡ mid → ServesThese condition old mid talks → ServesThese condition old new talks
+same_served condition old mid new talks same m = subst (λ hub. ServesThese condition old hub talks) (sym same) m
+
+pub so_many : (talks : List Conversation) (k count : ℕ) → k ≡ count → AreAmong talks k → AreAmong talks count
+so_many talks k count same m = subst (λ n. AreAmong talks n) same m

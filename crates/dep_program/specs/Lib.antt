@@ -1,0 +1,5 @@
+pub mod Setup
+pub mod Clock
+pub mod Addresses
+pub mod Serves
+pub mod Outcomes

@@ -1,0 +1,20 @@
+-- The exit status of each outcome, and its line on standard error.
+use Rattle.std.specs.Prelude.{ℕ, List, Option, Some, None, codes}
+use Rattle.dep_program.specs.declared.outcome.Outcome.{Outcome}
+use Rattle.dep_program.specs.declared.outcome.Outcome.TheVariants.{Done, Usage, NoSuchObject, StoreFault, TransferFault, Damaged}
+
+abbrev pub status_of : Outcome → ℕ
+status_of Done = 0
+status_of Usage = 1
+status_of NoSuchObject = 1
+status_of StoreFault = 2
+status_of TransferFault = 3
+status_of Damaged = 4
+
+abbrev pub line_of : Outcome → Option (List ℕ)
+line_of Done = None
+line_of Usage = Some (codes "usage: swordd replay MOMENT BASE | serve PORT DB COUNT | export DB ID DIR | audit DB")
+line_of NoSuchObject = Some (codes "swordd: no such object")
+line_of StoreFault = Some (codes "swordd: store fault")
+line_of TransferFault = Some (codes "swordd: input or output fault")
+line_of Damaged = None

@@ -1,0 +1,66 @@
+-- Connections that are accepted at a listener and served one after another.
+use Rattle.std.specs.Prelude.{◌≡◌, ◌⊎◌, ◌<◌, ◌+◌, ℕ, List, All, None, length}
+use Rattle.std.specs.List.{flat_map}
+use Rattle.dep_server.specs.Records.{Record}
+use Rattle.dep_server.specs.Turns.{Turn, records_of, ArePieces}
+use Rattle.dep_server.specs.Conversation.{Wire, wire, session, AddsAll, Clocks, ConversesOver}
+use Rattle.dep_types.specs.Conditions.{Condition}
+use Rattle.dep_types.specs.declared.inlet.LastRead.TheVariants.{NoneYet}
+use Rattle.dep_server.specs.declared.hub.Hub.{Hub}
+use Rattle.dep_server.specs.declared.connection.Served.{Served}
+use Rattle.dep_program.specs.declared.outcome.Outcome.{Outcome}
+use Rattle.dep_program.specs.declared.outcome.Outcome.TheVariants.{Done, TransferFault}
+
+-- a connection that was opened: its number, and its turns
+pub record Conversation : Type 0 where
+  pub number : ℕ
+  pub turns : List Turn
+
+-- the records of connections, one connection after another
+abbrev pub all_records_of : List Conversation → List Record
+all_records_of talks = flat_map (λ t. records_of t.number t.turns) talks
+
+-- all turns of connections, in the same order
+abbrev pub all_turns_of : List Conversation → List Turn
+all_turns_of talks = flat_map (λ t. t.turns) talks
+
+-- so many connections, of which some could not be opened
+abbrev pub AreAmong : List Conversation → (count : ℕ) → Type 0
+AreAmong talks count = (unserved : ℕ) × (length talks + unserved ≡ count)
+
+-- all of them were served, or those before accepting failed
+abbrev pub AreServed : List Conversation → (count : ℕ) → Outcome → Type 0
+AreServed talks count outcome =
+    (AreAmong talks count × (outcome ≡ Done))
+    ⊎ ((k : ℕ) × (k < count) × AreAmong talks k × (outcome ≡ TransferFault))
+
+-- an accepted socket, over which nothing went yet: it tells neither what it will give nor what it took
+abbrev pub socket_wire : Wire
+socket_wire = wire None 0 NoneYet None 0
+
+module _ {A : Type 0} (condition : A → Condition) where
+  -- one connection over an accepted socket
+  pub record ServesOne {C : Type 0} (ticks : C → ℕ → C → Type 0) (clock now : C)
+      (old new : Hub A) (served : Served) : Type 0 where
+    pub after : Wire
+    pub converses : ConversesOver condition ticks (session condition old socket_wire clock)
+        (session condition new after now) served
+
+  -- For all records that it stood for, the hub stands for them with those of the connections behind
+  -- them, one connection after another.
+  pub record ServesThese (old new : Hub A) (talks : List Conversation) : Type 0 where
+    pub sizes : All (λ t. ArePieces t.turns) talks
+    pub adds : AddsAll condition old new (all_records_of talks)
+
+  -- connections are served, each piece at the clock's answer
+  abbrev pub Serves : {C : Type 0} → (ticks : C → ℕ → C → Type 0) → (clock : C)
+      → (old new : Hub A) → (count : ℕ) → Outcome → Type 0
+  Serves {C} ticks clock old new count outcome = (talks : List Conversation)
+      × AreServed talks count outcome × ServesThese old new talks
+      × ((last : C) × Clocks ticks clock (all_turns_of talks) last)
+
+  -- the same at whatever moments; or the port could not be had
+  abbrev pub ServesAt : (old new : Hub A) → (count : ℕ) → Outcome → Type 0
+  ServesAt old new count outcome =
+      ((talks : List Conversation) × AreServed talks count outcome × ServesThese old new talks)
+      ⊎ ((new ≡ old) × (outcome ≡ TransferFault))

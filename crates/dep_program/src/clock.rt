@@ -1,0 +1,21 @@
+//! The machine's clock.
+ghost use Rattle.std.specs.Prelude.{◌≡◌, min};
+ghost use Rattle.dep_types.specs.Limits.{greatest_moment};
+ghost use Rattle.dep_program.specs.Clock.{seconds_of};
+
+use dep_moment::Moment;
+use std::io;
+use std::time::{SystemTime, UNIX_EPOCH};
+
+/// The moment of a reading of the clock, in whole seconds since 1970; the first one where the clock can't be read.
+pub fn moment_of(reading: io::Result<SystemTime>) -> Moment
+    ensures { result ≡ min (seconds_of reading) greatest_moment }
+{
+    match reading {
+        Ok(time) => match time.duration_since(UNIX_EPOCH) {
+            Ok(since) => Moment::new(since.as_secs()),
+            Err(_) => Moment::new(0),
+        },
+        Err(_) => Moment::new(0),
+    }
+}

@@ -1,0 +1,52 @@
+//! What a run of the program comes to.
+ghost use Rattle.std.specs.Prelude.{◌≡◌};
+ghost use Rattle.std.specs.Option.{option_copied};
+ghost use Rattle.dep_program.specs.Outcomes.{status_of, line_of};
+
+/// What a run of the program comes to.
+#[derive(Clone, Copy, Debug, PartialEq, Eq)]
+pub enum Outcome {
+    /// What was asked for was done.
+    Done,
+    /// The words are wrong, or the configuration is refused.
+    Usage,
+    /// There is no such object.
+    NoSuchObject,
+    /// The store failed, or there was no memory.
+    StoreFault,
+    /// The input or the output failed, or the input went on for too many reads.
+    TransferFault,
+    /// An audit was done, and found files whose bytes are not those that were deposited.
+    Damaged,
+}
+
+const USAGE: &str =
+    "usage: swordd replay MOMENT BASE | serve PORT DB COUNT | export DB ID DIR | audit DB";
+
+impl Outcome {
+    /// The exit status of the program.
+    pub fn status(self) -> u8
+        ensures { result ≡ status_of self }
+    {
+        match self {
+            Outcome::Done => 0,
+            Outcome::Usage | Outcome::NoSuchObject => 1,
+            Outcome::StoreFault => 2,
+            Outcome::TransferFault => 3,
+            Outcome::Damaged => 4,
+        }
+    }
+
+    /// The line on standard error, where there is one.
+    pub fn line(self) -> Option<&'static str>
+        ensures { option_copied result ≡ line_of self }
+    {
+        match self {
+            Outcome::Done | Outcome::Damaged => None,
+            Outcome::Usage => Some(USAGE),
+            Outcome::NoSuchObject => Some("swordd: no such object"),
+            Outcome::StoreFault => Some("swordd: store fault"),
+            Outcome::TransferFault => Some("swordd: input or output fault"),
+        }
+    }
+}

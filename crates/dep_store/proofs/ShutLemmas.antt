@@ -1,0 +1,54 @@
+-- A store that a fault shut: what fails on it, and what stands again once a statement was given back.
+use Rattle.std.proofs.Common.{◌∙◌, Result, Ok, Err, OnOk, OnErr, IsErr, IsTrue, inl, inr, arith}
+use Rattle.sqlite.specs.State as db
+use Rattle.sqlite.specs.State.{HasCleanDisk, Survives}
+use Rattle.dep_types.specs.State.{State}
+use Rattle.dep_tables.specs.Tables.{Tables}
+use Rattle.dep_schema.specs.Standing.{Stands}
+use Rattle.dep_schema.specs.States.{StandsFor}
+use Rattle.dep_schema.specs.Transactions.{Transacts, IsBackAt}
+use Rattle.dep_schema.proofs.Transactions.{stands_left}
+use Rattle.dep_schema.proofs.Transacting.{IsSettled, left_still}
+use Rattle.dep_store.specs.Shut.{LeavesNoMore, FailsIfShut}
+
+on_any : {A E : Type 0} (r : Result A E) (P : Type 0) → P → OnOk r P
+on_any (Ok answer) P h = h
+on_any (Err e) P h = tt
+
+on_none : {A E : Type 0} (r : Result A E) (P : Type 0) → IsErr r → OnOk r P
+on_none (Ok answer) P failed = cc failed
+on_none (Err e) P failed = tt
+
+-- nothing was committed
+pub leaves_no_more : (old new : db.State) → Survives old new (λ _. ⊥) → LeavesNoMore old new
+leaves_no_more old new survives clean shut trees h = elim (survives.crash clean trees h) [ inl earlier ↦ earlier | inr none ↦ absurd none ]
+
+-- it failed, and nothing was committed
+pub fails_still : {A E : Type 0} (old new : db.State) (r : Result A E) → IsErr r → Survives old new (λ _. ⊥) → FailsIfShut old new r
+fails_still old new r failed survives = record { opened = λ clean. on_none r _ failed; left = leaves_no_more old new survives }
+
+-- the store was open
+pub was_open_then : {A E : Type 0} (old new : db.State) (r : Result A E) → (HasCleanDisk new → IsTrue old.is_open) → FailsIfShut old new r
+was_open_then old new r was = record { opened = λ clean. on_any r _ (was clean); left = λ clean shut trees h. absurd (shut (was clean)) }
+
+-- all was given back, and the store is open
+pub tables_back : (old new : db.State) (t : Tables) → IsBackAt old new → IsTrue new.is_open → Stands old t → Stands new t
+tables_back old new t back is_open stands =
+    let it = back is_open in
+    stands_left old new t stands is_open it.3 (it.1 ∙ stands.committed) it.2
+
+pub state_back : (old new : db.State) (s : State) → IsBackAt old new → IsTrue new.is_open → StandsFor old s → StandsFor new s
+state_back old new s back is_open stands =
+    record { tables = stands.tables; stands = tables_back old new stands.tables back is_open stands.stands; means = stands.means }
+
+-- it failed, and all was given back
+pub fails_back : {A E : Type 0} (old new : db.State) (r : Result A E) (Makes : Tables → A → Tables → Type 0) → IsErr r → (IsTrue old.is_open → IsSettled old)
+    → IsBackAt old new → Survives old new (λ _. ⊥) → Transacts old new r Makes
+fails_back old new (Ok answer) Makes failed settled back survives = cc failed
+fails_back old new (Err e) Makes failed settled back survives = record {
+  ok = λ clean t stands. tt;
+  err = λ is_open t stands. tables_back old new t back is_open stands;
+  honest = λ clean. omega (arith, clean, survives.clean);
+  was_open = λ is_open. (back is_open).0;
+  stop = λ clean t stands trees h. inl (left_still old new t (settled stands.is_open) stands survives clean trees h);
+}

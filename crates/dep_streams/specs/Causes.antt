@@ -1,0 +1,83 @@
+-- Why the blocks of an owner, and the content of a file, were not all read.
+use Rattle.std.specs.List.{Contains}
+use Rattle.std.specs.Prelude.{◌≡◌, ◌≢◌, ◌⊎◌, ℕ, ◌<◌, ◌≤◌, ◌-◌, ◌^◌, pos, List, [], ◌∷◌, ◌++◌, length, Option, None, Some, IsSomeAnd, option_map}
+use Rattle.sqlite.specs.declared.types.Value.TheVariants.{Int}
+use Rattle.sqlite.specs.Order.{Row, column}
+use Rattle.sqlite.specs.State.{State, Shown, Begins}
+use Rattle.dep_statements.specs.Rows.{row_at}
+use Rattle.dep_types.specs.declared.store_fault.StoreFault.{StoreFault}
+use Rattle.dep_types.specs.declared.store_fault.StoreFault.TheVariants.{Store, Memory}
+use Rattle.dep_types.specs.State as types
+use Rattle.dep_types.specs.Streams.{IsPartOfContent}
+use Rattle.dep_row_maps.specs.TablesAre.{TablesAre}
+use Rattle.dep_tables.specs.Clauses.{AtMostOne, FailsToAsk, FailsToReadNumbers}
+use Rattle.dep_tables.specs.Rows.{IsBytesValue, IsStorableOwner, owner_values}
+use Rattle.dep_tables.specs.Tables.{tables_of}
+use Rattle.dep_tables.specs.Texts.{blocks_of_text}
+use Rattle.dep_tables.specs.declared.owner.BlockOwner.{BlockOwner}
+use Rattle.dep_tables.specs.declared.owner.BlockOwner.TheVariants as owner
+use Rattle.dep_types.specs.declared.rows.FileRow.{FileRow}
+use Rattle.dep_manifest.specs.Damaged.{number_unless_kept}
+use Rattle.dep_streams.specs.Fixity.{IsDigestOf}
+use Rattle.dep_streams.specs.Sent.{joined}
+use Rattle.dep_streams.specs.Sizes.{IsSizeRow, find_size_text, size_values, shown_size}
+use Rattle.dep_streams.specs.declared.sizes.FileSize.{FileSize}
+
+-- Why just so many bytes were not read of the blocks that a query shows; with no number, all of them.
+pub data FailsToGive (sql : List ℕ) (params : Row) (size : Option ℕ) (old new : State)
+    (fault : StoreFault) : Type 0 where
+  -- the query failed, at its first row or at a later one
+  query_failed : FailsToAsk sql params old new fault → FailsToGive sql params size old new fault
+  -- its rows have fewer bytes
+  too_few : (rows : List Row) → Shown sql params old old rows
+      → IsSomeAnd size (λ n. length (joined rows) < n) → fault ≡ Store
+      → FailsToGive sql params size old new fault
+  -- a row has no bytes, or more than are left
+  unread : (given : List Row) (next : Row) → Begins sql params old (given ++ next ∷ [])
+      → (¬ (IsBytesValue (column next 2)))
+      ⊎ IsSomeAnd size (λ n. n < length (joined (given ++ next ∷ []))) → fault ≡ Store
+      → FailsToGive sql params size old new fault
+  -- there are more rows than are counted
+  uncounted : (given : List Row) → Begins sql params old given → 2 ^ 64 - 1 ≤ length given
+      → fault ≡ Store → FailsToGive sql params size old new fault
+
+-- the same of the blocks of an owner
+pub data FailsToGiveBlocks (o : BlockOwner) (size : Option ℕ) (old new : State)
+    (fault : StoreFault) : Type 0 where
+  no_owner : ¬ (IsStorableOwner o) → fault ≡ Store → FailsToGiveBlocks o size old new fault
+  not_given : FailsToGive blocks_of_text (owner_values o) size old new fault
+      → FailsToGiveBlocks o size old new fault
+
+-- why the size of a file was not told
+pub data FailsToFindSize (file : ℕ) (old new : State) (fault : StoreFault) : Type 0 where
+  no_number : ¬ (file < 2 ^ 63) → fault ≡ Store → FailsToFindSize file old new fault
+  not_told : FailsToReadNumbers (AtMostOne IsSizeRow) find_size_text (Int (pos file) ∷ []) old new
+      fault → FailsToFindSize file old new fault
+
+-- why the content of a file that is there was not sent, by an outlet that did not fail
+pub data FailsToStream (file : ℕ) (old new : State) (fault : StoreFault) : Type 0 where
+  no_size : FailsToFindSize file old new fault → FailsToStream file old new fault
+  no_blocks : (found : FileSize)
+      → option_map shown_size (row_at (tables_of old).files file) ≡ Some (size_values found)
+      → FailsToGiveBlocks (owner.File file) (Some found.size) old new fault
+      → FailsToStream file old new fault
+
+-- why a content was not loaded; behind a part of it, for want of memory to keep it
+pub data FailsToLoad (file : ℕ) (old new : State) (fault : StoreFault) : Type 0 where
+  not_streamed : FailsToStream file old new fault → FailsToLoad file old new fault
+  not_kept : ((s : types.State) → TablesAre (tables_of old) s
+      → (sent : List ℕ) × IsPartOfContent s file sent) → fault ≡ Memory
+      → FailsToLoad file old new fault
+
+-- why a file was not checked; where it is damaged, for want of memory to note it
+abbrev pub FailsToCheck : FileRow → State → State → StoreFault → Type 0
+FailsToCheck file old new fault =
+    FailsToGiveBlocks (owner.File file.file) None old new fault
+    ⊎ ((digest : List ℕ) × IsDigestOf (tables_of old) (owner.File file.file) digest
+    × (number_unless_kept file digest ≢ []) × (fault ≡ Memory))
+
+-- one of these files was not checked, where the tables were as at first
+abbrev pub FailsToAudit : {T : Type 0} → (T → State) → List FileRow → T → T → StoreFault → Type 0
+FailsToAudit {T} state files old new fault =
+    (file : FileRow) × Contains files file × (at : T) × ((state at).now ≡ (state old).now)
+    × FailsToCheck file (state at) (state new) fault

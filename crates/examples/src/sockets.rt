@@ -1,0 +1,103 @@
+//! One connection over a socket of 127.0.0.1, with its client in the same process.
+
+use crate::archive::MemoryArchive;
+use dep_moment::Moment;
+use dep_program::{Outcome, address, serve_on};
+use dep_server::{Hub, HubFault};
+use example_player::{ExampleArchive, Verdict};
+use example_text::{Cut, Exchange, Settings, Trouble, Words};
+use std::alloc::Global;
+use std::io;
+use std::io::{Read, Write};
+use std::net::{Shutdown, TcpListener, TcpStream};
+
+/// Plays the texts `socket-requests` and `socket-replies`, where the files have them: a client sends the first and
+/// shuts its side, `serve_on` serves that one connection, and the client has to get just the second. It prints a line.
+pub fn play_socket(rt: &HostRuntime, words: &Words) -> io::Result<Verdict> {
+    if words.find("socket-requests").is_none() {
+        return Ok(Verdict::AsWritten);
+    }
+    match exchanged(rt, words) {
+        Ok(()) => {
+            println!(rt; "a socket: as written")?;
+            Ok(Verdict::AsWritten)
+        }
+        Err(why) => {
+            println!(rt; "a socket: {why}")?;
+            Ok(verdict_of(&why))
+        }
+    }
+}
+
+fn verdict_of(why: &Trouble) -> Verdict {
+    match why {
+        Trouble::Memory => Verdict::Unknown,
+        _ => Verdict::Otherwise,
+    }
+}
+
+fn exchanged(rt: &HostRuntime, words: &Words) -> Result<(), Trouble> {
+    let alloc = rt.alloc();
+    let mut exchange = Exchange::new(alloc, Cut::Whole);
+    exchange.line(alloc, words, ">", "\\{socket-requests}\\")?;
+    exchange.line(alloc, words, "<", "\\{socket-replies}\\")?;
+    let mut hub = new_hub(alloc)?;
+    let mut replies = Vec::new(alloc);
+    let got = answered(rt, &exchange, &mut hub, &mut replies);
+    drop(hub);
+    got?;
+    let came = if replies.is_empty() {
+        "unserved"
+    } else {
+        "served"
+    };
+    exchange.has_come(alloc, replies.as_slice(), came, "served")
+}
+
+// A hub over a new archive, by the configuration of the examples.
+fn new_hub(alloc: Global) -> Result<Hub<MemoryArchive>, Trouble> {
+    let settings = Settings::new(alloc)?;
+    match Hub::new(alloc, settings.config(alloc)?, MemoryArchive::made(alloc)?) {
+        Ok(hub) => Ok(hub),
+        Err((fault, store)) => {
+            drop(store);
+            Err(match fault {
+                HubFault::Memory => Trouble::Memory,
+                HubFault::Config => Trouble::Line("the configuration is refused"),
+            })
+        }
+    }
+}
+
+// Sends the requests over a socket, has them served, and takes the replies to their end.
+fn answered(
+    rt: &HostRuntime,
+    exchange: &Exchange,
+    hub: &mut Hub<MemoryArchive>,
+    replies: &mut Vec<u8>,
+) -> Result<(), Trouble> {
+    let (listener, client) = sent(rt, exchange.stream.as_slice()).map_err(transfer_fails)?;
+    let moment = Moment::new(exchange.moment);
+    let outcome = serve_on(rt.alloc(), &listener, 1, hub, || moment);
+    if outcome != Outcome::Done {
+        return Err(Trouble::Line("no connection was accepted"));
+    }
+    let _count = (&client).read_to_end(replies).map_err(transfer_fails)?;
+    Ok(())
+}
+
+// A listener, and a client that has sent it these bytes and sends no more.
+fn sent(rt: &HostRuntime, requests: &[u8]) -> io::Result<(TcpListener, TcpStream)> {
+    let listener = TcpListener::bind(rt, address(0))?;
+    let client = TcpStream::connect(rt, listener.local_addr()?)?;
+    (&client).write_all(requests)?;
+    client.shutdown(Shutdown::Write)?;
+    Ok((listener, client))
+}
+
+fn transfer_fails(error: io::Error) -> Trouble {
+    match error.kind() {
+        io::ErrorKind::OutOfMemory => Trouble::Memory,
+        _ => Trouble::Line("the socket fails"),
+    }
+}
