@@ -52,20 +52,5 @@ module _ {T L : Type 0} {lenders : T → L} {state : T → State} {old mid new :
       let was_open = (second.kept clean within).was_open is_open in
       on_err_weaker r (uncommitted_more (state old) (state mid) (state new) (first.kept before inside) was_open) (fails clean within is_open)
 
--- ---- nothing was asked
-
-as_many : (n : ℕ) → n ≤ n
-as_many n = omega arith
-
 pub some_where : (n : ℕ) → n ≢ 0 → 0 < n
 some_where n some = omega arith
-
-pub survives_itself : (now : State) → Survives now now (λ _. ⊥)
-survives_itself now = record {
-  clean = as_many (doubt now.is_clean);
-  shield = λ h. h;
-  counts = as_many now.faults;
-  limit = refl;
-  closes = λ _ is_open. inl is_open;
-  crash = λ _ db may. inl may;
-}

@@ -35,7 +35,7 @@ use Rattle.dep_tables.specs.Tables.{tables_in}
 use Rattle.dep_tables.proofs.Results.{if_ok}
 use Rattle.dep_row_maps.specs.TablesAre.{TablesAre}
 use Rattle.dep_row_maps.specs.Clauses.{SeesState}
-use Rattle.dep_files.proofs.Results.{survives_itself}
+use Rattle.dep_row_maps.proofs.Causes.{survives_itself}
 use Rattle.dep_requests.specs.Performing.{ChangesNothing, OnlyReads}
 
 -- a step leaves a sound state

@@ -25,7 +25,7 @@ use Rattle.sqlite_resolve.specs.declared.error.CompileError.TheVariants.{NoSuchT
 use Rattle.sqlite_resolve.specs.declared.compiled.Compiled.{Compiled}
 use Rattle.sqlite_resolve.specs.Lowering.{Checked}
 use Rattle.dep_types.specs.declared.store_fault.StoreFault.{StoreFault}
-use Rattle.dep_staging.specs.Causes.{FailsSince}
+use Rattle.dep_row_maps.specs.Causes.{FailsSince}
 use Rattle.dep_tables.specs.Clauses.{CommitsNothing}
 use Rattle.dep_tables.specs.Schema.{our_schema}
 use Rattle.dep_tables.specs.Tables.{tables_of, IsOurs}

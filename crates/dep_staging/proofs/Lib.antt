@@ -5,4 +5,3 @@ pub mod Expired
 pub mod Chains
 pub mod Moved
 pub mod Hashed
-pub mod Causes

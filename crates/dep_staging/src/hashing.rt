@@ -15,7 +15,8 @@ ghost use Rattle.dep_row_maps.specs.Stored.{blocks_of, block_key};
 ghost use Rattle.dep_row_maps.specs.Laws.{HasSegmentsWithin};
 ghost use Rattle.dep_row_maps.specs.TablesAre.{TablesAre};
 ghost use Rattle.dep_files.specs.Reading.{Tells};
-ghost use Rattle.dep_staging.specs.Causes.{FailsSince, FailsToHash, HasStorableSegments};
+ghost use Rattle.dep_row_maps.specs.Causes.{FailsSince};
+ghost use Rattle.dep_staging.specs.Causes.{FailsToHash, HasStorableSegments};
 ghost use Rattle.dep_staging.specs.Hashing.{IsSegmentOf, received_bytes};
 
 use dep_files::BLOCK_SIZE;

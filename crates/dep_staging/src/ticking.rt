@@ -13,7 +13,8 @@ ghost use Rattle.dep_row_maps.specs.Stored.{state_row};
 ghost use Rattle.dep_row_maps.specs.TablesAre.{TablesAre, with_counters};
 ghost use Rattle.dep_row_maps.specs.Clauses.{FromMaps, KeepsOurs, FailsUncommitted, FailsReadingUncommitted};
 ghost use Rattle.dep_staging.specs.Expiring.{timed_out, expired_at, expired_all};
-ghost use Rattle.dep_staging.specs.Causes.{FailsByOne, FailsSince, FailsToExpire, FailsToExpireAll, FailsToTick, HasStorableNumbers};
+ghost use Rattle.dep_row_maps.specs.Causes.{FailsByOne, FailsSince};
+ghost use Rattle.dep_staging.specs.Causes.{FailsToExpire, FailsToExpireAll, FailsToTick, HasStorableNumbers};
 
 use crate::uploads::drop_upload;
 use dep_tables::{

@@ -10,7 +10,8 @@ ghost use Rattle.dep_tables.specs.Rows.{IsStorableUpload, upload_values};
 ghost use Rattle.dep_tables.specs.Texts.{insert_upload_text};
 ghost use Rattle.dep_row_maps.specs.TablesAre.{TablesAre, with_upload};
 ghost use Rattle.dep_row_maps.specs.Clauses.{FromMaps, KeepsOurs, FailsUncommitted};
-ghost use Rattle.dep_staging.specs.Causes.{FailsByOne, FailsToDrop};
+ghost use Rattle.dep_row_maps.specs.Causes.{FailsByOne};
+ghost use Rattle.dep_staging.specs.Causes.{FailsToDrop};
 
 use dep_tables::{
     BlockOwner, Statements, delete_blocks, delete_segments, delete_upload, insert_upload,

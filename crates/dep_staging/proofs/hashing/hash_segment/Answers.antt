@@ -11,7 +11,7 @@ use Rattle.dep_files.proofs.Results.{still_ours, same_tables}
 use Rattle.dep_files.proofs.Cuts.{one_block_more, all_blocks}
 use Rattle.dep_staging.proofs.Chains.{failed_since}
 use Rattle.dep_staging.specs.Causes.{FailsToHash}
-use Rattle.dep_staging.proofs.Causes.{fails_later}
+use Rattle.dep_row_maps.proofs.Causes.{fails_later}
 use Rattle.dep_staging.proofs.Hashed.{counted, storable_key}
 use Rattle.dep_staging.proofs.hashing.hash_segment.Goals as goal
 

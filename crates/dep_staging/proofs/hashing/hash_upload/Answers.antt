@@ -13,11 +13,11 @@ use Rattle.dep_row_maps.specs.TablesAre.{TablesAre, segments_at, joined}
 use Rattle.dep_row_maps.proofs.Pieces.{assembled-joined}
 use Rattle.dep_row_maps.proofs.Readings.{segments_read}
 use Rattle.dep_row_maps.proofs.Whole.{segments_there}
-use Rattle.dep_files.proofs.Results.{still_ours, same_tables, survives_itself}
+use Rattle.dep_files.proofs.Results.{still_ours, same_tables}
 use Rattle.dep_staging.proofs.Chains.{fails_reading}
 use Rattle.dep_staging.specs.Causes.{FailsToHash}
 use Rattle.dep_staging.specs.Causes.FailsToHash.{segments}
-use Rattle.dep_staging.proofs.Causes.{fails_then, fails_later, if_err_is}
+use Rattle.dep_row_maps.proofs.Causes.{fails_then, fails_later, if_err_is, survives_itself}
 use Rattle.dep_staging.proofs.Hashed.{of_entry, entry_of, segment_is, storable_segment}
 use Rattle.dep_staging.proofs.hashing.hash_upload.Goals as goal
 

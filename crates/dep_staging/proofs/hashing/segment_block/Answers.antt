@@ -1,10 +1,9 @@
 use Rattle.std.proofs.Common.{inl}
 use Rattle.dep_tables.specs.Tables.{tables_of}
 use Rattle.dep_tables.proofs.Results.{if_failed}
-use Rattle.dep_files.proofs.Results.{survives_itself}
 use Rattle.dep_staging.specs.Causes.{FailsToHash}
 use Rattle.dep_staging.specs.Causes.FailsToHash.{block}
-use Rattle.dep_staging.proofs.Causes.{fails_then, if_err_is}
+use Rattle.dep_row_maps.proofs.Causes.{fails_then, if_err_is, survives_itself}
 use Rattle.dep_staging.proofs.Hashed.{block_is, block_there}
 use Rattle.dep_staging.proofs.hashing.segment_block.Goals as goal
 

@@ -3,13 +3,13 @@ use Rattle.std.specs.FinMap as finmap
 use Rattle.dep_tables.specs.Tables.{Tables, tables_of}
 use Rattle.dep_tables.proofs.Results.{ok_then}
 use Rattle.dep_tables.proofs.Chains.{clean_before, stays_then}
-use Rattle.dep_files.proofs.Results.{fails_behind, survives_itself}
+use Rattle.dep_files.proofs.Results.{fails_behind}
 use Rattle.dep_row_maps.specs.TablesAre.{TablesAre}
 use Rattle.dep_row_maps.proofs.Whole.{timed_out_put}
 use Rattle.dep_staging.specs.Expiring.{timed_out}
 use Rattle.dep_staging.specs.Causes.{FailsToDrop, FailsToExpire}
 use Rattle.dep_staging.specs.Causes.FailsToExpire.{drop, number}
-use Rattle.dep_staging.proofs.Causes.{fails_then, fails_later, if_err_then, if_err_is}
+use Rattle.dep_row_maps.proofs.Causes.{fails_then, fails_later, if_err_then, if_err_is, survives_itself}
 use Rattle.dep_staging.proofs.ticking.expire.Goals as goal
 
 pub returns-clause-map : goal.returns-clause-map

@@ -10,7 +10,7 @@ use Rattle.dep_staging.specs.Expiring.{expired_all}
 use Rattle.dep_staging.proofs.Next.{next_of, none_after}
 use Rattle.dep_staging.specs.Causes.{FailsToExpireAll}
 use Rattle.dep_staging.specs.Causes.FailsToExpireAll.{next}
-use Rattle.dep_staging.proofs.Causes.{fails_then, fails_later, if_err_is}
+use Rattle.dep_row_maps.proofs.Causes.{fails_then, fails_later, if_err_is}
 use Rattle.dep_staging.proofs.Expired.{none_expired, one_more, all_expired, next_there, expire_fails}
 use Rattle.dep_staging.proofs.ticking.expire_idle.Goals as goal
 

@@ -5,12 +5,12 @@ use Rattle.dep_tables.specs.Tables.{Tables, tables_of}
 use Rattle.dep_tables.proofs.Results.{ok_then, if_failed}
 use Rattle.dep_tables.proofs.Chains.{clean_before, stays_then}
 use Rattle.dep_row_maps.specs.TablesAre.{TablesAre}
-use Rattle.dep_files.proofs.Results.{still_ours, same_tables, left_whole, uncommitted_behind, survives_itself}
+use Rattle.dep_files.proofs.Results.{still_ours, same_tables, left_whole, uncommitted_behind}
 use Rattle.dep_staging.specs.Expiring.{timed_out}
 use Rattle.dep_staging.proofs.Loaded.{idle_is}
 use Rattle.dep_staging.specs.Causes.{FailsToExpire, FailsToExpireAll}
 use Rattle.dep_staging.specs.Causes.FailsToExpireAll.{found, ended}
-use Rattle.dep_staging.proofs.Causes.{fails_then, fails_later, if_err_then, if_err_is}
+use Rattle.dep_row_maps.proofs.Causes.{fails_then, fails_later, if_err_then, if_err_is, survives_itself}
 use Rattle.dep_staging.proofs.ticking.expire_if_idle.Goals as goal
 
 pub returns-then-is_idle-clause-map : goal.returns-then-is_idle-clause-map

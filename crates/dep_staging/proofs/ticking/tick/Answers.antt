@@ -5,7 +5,7 @@ use Rattle.dep_tables.specs.declared.state.StateRow.{StateRow}
 use Rattle.dep_row_maps.specs.Stored.{state_row}
 use Rattle.dep_row_maps.specs.TablesAre.{TablesAre}
 use Rattle.dep_row_maps.proofs.Readings.{state_read}
-use Rattle.dep_files.proofs.Results.{still_ours, same_tables, left_whole, fails_behind, uncommitted_behind, survives_itself}
+use Rattle.dep_files.proofs.Results.{still_ours, same_tables, left_whole, fails_behind, uncommitted_behind}
 use Rattle.dep_staging.proofs.Expired.{tick_is, ticked_clock, ticked_row, storable_tick, no_upload_0, storable_uploads}
 use Rattle.dep_tables.proofs.Results.{if_failed}
 use Rattle.dep_tables.proofs.Chains.{clean_before, stays_then, stays_ok, stays_err}
@@ -14,7 +14,7 @@ use Rattle.dep_tables.specs.Rows.{IsStorableState, state_values}
 use Rattle.dep_tables.specs.Texts.{write_state_text}
 use Rattle.dep_staging.specs.Causes.{FailsToExpireAll, FailsToTick}
 use Rattle.dep_staging.specs.Causes.FailsToTick.{read, written, expired}
-use Rattle.dep_staging.proofs.Causes.{fails_then, fails_later, if_err_is}
+use Rattle.dep_row_maps.proofs.Causes.{fails_then, fails_later, if_err_is, survives_itself}
 use Rattle.dep_staging.proofs.ticking.tick.Goals as goal
 
 pub returns-clause-map : goal.returns-clause-map

@@ -1,11 +1,11 @@
 use Rattle.dep_tables.specs.Tables.{tables_of}
 use Rattle.dep_tables.proofs.Results.{ok_then, if_failed}
 use Rattle.dep_tables.proofs.Chains.{clean_before, stays_then, stays_err}
-use Rattle.dep_files.proofs.Results.{fails_behind, survives_itself}
+use Rattle.dep_files.proofs.Results.{fails_behind}
 use Rattle.dep_staging.proofs.UploadCalls.{dropped}
 use Rattle.dep_staging.specs.Causes.{FailsToDrop}
 use Rattle.dep_staging.specs.Causes.FailsToDrop.{blocks, segments, row}
-use Rattle.dep_staging.proofs.Causes.{fails_then, if_err_then, if_err_is, never_failed}
+use Rattle.dep_row_maps.proofs.Causes.{fails_then, if_err_then, if_err_is, never_failed, survives_itself}
 use Rattle.dep_staging.proofs.uploads.drop_upload.Goals as goal
 
 pub returns-clause-map : goal.returns-clause-map

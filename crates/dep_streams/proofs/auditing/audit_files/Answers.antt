@@ -9,7 +9,7 @@ use Rattle.sqlite.proofs.StateLemmas.{survives_then, unchanged}
 use Rattle.dep_tables.specs.Tables.{Tables, tables_of}
 use Rattle.dep_tables.specs.declared.owner.BlockOwner.TheVariants as owner
 use Rattle.dep_types.specs.declared.rows.FileRow.{FileRow}
-use Rattle.dep_files.proofs.Results.{survives_itself}
+use Rattle.dep_row_maps.proofs.Causes.{survives_itself}
 use Rattle.dep_streams.specs.Fixity.{IsDigestOf, KeepsDamaged}
 use Rattle.dep_manifest.specs.Damaged.{number_unless_kept}
 use Rattle.dep_streams.proofs.Stills.{still_then, ours_still, tables_still, kept_still, failed_still}

@@ -11,7 +11,8 @@ use Rattle.dep_streams.specs.Causes.{FailsToGive, FailsToGiveBlocks}
 use Rattle.dep_streams.specs.Causes.FailsToGiveBlocks.{no_owner, not_given}
 use Rattle.dep_streams.proofs.FaultsTold.{none_stopped, store_stopped, stopped_more}
 use Rattle.dep_streams.proofs.OrderedBlocks.{sends_owner, owner_is}
-use Rattle.dep_files.proofs.Results.{some_where, survives_itself}
+use Rattle.dep_row_maps.proofs.Causes.{survives_itself}
+use Rattle.dep_files.proofs.Results.{some_where}
 use Rattle.dep_streams.proofs.blocks.stream_blocks.Goals as goal
 
 pub returns : goal.returns

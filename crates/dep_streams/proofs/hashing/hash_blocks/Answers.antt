@@ -15,7 +15,7 @@ use Rattle.dep_tables.proofs.BlocksTable.{of_owner, tests_owner, order, by_place
 use Rattle.dep_tables.proofs.Results.{if_then, if_err, not_storable}
 use Rattle.dep_streams.specs.Causes.FailsToGiveBlocks.{no_owner, not_given}
 use Rattle.dep_streams.proofs.OrderedBlocks.{owner_is}
-use Rattle.dep_files.proofs.Results.{survives_itself}
+use Rattle.dep_row_maps.proofs.Causes.{survives_itself}
 use Rattle.dep_streams.proofs.hashing.hash_blocks.Goals as goal
 
 abbrev values : List Term

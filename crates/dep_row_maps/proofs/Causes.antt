@@ -1,10 +1,25 @@
--- A failure after calls that committed nothing.
-use Rattle.std.proofs.Common.{◌≡◌, Result, Ok, Err, IfErr, IsErrAnd, subst, sym}
+-- A failure behind calls that committed nothing.
+use Rattle.std.proofs.Common.{◌≡◌, ℕ, ◌≤◌, refl, arith, Result, Ok, Err, IfErr, IsErrAnd, inl, subst, sym}
 use Rattle.sqlite.specs.State as db
 use Rattle.sqlite.specs.State.{Survives}
 use Rattle.sqlite.proofs.StateLemmas.{survives_then}
+use Rattle.sqlite_trees.specs.View.{doubt}
 use Rattle.dep_types.specs.declared.store_fault.StoreFault.{StoreFault}
-use Rattle.dep_staging.specs.Causes.{FailsSince}
+use Rattle.dep_row_maps.specs.Causes.{FailsSince}
+
+pub as_many : (n : ℕ) → n ≤ n
+as_many n = omega arith
+
+-- nothing was asked
+pub survives_itself : (now : db.State) → Survives now now (λ _. ⊥)
+survives_itself now = record {
+  clean = as_many (doubt now.is_clean);
+  shield = λ h. h;
+  counts = as_many now.faults;
+  limit = refl;
+  closes = λ _ is_open. inl is_open;
+  crash = λ _ db may. inl may;
+}
 
 pub if_err_then : {A : Type 0} {P Q : StoreFault → Type 0} (r : Result A StoreFault) → IfErr r P → ((fault : StoreFault) → P fault → Q fault) → IfErr r Q
 if_err_then (Ok x) p f = tt
@@ -19,6 +34,10 @@ if_err_is P (Err e) fault is p = subst P (sym is) p
 pub never_failed : {A E P : Type 0} (x : A) (e : E) → ◌≡◌ {A = Result A E} (Ok x) (Err e) → P
 never_failed x e same = absurd (cc)
 
+-- the first statement fails
+pub fails_first : {T : Type 0} (state : T → db.State) (old new : T) (fails : db.State → db.State → StoreFault → Type 0) (fault : StoreFault) → fails (state old) (state new) fault → FailsSince state fails old new fault
+fails_first state old new fails fault by = record { at = old; since = survives_itself (state old); by = by }
+
 module _ {T : Type 0} (state : T → db.State) (old mid new : T) (since : Survives (state old) (state mid) (λ _. ⊥)) where
   -- a statement fails at once
   pub fails_then : (fails : db.State → db.State → StoreFault → Type 0) (fault : StoreFault) → fails (state mid) (state new) fault → FailsSince state fails old new fault
@@ -32,3 +51,7 @@ module _ {T : Type 0} (state : T → db.State) (old mid new : T) (since : Surviv
     since = survives_then (state old) (state mid) (state it.at) _ _ (λ _. ⊥) (λ _ left none. none) (λ _ left none. none) since it.since;
     by = among (state it.at) (state new) fault it.by;
   }
+
+  -- one of the same fails later
+  pub fails_behind_them : (fails : db.State → db.State → StoreFault → Type 0) (fault : StoreFault) → FailsSince state fails mid new fault → FailsSince state fails old new fault
+  fails_behind_them fails = fails_later fails fails (λ at now fault by. by)
