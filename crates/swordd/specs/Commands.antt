@@ -2,8 +2,8 @@
 use Rattle.std.specs.Prelude.{ℕ, zero, suc, ◌-◌, ◌^◌, List, [], ◌∷◌, Option, Some, None, option_map, codes, bytes_eq, if◌then◌else◌}
 use Rattle.dep_octets.specs.Octets.{decimal_number, value_of}
 use Rattle.dep_types.specs.Numbers.{number_in}
-use Rattle.std_io.specs.declared.io.kind.ErrorKind.{ErrorKind}
-use Rattle.std_io.specs.declared.io.kind.ErrorKind.TheVariants.{OutOfMemory}
+use Rattle.std.specs.declared.io.ErrorKind.{ErrorKind}
+use Rattle.std.specs.declared.io.ErrorKind.TheVariants.{OutOfMemory}
 use Rattle.dep_program.specs.declared.outcome.Outcome.{Outcome}
 use Rattle.dep_program.specs.declared.outcome.Outcome.TheVariants.{Usage, StoreFault}
 use Rattle.swordd.specs.declared.command.Command.{Command}
