@@ -1,1 +1,3 @@
 pub mod ReplayLemmas
+pub mod DatabaseLemmas
+pub mod ExaminationLemmas

@@ -37,7 +37,7 @@ not_nil_more [] r q e = cc
 not_nil_more (x ∷ records) r q e = cc
 
 -- after no records the machine is at its first state
-world_at_first : {config : Config} {first : State} {records : List Record} {w : World} → Run config first records w → records ≡ [] → w ≡ first_world first
+pub world_at_first : {config : Config} {first : State} {records : List Record} {w : World} → Run config first records w → records ≡ [] → w ≡ first_world first
 world_at_first begins e = refl
 world_at_first (goes_on {records} {event} {sent} r h) e = absurd (not_nil records (record { event = event; sent = sent }) e)
 world_at_first (stops {records} r) e = absurd (not_nil records stopped e)

@@ -8,6 +8,8 @@ use Rattle.dep_program.specs.declared.outcome.Outcome.{Outcome}
 use Rattle.dep_program.specs.declared.outcome.Outcome.TheVariants.{Usage, StoreFault}
 use Rattle.swordd.specs.declared.command.Command.{Command}
 use Rattle.swordd.specs.declared.command.Command.TheVariants as command
+use Rattle.swordd.specs.declared.command.Job.{Job}
+use Rattle.swordd.specs.declared.command.Job.TheVariants as job
 
 -- a moment and a base to replay at; a port, a file, and a count of connections to serve; a file, an object and a
 -- folder to export it into; a file to audit
@@ -67,12 +69,16 @@ abbrev pub asked_of : List (List ℕ) → Option Asked
 asked_of [] = None
 asked_of (name ∷ words) = named name words
 
+-- what a job over the store in a file is
+abbrev pub asked_over : (file : List ℕ) → Job → Asked
+asked_over file (job.Serve door) = serve door.port file door.count
+asked_over file (job.Export object folder) = export file object folder.now
+asked_over file job.Audit = audit file
+
 -- what a command is
 abbrev pub asked_in : Command → Asked
 asked_in (command.Replay moment base) = replay moment base.now
-asked_in (command.Serve port file count) = serve port file.now count
-asked_in (command.Export file object folder) = export file.now object folder.now
-asked_in (command.Audit file) = audit file.now
+asked_in (command.WorkOn file its) = asked_over file.now its
 
 -- what it comes to where the words can't be had: a word that isn't UTF-8 is a wrong one
 abbrev pub unread_outcome : ErrorKind → Outcome

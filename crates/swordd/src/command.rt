@@ -4,7 +4,7 @@ ghost use Rattle.dep_octets.specs.Octets.{decimal_number, value_of};
 ghost use Rattle.swordd.specs.Commands.{asked_in, asked_of, replay_of, serve_of, export_of, audit_of, moment_of, from_one, unread_outcome};
 
 use dep_octets::{Number, decimal, positive_decimal};
-use dep_program::Outcome;
+use dep_program::{Door, Outcome};
 use dep_types::GREATEST_NUMBER;
 use std::io::ErrorKind;
 
@@ -12,26 +12,20 @@ use std::io::ErrorKind;
 #[derive(Drop)]
 pub enum Command<'a> {
     /// One connection over standard input and output, each piece at this moment, in seconds since 1970.
-    Replay {
-        moment: u64,
-        base: &'a str,
-    },
-    /// So many connections of 127.0.0.1 at the port, over the store in the file.
-    Serve {
-        port: u64,
-        file: &'a str,
-        count: u64,
-    },
-    /// The bag of an object of the store in the file, into a new folder.
-    Export {
-        file: &'a str,
-        object: u64,
-        folder: &'a str,
-    },
-    /// All files of the store in the file.
-    Audit {
-        file: &'a str,
-    },
+    Replay { moment: u64, base: &'a str },
+    /// The job over the store in the file.
+    WorkOn { file: &'a str, job: Job<'a> },
+}
+
+/// What is done with the store in a file.
+#[derive(Clone, Copy)]
+pub enum Job<'a> {
+    /// Connections are served.
+    Serve(Door),
+    /// The bag of an object goes into a new folder.
+    Export { object: u64, folder: &'a str },
+    /// All files are checked.
+    Audit,
 }
 
 const GREATEST_PORT: u64 = 65_535;
@@ -73,10 +67,14 @@ fn read_serve<'a>(words: &'a [String]) -> Option<Command<'a>>
     let [port, file, count] = words else {
         return None;
     };
-    Some(Command::Serve {
-        port: number_in(port.as_str(), GREATEST_PORT)?,
-        file: file.as_str(),
+    let port = number_in(port.as_str(), GREATEST_PORT)?;
+    let door = Door {
+        port: u16::try_from(port).ok()?,
         count: number_in(count.as_str(), MOST_SERVED)?,
+    };
+    Some(Command::WorkOn {
+        file: file.as_str(),
+        job: Job::Serve(door),
     })
 }
 
@@ -86,10 +84,13 @@ fn read_export<'a>(words: &'a [String]) -> Option<Command<'a>>
     let [file, object, folder] = words else {
         return None;
     };
-    Some(Command::Export {
-        file: file.as_str(),
+    let job = Job::Export {
         object: positive_decimal(object.as_bytes(), GREATEST_NUMBER)?,
         folder: folder.as_str(),
+    };
+    Some(Command::WorkOn {
+        file: file.as_str(),
+        job,
     })
 }
 
@@ -99,8 +100,9 @@ fn read_audit<'a>(words: &'a [String]) -> Option<Command<'a>>
     let [file] = words else {
         return None;
     };
-    Some(Command::Audit {
+    Some(Command::WorkOn {
         file: file.as_str(),
+        job: Job::Audit,
     })
 }
 

@@ -2,6 +2,7 @@
 #![tactic(auto)]
 
 mod command;
+mod examination;
 mod folder;
 mod folder_sink;
 pub mod laws;
@@ -12,9 +13,8 @@ mod store_file;
 
 use crate::command::{Command, unread};
 pub use crate::replay::replay;
-use crate::store_file::{Examination, Job, work_on};
+use crate::store_file::work_on;
 use dep_moment::Moment;
-use dep_program::Door;
 pub use dep_program::{Outcome, serve_on};
 pub use dep_store::{audit_all, export_object};
 use dep_types::{ReaderInlet, Through};
@@ -37,22 +37,7 @@ fn run(rt: &HostRuntime) -> Outcome {
     match Command::read(&words) {
         None => Outcome::Usage,
         Some(Command::Replay { moment, base }) => replay_here(rt, moment, base),
-        Some(Command::Serve { port, file, count }) => match u16::try_from(port) {
-            Ok(port) => work_on(rt, file, Job::Serve(Door { port, count })),
-            Err(_) => Outcome::Usage,
-        },
-        Some(
-            Command::Export {
-                file,
-                object,
-                folder,
-            },
-        ) => work_on(
-            rt,
-            file,
-            Job::Examine(Examination::Export { object, folder }),
-        ),
-        Some(Command::Audit { file }) => work_on(rt, file, Job::Examine(Examination::Audit)),
+        Some(Command::WorkOn { file, job }) => work_on(rt, file, job),
     }
 }
 

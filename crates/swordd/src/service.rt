@@ -1,6 +1,9 @@
 //! A database, served at a port of 127.0.0.1.
-ghost use Rattle.std.specs.Prelude.{◌≡◌, false};
+ghost use Rattle.std.specs.Prelude.{◌≡◌, false, IsTrue};
 ghost use Rattle.sqlite.specs.Held.{state};
+ghost use Rattle.sqlite.specs.State.{HasCleanDisk};
+ghost use Rattle.dep_program.specs.Setup.{program_config, base_at};
+ghost use Rattle.swordd.specs.Databases.{ServesDatabase, outcome_of_start};
 
 use dep_program::{Door, Outcome, configuration_at, serve_at};
 use dep_server::HubFault;
@@ -19,7 +22,14 @@ pub fn serve_database<R: Net<Listener = TcpListener, Stream = TcpStream> + Clock
     connection: Connection<S>,
 ) -> (Outcome, Connection<S>)
     requires settled { (state S.Store connection).in_transaction ≡ false }
+    ensures serves { ServesDatabase (program_config (base_at door.port)) door.count
+        (state S.Store connection) (state S.Store result.1) result.0 }
+    ensures honest { HasCleanDisk (state S.Store result.1) → HasCleanDisk (state S.Store connection) }
+    ensures open { IsTrue (state S.Store result.1).is_open
+        → IsTrue (state S.Store connection).is_open }
 {
+    // For the proof alone: there is nothing that was not committed.
+    let _between = connection.is_autocommit();
     let Ok(config) = configuration_at(alloc, u64::from(door.port)) else {
         return (Outcome::StoreFault, connection);
     };
@@ -28,7 +38,16 @@ pub fn serve_database<R: Net<Listener = TcpListener, Stream = TcpStream> + Clock
             let outcome = serve_at(rt, alloc, door, &mut hub);
             (outcome, hub.into_store().close())
         }
-        Err((StartFault::Hub(HubFault::Config), connection)) => (Outcome::Usage, connection),
-        Err((_, connection)) => (Outcome::StoreFault, connection),
+        Err((fault, connection)) => (outcome_of(fault), connection),
+    }
+}
+
+// What it comes to where no hub is made.
+fn outcome_of(fault: StartFault) -> Outcome
+    ensures { result ≡ outcome_of_start fault }
+{
+    match fault {
+        StartFault::Hub(HubFault::Config) => Outcome::Usage,
+        StartFault::Hub(HubFault::Memory) | StartFault::Open(_) => Outcome::StoreFault,
     }
 }

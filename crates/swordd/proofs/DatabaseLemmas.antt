@@ -1,0 +1,147 @@
+-- What opening, serving and looking through a store make of its database.
+use Rattle.std.proofs.Common.{◌≡◌, ℕ, List, [], ◌∷◌, ◌++◌, inl, inr, IsTrue, refl, sym, ap, subst, ◌∙◌}
+use Rattle.sqlite.specs.Effect.{Database}
+use Rattle.sqlite.specs.Tree.{Trees}
+use Rattle.sqlite.specs.State as db
+use Rattle.sqlite.specs.State.{HasCleanDisk}
+use Rattle.sqlite.specs.Held.{Held, state}
+use Rattle.sqlite_trees.specs.declared.store.Store.{Ghosts}
+use Rattle.dep_types.specs.State.{State, empty_state}
+use Rattle.dep_types.specs.Config.{IsChecked}
+use Rattle.dep_types.specs.declared.config.Config.{Config}
+use Rattle.dep_schema.specs.Standing.{HoldsNone, IsBack}
+use Rattle.dep_schema.specs.States.{StandsFor, IsLeftAs, Leaves}
+use Rattle.dep_schema.proofs.Transacting.{IsSettled, leaves_as_was}
+use Rattle.dep_schema.specs.declared.opening.OpenFault.{OpenFault}
+use Rattle.dep_store.specs.Archive.{condition_of}
+use Rattle.dep_store.specs.Opening.{OpenLeaves}
+use Rattle.dep_store.specs.Starting.{OpeningLeaves}
+use Rattle.dep_store.specs.declared.starting.StartFault.{StartFault}
+use Rattle.dep_store.specs.declared.starting.StartFault.TheVariants as fault
+use Rattle.dep_server.specs.Records.{World, Record, Run, begins, stops, stopped, first_world}
+use Rattle.dep_server.specs.Standing.{StandsAfter, IsClean, IsHonest}
+use Rattle.dep_server.specs.declared.faults.HubFault.{HubFault}
+use Rattle.dep_server.specs.declared.faults.HubFault.TheVariants as refused
+use Rattle.dep_server.specs.declared.hub.Hub.{Hub}
+use Rattle.dep_program.specs.Serves.{all_records_of, ServesAt}
+use Rattle.dep_program.specs.declared.outcome.Outcome.{Outcome}
+use Rattle.dep_program.specs.declared.outcome.Outcome.TheVariants.{StoreFault}
+use Rattle.swordd.specs.Databases.{IsKept, IsRefused, LedTo, GoesOn, ServesDatabase, serves, not_bound, unchecked, not_begun, not_opened, outcome_of_start}
+use Rattle.swordd.proofs.ReplayLemmas.{world_at_first}
+
+-- a stop leaves of an opening for a hub what it leaves of an opening
+pub opening_left : {config : Config} (old new : db.State) → OpeningLeaves config old new → OpenLeaves old new
+opening_left old new leaves = record {
+  fresh = leaves.fresh;
+  found = λ clean is_open s left trees h.
+      let l = leaves.again clean is_open s left s [] begins trees h in (l.0, l.1, l.2.0);
+}
+
+-- between transactions a database that is left alone is as it was committed
+pub left_alone : (d : db.State) → (IsTrue d.is_open → IsSettled d) → (IsTrue d.is_open → d.now ≡ d.committed) → IsRefused d d
+left_alone d settled between = record {
+  back = λ is_open. (between is_open, refl);
+  stop = record {
+    fresh = λ clean is_open none trees h. inl (subst HoldsNone (sym (same is_open trees h)) none);
+    found = λ clean is_open s left trees h. (s, subst (λ (t : Trees). IsLeftAs t s) (sym (same is_open trees h)) left, refl);
+  };
+}
+  where
+    same : (is_open : IsTrue d.is_open) → (trees : Trees) → d.may_leave trees → trees ≡ d.now.trees
+    same is_open trees h = settled is_open trees h ∙ ap (λ (b : Database). b.trees) (sym (between is_open))
+
+module _ {S : Type 0} (g : Ghosts S) (clean : (h : Held S) → IsTrue (state g h).is_open → HasCleanDisk (state g h))
+    (settled : (h : Held S) → IsTrue (state g h).is_open → IsSettled (state g h)) (given : Held S) where
+  module _ (config : Config) (opened : Hub (Held S))
+      (given_config : opened.config ≡ config)
+      (fresh : IsHonest (condition_of g) opened → HoldsNone (state g given).now.trees → StandsAfter (condition_of g) opened empty_state [])
+      (again : IsHonest (condition_of g) opened → (found : State) → IsLeftAs (state g given).now.trees found
+      → (first : State) (records : List Record) → Run config first records (first_world found)
+      → StandsAfter (condition_of g) opened first records) where
+    led : (hub : Hub (Held S)) → hub.config ≡ config → (first : State) (records : List Record)
+        → StandsAfter (condition_of g) hub first records → LedTo config (state g hub.store) first records
+    led hub same first records it =
+        let run : Run config first records it.world = subst (λ (c : Config). Run c first records it.world) same it.run in
+        record {
+          world = it.world;
+          run = run;
+          stands = it.at.state;
+          stop = λ trees h.
+              let l = leaves_as_was (state g hub.store) it.world.state (settled hub.store it.at.state.stands.is_open) it.at.state trees h in
+              (l.0, l.1, subst (λ (s : State). Run config first (records ++ stopped ∷ []) (first_world s)) (sym l.2) (stops run));
+        }
+
+    -- what the hub went on with
+    pub goes_on : (served : Hub (Held S)) (more : List Record) → served.config ≡ opened.config
+        → (IsHonest (condition_of g) served → IsHonest (condition_of g) opened)
+        → (IsClean (condition_of g) served → (first : State) (records : List Record) → StandsAfter (condition_of g) opened first records
+        → StandsAfter (condition_of g) served first (records ++ more))
+        → GoesOn config (state g given) (state g served.store) more
+    goes_on served more same honest adds = record {
+      fresh = λ is_open none. led served (same ∙ given_config) empty_state more
+          (adds is_open empty_state [] (fresh (honest (clean served.store is_open)) none));
+      again = λ is_open found left first records run. led served (same ∙ given_config) first (records ++ more)
+          (adds is_open first records (again (honest (clean served.store is_open)) found left first records run));
+    }
+
+    -- the hub that was opened stands for the state that was found
+    stands_first : (first : State) → StandsAfter (condition_of g) opened first [] → StandsFor (state g opened.store) first
+    stands_first first it = subst (λ (w : World). StandsFor (state g opened.store) w.state) (world_at_first it.run refl) it.at.state
+
+    pub kept_by_hub : OpenLeaves (state g given) (state g opened.store) → IsKept (state g given) (state g opened.store)
+    kept_by_hub stop = record {
+      fresh = λ is_open none. stands_first empty_state (fresh (clean opened.store is_open) none);
+      found = λ is_open s left. stands_first s (again (clean opened.store is_open) s left s [] begins);
+      stop = stop;
+    }
+
+    -- what a run at the port comes to
+    pub served : (count : ℕ) (hub : Hub (Held S)) (back : Held S) (outcome : Outcome) → back ≡ hub.store → hub.config ≡ opened.config
+        → (IsHonest (condition_of g) hub → IsHonest (condition_of g) opened) → OpenLeaves (state g given) (state g opened.store)
+        → ServesAt (condition_of g) opened hub count outcome → ServesDatabase config count (state g given) (state g back) outcome
+    served count hub back outcome same same_config honest stop (inl (talks, are, these)) =
+        subst (λ (h : Held S). ServesDatabase config count (state g given) (state g h) outcome) (sym same)
+        (serves talks outcome are these.sizes (goes_on hub (all_records_of talks) same_config honest these.adds))
+    served count hub back outcome same same_config honest stop (inr (same_hub, fault)) =
+        subst (λ (h : Held S). ServesDatabase config count (state g given) (state g h) outcome) (sym (same ∙ ap (λ (h : Hub (Held S)). h.store) same_hub))
+        (subst (λ (o : Outcome). ServesDatabase config count (state g given) (state g opened.store) o) (sym fault) (not_bound (kept_by_hub stop)))
+
+-- what is told of a database that was opened for a hub which was refused
+abbrev IsKeptFor : (given new : db.State) → Type 0
+IsKeptFor given new = HasCleanDisk new → (HoldsNone given.now.trees → StandsFor new empty_state)
+    × ((found : State) → IsLeftAs given.now.trees found → StandsFor new found)
+
+module _ (given new : db.State) (clean : IsTrue new.is_open → HasCleanDisk new) (stop : OpenLeaves given new) where
+  pub kept_refused : IsKeptFor given new → IsKept given new
+  kept_refused kept = record {
+    fresh = λ is_open. (kept (clean is_open)).0;
+    found = λ is_open. (kept (clean is_open)).1;
+    stop = stop;
+  }
+
+  -- no hub was made
+  pub fails : (config : Config) (count : ℕ) (start : StartFault)
+      → ((f : OpenFault) → start ≡ fault.Open f → IsTrue new.is_open → IsBack given new)
+      → ((f : HubFault) → start ≡ fault.Hub f → IsKeptFor given new)
+      → (start ≡ fault.Hub refused.Config → ¬ IsChecked config)
+      → ServesDatabase config count given new (outcome_of_start start)
+  fails config count (fault.Open f) left kept refuses = not_opened (record { back = left f refl; stop = stop })
+  fails config count (fault.Hub refused.Config) left kept refuses = unchecked (refuses refl) (kept_refused (kept refused.Config refl))
+  fails config count (fault.Hub refused.Memory) left kept refuses = not_begun (kept_refused (kept refused.Memory refl))
+
+-- a store that was opened, and stays as it is
+module _ (given mid new : db.State) (clean : IsTrue new.is_open → HasCleanDisk new) (honest : HasCleanDisk new → HasCleanDisk mid)
+    (fresh : HasCleanDisk mid → HoldsNone given.now.trees → StandsFor mid empty_state)
+    (found : HasCleanDisk mid → (s : State) → IsLeftAs given.now.trees s → StandsFor mid s) where
+  pub kept_still : (IsTrue new.is_open → (s : State) → StandsFor mid s → StandsFor new s)
+      → (HasCleanDisk new → (s : State) → StandsFor mid s → Leaves new (λ left. left ≡ s)) → IsKept given new
+  kept_still carries stop = record {
+    fresh = λ is_open none. carries is_open empty_state (fresh (honest (clean is_open)) none);
+    found = λ is_open s left. carries is_open s (found (honest (clean is_open)) s left);
+    stop = record {
+      fresh = λ is_honest is_open none trees h.
+          let l = stop is_honest empty_state (fresh (honest is_honest) none) trees h in
+          inr (subst (λ (s : State). IsLeftAs trees s) l.2 l.1);
+      found = λ is_honest is_open s left. stop is_honest s (found (honest is_honest) s left);
+    };
+  }

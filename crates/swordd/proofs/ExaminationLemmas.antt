@@ -1,0 +1,97 @@
+-- What an audit and an export tell of the database in which the store was opened.
+use Rattle.std.proofs.Common.{◌≡◌, ℕ, List, [], inl, inr, IsTrue, refl, subst}
+use Rattle.std.proofs.lemmas.List.Elements.{All-nil}
+use Rattle.sqlite.specs.State as db
+use Rattle.sqlite.specs.State.{HasCleanDisk}
+use Rattle.std.specs.declared.io.ErrorKind.{ErrorKind}
+use Rattle.std.specs.declared.io.ErrorKind.TheVariants.{OutOfMemory}
+use Rattle.dep_types.specs.State.{State, empty_state}
+use Rattle.dep_tables.specs.Tables.{Tables}
+use Rattle.dep_bag.specs.Source.{StandsStill}
+use Rattle.dep_schema.specs.Standing.{Holds, HoldsNone, Stands, first_tables}
+use Rattle.dep_schema.specs.States.{StandsFor, IsLeftAs, Leaves}
+use Rattle.dep_schema.proofs.Transacting.{IsSettled, leaves_as_was}
+use Rattle.dep_store.specs.Archive.{shown_by}
+use Rattle.dep_store.specs.Auditing.{IsObjectAudited}
+use Rattle.dep_store.specs.Audits.{Audited, Audits, IsBegun, object_rows}
+use Rattle.dep_store.proofs.Opened.{first_means}
+use Rattle.dep_store.proofs.TellLemmas.{stands_still}
+use Rattle.dep_program.specs.declared.outcome.Outcome.{Outcome}
+use Rattle.dep_program.specs.declared.outcome.Outcome.TheVariants.{StoreFault}
+use Rattle.swordd.specs.Databases.{IsRefused}
+use Rattle.swordd.specs.Examinations.{AuditsDatabase, ExportsDatabase, ExportsInto, without_folder}
+use Rattle.swordd.proofs.DatabaseLemmas.{kept_still}
+
+-- of no object anything was written
+none_begun : (t : Tables) → IsBegun t []
+none_begun t = record {
+  rows = [];
+  others = object_rows t;
+  first = refl;
+  found = [];
+  are = record { objects = refl; audits = All-nil (λ (a : Audited). IsObjectAudited t a.object a.audit) };
+  front = inl (record { rest = []; joined = refl });
+}
+
+-- no folder was filled
+pub unfilled : (s : State) (object : ℕ) (kind : ErrorKind) → ExportsInto s object [] (without_folder kind)
+unfilled s object OutOfMemory = inl (inl refl)
+unfilled s object _ = inr (refl, refl)
+
+-- nothing was done with a store
+pub rests : (d : db.State) → (IsTrue d.is_open → IsSettled d) → StandsStill (shown_by d) (shown_by d)
+rests d settled = record {
+  honest_before = λ honest. honest;
+  open_before = λ is_open. is_open;
+  stays = λ is_open s at. at;
+  stop = λ honest s at. leaves_as_was d s (settled at.stands.is_open) at;
+}
+
+-- a database that was not opened
+module _ (old new : db.State) (refused : IsRefused old new) where
+  pub audits_none : AuditsDatabase old new [] StoreFault
+  audits_none = record {
+    fresh = λ honest none. (first_tables, first_means, none_begun first_tables);
+    found = λ honest t holds. none_begun t;
+    stays = inr (refl, refused);
+    tables = inr (refl, refused);
+  }
+
+  pub exports_none : (object : ℕ) → ExportsDatabase old new object StoreFault
+  exports_none object = record {
+    given = [];
+    fresh = λ honest none. inl (inl refl);
+    found = λ honest s left. inl (inl refl);
+    stays = inr (refl, refused);
+  }
+
+-- a store that was opened
+module _ (given mid new : db.State) (clean : IsTrue new.is_open → HasCleanDisk new) (honest : HasCleanDisk new → HasCleanDisk mid)
+    (fresh : HasCleanDisk mid → HoldsNone given.now.trees → StandsFor mid empty_state)
+    (found : HasCleanDisk mid → (s : State) → IsLeftAs given.now.trees s → StandsFor mid s) where
+  pub audits_all : (written : List ℕ) (outcome : Outcome)
+      → (HasCleanDisk mid → (t : Tables) → Holds given.now.trees t → Stands mid t)
+      → (HasCleanDisk new → (t : Tables) → Stands mid t → Audits t written outcome)
+      → (IsTrue new.is_open → (t : Tables) → Stands mid t → Stands new t)
+      → (HasCleanDisk new → (s : State) → StandsFor mid s → Leaves new (λ left. left ≡ s))
+      → AuditsDatabase given new written outcome
+  audits_all written outcome tables writes still stop = record {
+    fresh = λ is_honest none.
+        let at = fresh (honest is_honest) none in (at.tables, at.means, writes is_honest at.tables at.stands);
+    found = λ is_honest t holds. writes is_honest t (tables (honest is_honest) t holds);
+    stays = inl (kept_still given mid new clean honest fresh found
+        (λ is_open s at. stands_still s at (still is_open at.tables at.stands)) stop);
+    tables = inl (λ is_open t holds. still is_open t (tables (honest (clean is_open)) t holds));
+  }
+
+  pub exports_into : (object : ℕ) (sent : List ℕ) (outcome : Outcome)
+      → (HasCleanDisk new → (s : State) → StandsFor mid s → ExportsInto s object sent outcome)
+      → (IsTrue new.is_open → (s : State) → StandsFor mid s → StandsFor new s)
+      → (HasCleanDisk new → (s : State) → StandsFor mid s → Leaves new (λ left. left ≡ s))
+      → ExportsDatabase given new object outcome
+  exports_into object sent outcome gives still stop = record {
+    given = sent;
+    fresh = λ is_honest none. gives is_honest empty_state (fresh (honest is_honest) none);
+    found = λ is_honest s left. gives is_honest s (found (honest is_honest) s left);
+    stays = inl (kept_still given mid new clean honest fresh found still stop);
+  }

@@ -1,0 +1,19 @@
+use Rattle.std.proofs.Common.{◌≡◌, refl, sym, subst}
+use Rattle.sqlite.specs.Held.{Held, state}
+use Rattle.sqlite.proofs.StateLemmas.{clean_if_open}
+use Rattle.swordd.specs.Examinations.{ExportsDatabase}
+use Rattle.swordd.proofs.ExaminationLemmas.{exports_none, exports_into}
+use Rattle.swordd.proofs.examination.export_database.Goals as goal
+
+pub returns-in-Ok-clause-exports : goal.returns-in-Ok-clause-exports
+returns-in-Ok-clause-exports g c =
+    let run = c.export_into-outcome in
+    let it = run.ensures.gives in
+    subst (λ (h : Held _). ExportsDatabase (state g.S.Store c.args.connection) (state g.S.Store h) c.args.object run.result) (sym c.close.ensures)
+    (exports_into (state g.S.Store c.args.connection) (state g.S.Store c.in-Ok.store) (state g.S.Store run.new.store)
+    (λ is_open. clean_if_open (g.S.Store.view run.new.store.store) (g.met.S.Store.shut_if_dirty run.new.store.store) is_open)
+    run.ensures.still.honest_before c.in-Ok.ensures.fresh c.in-Ok.ensures.found c.args.object it.0 run.result it.1 run.ensures.still.stays run.ensures.still.stop)
+
+pub returns-in-Err-clause-exports : goal.returns-in-Err-clause-exports
+returns-in-Err-clause-exports g c =
+    exports_none (state g.S.Store c.args.connection) (state g.S.Store c.in-Err.connection) (record { back = c.in-Err.ensures.left; stop = c.in-Err.ensures.stop }) c.args.object

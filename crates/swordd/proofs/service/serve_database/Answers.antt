@@ -1,0 +1,35 @@
+use Rattle.std.proofs.Common.{◌≡◌, ℕ, ◌∙◌, ap, sym, subst, rules, arith}
+use Rattle.sqlite.specs.Held.{state}
+use Rattle.sqlite.proofs.StateLemmas.{clean_if_open}
+use Rattle.dep_types.specs.declared.config.Config.{Config}
+use Rattle.dep_program.specs.Setup.{program_config, base_at}
+use Rattle.dep_program.specs.declared.outcome.Outcome.{Outcome}
+use Rattle.swordd.specs.Databases.{ServesDatabase, not_opened}
+use Rattle.swordd.proofs.DatabaseLemmas.{left_alone, opening_left, served, fails}
+use Rattle.swordd.proofs.service.serve_database.Goals as goal
+
+pub returns-in_default-clause-serves : goal.returns-in_default-clause-serves
+returns-in_default-clause-serves g c =
+    not_opened (left_alone (state g.S.Store c.args.connection) (λ is_open trees may. g.met.S.Store.settled c.args.connection.store trees is_open may) (c.is_autocommit-between.ensures.settled (search rules)))
+
+pub returns-in-Ok-open_hub-clause-serves : goal.returns-in-Ok-open_hub-clause-serves
+returns-in-Ok-open_hub-clause-serves g c =
+    let run = c.serve_at-outcome in
+    let port : c.from.result ≡ c.args.door.port = omega arith in
+    let same : c.in-Ok.config ≡ program_config (base_at c.args.door.port) = c.in-Ok.ensures ∙ ap (λ (n : ℕ). program_config (base_at n)) port in
+    subst (λ (x : Config). ServesDatabase x c.args.door.count (state g.S.Store c.args.connection) (state g.S.Store c.close.result) run.result) same
+    (served g.S.Store (λ h is_open. clean_if_open (g.S.Store.view h.store) (g.met.S.Store.shut_if_dirty h.store) is_open)
+    (λ h is_open trees may. g.met.S.Store.settled h.store trees is_open may) c.args.connection c.in-Ok.config c.in-Ok-open_hub.hub
+    c.in-Ok-open_hub.ensures.config c.in-Ok-open_hub.ensures.fresh c.in-Ok-open_hub.ensures.again c.args.door.count run.new.hub c.close.result run.result
+    (c.close.ensures ∙ c.into_store.ensures.same) run.ensures.config run.ensures.honest (opening_left _ _ c.in-Ok-open_hub.ensures.stop) run.ensures.serves)
+
+pub returns-in-Err-clause-serves : goal.returns-in-Err-clause-serves
+returns-in-Err-clause-serves g c =
+    let it = c.in-Err in
+    let port : c.from.result ≡ c.args.door.port = omega arith in
+    let same : c.in-Ok.config ≡ program_config (base_at c.args.door.port) = c.in-Ok.ensures ∙ ap (λ (n : ℕ). program_config (base_at n)) port in
+    subst (λ (x : Config). ServesDatabase x c.args.door.count (state g.S.Store c.args.connection) (state g.S.Store it.connection) c.outcome_of.result) same
+    (subst (λ (o : Outcome). ServesDatabase c.in-Ok.config c.args.door.count (state g.S.Store c.args.connection) (state g.S.Store it.connection) o) (sym c.outcome_of.ensures)
+    (fails (state g.S.Store c.args.connection) (state g.S.Store it.connection)
+    (λ is_open. clean_if_open (g.S.Store.view it.connection.store) (g.met.S.Store.shut_if_dirty it.connection.store) is_open)
+    (opening_left _ _ it.ensures.stop) c.in-Ok.config c.args.door.count it.fault it.ensures.left it.ensures.kept it.ensures.refused))

@@ -1,0 +1,63 @@
+-- What is made of the database of a store that is opened and served, and what a stop then leaves of it.
+use Rattle.std.specs.Prelude.{◌≡◌, ℕ, List, [], ◌∷◌, ◌++◌, All, IsTrue}
+use Rattle.sqlite.specs.State as db
+use Rattle.dep_types.specs.State.{State, empty_state}
+use Rattle.dep_types.specs.Config.{IsChecked}
+use Rattle.dep_types.specs.declared.config.Config.{Config}
+use Rattle.dep_schema.specs.Standing.{HoldsNone, IsBack}
+use Rattle.dep_schema.specs.States.{StandsFor, IsLeftAs, Leaves}
+use Rattle.dep_store.specs.Opening.{OpenLeaves}
+use Rattle.dep_store.specs.declared.starting.StartFault.{StartFault}
+use Rattle.dep_store.specs.declared.starting.StartFault.TheVariants as fault
+use Rattle.dep_server.specs.declared.faults.HubFault.TheVariants as refused
+use Rattle.dep_server.specs.Records.{World, Record, Run, first_world, stopped}
+use Rattle.dep_server.specs.Turns.{ArePieces}
+use Rattle.dep_program.specs.Serves.{Conversation, all_records_of, AreServed}
+use Rattle.dep_program.specs.declared.outcome.Outcome.{Outcome}
+use Rattle.dep_program.specs.declared.outcome.Outcome.TheVariants.{Usage, StoreFault, TransferFault}
+
+-- It was opened as a store: an empty database stands for the initial state, and one that a store left for the state
+-- for which it was left. That is what a stop leaves of it.
+pub record IsKept (old new : db.State) : Type 0 where
+  pub fresh : IsTrue new.is_open → HoldsNone old.now.trees → StandsFor new empty_state
+  pub found : IsTrue new.is_open → (s : State) → IsLeftAs old.now.trees s → StandsFor new s
+  pub stop : OpenLeaves old new
+
+-- it was not opened as a store: it is as it was committed, and what a stop leaves is that of an open
+pub record IsRefused (old new : db.State) : Type 0 where
+  pub back : IsTrue new.is_open → IsBack old new
+  pub stop : OpenLeaves old new
+
+-- these records led from the first state to the one for which it stands; with a stop they lead to what a stop leaves
+pub record LedTo (config : Config) (d : db.State) (first : State) (records : List Record) : Type 0 where
+  pub world : World
+  pub run : Run config first records world
+  pub stands : StandsFor d world.state
+  pub stop : Leaves d (λ left. Run config first (records ++ stopped ∷ []) (first_world left))
+
+-- The machine went on with these records: from the initial state over an empty database, and over one that a store
+-- left from all records that may have led to what was left.
+pub record GoesOn (config : Config) (old new : db.State) (more : List Record) : Type 0 where
+  pub fresh : IsTrue new.is_open → HoldsNone old.now.trees → LedTo config new empty_state more
+  pub again : IsTrue new.is_open → (found : State) → IsLeftAs old.now.trees found
+      → (first : State) (records : List Record) → Run config first records (first_world found)
+      → LedTo config new first (records ++ more)
+
+-- what it comes to where no hub is made
+abbrev pub outcome_of_start : StartFault → Outcome
+outcome_of_start (fault.Hub refused.Config) = Usage
+outcome_of_start (fault.Hub refused.Memory) = StoreFault
+outcome_of_start (fault.Open its) = StoreFault
+
+-- what serving so many connections comes to
+pub data ServesDatabase (config : Config) (count : ℕ) (old new : db.State) : Outcome → Type 0 where
+  serves : (talks : List Conversation) (outcome : Outcome) → AreServed talks count outcome
+      → All (λ t. ArePieces t.turns) talks → GoesOn config old new (all_records_of talks)
+      → ServesDatabase config count old new outcome
+  -- the port could not be had
+  not_bound : IsKept old new → ServesDatabase config count old new TransferFault
+  -- the configuration is refused
+  unchecked : ¬ IsChecked config → IsKept old new → ServesDatabase config count old new Usage
+  -- there was no memory to serve it
+  not_begun : IsKept old new → ServesDatabase config count old new StoreFault
+  not_opened : IsRefused old new → ServesDatabase config count old new StoreFault

@@ -1,0 +1,52 @@
+-- What is told of the database of a store that is looked through, which stays.
+use Rattle.std.specs.Prelude.{◌≡◌, ◌⊎◌, ℕ, List, [], IsTrue}
+use Rattle.sqlite.specs.State as db
+use Rattle.sqlite.specs.State.{HasCleanDisk}
+use Rattle.std.specs.declared.io.ErrorKind.{ErrorKind}
+use Rattle.std.specs.declared.io.ErrorKind.TheVariants.{OutOfMemory}
+use Rattle.dep_types.specs.State.{State, empty_state}
+use Rattle.dep_tables.specs.Tables.{Tables}
+use Rattle.dep_schema.specs.Standing.{Holds, HoldsNone, Stands}
+use Rattle.dep_schema.specs.States.{TablesStandFor, IsLeftAs}
+use Rattle.dep_store.specs.Audits.{Audits}
+use Rattle.dep_store.specs.Exports.{Exports}
+use Rattle.dep_program.specs.declared.outcome.Outcome.{Outcome}
+use Rattle.dep_program.specs.declared.outcome.Outcome.TheVariants.{StoreFault, TransferFault}
+use Rattle.swordd.specs.Databases.{IsKept, IsRefused}
+
+-- it stays as a store; or it was not opened, which is a fault of the store
+abbrev pub Stays : (old new : db.State) → Outcome → Type 0
+Stays old new outcome = IsKept old new ⊎ ((outcome ≡ StoreFault) × IsRefused old new)
+
+-- so do tables that stand for no state
+abbrev pub TablesStay : (old new : db.State) → Outcome → Type 0
+TablesStay old new outcome =
+    (IsTrue new.is_open → (t : Tables) → Holds old.now.trees t → Stands new t)
+    ⊎ ((outcome ≡ StoreFault) × IsRefused old new)
+
+-- What is written is what an audit of the tables writes, by its outcome; of an empty database that of the initial
+-- state.
+pub record AuditsDatabase (old new : db.State) (written : List ℕ) (outcome : Outcome) : Type 0 where
+  pub fresh : HasCleanDisk new → HoldsNone old.now.trees
+      → (t : Tables) × TablesStandFor t empty_state × Audits t written outcome
+  pub found : HasCleanDisk new → (t : Tables) → Holds old.now.trees t → Audits t written outcome
+  pub stays : Stays old new outcome
+  pub tables : TablesStay old new outcome
+
+-- a folder is given what an export gives it, by its outcome; or there is no such folder, and nothing was given
+abbrev pub ExportsInto : State → (object : ℕ) → (given : List ℕ) → Outcome → Type 0
+ExportsInto s object given outcome =
+    Exports s object given outcome ⊎ ((given ≡ []) × (outcome ≡ TransferFault))
+
+-- what an export comes to where its folder can't be made
+abbrev pub without_folder : ErrorKind → Outcome
+without_folder OutOfMemory = StoreFault
+without_folder _ = TransferFault
+
+-- the folder is given the bag of an object; of an empty database that of the initial state, which has none
+pub record ExportsDatabase (old new : db.State) (object : ℕ) (outcome : Outcome) : Type 0 where
+  pub given : List ℕ
+  pub fresh : HasCleanDisk new → HoldsNone old.now.trees → ExportsInto empty_state object given outcome
+  pub found : HasCleanDisk new → (s : State) → IsLeftAs old.now.trees s
+      → ExportsInto s object given outcome
+  pub stays : Stays old new outcome

@@ -1,0 +1,95 @@
+//! A database, looked through: it stays as it is.
+ghost use Rattle.std.specs.Prelude.{◌≡◌, ◌≢◌, ◌⊎◌, ℕ, List, false, IsTrue};
+ghost use Rattle.std.specs.Io.KnownBytes.{Appends};
+ghost use Rattle.sqlite.specs.Held.{state};
+ghost use Rattle.sqlite.specs.State.{HasCleanDisk};
+ghost use Rattle.dep_types.specs.State.{State};
+ghost use Rattle.dep_types.specs.Writing.{HasRisen};
+ghost use Rattle.dep_types.specs.Conditions.{StandsFor};
+ghost use Rattle.dep_bag.specs.Source.{StandsStill};
+ghost use Rattle.dep_store.specs.Archive.{condition_of};
+ghost use Rattle.swordd.specs.Examinations.{AuditsDatabase, ExportsInto, ExportsDatabase, without_folder};
+
+use crate::folder::Folder;
+use crate::folder_sink::FolderSink;
+use dep_program::Outcome;
+use dep_store::{Store, Watch, audit_all, export_object};
+use dep_types::Outlet;
+use sqlite::{Alter, Connection};
+use std::alloc::Global;
+use std::io::ErrorKind;
+
+/// Opens the store in the database, checks all its files, and hands the database back. The lines go to the outlet.
+pub fn audit_database<S: Alter, W: Outlet, P: Watch>(
+    alloc: Global,
+    connection: Connection<S>,
+    lines: &mut W,
+    watch: &mut P,
+) -> (Outcome, Connection<S>)
+    requires settled { (state S.Store connection).in_transaction ≡ false }
+    ensures audits { (written : List ℕ) × Appends (W.taken lines.old) (W.taken lines.new) written
+        × AuditsDatabase (state S.Store connection) (state S.Store result.1) written result.0 }
+    ensures honest { HasCleanDisk (state S.Store result.1) → HasCleanDisk (state S.Store connection) }
+    ensures count { result.0 ≢ Outcome.TransferFault → W.failures lines.new ≡ W.failures lines.old }
+    ensures cause { result.0 ≡ Outcome.TransferFault
+        → HasRisen (W.failures lines.old) (W.failures lines.new) }
+{
+    match Store::open(alloc, connection) {
+        Ok(mut store) => {
+            let outcome = audit_all(alloc, &mut store, lines, watch);
+            (outcome, store.close())
+        }
+        Err((_, connection)) => (Outcome::StoreFault, connection),
+    }
+}
+
+/// Opens the store in the database, makes the folder, which must not be there, and fills it with the bag of the
+/// object. Hands the database back.
+pub fn export_database<S: Alter>(
+    rt: &HostRuntime,
+    connection: Connection<S>,
+    object: u64,
+    folder: &str,
+) -> (Outcome, Connection<S>)
+    requires settled { (state S.Store connection).in_transaction ≡ false }
+    ensures exports { ExportsDatabase (state S.Store connection) (state S.Store result.1) object result.0 }
+    ensures honest { HasCleanDisk (state S.Store result.1) → HasCleanDisk (state S.Store connection) }
+    ensures open { IsTrue (state S.Store result.1).is_open
+        → IsTrue (state S.Store connection).is_open }
+{
+    match Store::open(rt.alloc(), connection) {
+        Ok(mut store) => {
+            let outcome = export_into(rt, &mut store, object, folder);
+            (outcome, store.close())
+        }
+        Err((_, connection)) => (Outcome::StoreFault, connection),
+    }
+}
+
+// The folder is made before the object is looked up.
+fn export_into<S: Alter>(
+    rt: &HostRuntime,
+    store: &mut Store<S>,
+    object: u64,
+    folder: &str,
+) -> Outcome
+    ensures gives { (given : List ℕ) × (HasCleanDisk (state S.Store store.new)
+        → (s : State) → StandsFor (condition_of S.Store store.old) s
+        → ExportsInto s object given result) }
+    ensures still { StandsStill (condition_of S.Store store.old) (condition_of S.Store store.new) }
+{
+    match Folder::new(rt, folder) {
+        Ok(folder) => export_object(rt.alloc(), store, object, &mut FolderSink::new(folder)),
+        Err(error) => without_folder(error.kind()),
+    }
+}
+
+// What it comes to where the folder can't be made.
+fn without_folder(kind: ErrorKind) -> Outcome
+    ensures { result ≡ without_folder kind }
+{
+    match kind {
+        ErrorKind::OutOfMemory => Outcome::StoreFault,
+        _ => Outcome::TransferFault,
+    }
+}
