@@ -25,7 +25,6 @@ use Rattle.dep_server.specs.declared.faults.HubFault.TheVariants as refused
 use Rattle.dep_server.specs.declared.hub.Hub.{Hub}
 use Rattle.dep_program.specs.Serves.{all_records_of, ServesAt}
 use Rattle.dep_program.specs.declared.outcome.Outcome.{Outcome}
-use Rattle.dep_program.specs.declared.outcome.Outcome.TheVariants.{StoreFault}
 use Rattle.swordd.specs.Databases.{IsKept, IsRefused, LedTo, GoesOn, ServesDatabase, serves, not_bound, unchecked, not_begun, not_opened, outcome_of_start}
 use Rattle.swordd.proofs.ReplayLemmas.{world_at_first}
 

@@ -1,5 +1,5 @@
 -- What an audit and an export tell of the database in which the store was opened.
-use Rattle.std.proofs.Common.{◌≡◌, ℕ, List, [], inl, inr, IsTrue, refl, subst}
+use Rattle.std.proofs.Common.{◌≡◌, ℕ, List, [], inl, inr, IsTrue, refl}
 use Rattle.std.proofs.lemmas.List.Elements.{All-nil}
 use Rattle.sqlite.specs.State as db
 use Rattle.sqlite.specs.State.{HasCleanDisk}

@@ -17,7 +17,6 @@ use Rattle.dep_server.proofs.HubLemmas.{keeps_same}
 use Rattle.dep_server.proofs.TalkLemmas.{conversation_run}
 use Rattle.dep_server.specs.declared.connection.Served.{Served}
 use Rattle.dep_server.specs.declared.connection.Served.TheVariants.{Ended, Closed, Unserved, ReadFault, WriteFault, Bound}
-use Rattle.dep_server.specs.declared.hub.Hub.{Hub}
 use Rattle.dep_program.specs.Setup.{program_config}
 use Rattle.swordd.specs.Replays.{IsReplayed, Replays, replayed, not_begun, outcome_of}
 

@@ -1,5 +1,5 @@
 -- What is made of the database of a store that is opened and served, and what a stop then leaves of it.
-use Rattle.std.specs.Prelude.{◌≡◌, ℕ, List, [], ◌∷◌, ◌++◌, All, IsTrue}
+use Rattle.std.specs.Prelude.{ℕ, List, [], ◌∷◌, ◌++◌, All, IsTrue}
 use Rattle.sqlite.specs.State as db
 use Rattle.dep_types.specs.State.{State, empty_state}
 use Rattle.dep_types.specs.Config.{IsChecked}

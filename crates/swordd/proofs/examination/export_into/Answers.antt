@@ -1,4 +1,4 @@
-use Rattle.std.proofs.Common.{◌≡◌, [], inl, refl, sym, subst}
+use Rattle.std.proofs.Common.{[], inl, sym, subst}
 use Rattle.sqlite.specs.Held.{state}
 use Rattle.dep_program.specs.declared.outcome.Outcome.{Outcome}
 use Rattle.swordd.specs.Examinations.{ExportsInto}
