@@ -5,7 +5,8 @@ use Rattle.sqlite.specs.State.{Survives}
 use Rattle.sqlite.proofs.StateLemmas.{survives_then}
 use Rattle.sqlite_trees.specs.View.{doubt}
 use Rattle.dep_types.specs.declared.store_fault.StoreFault.{StoreFault}
-use Rattle.dep_row_maps.specs.Causes.{FailsSince}
+use Rattle.dep_row_maps.specs.Causes.{FailsHolding, FailsSince}
+use Rattle.dep_row_maps.specs.Causes.FailsHolding.{statement, memory}
 
 pub as_many : (n : ℕ) → n ≤ n
 as_many n = omega arith
@@ -55,3 +56,13 @@ module _ {T : Type 0} (state : T → db.State) (old mid new : T) (since : Surviv
   -- one of the same fails later
   pub fails_behind_them : (fails : db.State → db.State → StoreFault → Type 0) (fault : StoreFault) → FailsSince state fails mid new fault → FailsSince state fails old new fault
   fails_behind_them fails = fails_later fails fails (λ at now fault by. by)
+
+-- one of fewer statements fails
+pub fails_among : {T : Type 0} (state : T → db.State) (old new : T) (few fails : db.State → db.State → StoreFault → Type 0) → ((at now : db.State) (fault : StoreFault) → few at now fault → fails at now fault)
+    → (fault : StoreFault) → FailsSince state few old new fault → FailsSince state fails old new fault
+fails_among state old new few fails among fault it = record { at = it.at; since = it.since; by = among (state it.at) (state new) fault it.by }
+
+-- a call that holds more
+pub holding_more : {few more : Type 0} → (few → more) → (at now : db.State) (fault : StoreFault) → FailsHolding few at now fault → FailsHolding more at now fault
+holding_more held at now fault (statement by) = statement by
+holding_more held at now fault (memory has is) = memory (held has) is

@@ -1,9 +1,10 @@
 -- Why a call of several statements fails: one of its statements does.
-use Rattle.std.specs.Prelude.{All, IsTrue, List, ℕ, Result, IfErr}
+use Rattle.std.specs.Prelude.{◌≡◌, All, IsTrue, Result, IfErr}
 use Rattle.sqlite.specs.Order.{Row}
 use Rattle.sqlite.specs.State as db
 use Rattle.sqlite.specs.State.{HasCleanDisk, Survives}
 use Rattle.dep_types.specs.declared.store_fault.StoreFault.{StoreFault}
+use Rattle.dep_types.specs.declared.store_fault.StoreFault.TheVariants.{Memory}
 use Rattle.dep_tables.specs.Clauses.{AtMostOne, FailsToRead, FailsToReadNumbers, FailsToRun, JustOne}
 use Rattle.dep_tables.specs.Rows.{IsBytesRow, IsFileRow, IsMetadataRow, IsNumberRow, IsObjectRow, IsSegmentRow, IsStateRow, IsUploadRow}
 use Rattle.dep_tables.specs.Texts as text
@@ -92,3 +93,9 @@ pub data FailsByStatement (at new : db.State) (fault : StoreFault) : Type 0 wher
   block_read : (params : Row)
       → FailsToRead (AtMostOne IsBytesRow) text.read_block_text params at new fault
       → FailsByStatement at new fault
+
+-- The same of a call that makes a list of what it read: where that holds something, memory can be
+-- wanting for it.
+pub data FailsHolding (held : Type 0) (at new : db.State) (fault : StoreFault) : Type 0 where
+  statement : FailsByStatement at new fault → FailsHolding held at new fault
+  memory : held → fault ≡ Memory → FailsHolding held at new fault
