@@ -1,5 +1,5 @@
 -- A content cut into blocks.
-use Rattle.std.proofs.Common.{◌≡◌, ◌⊎◌, inl, inr, ℕ, zero, suc, ◌+◌, ◌-◌, ◌*◌, ◌/◌, ◌%◌, ◌<◌, ◌≤◌, min, List, [], ◌∷◌, ◌++◌, length, get_or, take, drop, refl, sym, ap, ◌∙◌, arith}
+use Rattle.std.proofs.Common.{◌≡◌, ◌⊎◌, inl, inr, ℕ, zero, suc, ◌+◌, ◌-◌, ◌*◌, ◌/◌, ◌%◌, ◌<◌, ◌≤◌, ◌^◌, min, List, [], ◌∷◌, ◌++◌, length, get_or, take, drop, refl, sym, ap, ◌∙◌, arith}
 use Rattle.std.specs.Int.{div_ceil}
 use Rattle.std.proofs.Math.Nat.{div-add-mod}
 use Rattle.std.proofs.lemmas.Bool.{cases_lt}
@@ -66,6 +66,9 @@ counted n k low high = let whole = div-add-mod n 65536 in omega (arith, whole, l
 
 pub block_count : (content : List ℕ) → div_ceil (length content) 65536 ≡ length (blocks_of content)
 block_count content = let h = blocks_hold content in counted (length content) (length (blocks_of content)) h.0 h.1
+
+pub few_blocks : (n : ℕ) → n < 2 ^ 64 → div_ceil n 65536 < 2 ^ 63
+few_blocks n small = omega (arith, small)
 
 -- a block begins before the end
 pub before_end : (content : List ℕ) (i : ℕ) → i < length (blocks_of content) → i * 65536 < length content

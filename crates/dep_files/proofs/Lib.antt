@@ -2,3 +2,4 @@ pub mod Cuts
 pub mod Written
 pub mod FileCalls
 pub mod Results
+pub mod Storable

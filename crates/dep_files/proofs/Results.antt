@@ -1,9 +1,8 @@
 -- Facts on a result that is passed on, and on a transaction that goes on unchanged.
-use Rattle.std.proofs.Common.{◌≡◌, ◌⊎◌, inl, inr, IsTrue, Result, Ok, Err, OnOk, ap, sym, subst, ◌∙◌, ◌≢◌, ℕ, ◌≤◌, ◌<◌, refl, arith}
+use Rattle.std.proofs.Common.{◌≡◌, ◌⊎◌, inl, inr, IsTrue, Result, Ok, Err, OnOk, ap, sym, subst, ◌∙◌, ◌≢◌, ℕ, ◌<◌, arith}
 use Rattle.std.proofs.lemmas.Result.{on_err_weaker}
-use Rattle.sqlite.specs.State.{State, Survives, KeepsCommit, IsUnchanged, IsRolledBack}
+use Rattle.sqlite.specs.State.{State, KeepsCommit, IsUnchanged, IsRolledBack}
 use Rattle.sqlite.specs.Effect.{Database}
-use Rattle.sqlite_trees.specs.View.{doubt}
 use Rattle.dep_tables.specs.Tables.{IsOurs, HasOurTables, tables_of, tables_in}
 use Rattle.dep_tables.specs.Clauses.{FailsWhole, StaysWithin}
 use Rattle.dep_tables.proofs.Chains.{clean_before}

@@ -1,8 +1,11 @@
 //! The blocks of a content, written one at a time.
 
+ghost use Rattle.std.specs.Prelude.{◌<◌, ◌^◌};
 ghost use Rattle.dep_tables.specs.Clauses.{StaysWithin};
+ghost use Rattle.dep_tables.specs.Rows.{IsStorableOwner};
 ghost use Rattle.dep_row_maps.specs.Stored.{blocks_of, put_blocks};
 ghost use Rattle.dep_row_maps.specs.Clauses.{Becomes, FailsUncommitted};
+ghost use Rattle.dep_row_maps.specs.Causes.{FailsByOne, FailsByStatement};
 
 use crate::content::Content;
 use dep_tables::{BlockKey, BlockOwner, BlockPlace, Statements, insert_block};
@@ -20,6 +23,8 @@ pub fn put_blocks<T: Statements, C: Content>(
         (λ t. record t {
           blocks = put_blocks owner part 0 (blocks_of (C.bytes content.now)) t.blocks;
         }) }
+    ensures cause { FailsByOne T.state tx.old tx.new result
+        (IsStorableOwner owner × (part < 2 ^ 63)) FailsByStatement }
     ensures err { FailsUncommitted (T.state tx.old) (T.state tx.new) result }
     ensures stays { StaysWithin T.lenders T.state tx.old tx.new result }
 {

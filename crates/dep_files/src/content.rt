@@ -1,6 +1,6 @@
 //! Contents that come in blocks.
 
-ghost use Rattle.std.specs.Prelude.{◌≡◌, ◌<◌, ℕ, List, length, slice_index_or, []};
+ghost use Rattle.std.specs.Prelude.{◌≡◌, ◌<◌, ◌^◌, ℕ, List, length, slice_index_or, []};
 ghost use Rattle.sha2.specs.Sha256.{sha256};
 ghost use Rattle.dep_row_maps.specs.Stored.{blocks_of};
 
@@ -15,9 +15,10 @@ pub trait Content {
     /// The bytes.
     ghost bytes: { Self → List ℕ };
 
-    /// How many blocks there are.
+    /// How many blocks there are: fewer than 2^63, so that each place is a number of the tables.
     fn count(&self) -> usize
-        ensures { result ≡ length (blocks_of (bytes self.now)) };
+        ensures exact { result ≡ length (blocks_of (bytes self.now)) }
+        ensures few { result < 2 ^ 63 };
 
     /// The block at this place, from 0.
     fn block(&self, place: usize) -> &[u8]

@@ -1,16 +1,18 @@
 //! The files of an object, written and deleted with their contents.
 
-ghost use Rattle.std.specs.Prelude.{◌≡◌, ℕ, Some, None, OnOk, map};
+ghost use Rattle.std.specs.Prelude.{◌≡◌, ◌<◌, ◌^◌, ℕ, All, Some, None, OnOk, IfErr, map};
 ghost use Rattle.std.specs.FinMap as finmap;
 ghost use Rattle.dep_types.specs.State.{Object, File, file_at};
 ghost use Rattle.dep_types.specs.Rows.{file_row};
+ghost use Rattle.dep_types.specs.Sound.{IsSound};
 ghost use Rattle.sqlite_trees.specs.Tree.{put_row};
-ghost use Rattle.dep_tables.specs.Rows.{stored_file};
+ghost use Rattle.dep_tables.specs.Rows.{IsStorableFile, stored_file};
 ghost use Rattle.dep_tables.specs.Tables.{tables_of};
-ghost use Rattle.dep_tables.specs.Clauses.{StaysWithin};
+ghost use Rattle.dep_tables.specs.Clauses.{RefusesNumbers, StaysWithin};
 ghost use Rattle.dep_row_maps.specs.Stored.{blocks_of, put_blocks};
 ghost use Rattle.dep_row_maps.specs.TablesAre.{TablesAre};
 ghost use Rattle.dep_row_maps.specs.Clauses.{Becomes, FromMaps, KeepsOurs, FailsUncommitted, FailsReadingUncommitted};
+ghost use Rattle.dep_row_maps.specs.Causes.{FailsByOne, FailsByStatement, FailsSince};
 ghost use Rattle.dep_files.specs.Edits.{only_part, with_file, without_file, without_files, without_contents};
 
 use crate::blocks::put_blocks;
@@ -46,6 +48,8 @@ pub fn put_file<T: Statements, C: Content>(
     ensures free { FromMaps (T.state tx.old) (T.state tx.new)
         (λ s. OnOk result ((n : ℕ) → file_at s n row.now.file ≡ None)) }
     ensures ours { KeepsOurs (T.state tx.old) (T.state tx.new) result }
+    ensures cause { FailsByOne T.state tx.old tx.new result
+        (IsStorableFile row.now) FailsByStatement }
     ensures err { FailsUncommitted (T.state tx.old) (T.state tx.new) result }
     ensures stays { StaysWithin T.lenders T.state tx.old tx.new result }
 {
@@ -64,6 +68,8 @@ pub fn delete_file<T: Statements>(tx: &mut T, file: u64) -> Result<(), StoreFaul
         (λ s. ((n : ℕ) → file_at s n file ≡ None)
         → OnOk result (TablesAre (tables_of (T.state tx.new)) s)) }
     ensures ours { KeepsOurs (T.state tx.old) (T.state tx.new) result }
+    ensures numbers { RefusesNumbers (T.state tx.old) (T.state tx.new) result (file < 2 ^ 63) }
+    ensures cause { FailsByOne T.state tx.old tx.new result (file < 2 ^ 63) FailsByStatement }
     ensures err { FailsUncommitted (T.state tx.old) (T.state tx.new) result }
     ensures stays { StaysWithin T.lenders T.state tx.old tx.new result }
 {
@@ -74,6 +80,8 @@ pub fn delete_file<T: Statements>(tx: &mut T, file: u64) -> Result<(), StoreFaul
 fn delete_contents<T: Statements>(tx: &mut T, rows: &[FileRow]) -> Result<(), StoreFault>
     ensures ok { Becomes (T.state tx.old) (T.state tx.new) result
         (λ t. record t { blocks = without_contents (map (λ row. row.file) rows.now) t.blocks }) }
+    ensures cause { FailsByOne T.state tx.old tx.new result
+        (All (λ row. row.file < 2 ^ 63) rows.now) FailsByStatement }
     ensures err { FailsUncommitted (T.state tx.old) (T.state tx.new) result }
     ensures stays { StaysWithin T.lenders T.state tx.old tx.new result }
 {
@@ -90,6 +98,10 @@ pub fn delete_files<T: Statements>(tx: &mut T, alloc: Global, object: u64) -> Re
         (λ s. (o : Object) → finmap.get s.objects object ≡ Some o
         → OnOk result (TablesAre (tables_of (T.state tx.new)) (without_files s object o))) }
     ensures ours { KeepsOurs (T.state tx.old) (T.state tx.new) result }
+    ensures numbers { RefusesNumbers (T.state tx.old) (T.state tx.new) result (object < 2 ^ 63) }
+    ensures cause { FromMaps (T.state tx.old) (T.state tx.new)
+        (λ s. IsSound s → object < 2 ^ 63
+        → IfErr result (FailsSince T.state FailsByStatement tx.old tx.new)) }
     ensures err { FailsReadingUncommitted (T.state tx.old) (T.state tx.new) result }
     ensures stays { StaysWithin T.lenders T.state tx.old tx.new result }
 {

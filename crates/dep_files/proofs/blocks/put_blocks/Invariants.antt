@@ -1,4 +1,4 @@
-use Rattle.std.proofs.Common.{◌≡◌, take, IsTrue, length}
+use Rattle.std.proofs.Common.{◌≡◌, ◌<◌, ◌^◌, take, IsTrue, length}
 use Rattle.sqlite.specs.State.{HasCleanDisk}
 use Rattle.dep_tables.specs.Tables.{tables_of, IsOurs}
 use Rattle.dep_tables.proofs.Chains.{Stays}
@@ -13,3 +13,4 @@ invariant-loop-place g l =
     (l.place-end ≡ length (blocks_of (g.C.Content.bytes l.content)))
     × Stays g.T.Statements.lenders g.T.Statements.state l.fn.tx l.tx
     × (HasCleanDisk now → IsTrue old.in_transaction → IsOurs old → Sees now (record (tables_of old) { blocks = put_blocks l.owner l.part 0 (take l.place (blocks_of (g.C.Content.bytes l.content))) (tables_of old).blocks }))
+    × (l.place-end < 2 ^ 63)

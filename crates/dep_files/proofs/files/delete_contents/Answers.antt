@@ -1,8 +1,13 @@
-use Rattle.std.proofs.Common.{◌<◌, length, arith}
+use Rattle.std.proofs.Common.{◌<◌, ◌^◌, length, arith, sym, subst}
 use Rattle.std.proofs.lemmas.List.{take_all}
+use Rattle.std.proofs.lemmas.List.Elements.{All-get_or}
 use Rattle.dep_tables.proofs.Results.{if_failed}
 use Rattle.dep_tables.proofs.Chains.{clean_before, stays_then, stays_ok, stays_err}
 use Rattle.dep_tables.specs.Tables.{tables_of}
+use Rattle.dep_types.specs.declared.rows.FileRow.{FileRow}
+use Rattle.dep_row_maps.specs.Causes.{FailsByStatement}
+use Rattle.dep_row_maps.specs.Causes.FailsByStatement.{blocks_deleted}
+use Rattle.dep_row_maps.proofs.Causes.{fails_then, if_err_is}
 use Rattle.dep_files.proofs.Results.{fails_behind}
 use Rattle.dep_files.proofs.FileCalls.{one_more_gone}
 use Rattle.dep_files.proofs.files.delete_contents.Goals as goal
@@ -31,3 +36,15 @@ returns-in_err-delete_blocks-clause-err g c clean inside is_open =
 
 pub returns-clause-ok : goal.returns-clause-ok
 returns-clause-ok g c = rw (take_all c.rows.row-index c.args.rows.now c.rows-test.false) at c.rows.invariant.1
+
+pub returns-in_err-delete_blocks-clause-cause : goal.returns-in_err-delete_blocks-clause-cause
+returns-in_err-delete_blocks-clause-cause g c storable clean inside =
+    let old = c.args.tx.now in
+    let mid = c.rows.tx in
+    let new = c.delete_blocks.new.tx in
+    let inv = c.rows.invariant in
+    let before = clean_before c.delete_blocks.ensures.stays clean in
+    let within : c.rows.row-index < length c.args.rows.now = omega arith in
+    let below = subst (λ (r : FileRow). r.file < 2 ^ 63) (sym c.row-item.is) (All-get_or (λ (r : FileRow). r.file < 2 ^ 63) c.args.rows.now c.rows.row-index _ within storable) in
+    if_err_is _ c.from_residual.result c.in_err-delete_blocks.field-0.0 c.from_residual.ensures.1 (fails_then g.T.Statements.state old mid new inv.0.survives FailsByStatement _
+    (blocks_deleted _ (c.in_err-delete_blocks.ensures.cause below clean (inv.0.inside before inside))))

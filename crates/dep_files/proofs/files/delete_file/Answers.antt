@@ -1,6 +1,9 @@
 use Rattle.dep_tables.specs.Tables.{tables_of}
 use Rattle.dep_tables.proofs.Results.{ok_then}
 use Rattle.dep_tables.proofs.Chains.{clean_before, stays_then}
+use Rattle.dep_row_maps.specs.Causes.{FailsByStatement}
+use Rattle.dep_row_maps.specs.Causes.FailsByStatement.{blocks_deleted, file_deleted}
+use Rattle.dep_row_maps.proofs.Causes.{fails_first, fails_then, if_err_then, if_err_is, never_failed}
 use Rattle.dep_files.proofs.Results.{fails_behind}
 use Rattle.dep_files.proofs.FileCalls.{file_gone, file_absent}
 use Rattle.dep_files.proofs.files.delete_file.Goals as goal
@@ -30,3 +33,20 @@ returns-clause-stays g c = stays_then c.in_ok-delete_blocks.ensures.stays c.dele
 
 pub returns-clause-err : goal.returns-clause-err
 returns-clause-err g c = fails_behind c.in_ok-delete_blocks.ensures.stays c.delete_file.ensures.stays c.delete_file.ensures.err
+
+pub returns-in_err-delete_blocks-clause-cause : goal.returns-in_err-delete_blocks-clause-cause
+returns-in_err-delete_blocks-clause-cause g c storable clean inside =
+    if_err_is _ c.from_residual.result c.in_err-delete_blocks.field-0.0 c.from_residual.ensures.1 (fails_first g.T.Statements.state c.args.tx.now c.delete_blocks.new.tx FailsByStatement _
+    (blocks_deleted _ (c.in_err-delete_blocks.ensures.cause storable clean inside)))
+
+pub returns-clause-cause : goal.returns-clause-cause
+returns-clause-cause g c storable clean inside =
+    let old = c.args.tx.now in
+    let mid = c.delete_blocks.new.tx in
+    let new = c.delete_file.new.tx in
+    let before = clean_before c.delete_file.ensures.stays clean in
+    if_err_then c.delete_file.result (c.delete_file.ensures.cause storable clean (c.in_ok-delete_blocks.ensures.stays.inside before inside))
+    (λ fault failed. fails_then g.T.Statements.state old mid new c.delete_blocks.ensures.stays.survives FailsByStatement fault (file_deleted _ failed))
+
+pub returns-clause-numbers : goal.returns-clause-numbers
+returns-clause-numbers g c great = never_failed _ _ (c.in_ok-delete_blocks.ensures.numbers great).0

@@ -1,12 +1,17 @@
-use Rattle.std.proofs.Common.{◌≡◌, ap, ◌∙◌, map}
+use Rattle.std.proofs.Common.{◌≡◌, ◌<◌, ◌^◌, ap, ◌∙◌, map}
 use Rattle.dep_types.specs.declared.rows.FileRow.{FileRow}
 use Rattle.dep_tables.specs.Tables.{Tables, tables_of}
 use Rattle.dep_tables.proofs.Results.{ok_then, if_failed}
 use Rattle.dep_tables.proofs.Chains.{clean_before, stays_then, stays_err}
+use Rattle.std.proofs.lemmas.List.Elements.{All-same}
+use Rattle.dep_row_maps.specs.Causes.{FailsByStatement}
+use Rattle.dep_row_maps.specs.Causes.FailsByStatement.{files_deleted, files_read as rows_read}
+use Rattle.dep_row_maps.proofs.Causes.{fails_first, fails_then, fails_behind_them, if_err_then, if_err_is, never_failed}
 use Rattle.dep_row_maps.proofs.Readings.{files_read}
 use Rattle.dep_files.specs.Edits.{without_contents}
 use Rattle.dep_files.proofs.Results.{still_ours, same_tables, left_whole, fails_behind, uncommitted_behind}
 use Rattle.dep_files.proofs.FileCalls.{files_gone}
+use Rattle.dep_files.proofs.Storable.{storable_files}
 use Rattle.dep_files.proofs.files.delete_files.Goals as goal
 
 pub returns-clause-map : goal.returns-clause-map
@@ -57,3 +62,37 @@ returns-clause-ours g c clean inside ours =
     let inside_one = c.in_ok-rows.ensures.stays.inside clean_one inside in
     let gone = c.in_ok-delete_contents.ensures.ok clean_two inside_one (still_ours old one (c.in_ok-rows.ensures.same clean_one ours) ours) in
     ok_then c.delete_files.result (c.delete_files.ensures.ok clean (c.in_ok-delete_contents.ensures.stays.inside clean_two inside_one) gone.ours) (λ leads. leads.ours)
+
+pub returns-in_err-rows-clause-cause : goal.returns-in_err-rows-clause-cause
+returns-in_err-rows-clause-cause g c clean inside ours s are sound storable =
+    if_err_is _ c.from_residual.result c.in_err-rows.field-0.0 c.from_residual.ensures.1 (fails_first g.T.Statements.state c.args.tx.now c.files_of.new.tx FailsByStatement _
+    (rows_read _ (c.in_err-rows.ensures.cause storable clean)))
+
+pub returns-in_err-delete_contents-clause-cause : goal.returns-in_err-delete_contents-clause-cause
+returns-in_err-delete_contents-clause-cause g c clean inside ours s are sound storable =
+    let old = c.args.tx.now in
+    let mid = c.files_of.new.tx in
+    let new = c.delete_contents.new.tx in
+    let before = clean_before c.delete_contents.ensures.stays clean in
+    let found = c.in_ok-rows.rows.items in
+    let is = files_read (tables_of (g.T.Statements.state old)) s are c.args.object found (c.in_ok-rows.ensures.ok before ours) in
+    let below = All-same (λ (r : FileRow). r.file < 2 ^ 63) c.as_slice.result.now found c.as_slice.ensures.value (storable_files s c.args.object found sound is) in
+    if_err_is _ c.from_residual-in_err-delete_contents.result c.in_err-delete_contents.field-0.0 c.from_residual-in_err-delete_contents.ensures.1
+    (fails_behind_them g.T.Statements.state old mid new c.files_of.ensures.stays.survives FailsByStatement _
+    (c.in_err-delete_contents.ensures.cause below clean (c.in_ok-rows.ensures.stays.inside before inside)))
+
+pub returns-clause-cause : goal.returns-clause-cause
+returns-clause-cause g c clean inside ours s are sound storable =
+    let old = c.args.tx.now in
+    let mid = c.delete_contents.new.tx in
+    let new = c.delete_files.new.tx in
+    let stays = stays_then c.in_ok-rows.ensures.stays c.in_ok-delete_contents.ensures.stays in
+    let before = clean_before c.delete_files.ensures.stays clean in
+    if_err_then c.delete_files.result (c.delete_files.ensures.cause storable clean (stays.inside before inside))
+    (λ fault failed. fails_then g.T.Statements.state old mid new stays.survives FailsByStatement fault (files_deleted _ failed))
+
+pub returns-in_err-delete_contents-clause-numbers : goal.returns-in_err-delete_contents-clause-numbers
+returns-in_err-delete_contents-clause-numbers g c great = never_failed _ _ (c.in_ok-rows.ensures.numbers great).0
+
+pub returns-clause-numbers : goal.returns-clause-numbers
+returns-clause-numbers g c great = never_failed _ _ (c.in_ok-rows.ensures.numbers great).0
