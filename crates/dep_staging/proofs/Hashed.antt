@@ -1,5 +1,5 @@
 -- The bytes of segments, block by block.
-use Rattle.std.proofs.Common.{◌≡◌, ◌⊎◌, inl, inr, ℕ, zero, suc, ◌+◌, ◌<◌, ◌≤◌, T, List, [], ◌∷◌, ◌++◌, length, get_or, take, cond, filter, map, Option, Some, None, refl, sym, ap, subst, ◌∙◌, nat_cmp, is_eq, append-nil, append_assoc, arith}
+use Rattle.std.proofs.Common.{◌≡◌, ◌⊎◌, inl, inr, ℕ, zero, suc, ◌+◌, ◌<◌, ◌≤◌, ◌^◌, T, List, [], ◌∷◌, ◌++◌, length, get_or, take, cond, filter, map, Option, Some, None, refl, sym, ap, subst, ◌∙◌, nat_cmp, is_eq, append-nil, append_assoc, arith}
 use Rattle.std.specs.Prelude.{option_map, slice_get}
 use Rattle.std.specs.Int.{div_ceil}
 use Rattle.std.specs.Option.{option_to_list}
@@ -10,7 +10,7 @@ use Rattle.std.proofs.lemmas.Cmp.{nat_cmp_total, tied_itself}
 use Rattle.std.proofs.lemmas.Bool.{cases_lt}
 use Rattle.sqlite.specs.declared.types.Value.TheVariants.{Blob}
 use Rattle.dep_types.specs.State.{State}
-use Rattle.dep_tables.specs.Rows.{bytes_in, is_block, IsStorableKey, IsStorableSegment}
+use Rattle.dep_tables.specs.Rows.{bytes_in, is_block, IsStorableKey}
 use Rattle.dep_tables.specs.Tables.{Tables}
 use Rattle.dep_tables.specs.declared.segments.SegmentRow.{SegmentRow}
 use Rattle.dep_tables.specs.declared.owner.BlockOwner.TheVariants as owner
@@ -18,7 +18,7 @@ use Rattle.dep_row_maps.specs.Stored.{block_key, segment_row, blocks_of}
 use Rattle.dep_row_maps.specs.TablesAre.{TablesAre, segments_at}
 use Rattle.dep_row_maps.proofs.Picked.{block_at}
 use Rattle.dep_files.proofs.Cuts.{block_count}
-use Rattle.dep_staging.specs.Causes.{HasStorableSegments}
+use Rattle.dep_staging.specs.Causes.{AreStorableKeys, HasStorableSegments}
 use Rattle.dep_staging.specs.Hashing.{IsSegmentOf}
 use Rattle.dep_staging.proofs.Next.{both, passed, none_below}
 
@@ -114,17 +114,10 @@ segment_is s u i row e =
 
 -- ---- numbers of SQL
 
-few_blocks : (n : ℕ) → div_ceil n 65536 ≤ n
-few_blocks n = omega arith
+pub storable_key : (row : SegmentRow) (place : ℕ) → AreStorableKeys row → place < 2 ^ 63 → IsStorableKey (block_key (owner.Upload row.upload) row.number place)
+storable_key row place storable within = record { owner = storable.0; part = storable.1; place = within }
 
-pub storable_key : (row : SegmentRow) (place : ℕ) → IsStorableSegment row → place < div_ceil row.size 65536 → IsStorableKey (block_key (owner.Upload row.upload) row.number place)
-storable_key row place storable within = record {
-  owner = storable.upload;
-  part = storable.number;
-  place = omega (arith, within, few_blocks row.size, storable.size);
-}
-
-pub storable_segment : (s : State) (u i : ℕ) (row : SegmentRow) → HasStorableSegments s u → (e : IsEntryAt u (finmap.entries (segments_at s.uploads u)) i row) → IsStorableSegment row
+pub storable_segment : (s : State) (u i : ℕ) (row : SegmentRow) → HasStorableSegments s u → (e : IsEntryAt u (finmap.entries (segments_at s.uploads u)) i row) → AreStorableKeys row
 storable_segment s u i row storable e =
     let it = storable.segments e.number e.bytes (finmap.get-entries (segments_at s.uploads u) e.number ∙ e.found) in
-    subst IsStorableSegment (sym e.is) (record { upload = storable.upload; number = it.0; size = it.1 })
+    subst AreStorableKeys (sym e.is) (storable.upload, it)

@@ -5,3 +5,4 @@ pub mod Expired
 pub mod Chains
 pub mod Moved
 pub mod Hashed
+pub mod Causes

@@ -1,8 +1,7 @@
 -- Why a call of several statements fails: one of its statements does.
-use Rattle.std.specs.Prelude.{◌≡◌, ℕ, ◌<◌, ◌^◌, pos, List, [], ◌∷◌, length, Some, All, IsTrue, Result, IfErr}
+use Rattle.std.specs.Prelude.{◌≡◌, ℕ, ◌<◌, ◌^◌, pos, List, [], ◌∷◌, Some, All, IsTrue}
 use Rattle.std.specs.FinMap as map
 use Rattle.sqlite.specs.State as db
-use Rattle.sqlite.specs.State.{HasCleanDisk, Survives}
 use Rattle.sqlite.specs.declared.types.Value.TheVariants.{Int}
 use Rattle.dep_types.specs.Maps.{Numbered}
 use Rattle.dep_types.specs.State.{State, Upload, clock_at, expires, tick}
@@ -12,33 +11,23 @@ use Rattle.dep_tables.specs.Clauses.{AtMostOne, FailsToRead, FailsToReadNumbers,
 use Rattle.dep_tables.specs.Rows.{IsBytesRow, IsNumberRow, IsSegmentRow, IsStateRow, IsUploadRow, key_values, owner_values, state_values}
 use Rattle.dep_tables.specs.Texts.{delete_blocks_text, delete_segments_text, delete_upload_text, find_upload_text, insert_timed_out_text, next_upload_text, read_block_text, read_state_text, segments_of_text, write_state_text}
 use Rattle.dep_tables.specs.declared.owner.BlockOwner.TheVariants as owner
+use Rattle.dep_tables.specs.declared.segments.SegmentRow.{SegmentRow}
 use Rattle.dep_row_maps.specs.Stored.{block_key, state_row}
 use Rattle.dep_row_maps.specs.TablesAre.{segments_at}
-
--- a statement fails so, after others that committed nothing and forgot no fault
-pub record FailsSince {T : Type 0} (state : T → db.State)
-    (fails : db.State → db.State → StoreFault → Type 0)
-    (old new : T) (fault : StoreFault) : Type 0 where
-  pub at : T
-  pub since : Survives (state old) (state at) (λ _. ⊥)
-  pub by : fails (state at) (state new) fault
-
--- inside a transaction, where the numbers are SQL's, a failure is that of one of these statements
-abbrev pub FailsByOne : {T A : Type 0} (state : T → db.State) (old new : T)
-    (result : Result A StoreFault) → Type 0 → (db.State → db.State → StoreFault → Type 0) → Type 0
-FailsByOne state old new result storable fails =
-    storable → HasCleanDisk (state new) → IsTrue (state old).in_transaction
-    → IfErr result (FailsSince state fails old new)
 
 -- the numbers of the uploads are SQL's
 abbrev pub HasStorableNumbers : Numbered Upload → Type 0
 HasStorableNumbers uploads = (u : ℕ) (it : Upload) → map.get uploads u ≡ Some it → u < 2 ^ 63
 
--- so are those of an upload's segments, and their sizes
+-- those of a segment are, whatever its size
+abbrev pub AreStorableKeys : SegmentRow → Type 0
+AreStorableKeys row = (row.upload < 2 ^ 63) × (row.number < 2 ^ 63)
+
+-- so are those of an upload's segments
 pub record HasStorableSegments (s : State) (u : ℕ) : Type 0 where
   pub upload : u < 2 ^ 63
   pub segments : (k : ℕ) (bytes : List ℕ) → map.get (segments_at s.uploads u) k ≡ Some bytes
-      → (k < 2 ^ 63) × (length bytes < 2 ^ 63)
+      → k < 2 ^ 63
 
 -- one of the statements that delete an upload
 pub data FailsToDrop (u : ℕ) (at new : db.State) (fault : StoreFault) : Type 0 where

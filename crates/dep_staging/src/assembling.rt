@@ -1,6 +1,6 @@
 //! A file made of an upload.
 
-ghost use Rattle.std.specs.Prelude.{◌≡◌, ◌≤◌, ℕ, List, Some, OnOk, IsTrue};
+ghost use Rattle.std.specs.Prelude.{◌≡◌, ◌≤◌, ◌<◌, ◌^◌, ℕ, List, Some, OnOk, IsTrue};
 ghost use Rattle.std.specs.List.{range_with_len};
 ghost use Rattle.std.specs.FinMap as finmap;
 ghost use Rattle.dep_types.specs.State.{Object, File, Upload};
@@ -8,10 +8,12 @@ ghost use Rattle.dep_types.specs.Rows.{upload_row, file_row};
 ghost use Rattle.dep_types.specs.Uploads.{assembled, is_complete};
 ghost use Rattle.dep_tables.specs.Tables.{tables_of};
 ghost use Rattle.dep_tables.specs.Clauses.{StaysWithin};
+ghost use Rattle.dep_tables.specs.Rows.{IsStorableFile, IsStorableUpload};
 ghost use Rattle.dep_tables.specs.declared.owner.BlockOwner.TheVariants as owner;
 ghost use Rattle.dep_row_maps.specs.Stored.{move_parts};
 ghost use Rattle.dep_row_maps.specs.TablesAre.{TablesAre};
 ghost use Rattle.dep_row_maps.specs.Clauses.{Becomes, FromMaps, KeepsOurs, FailsUncommitted};
+ghost use Rattle.dep_row_maps.specs.Causes.{FailsByOne, FailsByStatement};
 ghost use Rattle.dep_staging.specs.Assembling.{HasItsSegments, deposited};
 
 use dep_tables::{Statements, delete_segments, delete_upload, insert_file, move_part};
@@ -28,6 +30,8 @@ fn move_parts<T: Statements>(
           blocks = move_parts (owner.Upload upload) (owner.File file)
               (range_with_len 1 count) t.blocks;
         }) }
+    ensures cause { FailsByOne T.state tx.old tx.new result
+        ((upload < 2 ^ 63) × (count < 2 ^ 63) × (file < 2 ^ 63)) FailsByStatement }
     ensures err { FailsUncommitted (T.state tx.old) (T.state tx.new) result }
     ensures stays { StaysWithin T.lenders T.state tx.old tx.new result }
 {
@@ -54,6 +58,8 @@ pub fn assemble<T: Statements>(
         → OnOk result (TablesAre (tables_of (T.state tx.new))
         (deposited s row.now.object o row.now.file file upload.now.upload))) }
     ensures ours { KeepsOurs (T.state tx.old) (T.state tx.new) result }
+    ensures cause { FailsByOne T.state tx.old tx.new result
+        (IsStorableUpload upload.now × IsStorableFile row.now) FailsByStatement }
     ensures err { FailsUncommitted (T.state tx.old) (T.state tx.new) result }
     ensures stays { StaysWithin T.lenders T.state tx.old tx.new result }
 {

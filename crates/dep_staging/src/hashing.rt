@@ -9,14 +9,14 @@ ghost use Rattle.dep_types.specs.State.{State, Upload};
 ghost use Rattle.dep_types.specs.Uploads.{assembled};
 ghost use Rattle.dep_tables.specs.Tables.{tables_of, IsOurs};
 ghost use Rattle.dep_tables.specs.Clauses.{ReadsOnly, FailsReading, StaysWithin};
-ghost use Rattle.dep_tables.specs.Rows.{IsStorableKey, IsStorableSegment};
+ghost use Rattle.dep_tables.specs.Rows.{IsStorableKey};
 ghost use Rattle.dep_tables.specs.declared.owner.BlockOwner.TheVariants as owner;
 ghost use Rattle.dep_row_maps.specs.Stored.{blocks_of, block_key};
 ghost use Rattle.dep_row_maps.specs.Laws.{HasSegmentsWithin};
 ghost use Rattle.dep_row_maps.specs.TablesAre.{TablesAre};
 ghost use Rattle.dep_files.specs.Reading.{Tells};
 ghost use Rattle.dep_row_maps.specs.Causes.{FailsSince};
-ghost use Rattle.dep_staging.specs.Causes.{FailsToHash, HasStorableSegments};
+ghost use Rattle.dep_staging.specs.Causes.{AreStorableKeys, FailsToHash, HasStorableSegments};
 ghost use Rattle.dep_staging.specs.Hashing.{IsSegmentOf, received_bytes};
 
 use dep_files::BLOCK_SIZE;
@@ -74,7 +74,7 @@ fn hash_segment<T: Statements>(
         → IsOurs (T.state tx.old)
         → IsTrue (T.state tx.old).is_open
         → (s : State) → TablesAre (tables_of (T.state tx.old)) s
-        → (bytes : List ℕ) → IsSegmentOf s segment.now bytes → IsStorableSegment segment.now
+        → (bytes : List ℕ) → IsSegmentOf s segment.now bytes → AreStorableKeys segment.now
         → IfErr result (FailsSince T.state (FailsToHash segment.now.upload) tx.old tx.new) }
     ensures err { FailsReading (T.state tx.old) (T.state tx.new) result }
     ensures stays { StaysWithin T.lenders T.state tx.old tx.new result }

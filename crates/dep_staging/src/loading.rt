@@ -1,8 +1,12 @@
 //! What is known at the number of an upload.
 
-ghost use Rattle.std.specs.Prelude.{◌≡◌};
-ghost use Rattle.dep_tables.specs.Clauses.{ReadsOnly, FailsReading, StaysWithin};
+ghost use Rattle.std.specs.Prelude.{◌≡◌, ◌<◌, ◌^◌, pos, [], ◌∷◌};
+ghost use Rattle.sqlite.specs.declared.types.Value.TheVariants.{Int};
+ghost use Rattle.dep_tables.specs.Clauses.{AtMostOne, ReadsOnly, RefusesNumbers, FailsReading, FailsByReadingNumbers, StaysWithin};
+ghost use Rattle.dep_tables.specs.Rows.{IsNumberRow};
+ghost use Rattle.dep_tables.specs.Texts.{find_timed_out_text};
 ghost use Rattle.dep_row_maps.specs.Clauses.{KeepsOurs};
+ghost use Rattle.dep_row_maps.specs.Causes.{FailsByOne, FailsByStatement};
 ghost use Rattle.dep_files.specs.Reading.{Tells};
 ghost use Rattle.dep_staging.specs.Found.{IsFound, gone_upload};
 
@@ -35,6 +39,8 @@ fn load_gone<T: Statements>(tx: &mut T, upload: u64) -> Result<FoundUpload, Stor
         (λ s found. found ≡ gone_upload s upload) }
     ensures same { ReadsOnly (T.state tx.old) (T.state tx.new) result }
     ensures ours { KeepsOurs (T.state tx.old) (T.state tx.new) result }
+    ensures cause { FailsByReadingNumbers (T.state tx.old) (T.state tx.new) result
+        (upload < 2 ^ 63) find_timed_out_text (Int (pos upload) ∷ []) (AtMostOne IsNumberRow) }
     ensures err { FailsReading (T.state tx.old) (T.state tx.new) result }
     ensures stays { StaysWithin T.lenders T.state tx.old tx.new result }
 {
@@ -56,6 +62,8 @@ pub fn load_upload<T: Statements>(
         (λ s found. IsFound s upload found) }
     ensures same { ReadsOnly (T.state tx.old) (T.state tx.new) result }
     ensures ours { KeepsOurs (T.state tx.old) (T.state tx.new) result }
+    ensures numbers { RefusesNumbers (T.state tx.old) (T.state tx.new) result (upload < 2 ^ 63) }
+    ensures cause { FailsByOne T.state tx.old tx.new result (upload < 2 ^ 63) FailsByStatement }
     ensures err { FailsReading (T.state tx.old) (T.state tx.new) result }
     ensures stays { StaysWithin T.lenders T.state tx.old tx.new result }
 {

@@ -6,9 +6,11 @@ ghost use Rattle.dep_types.specs.State.{Upload};
 ghost use Rattle.dep_types.specs.Rows.{upload_row};
 ghost use Rattle.dep_tables.specs.Tables.{tables_of};
 ghost use Rattle.dep_tables.specs.Clauses.{StaysWithin};
+ghost use Rattle.dep_tables.specs.Rows.{IsStorableSegment, IsStorableUpload};
 ghost use Rattle.dep_row_maps.specs.Stored.{segment_row};
 ghost use Rattle.dep_row_maps.specs.TablesAre.{TablesAre, with_upload};
 ghost use Rattle.dep_row_maps.specs.Clauses.{FromMaps, KeepsOurs, FailsUncommitted};
+ghost use Rattle.dep_row_maps.specs.Causes.{FailsByOne, FailsByStatement};
 
 use dep_files::{Content, put_blocks};
 use dep_tables::{BlockOwner, SegmentRow, Statements, insert_segment, write_upload};
@@ -32,6 +34,8 @@ pub fn put_segment<T: Statements, C: Content>(
         → it.segments ≡ finmap.insert was.segments segment.now.number (C.bytes content.now)
         → OnOk result (TablesAre (tables_of (T.state tx.new)) (with_upload s row.now.upload it))) }
     ensures ours { KeepsOurs (T.state tx.old) (T.state tx.new) result }
+    ensures cause { FailsByOne T.state tx.old tx.new result
+        (IsStorableUpload row.now × IsStorableSegment segment.now) FailsByStatement }
     ensures err { FailsUncommitted (T.state tx.old) (T.state tx.new) result }
     ensures stays { StaysWithin T.lenders T.state tx.old tx.new result }
 {

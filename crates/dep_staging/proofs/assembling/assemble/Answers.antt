@@ -1,6 +1,9 @@
 use Rattle.dep_tables.proofs.Results.{if_failed}
 use Rattle.dep_tables.proofs.Chains.{clean_before, stays_then, stays_err}
 use Rattle.dep_tables.specs.Tables.{tables_of}
+use Rattle.dep_row_maps.specs.Causes.{FailsByStatement}
+use Rattle.dep_row_maps.specs.Causes.FailsByStatement.{file_added, segments_deleted, upload_deleted}
+use Rattle.dep_row_maps.proofs.Causes.{fails_then, if_err_then, if_err_is}
 use Rattle.dep_files.proofs.Results.{ok_both, fails_behind}
 use Rattle.dep_staging.proofs.Moved.{made}
 use Rattle.dep_staging.proofs.assembling.assemble.Goals as goal
@@ -45,3 +48,36 @@ returns-clause-stays g c =
 pub returns-clause-err : goal.returns-clause-err
 returns-clause-err g c =
     fails_behind (stays_then (stays_then c.in_ok-move_parts.ensures.stays c.in_ok-delete_segments.ensures.stays) c.in_ok-delete_upload.ensures.stays) c.insert_file.ensures.stays c.insert_file.ensures.err
+
+pub returns-in_err-move_parts-clause-cause : goal.returns-in_err-move_parts-clause-cause
+returns-in_err-move_parts-clause-cause g c storable clean inside =
+    if_err_is _ c.from_residual.result c.in_err-move_parts.field-0.0 c.from_residual.ensures.1 (c.in_err-move_parts.ensures.cause (storable.0.upload, storable.0.count, storable.1.file) clean inside)
+
+pub returns-in_err-delete_segments-clause-cause : goal.returns-in_err-delete_segments-clause-cause
+returns-in_err-delete_segments-clause-cause g c storable clean inside =
+    let old = c.args.tx.now in
+    let one = c.move_parts.new.tx in
+    let new = c.delete_segments.new.tx in
+    let before = clean_before c.delete_segments.ensures.stays clean in
+    if_err_is _ c.from_residual-in_err-delete_segments.result c.in_err-delete_segments.field-0.0 c.from_residual-in_err-delete_segments.ensures.1 (fails_then g.T.Statements.state old one new c.move_parts.ensures.stays.survives FailsByStatement _
+    (segments_deleted _ (c.in_err-delete_segments.ensures.cause storable.0.upload clean (c.in_ok-move_parts.ensures.stays.inside before inside))))
+
+pub returns-in_err-delete_upload-clause-cause : goal.returns-in_err-delete_upload-clause-cause
+returns-in_err-delete_upload-clause-cause g c storable clean inside =
+    let old = c.args.tx.now in
+    let two = c.delete_segments.new.tx in
+    let new = c.delete_upload.new.tx in
+    let stays = stays_then c.in_ok-move_parts.ensures.stays c.in_ok-delete_segments.ensures.stays in
+    let within = stays.inside (clean_before c.delete_upload.ensures.stays clean) inside in
+    if_err_is _ c.from_residual-in_err-delete_upload.result c.in_err-delete_upload.field-0.0 c.from_residual-in_err-delete_upload.ensures.1 (fails_then g.T.Statements.state old two new stays.survives FailsByStatement _
+    (upload_deleted _ (c.in_err-delete_upload.ensures.cause storable.0.upload clean within)))
+
+pub returns-clause-cause : goal.returns-clause-cause
+returns-clause-cause g c storable clean inside =
+    let old = c.args.tx.now in
+    let three = c.delete_upload.new.tx in
+    let new = c.insert_file.new.tx in
+    let stays = stays_then (stays_then c.in_ok-move_parts.ensures.stays c.in_ok-delete_segments.ensures.stays) c.in_ok-delete_upload.ensures.stays in
+    let within = stays.inside (clean_before c.insert_file.ensures.stays clean) inside in
+    if_err_then c.insert_file.result (c.insert_file.ensures.cause storable.1 clean within)
+    (λ fault failed. fails_then g.T.Statements.state old three new stays.survives FailsByStatement fault (file_added _ failed))

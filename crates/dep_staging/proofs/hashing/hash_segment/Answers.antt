@@ -1,4 +1,4 @@
-use Rattle.std.proofs.Common.{◌<◌, ◌≤◌, ◌++◌, length, rules, sym, ap, subst, ◌∙◌, append-nil, append_assoc}
+use Rattle.std.proofs.Common.{◌<◌, ◌≤◌, ◌^◌, ◌++◌, length, arith, rules, sym, ap, subst, ◌∙◌, append-nil, append_assoc}
 use Rattle.sha2.specs.Hashers.{Holds256}
 use Rattle.sqlite.proofs.StateLemmas.{unchanged}
 use Rattle.sqlite.proofs.Callers.{unchanged_then}
@@ -8,7 +8,7 @@ use Rattle.dep_tables.specs.Tables.{Tables}
 use Rattle.dep_row_maps.specs.Stored.{blocks_of}
 use Rattle.dep_row_maps.specs.TablesAre.{TablesAre}
 use Rattle.dep_files.proofs.Results.{still_ours, same_tables}
-use Rattle.dep_files.proofs.Cuts.{one_block_more, all_blocks}
+use Rattle.dep_files.proofs.Cuts.{one_block_more, all_blocks, few_blocks}
 use Rattle.dep_staging.proofs.Chains.{failed_since}
 use Rattle.dep_staging.specs.Causes.{FailsToHash}
 use Rattle.dep_row_maps.proofs.Causes.{fails_later}
@@ -21,6 +21,7 @@ loop-place-init g c = (
   search rules,
   λ is_open clean ours. unchanged (g.T.Statements.state c.args.tx.now) is_open,
   λ is_open clean ours s are bytes message its holds. subst (Holds256 c.args.hasher.now) (sym (append-nil message)) holds,
+  subst (λ n. n < 2 ^ 63) (sym c.div_ceil-place-end.ensures) (few_blocks c.args.segment.now.size (omega arith)),
 )
 
 pub loop-place-preserved : goal.loop-place-preserved
@@ -42,6 +43,7 @@ loop-place-preserved g c =
           let within : c.loop-place.place < length (blocks_of bytes) = subst (λ n. c.loop-place.place < n) (inv.0 ∙ counted s c.args.segment.now bytes its) c.loop-place-test.true in
           let block = c.as_slice.ensures.value ∙ c.in_ok-block.ensures.map clean (still_ours old mid same ours) s are_mid bytes its in
           subst (Holds256 c.update.new.self) (append_assoc message _ _ ∙ ap (λ l. message ++ l) (one_block_more bytes c.loop-place.place c.as_slice.result.now within block)) (c.update.ensures _ so_far),
+      inv.4,
     )
 
 pub returns-clause-map : goal.returns-clause-map
@@ -74,7 +76,7 @@ returns-in_err-block-clause-cause g c clean ours is_open s are bytes its storabl
     let same = inv.2 is_open (clean_before c.segment_block.ensures.stays clean) ours in
     let are_mid = subst (λ (t : Tables). TablesAre t s) (sym (same_tables (g.T.Statements.state old) (g.T.Statements.state mid) same)) are in
     let within : c.loop-place.place < length (blocks_of bytes) = subst (λ n. c.loop-place.place < n) (inv.0 ∙ counted s c.args.segment.now bytes its) c.loop-place-test.true in
-    let key = storable_key c.args.segment.now c.loop-place.place storable (subst (λ n. c.loop-place.place < n) inv.0 c.loop-place-test.true) in
+    let key = storable_key c.args.segment.now c.loop-place.place storable (omega (arith, inv.4, c.loop-place-test.true)) in
     let known = fails_later g.T.Statements.state old mid new inv.1.survives (FailsToHash c.args.segment.now.upload) (FailsToHash c.args.segment.now.upload) (λ at now fault failed. failed) _
     (c.in_err-block.ensures.cause clean (still_ours (g.T.Statements.state old) (g.T.Statements.state mid) same ours) s are_mid bytes its within key) in
     search rules

@@ -1,4 +1,4 @@
-use Rattle.std.proofs.Common.{◌≡◌, ℕ, List, ◌++◌, take, IsTrue}
+use Rattle.std.proofs.Common.{◌≡◌, ◌<◌, ◌^◌, ℕ, List, ◌++◌, take, IsTrue}
 use Rattle.std.specs.Int.{div_ceil}
 use Rattle.std.specs.List.{flat_map}
 use Rattle.sha2.specs.Hashers.{Holds256}
@@ -21,3 +21,4 @@ invariant-loop-place g l =
     × (IsTrue old.is_open → HasCleanDisk now → IsOurs old → (s : State) → TablesAre (tables_of old) s
     → (bytes message : List ℕ) → IsSegmentOf s l.segment bytes → Holds256 l.fn.hasher message
     → Holds256 l.hasher (message ++ flat_map (λ b. b) (take l.place (blocks_of bytes))))
+    × (l.place-end < 2 ^ 63)

@@ -3,6 +3,9 @@ use Rattle.dep_tables.specs.Tables.{Tables, tables_of}
 use Rattle.dep_tables.proofs.Results.{if_then, if_failed}
 use Rattle.dep_tables.proofs.Chains.{clean_before, stays_then, stays_ok, stays_err}
 use Rattle.dep_row_maps.specs.TablesAre.{TablesAre}
+use Rattle.dep_row_maps.specs.Causes.{FailsByStatement}
+use Rattle.dep_row_maps.specs.Causes.FailsByStatement.{segments_read, timed_out_found, upload_found}
+use Rattle.dep_row_maps.proofs.Causes.{fails_first, fails_then, if_err_then, if_err_is, never_failed}
 use Rattle.dep_files.proofs.Results.{still_ours, same_tables}
 use Rattle.dep_staging.proofs.Chains.{fails_reading, reads_ours, reads_then}
 use Rattle.dep_staging.proofs.Loaded.{found_live, found_gone}
@@ -53,3 +56,28 @@ returns-in-None-clause-ours g c = reads_ours (returns-in-None-clause-stays g c) 
 
 pub returns-in-None-clause-err : goal.returns-in-None-clause-err
 returns-in-None-clause-err g c = fails_reading c.in_ok-row.ensures.stays c.load_gone.ensures.stays c.in_ok-row.ensures.same c.load_gone.ensures.err
+
+pub returns-in_err-row-clause-cause : goal.returns-in_err-row-clause-cause
+returns-in_err-row-clause-cause g c storable clean inside =
+    if_err_is _ c.from_residual.result c.in_err-row.field-0.0 c.from_residual.ensures.1 (fails_first g.T.Statements.state c.args.tx.now c.find_upload.new.tx FailsByStatement _
+    (upload_found _ (c.in_err-row.ensures.cause storable clean)))
+
+pub returns-in_err-segments_of-in-Some-clause-cause : goal.returns-in_err-segments_of-in-Some-clause-cause
+returns-in_err-segments_of-in-Some-clause-cause g c storable clean inside =
+    if_err_is _ c.from_residual-in_err-segments_of-in-Some.result c.in_err-segments_of-in-Some.field-0.0 c.from_residual-in_err-segments_of-in-Some.ensures.1
+    (fails_then g.T.Statements.state c.args.tx.now c.find_upload.new.tx c.segments_of.new.tx c.find_upload.ensures.stays.survives FailsByStatement _
+    (segments_read _ (c.in_err-segments_of-in-Some.ensures.cause storable clean)))
+
+pub returns-in-None-clause-cause : goal.returns-in-None-clause-cause
+returns-in-None-clause-cause g c storable clean inside =
+    if_err_then c.load_gone.result (c.load_gone.ensures.cause storable clean)
+    (λ fault failed. fails_then g.T.Statements.state c.args.tx.now c.find_upload.new.tx c.load_gone.new.tx c.find_upload.ensures.stays.survives FailsByStatement fault (timed_out_found _ failed))
+
+pub returns-in_ok-segments_of-in-Some-clause-numbers : goal.returns-in_ok-segments_of-in-Some-clause-numbers
+returns-in_ok-segments_of-in-Some-clause-numbers g c great = never_failed _ _ (c.in_ok-row.ensures.numbers great).0
+
+pub returns-in_err-segments_of-in-Some-clause-numbers : goal.returns-in_err-segments_of-in-Some-clause-numbers
+returns-in_err-segments_of-in-Some-clause-numbers g c great = never_failed _ _ (c.in_ok-row.ensures.numbers great).0
+
+pub returns-in-None-clause-numbers : goal.returns-in-None-clause-numbers
+returns-in-None-clause-numbers g c great = never_failed _ _ (c.in_ok-row.ensures.numbers great).0

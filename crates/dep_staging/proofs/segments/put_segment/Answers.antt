@@ -1,6 +1,9 @@
 use Rattle.dep_tables.specs.Tables.{tables_of}
 use Rattle.dep_tables.proofs.Results.{ok_then, if_failed}
 use Rattle.dep_tables.proofs.Chains.{clean_before, stays_then, stays_err}
+use Rattle.dep_row_maps.specs.Causes.{FailsByStatement}
+use Rattle.dep_row_maps.specs.Causes.FailsByStatement.{segment_added, upload_written}
+use Rattle.dep_row_maps.proofs.Causes.{fails_then, if_err_then, if_err_is}
 use Rattle.dep_files.proofs.Results.{fails_behind}
 use Rattle.dep_staging.proofs.UploadCalls.{received}
 use Rattle.dep_staging.proofs.segments.put_segment.Goals as goal
@@ -34,3 +37,26 @@ returns-clause-stays g c =
 pub returns-clause-err : goal.returns-clause-err
 returns-clause-err g c =
     fails_behind (stays_then c.in_ok-put_blocks.ensures.stays c.in_ok-insert_segment.ensures.stays) c.write_upload.ensures.stays c.write_upload.ensures.err
+
+pub returns-in_err-put_blocks-clause-cause : goal.returns-in_err-put_blocks-clause-cause
+returns-in_err-put_blocks-clause-cause g c storable clean inside =
+    if_err_is _ c.from_residual.result c.in_err-put_blocks.field-0.0 c.from_residual.ensures.1 (c.in_err-put_blocks.ensures.cause (storable.0.upload, storable.1.number) clean inside)
+
+pub returns-in_err-insert_segment-clause-cause : goal.returns-in_err-insert_segment-clause-cause
+returns-in_err-insert_segment-clause-cause g c storable clean inside =
+    let old = c.args.tx.now in
+    let one = c.put_blocks.new.tx in
+    let new = c.insert_segment.new.tx in
+    let before = clean_before c.insert_segment.ensures.stays clean in
+    if_err_is _ c.from_residual-in_err-insert_segment.result c.in_err-insert_segment.field-0.0 c.from_residual-in_err-insert_segment.ensures.1 (fails_then g.T.Statements.state old one new c.put_blocks.ensures.stays.survives FailsByStatement _
+    (segment_added _ (c.in_err-insert_segment.ensures.cause storable.1 clean (c.in_ok-put_blocks.ensures.stays.inside before inside))))
+
+pub returns-clause-cause : goal.returns-clause-cause
+returns-clause-cause g c storable clean inside =
+    let old = c.args.tx.now in
+    let two = c.insert_segment.new.tx in
+    let new = c.write_upload.new.tx in
+    let stays = stays_then c.in_ok-put_blocks.ensures.stays c.in_ok-insert_segment.ensures.stays in
+    let within = stays.inside (clean_before c.write_upload.ensures.stays clean) inside in
+    if_err_then c.write_upload.result (c.write_upload.ensures.cause storable.0 clean within)
+    (λ fault failed. fails_then g.T.Statements.state old two new stays.survives FailsByStatement fault (upload_written _ failed))

@@ -1,0 +1,39 @@
+-- The statements of a call on uploads are among those of the tables.
+use Rattle.std.proofs.Common.{ℕ}
+use Rattle.sqlite.specs.State as db
+use Rattle.dep_types.specs.Maps.{Numbered}
+use Rattle.dep_types.specs.State.{State, Upload, clock_at}
+use Rattle.dep_types.specs.declared.config.Config.{Config}
+use Rattle.dep_types.specs.declared.store_fault.StoreFault.{StoreFault}
+use Rattle.dep_row_maps.specs.Causes.{FailsByStatement}
+use Rattle.dep_row_maps.specs.Causes.FailsByStatement.{state_read, state_written, timed_out_added, upload_next, upload_found, upload_deleted, segments_deleted, segments_read, blocks_deleted, block_read}
+use Rattle.dep_staging.specs.Causes.{FailsToDrop, FailsToExpire, FailsToExpireAll, FailsToTick, FailsToHash}
+use Rattle.dep_staging.specs.Causes.FailsToDrop.{blocks, segments, row}
+use Rattle.dep_staging.specs.Causes.FailsToExpire.{drop, number}
+use Rattle.dep_staging.specs.Causes.FailsToExpireAll.{next, found, ended}
+use Rattle.dep_staging.specs.Causes.FailsToTick.{read, written, expired}
+use Rattle.dep_staging.specs.Causes.FailsToHash.{segments as rows, block}
+
+module _ (at now : db.State) (fault : StoreFault) where
+  pub drop_among : (u : ℕ) → FailsToDrop u at now fault → FailsByStatement at now fault
+  drop_among u (blocks failed) = blocks_deleted _ failed
+  drop_among u (segments failed) = segments_deleted _ failed
+  drop_among u (row failed) = upload_deleted _ failed
+
+  pub expire_among : (u : ℕ) → FailsToExpire u at now fault → FailsByStatement at now fault
+  expire_among u (drop failed) = drop_among u failed
+  expire_among u (number failed) = timed_out_added _ failed
+
+  pub expire_all_among : (config : Config) (clock : ℕ) (uploads : Numbered Upload) → FailsToExpireAll config clock uploads at now fault → FailsByStatement at now fault
+  expire_all_among config clock uploads (next u failed) = upload_next _ failed
+  expire_all_among config clock uploads (found u failed) = upload_found _ failed
+  expire_all_among config clock uploads (ended u idle failed) = expire_among u failed
+
+  pub tick_among : (config : Config) (s : State) (moment : ℕ) → FailsToTick config s moment at now fault → FailsByStatement at now fault
+  tick_among config s moment (read failed) = state_read _ failed
+  tick_among config s moment (written failed) = state_written _ failed
+  tick_among config s moment (expired failed) = expire_all_among config (clock_at s moment) s.uploads failed
+
+  pub hash_among : (u : ℕ) → FailsToHash u at now fault → FailsByStatement at now fault
+  hash_among u (rows failed) = segments_read _ failed
+  hash_among u (block part place failed) = block_read _ failed
