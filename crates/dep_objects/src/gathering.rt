@@ -1,13 +1,18 @@
 //! The rows of an object's metadata, gathered by name.
 
-ghost use Rattle.std.specs.Prelude.{◌≡◌, Some, IfOk, map as each};
+ghost use Rattle.std.specs.Prelude.{◌≡◌, ◌≢◌, ◌⊎◌, ◌<◌, ◌^◌, ◌∷◌, [], ℕ, List, All, pos, Some, None, IfOk, IfErr, map as each};
 ghost use Rattle.std.specs.FinMap as map;
-ghost use Rattle.dep_tables.specs.Clauses.{ReadsOnly, FailsReading, StaysWithin};
+ghost use Rattle.sqlite.specs.declared.types.Value.TheVariants.{Int};
+ghost use Rattle.dep_types.specs.State.{Texts};
+ghost use Rattle.dep_types.specs.declared.store_fault.StoreFault.TheVariants.{Memory};
+ghost use Rattle.dep_tables.specs.Clauses.{ReadsOnly, FailsReading, FailsToRead, StaysWithin};
+ghost use Rattle.dep_tables.specs.Rows.{IsMetadataRow};
+ghost use Rattle.dep_tables.specs.Texts.{metadata_of_text};
 ghost use Rattle.dep_row_maps.specs.Stored.{added, listed, grouped};
 ghost use Rattle.dep_row_maps.specs.Laws.{pair_of};
 ghost use Rattle.dep_row_maps.specs.TablesAre.{metadata_at};
 ghost use Rattle.dep_row_maps.specs.Clauses.{FromMaps, KeepsOurs};
-ghost use Rattle.dep_objects.specs.Texts.{closed};
+ghost use Rattle.dep_objects.specs.Texts.{closed, MayFollow};
 
 use dep_tables::{MetadataRow, Statements, metadata_of};
 use dep_types::{Metadata, StoreFault, Text, TextList};
@@ -21,7 +26,8 @@ struct NamedTexts {
 }
 
 fn keep(metadata: &mut Metadata, last: NamedTexts) -> Result<(), StoreFault>
-    ensures { IfOk result (λ _. metadata.new ≡ closed metadata.old (Some last)) }
+    ensures told { IfOk result (λ _. metadata.new ≡ closed metadata.old (Some last)) }
+    ensures cause { IfErr result (λ fault. fault ≡ Memory) }
 {
     match metadata.insert(last.name, TextList::from_vec(last.texts)) {
         Ok(()) => Ok(()),
@@ -32,7 +38,10 @@ fn keep(metadata: &mut Metadata, last: NamedTexts) -> Result<(), StoreFault>
 // Begins another name. It is a fault of the store where the name was there before, as rows of a name
 // stand together.
 fn begin(alloc: Global, metadata: &Metadata, row: MetadataRow) -> Result<NamedTexts, StoreFault>
-    ensures { IfOk result (λ now. closed metadata.now (Some now) ≡ added metadata.now (pair_of row)) }
+    ensures told { IfOk result (λ now.
+        closed metadata.now (Some now) ≡ added metadata.now (pair_of row)) }
+    ensures name { IfOk result (λ now. now.name ≡ row.name) }
+    ensures cause { map.get metadata.now row.name ≡ None → IfErr result (λ fault. fault ≡ Memory) }
 {
     if metadata.get(row.name.as_str()).is_some() {
         return Err(StoreFault::Store);
@@ -54,8 +63,11 @@ fn gather(
     last: Option<NamedTexts>,
     row: MetadataRow,
 ) -> Result<NamedTexts, StoreFault>
-    ensures { IfOk result (λ now.
+    ensures told { IfOk result (λ now.
         closed metadata.new (Some now) ≡ added (closed metadata.old last) (pair_of row)) }
+    ensures name { IfOk result (λ now. now.name ≡ row.name) }
+    ensures cause { MayFollow (closed metadata.old last) last row.name
+        → IfErr result (λ fault. fault ≡ Memory) }
 {
     if let Some(mut last) = last {
         if last.name.as_str() == row.name.as_str() {
@@ -70,7 +82,9 @@ fn gather(
 }
 
 fn gathered(alloc: Global, rows: Vec<MetadataRow>) -> Result<Metadata, StoreFault>
-    ensures { IfOk result (λ metadata. metadata ≡ grouped (each pair_of rows.items)) }
+    ensures told { IfOk result (λ metadata. metadata ≡ grouped (each pair_of rows.items)) }
+    ensures cause { (m : Texts) → each pair_of rows.items ≡ listed m
+        → IfErr result (λ fault. (fault ≡ Memory) × (rows.items ≢ [])) }
 {
     let mut metadata = Metadata::new(alloc);
     let mut last = None;
@@ -95,6 +109,11 @@ pub(crate) fn load_metadata<T: Statements>(
         metadata ≡ grouped (listed (metadata_at s.objects object)))) }
     ensures same { ReadsOnly (T.state tx.old) (T.state tx.new) result }
     ensures ours { KeepsOurs (T.state tx.old) (T.state tx.new) result }
+    ensures cause { FromMaps (T.state tx.old) (T.state tx.new)
+        (λ s. object < 2 ^ 63
+        → IfErr result (λ fault. FailsToRead (All IsMetadataRow) metadata_of_text
+        (Int (pos object) ∷ []) (T.state tx.old) (T.state tx.new) fault
+        ⊎ ((metadata_at s.objects object ≢ map.empty) × (fault ≡ Memory)))) }
     ensures err { FailsReading (T.state tx.old) (T.state tx.new) result }
     ensures stays { StaysWithin T.lenders T.state tx.old tx.new result }
 {

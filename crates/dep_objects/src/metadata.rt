@@ -1,16 +1,18 @@
 //! The metadata of an object.
 
-ghost use Rattle.std.specs.Prelude.{◌≡◌, Some, IfOk, OnOk, length, map as each};
+ghost use Rattle.std.specs.Prelude.{◌≡◌, ◌≢◌, ◌⊎◌, ◌+◌, ◌<◌, ◌≤◌, ◌^◌, [], All, Some, IfOk, IfErr, OnOk, length, map as each};
 ghost use Rattle.std.specs.FinMap as map;
 ghost use Rattle.dep_types.specs.State.{Object};
 ghost use Rattle.dep_types.specs.MetadataEntries.{name_and_texts};
+ghost use Rattle.dep_types.specs.declared.store_fault.StoreFault.TheVariants.{Memory};
 ghost use Rattle.dep_decisions.specs.Effects.{joined};
 ghost use Rattle.dep_tables.specs.Clauses.{StaysWithin};
 ghost use Rattle.dep_row_maps.specs.Owned.{placed, put_each};
 ghost use Rattle.dep_row_maps.specs.Stored.{is_of, text_row, text_values, texts_in};
-ghost use Rattle.dep_row_maps.specs.TablesAre.{with_object, with_metadata};
+ghost use Rattle.dep_row_maps.specs.TablesAre.{metadata_at, with_object, with_metadata};
 ghost use Rattle.dep_row_maps.specs.Clauses.{FromMaps, Becomes, KeepsOurs, SeesState, FailsUncommitted, FailsReadingUncommitted};
-ghost use Rattle.dep_objects.specs.Texts.{rows_beside};
+ghost use Rattle.dep_row_maps.specs.Causes.{FailsByOne, FailsHolding, FailsSince};
+ghost use Rattle.dep_objects.specs.Texts.{rows_beside, HavePlaces};
 
 use crate::gathering::load_metadata;
 use dep_tables::{LIMIT, MetadataRow, Statements, delete_metadata, insert_metadata};
@@ -24,7 +26,8 @@ fn text_row(
     place: u64,
     value: &Text,
 ) -> Result<MetadataRow, StoreFault>
-    ensures { IfOk result (λ row. row ≡ text_row object name.now place value.now) }
+    ensures told { IfOk result (λ row. row ≡ text_row object name.now place value.now) }
+    ensures cause { IfErr result (λ fault. fault ≡ Memory) }
 {
     let Ok(name) = Text::copied(alloc, name.as_str()) else {
         return Err(StoreFault::Memory);
@@ -53,6 +56,9 @@ fn put_texts<T: Statements>(
           metadata = put_each
               (placed (text_values object entry.now.name) start entry.now.texts) t.metadata;
         }) }
+    ensures cause { FailsByOne T.state tx.old tx.new result
+        ((object < 2 ^ 63) × (start + length entry.now.texts ≤ 2 ^ 63))
+        (FailsHolding (entry.now.texts ≢ [])) }
     ensures err { FailsUncommitted (T.state tx.old) (T.state tx.new) result }
     ensures stays { StaysWithin T.lenders T.state tx.old tx.new result }
 {
@@ -89,6 +95,10 @@ fn put_entries<T: Statements>(
           metadata = put_each
               (rows_beside object have.now (each name_and_texts entries.now)) t.metadata;
         }) }
+    ensures cause { FailsByOne T.state tx.old tx.new result
+        ((object < 2 ^ 63)
+        × All (λ e. length (texts_in have.now e.name) + length e.texts ≤ 2 ^ 63) entries.now)
+        (FailsHolding (entries.now ≢ [])) }
     ensures err { FailsUncommitted (T.state tx.old) (T.state tx.new) result }
     ensures stays { StaysWithin T.lenders T.state tx.old tx.new result }
 {
@@ -111,6 +121,9 @@ pub fn set_metadata<T: Statements>(
         → OnOk result (SeesState (T.state tx.new)
         (with_object s object (with_metadata o metadata.now)))) }
     ensures ours { KeepsOurs (T.state tx.old) (T.state tx.new) result }
+    ensures cause { FailsByOne T.state tx.old tx.new result
+        ((object < 2 ^ 63) × HavePlaces map.empty (map.entries metadata.now))
+        (FailsHolding (metadata.now ≢ map.empty)) }
     ensures err { FailsUncommitted (T.state tx.old) (T.state tx.new) result }
     ensures stays { StaysWithin T.lenders T.state tx.old tx.new result }
 {
@@ -131,6 +144,12 @@ pub fn append_metadata<T: Statements>(
         → OnOk result (SeesState (T.state tx.new)
         (with_object s object (with_metadata o (joined (map.entries more.now) o.metadata))))) }
     ensures ours { KeepsOurs (T.state tx.old) (T.state tx.new) result }
+    ensures cause { FromMaps (T.state tx.old) (T.state tx.new)
+        (λ s. object < 2 ^ 63
+        → HavePlaces (metadata_at s.objects object) (map.entries more.now)
+        → IfErr result (FailsSince T.state
+        (FailsHolding ((metadata_at s.objects object ≢ map.empty) ⊎ (more.now ≢ map.empty)))
+        tx.old tx.new)) }
     ensures err { FailsReadingUncommitted (T.state tx.old) (T.state tx.new) result }
     ensures stays { StaysWithin T.lenders T.state tx.old tx.new result }
 {

@@ -1,16 +1,17 @@
 //! The objects, by number.
 
-ghost use Rattle.std.specs.Prelude.{◌≡◌, ◌<◌, ◌^◌, pos, [], ◌∷◌, IfOk, OnOk, option_map};
+ghost use Rattle.std.specs.Prelude.{◌≡◌, ◌≢◌, ◌<◌, ◌^◌, pos, [], ◌∷◌, IfOk, IfErr, OnOk, option_map};
 ghost use Rattle.std.specs.FinMap as map;
 ghost use Rattle.sqlite.specs.declared.types.Value.TheVariants.{Int};
 ghost use Rattle.dep_types.specs.Rows.{object_row};
 ghost use Rattle.dep_types.specs.Sound.{IsSound};
 ghost use Rattle.dep_tables.specs.Clauses.{AtMostOne, ReadsOnly, FailsReading, FailsByReadingNumbers, RefusesNumbers, StaysWithin};
-ghost use Rattle.dep_tables.specs.Rows.{IsNumberRow, IsObjectRow};
+ghost use Rattle.dep_tables.specs.Rows.{IsNumberRow, IsObjectRow, IsStorableObject};
 ghost use Rattle.dep_tables.specs.Texts.{find_object_text, next_object_text};
 ghost use Rattle.dep_row_maps.specs.Keyed.{next_entry};
 ghost use Rattle.dep_row_maps.specs.TablesAre.{metadata_at, files_at, with_object, without_object};
 ghost use Rattle.dep_row_maps.specs.Clauses.{FromMaps, KeepsOurs, SeesState, FailsUncommitted};
+ghost use Rattle.dep_row_maps.specs.Causes.{FailsByOne, FailsByStatement, FailsHolding, FailsSince};
 ghost use Rattle.dep_objects.specs.Objects.{object_of, described_object};
 
 use crate::gathering::load_metadata;
@@ -39,6 +40,10 @@ pub fn load_object<T: Statements>(
         found ≡ option_map (described_object object) (map.get s.objects object))) }
     ensures same { ReadsOnly (T.state tx.old) (T.state tx.new) result }
     ensures ours { KeepsOurs (T.state tx.old) (T.state tx.new) result }
+    ensures cause { FromMaps (T.state tx.old) (T.state tx.new)
+        (λ s. object < 2 ^ 63
+        → IfErr result (FailsSince T.state
+        (FailsHolding (metadata_at s.objects object ≢ map.empty)) tx.old tx.new)) }
     ensures err { FailsReading (T.state tx.old) (T.state tx.new) result }
     ensures stays { StaysWithin T.lenders T.state tx.old tx.new result }
 {
@@ -89,6 +94,8 @@ pub fn put_object<T: Statements>(tx: &mut T, row: &ObjectRow) -> Result<(), Stor
         (with_object s row.now.object (object_of row.now
         (metadata_at s.objects row.now.object) (files_at s.objects row.now.object))))) }
     ensures ours { KeepsOurs (T.state tx.old) (T.state tx.new) result }
+    ensures cause { FailsByOne T.state tx.old tx.new result
+        (IsStorableObject row.now) FailsByStatement }
     ensures err { FailsReading (T.state tx.old) (T.state tx.new) result }
     ensures stays { StaysWithin T.lenders T.state tx.old tx.new result }
 {
@@ -105,6 +112,7 @@ pub fn delete_object<T: Statements>(tx: &mut T, object: u64) -> Result<(), Store
         (λ s. files_at s.objects object ≡ map.empty
         → OnOk result (SeesState (T.state tx.new) (without_object s object))) }
     ensures ours { KeepsOurs (T.state tx.old) (T.state tx.new) result }
+    ensures cause { FailsByOne T.state tx.old tx.new result (object < 2 ^ 63) FailsByStatement }
     ensures err { FailsUncommitted (T.state tx.old) (T.state tx.new) result }
     ensures stays { StaysWithin T.lenders T.state tx.old tx.new result }
 {

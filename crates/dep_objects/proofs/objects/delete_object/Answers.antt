@@ -2,6 +2,9 @@ use Rattle.dep_tables.proofs.Chains.{clean_before, stays_then}
 use Rattle.dep_tables.proofs.Results.{ok_then}
 use Rattle.dep_tables.specs.Tables.{tables_of}
 use Rattle.dep_objects.proofs.Puts.{object_gone}
+use Rattle.dep_row_maps.specs.Causes.{FailsByStatement}
+use Rattle.dep_row_maps.specs.Causes.FailsByStatement.{metadata_deleted, object_deleted}
+use Rattle.dep_row_maps.proofs.Causes.{fails_first, fails_then, if_err_is, if_err_then}
 use Rattle.dep_objects.proofs.objects.delete_object.Goals as goal
 
 pub returns-clause-map : goal.returns-clause-map
@@ -16,3 +19,14 @@ returns-clause-map g c clean inside ours s are files =
 
 pub returns-clause-stays : goal.returns-clause-stays
 returns-clause-stays g c = stays_then c.in_ok-delete_metadata.ensures.stays c.delete_object.ensures.stays
+
+pub returns-in_err-delete_metadata-clause-cause : goal.returns-in_err-delete_metadata-clause-cause
+returns-in_err-delete_metadata-clause-cause g c storable clean inside =
+    if_err_is _ c.from_residual.result c.in_err-delete_metadata.field-0.0 c.from_residual.ensures.1 (fails_first g.T.Statements.state c.args.tx.now c.delete_metadata.new.tx FailsByStatement _
+    (metadata_deleted _ (c.in_err-delete_metadata.ensures.cause storable clean inside)))
+
+pub returns-clause-cause : goal.returns-clause-cause
+returns-clause-cause g c storable clean inside =
+    let before = clean_before c.delete_object.ensures.stays clean in
+    if_err_then c.delete_object.result (c.delete_object.ensures.cause storable clean (c.in_ok-delete_metadata.ensures.stays.inside before inside))
+    (λ fault failed. fails_then g.T.Statements.state c.args.tx.now c.delete_metadata.new.tx c.delete_object.new.tx c.in_ok-delete_metadata.ensures.stays.survives FailsByStatement fault (object_deleted _ failed))

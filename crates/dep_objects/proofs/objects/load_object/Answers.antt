@@ -1,12 +1,18 @@
 use Rattle.dep_tables.proofs.Chains.{clean_before, stays_err, stays_ok, stays_then}
 use Rattle.dep_tables.proofs.Results.{if_failed}
 use Rattle.sqlite.proofs.Callers.{unchanged_then}
-use Rattle.std.proofs.Common.{sym, subst, ◌∙◌}
+use Rattle.std.proofs.Common.{◌≢◌, inl, inr, sym, subst, ◌∙◌}
+use Rattle.std.specs.FinMap as finmap
 use Rattle.dep_tables.specs.Tables.{tables_of}
 use Rattle.dep_row_maps.specs.TablesAre.{TablesAre}
 use Rattle.dep_row_maps.proofs.Readings.{object_read}
 use Rattle.dep_objects.proofs.Chains.{still_ours, tables_same, failed_since}
 use Rattle.dep_objects.proofs.Puts.{described, none_described}
+use Rattle.dep_row_maps.specs.Causes.{FailsHolding}
+use Rattle.dep_row_maps.specs.Causes.FailsHolding.{memory, statement}
+use Rattle.dep_row_maps.specs.Causes.FailsByStatement.{metadata_read, object_found}
+use Rattle.dep_row_maps.specs.TablesAre.{metadata_at}
+use Rattle.dep_row_maps.proofs.Causes.{fails_first, fails_then, if_err_is}
 use Rattle.dep_objects.proofs.objects.load_object.Goals as goal
 
 pub returns-in_default-clause-map : goal.returns-in_default-clause-map
@@ -59,3 +65,20 @@ returns-clause-ours g c clean inside ours =
     let same_1 = c.in_ok-row.ensures.same clean_1 ours in
     let same_2 = unchanged_then old at_1 at_2 same_1 (c.in_ok-metadata.ensures.same clean (still_ours old at_1 same_1 ours)) in
     still_ours old at_2 same_2 ours
+
+pub returns-in_err-row-clause-cause : goal.returns-in_err-row-clause-cause
+returns-in_err-row-clause-cause g c clean inside ours s are storable =
+    if_err_is _ c.from_residual.result c.in_err-row.field-0.0 c.from_residual.ensures.1 (fails_first g.T.Statements.state c.args.tx.now c.find_object.new.tx (FailsHolding (metadata_at s.objects c.args.object ≢ finmap.empty)) _
+    (statement (object_found _ (c.in_err-row.ensures.cause storable clean))))
+
+pub returns-in_err-metadata-clause-cause : goal.returns-in_err-metadata-clause-cause
+returns-in_err-metadata-clause-cause g c clean inside ours s are storable =
+    let old = g.T.Statements.state c.args.tx.now in
+    let mid = g.T.Statements.state c.find_object.new.tx in
+    let before = clean_before c.load_metadata.ensures.stays clean in
+    let same = c.in_ok-row.ensures.same before ours in
+    let here = subst (λ t. TablesAre t s) (sym (tables_same old mid same)) are in
+    let failed = c.in_err-metadata.ensures.cause clean (c.in_ok-row.ensures.stays.inside before inside) (still_ours old mid same ours) s here storable in
+    if_err_is _ c.from_residual-in_err-metadata.result c.in_err-metadata.field-0.0 c.from_residual-in_err-metadata.ensures.1
+    (fails_then g.T.Statements.state c.args.tx.now c.find_object.new.tx c.load_metadata.new.tx c.in_ok-row.ensures.stays.survives (FailsHolding (metadata_at s.objects c.args.object ≢ finmap.empty)) _
+    (elim failed [ inl read ↦ statement (metadata_read _ read) | inr wants ↦ memory wants.0 wants.1 ]))

@@ -7,6 +7,9 @@ use Rattle.dep_row_maps.specs.TablesAre.{TablesAre}
 use Rattle.dep_row_maps.proofs.Readings.{object_read}
 use Rattle.dep_objects.proofs.Chains.{failed_since, still_ours, tables_same}
 use Rattle.dep_objects.proofs.Puts.{put_new, put_over}
+use Rattle.dep_row_maps.specs.Causes.{FailsByStatement}
+use Rattle.dep_row_maps.specs.Causes.FailsByStatement.{object_added, object_found, object_written}
+use Rattle.dep_row_maps.proofs.Causes.{fails_first, fails_then, if_err_is, if_err_then}
 use Rattle.dep_objects.proofs.objects.put_object.Goals as goal
 
 pub returns-in-Some-clause-map : goal.returns-in-Some-clause-map
@@ -72,3 +75,20 @@ returns-in-Some-clause-stays g c = stays_then c.in_ok-find_object.ensures.stays 
 
 pub returns-in-None-clause-stays : goal.returns-in-None-clause-stays
 returns-in-None-clause-stays g c = stays_then c.in_ok-find_object.ensures.stays c.insert_object.ensures.stays
+
+pub returns-in_err-find_object-clause-cause : goal.returns-in_err-find_object-clause-cause
+returns-in_err-find_object-clause-cause g c storable clean inside =
+    if_err_is _ c.from_residual.result c.in_err-find_object.field-0.0 c.from_residual.ensures.1 (fails_first g.T.Statements.state c.args.tx.now c.find_object.new.tx FailsByStatement _
+    (object_found _ (c.in_err-find_object.ensures.cause storable.object clean)))
+
+pub returns-in-Some-clause-cause : goal.returns-in-Some-clause-cause
+returns-in-Some-clause-cause g c storable clean inside =
+    let before = clean_before c.write_object.ensures.stays clean in
+    if_err_then c.write_object.result (c.write_object.ensures.cause storable clean (c.in_ok-find_object.ensures.stays.inside before inside))
+    (λ fault failed. fails_then g.T.Statements.state c.args.tx.now c.find_object.new.tx c.write_object.new.tx c.in_ok-find_object.ensures.stays.survives FailsByStatement fault (object_written _ failed))
+
+pub returns-in-None-clause-cause : goal.returns-in-None-clause-cause
+returns-in-None-clause-cause g c storable clean inside =
+    let before = clean_before c.insert_object.ensures.stays clean in
+    if_err_then c.insert_object.result (c.insert_object.ensures.cause storable clean (c.in_ok-find_object.ensures.stays.inside before inside))
+    (λ fault failed. fails_then g.T.Statements.state c.args.tx.now c.find_object.new.tx c.insert_object.new.tx c.in_ok-find_object.ensures.stays.survives FailsByStatement fault (object_added _ failed))
