@@ -4,3 +4,4 @@ pub mod Told
 pub mod Found
 pub mod Paths
 pub mod Shows
+pub mod Causes

@@ -1,11 +1,13 @@
 //! Uploads that references name. Each is read once, however often it is named.
 
-ghost use Rattle.std.specs.Prelude.{◌≡◌, IfOk, IsTrue};
+ghost use Rattle.std.specs.Prelude.{◌≡◌, ⊤, IfOk, IfErr, IsTrue};
+ghost use Rattle.dep_types.specs.Limits.{IsStorable};
 ghost use Rattle.dep_types.specs.State.{Upload};
 ghost use Rattle.dep_types.specs.Sound.{IsSound};
 ghost use Rattle.dep_rulings.specs.Views.{assembled_digests};
 ghost use Rattle.dep_tables.specs.Clauses.{ReadsOnly, FailsReading, StaysWithin};
 ghost use Rattle.dep_row_maps.specs.Clauses.{FromMaps};
+ghost use Rattle.dep_row_maps.specs.Causes.{FailsByStatement, FailsHolding, FailsSince};
 ghost use Rattle.dep_views.specs.Segments.{IsLiveAs};
 ghost use Rattle.dep_views.specs.Referred.{AreKnown, referred, state_referred};
 
@@ -60,6 +62,9 @@ fn load_digests<T: Statements>(
         → IfOk result (λ digests. digests ≡ assembled_digests it)) }
     ensures same { IsTrue (T.state tx.old).is_open
         → ReadsOnly (T.state tx.old) (T.state tx.new) result }
+    ensures cause { FromMaps (T.state tx.old) (T.state tx.new)
+        (λ s. IsSound s → (it : Upload) → IsLiveAs s staged.now it
+        → IfErr result (FailsSince T.state FailsByStatement tx.old tx.new)) }
     ensures err { FailsReading (T.state tx.old) (T.state tx.new) result }
     ensures stays { StaysWithin T.lenders T.state tx.old tx.new result }
 {
@@ -78,6 +83,9 @@ fn load_referred<T: Statements>(
     ensures map { FromMaps (T.state tx.old) (T.state tx.new)
         (λ s. IsSound s → IfOk result (λ found. found ≡ referred s upload)) }
     ensures same { ReadsOnly (T.state tx.old) (T.state tx.new) result }
+    ensures cause { FromMaps (T.state tx.old) (T.state tx.new)
+        (λ s. IsSound s → IsStorable upload
+        → IfErr result (FailsSince T.state FailsByStatement tx.old tx.new)) }
     ensures err { FailsReading (T.state tx.old) (T.state tx.new) result }
     ensures stays { StaysWithin T.lenders T.state tx.old tx.new result }
 {
@@ -106,6 +114,9 @@ pub(crate) fn recall<T: Statements>(
         → IfOk result (λ found. (found ≡ referred s upload) × AreKnown s known.new)) }
     ensures same { IsTrue (T.state tx.old).is_open
         → ReadsOnly (T.state tx.old) (T.state tx.new) result }
+    ensures cause { FromMaps (T.state tx.old) (T.state tx.new)
+        (λ s. IsSound s → IsStorable upload
+        → IfErr result (FailsSince T.state (FailsHolding ⊤) tx.old tx.new)) }
     ensures err { FailsReading (T.state tx.old) (T.state tx.new) result }
     ensures stays { StaysWithin T.lenders T.state tx.old tx.new result }
 {

@@ -1,8 +1,9 @@
 //! The segments of an upload, by their rows.
 
-ghost use Rattle.std.specs.Prelude.{◌≡◌, IfOk, map};
+ghost use Rattle.std.specs.Prelude.{◌≡◌, ◌≢◌, [], IfOk, IfErr, map};
 ghost use Rattle.dep_types.specs.State.{Upload};
 ghost use Rattle.dep_types.specs.Uploads.{is_complete};
+ghost use Rattle.dep_types.specs.declared.store_fault.StoreFault.TheVariants.{Memory};
 ghost use Rattle.dep_row_maps.specs.Laws.{HasSegmentsWithin};
 ghost use Rattle.dep_views.specs.Segments.{segment_rows_of};
 
@@ -13,7 +14,8 @@ use std::alloc::Global;
 
 /// The numbers of these segments, in their order.
 pub(crate) fn numbers_of(alloc: Global, segments: &[SegmentRow]) -> Result<Numbers, StoreFault>
-    ensures { IfOk result (λ numbers. numbers ≡ map (λ segment. segment.number) segments.now) }
+    ensures ok { IfOk result (λ numbers. numbers ≡ map (λ segment. segment.number) segments.now) }
+    ensures cause { IfErr result (λ fault. (segments.now ≢ []) × (fault ≡ Memory)) }
 {
     let mut numbers = Vec::new(alloc);
     for segment in segments {

@@ -1,13 +1,18 @@
 //! What a reply shows of the archive.
 
-ghost use Rattle.std.specs.Prelude.{◌≡◌, IfOk, OnOk, IsTrue};
+ghost use Rattle.std.specs.Prelude.{◌≡◌, ◌≢◌, IfOk, IfErr, OnOk, IsTrue};
 ghost use Rattle.sqlite.specs.State.{HasCleanDisk};
+ghost use Rattle.std.specs.FinMap as finmap;
+ghost use Rattle.dep_types.specs.Limits.{IsStorable};
 ghost use Rattle.dep_types.specs.Sound.{IsSound};
 ghost use Rattle.dep_answers.specs.Subjects.{shown_at};
 ghost use Rattle.dep_answers.specs.declared.subject.Subject.TheVariants as subject;
 ghost use Rattle.dep_tables.specs.Tables.{IsOurs};
-ghost use Rattle.dep_tables.specs.Clauses.{ReadsOnly, FailsReading, StaysWithin};
+ghost use Rattle.dep_tables.specs.Clauses.{ReadsOnly, RefusesNumbers, FailsReading, StaysWithin};
 ghost use Rattle.dep_row_maps.specs.Clauses.{FromMaps, KeepsOurs};
+ghost use Rattle.dep_row_maps.specs.TablesAre.{metadata_at};
+ghost use Rattle.dep_row_maps.specs.Causes.{FailsByOne, FailsByStatement, FailsHolding, FailsSince};
+ghost use Rattle.dep_views.specs.Causes.{HasSegments, IsStorableSubject, ShowsList};
 
 use crate::objects::load_object_view;
 use crate::segments::numbers_of;
@@ -23,6 +28,10 @@ fn show_object<T: Statements>(tx: &mut T, alloc: Global, object: u64) -> Result<
     ensures map { FromMaps (T.state tx.old) (T.state tx.new)
         (λ s. IsSound s → IfOk result (λ shown. shown ≡ shown_at s (subject.Object object))) }
     ensures same { ReadsOnly (T.state tx.old) (T.state tx.new) result }
+    ensures cause { FromMaps (T.state tx.old) (T.state tx.new)
+        (λ s. IsStorable object
+        → IfErr result (FailsSince T.state
+        (FailsHolding (metadata_at s.objects object ≢ finmap.empty)) tx.old tx.new)) }
     ensures err { FailsReading (T.state tx.old) (T.state tx.new) result }
     ensures stays { StaysWithin T.lenders T.state tx.old tx.new result }
 {
@@ -36,6 +45,8 @@ fn show_row<T: Statements>(tx: &mut T, object: u64) -> Result<Shown, StoreFault>
     ensures map { FromMaps (T.state tx.old) (T.state tx.new)
         (λ s. IfOk result (λ shown. shown ≡ shown_at s (subject.ObjectRow object))) }
     ensures same { ReadsOnly (T.state tx.old) (T.state tx.new) result }
+    ensures numbers { RefusesNumbers (T.state tx.old) (T.state tx.new) result (IsStorable object) }
+    ensures cause { FailsByOne T.state tx.old tx.new result (IsStorable object) FailsByStatement }
     ensures err { FailsReading (T.state tx.old) (T.state tx.new) result }
     ensures stays { StaysWithin T.lenders T.state tx.old tx.new result }
 {
@@ -49,6 +60,10 @@ fn show_metadata<T: Statements>(tx: &mut T, alloc: Global, object: u64) -> Resul
     ensures map { FromMaps (T.state tx.old) (T.state tx.new)
         (λ s. IsSound s → IfOk result (λ shown. shown ≡ shown_at s (subject.Metadata object))) }
     ensures same { ReadsOnly (T.state tx.old) (T.state tx.new) result }
+    ensures cause { FromMaps (T.state tx.old) (T.state tx.new)
+        (λ s. IsStorable object
+        → IfErr result (FailsSince T.state
+        (FailsHolding (metadata_at s.objects object ≢ finmap.empty)) tx.old tx.new)) }
     ensures err { FailsReading (T.state tx.old) (T.state tx.new) result }
     ensures stays { StaysWithin T.lenders T.state tx.old tx.new result }
 {
@@ -65,6 +80,8 @@ fn show_file<T: Statements>(tx: &mut T, id: FileId) -> Result<Shown, StoreFault>
     ensures map { FromMaps (T.state tx.old) (T.state tx.new)
         (λ s. IfOk result (λ shown. shown ≡ shown_at s (subject.File id))) }
     ensures same { ReadsOnly (T.state tx.old) (T.state tx.new) result }
+    ensures numbers { RefusesNumbers (T.state tx.old) (T.state tx.new) result (IsStorable id.file) }
+    ensures cause { FailsByOne T.state tx.old tx.new result (IsStorable id.file) FailsByStatement }
     ensures err { FailsReading (T.state tx.old) (T.state tx.new) result }
     ensures stays { StaysWithin T.lenders T.state tx.old tx.new result }
 {
@@ -78,6 +95,10 @@ fn show_upload<T: Statements>(tx: &mut T, alloc: Global, upload: u64) -> Result<
     ensures map { FromMaps (T.state tx.old) (T.state tx.new)
         (λ s. IfOk result (λ shown. shown ≡ shown_at s (subject.Upload upload))) }
     ensures same { ReadsOnly (T.state tx.old) (T.state tx.new) result }
+    ensures numbers { RefusesNumbers (T.state tx.old) (T.state tx.new) result (IsStorable upload) }
+    ensures cause { FromMaps (T.state tx.old) (T.state tx.new)
+        (λ s. IsStorable upload
+        → IfErr result (FailsSince T.state (FailsHolding (HasSegments s upload)) tx.old tx.new)) }
     ensures err { FailsReading (T.state tx.old) (T.state tx.new) result }
     ensures stays { StaysWithin T.lenders T.state tx.old tx.new result }
 {
@@ -106,6 +127,10 @@ pub fn load_shown<T: Statements>(
         → IsOurs (T.state tx.old)
         → OnOk result ((T.state tx.new).now ≡ (T.state tx.old).now) }
     ensures ours { KeepsOurs (T.state tx.old) (T.state tx.new) result }
+    ensures cause { FromMaps (T.state tx.old) (T.state tx.new)
+        (λ s. IsStorableSubject subject.now
+        → IfErr result (FailsSince T.state (FailsHolding (ShowsList s subject.now))
+        tx.old tx.new)) }
     ensures err { FailsReading (T.state tx.old) (T.state tx.new) result }
     ensures stays { StaysWithin T.lenders T.state tx.old tx.new result }
 {

@@ -1,10 +1,12 @@
 //! What is there at the numbers of an object and of a file, and at a path of a bag.
 
-ghost use Rattle.std.specs.Prelude.{◌≡◌, IfOk, IsTrue};
+ghost use Rattle.std.specs.Prelude.{◌≡◌, IfOk, IfErr, IsTrue};
 ghost use Rattle.std.specs.Option.{option_copied};
 ghost use Rattle.dep_rulings.specs.Views.{has_path, touched_file, touched_object};
 ghost use Rattle.dep_tables.specs.Clauses.{ReadsOnly, FailsReading, StaysWithin};
 ghost use Rattle.dep_row_maps.specs.Clauses.{FromMaps};
+ghost use Rattle.dep_row_maps.specs.Causes.{FailsByOne, FailsByStatement, FailsSince};
+ghost use Rattle.dep_views.specs.Causes.{AreStorable};
 
 use dep_bag::has_bag_path;
 use dep_files::{find_file, load_files};
@@ -23,6 +25,8 @@ pub(crate) fn find_touched_object<T: Statements>(
         (λ s. IfOk result (λ found. found ≡ touched_object s touched.now)) }
     ensures same { IsTrue (T.state tx.old).is_open
         → ReadsOnly (T.state tx.old) (T.state tx.new) result }
+    ensures cause { FailsByOne T.state tx.old tx.new result
+        (AreStorable touched.now) FailsByStatement }
     ensures err { FailsReading (T.state tx.old) (T.state tx.new) result }
     ensures stays { StaysWithin T.lenders T.state tx.old tx.new result }
 {
@@ -41,6 +45,8 @@ pub(crate) fn find_touched_file<T: Statements>(
         (λ s. IfOk result (λ found. found ≡ touched_file s touched.now)) }
     ensures same { IsTrue (T.state tx.old).is_open
         → ReadsOnly (T.state tx.old) (T.state tx.new) result }
+    ensures cause { FailsByOne T.state tx.old tx.new result
+        (AreStorable touched.now) FailsByStatement }
     ensures err { FailsReading (T.state tx.old) (T.state tx.new) result }
     ensures stays { StaysWithin T.lenders T.state tx.old tx.new result }
 {
@@ -62,6 +68,9 @@ pub(crate) fn find_touched_path<T: Statements>(
         → IfOk result (λ has. has ≡ has_path s touched.now)) }
     ensures same { IsTrue (T.state tx.old).is_open
         → ReadsOnly (T.state tx.old) (T.state tx.new) result }
+    ensures cause { FromMaps (T.state tx.old) (T.state tx.new)
+        (λ s. option_copied object.entry ≡ touched_object s touched.now → AreStorable touched.now
+        → IfErr result (FailsSince T.state FailsByStatement tx.old tx.new)) }
     ensures err { FailsReading (T.state tx.old) (T.state tx.new) result }
     ensures stays { StaysWithin T.lenders T.state tx.old tx.new result }
 {

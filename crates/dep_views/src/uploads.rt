@@ -1,11 +1,15 @@
 //! The uploads that are touched.
 
-ghost use Rattle.std.specs.Prelude.{◌≡◌, false, IfOk, IsTrue, map};
+ghost use Rattle.std.specs.Prelude.{◌≡◌, ◌≢◌, ⊤, [], All, false, IfOk, IfErr, IsTrue, map};
+ghost use Rattle.dep_types.specs.Limits.{IsStorable};
 ghost use Rattle.dep_types.specs.Sound.{IsSound};
+ghost use Rattle.dep_types.specs.declared.store_fault.StoreFault.TheVariants.{Memory};
 ghost use Rattle.dep_rulings.specs.Views.{upload_state, upload_view};
 ghost use Rattle.dep_rulings.specs.declared.view.UploadState.TheVariants.{Live};
 ghost use Rattle.dep_tables.specs.Clauses.{ReadsOnly, FailsReading, StaysWithin};
 ghost use Rattle.dep_row_maps.specs.Clauses.{FromMaps};
+ghost use Rattle.dep_row_maps.specs.Causes.{FailsHolding, FailsSince};
+ghost use Rattle.dep_views.specs.Causes.{HasSegments};
 ghost use Rattle.dep_views.specs.Segments.{live_received};
 ghost use Rattle.dep_views.specs.Referred.{AreKnown};
 
@@ -19,7 +23,9 @@ use std::alloc::Global;
 use std::collections::BTreeMap;
 
 fn live_state(alloc: Global, staged: &StagedUpload) -> Result<UploadState, StoreFault>
-    ensures { IfOk result (λ state. state ≡ Live (live_received staged.now)) }
+    ensures ok { IfOk result (λ state. state ≡ Live (live_received staged.now)) }
+    ensures cause { IfErr result
+        (λ fault. (staged.now.received.items ≢ []) × (fault ≡ Memory)) }
 {
     Ok(UploadState::Live(LiveUpload {
         row: staged.row,
@@ -37,6 +43,9 @@ fn load_received<T: Statements>(
     ensures map { FromMaps (T.state tx.old) (T.state tx.new)
         (λ s. IfOk result (λ state. state ≡ upload_state false s upload)) }
     ensures same { ReadsOnly (T.state tx.old) (T.state tx.new) result }
+    ensures cause { FromMaps (T.state tx.old) (T.state tx.new)
+        (λ s. IsStorable upload
+        → IfErr result (FailsSince T.state (FailsHolding (HasSegments s upload)) tx.old tx.new)) }
     ensures err { FailsReading (T.state tx.old) (T.state tx.new) result }
     ensures stays { StaysWithin T.lenders T.state tx.old tx.new result }
 {
@@ -59,6 +68,9 @@ fn load_state<T: Statements>(
         (state ≡ upload_state by_reference s upload) × AreKnown s known.new)) }
     ensures same { IsTrue (T.state tx.old).is_open
         → ReadsOnly (T.state tx.old) (T.state tx.new) result }
+    ensures cause { FromMaps (T.state tx.old) (T.state tx.new)
+        (λ s. IsSound s → IsStorable upload
+        → IfErr result (FailsSince T.state (FailsHolding ⊤) tx.old tx.new)) }
     ensures err { FailsReading (T.state tx.old) (T.state tx.new) result }
     ensures stays { StaysWithin T.lenders T.state tx.old tx.new result }
 {
@@ -84,6 +96,10 @@ pub(crate) fn load_uploads<T: Statements>(
         views ≡ map (upload_view by_reference s) uploads.now)) }
     ensures same { IsTrue (T.state tx.old).is_open
         → ReadsOnly (T.state tx.old) (T.state tx.new) result }
+    ensures cause { IsTrue (T.state tx.old).is_open
+        → FromMaps (T.state tx.old) (T.state tx.new)
+        (λ s. IsSound s → All IsStorable uploads.now
+        → IfErr result (FailsSince T.state (FailsHolding (uploads.now ≢ [])) tx.old tx.new)) }
     ensures err { FailsReading (T.state tx.old) (T.state tx.new) result }
     ensures stays { StaysWithin T.lenders T.state tx.old tx.new result }
 {

@@ -1,10 +1,12 @@
 //! The view that a ruling looks at.
 
-ghost use Rattle.std.specs.Prelude.{◌≡◌, IfOk};
+ghost use Rattle.std.specs.Prelude.{◌≡◌, ◌≢◌, [], IfOk, IfErr};
 ghost use Rattle.dep_types.specs.Sound.{IsSound};
 ghost use Rattle.dep_rulings.specs.Views.{seen_at};
 ghost use Rattle.dep_tables.specs.Clauses.{ReadsOnly, FailsReading, StaysWithin};
 ghost use Rattle.dep_row_maps.specs.Clauses.{FromMaps, KeepsOurs};
+ghost use Rattle.dep_row_maps.specs.Causes.{FailsByStatement, FailsHolding, FailsSince};
+ghost use Rattle.dep_views.specs.Causes.{AreStorable};
 ghost use Rattle.dep_views.specs.Seen.{object_seen, all_seen};
 
 use crate::touched::{find_touched_file, find_touched_object, find_touched_path};
@@ -32,6 +34,9 @@ fn load_object_seen<T: Statements>(
         (λ s. IfOk result (λ seen. seen ≡ object_seen s touched.now)) }
     ensures same { ReadsOnly (T.state tx.old) (T.state tx.new) result }
     ensures ours { KeepsOurs (T.state tx.old) (T.state tx.new) result }
+    ensures cause { FromMaps (T.state tx.old) (T.state tx.new)
+        (λ s. AreStorable touched.now
+        → IfErr result (FailsSince T.state FailsByStatement tx.old tx.new)) }
     ensures err { FailsReading (T.state tx.old) (T.state tx.new) result }
     ensures stays { StaysWithin T.lenders T.state tx.old tx.new result }
 {
@@ -62,6 +67,10 @@ fn load_all_seen<T: Statements>(
         (λ s. IsSound s → IfOk result (λ seen. seen ≡ all_seen s touched.now)) }
     ensures same { ReadsOnly (T.state tx.old) (T.state tx.new) result }
     ensures ours { KeepsOurs (T.state tx.old) (T.state tx.new) result }
+    ensures cause { FromMaps (T.state tx.old) (T.state tx.new)
+        (λ s. IsSound s → AreStorable touched.now
+        → IfErr result (FailsSince T.state (FailsHolding (touched.now.uploads ≢ []))
+        tx.old tx.new)) }
     ensures err { FailsReading (T.state tx.old) (T.state tx.new) result }
     ensures stays { StaysWithin T.lenders T.state tx.old tx.new result }
 {
@@ -88,6 +97,10 @@ pub fn load_view<T: Statements>(
         (λ s. IsSound s → IfOk result (λ view. view ≡ seen_at s touched)) }
     ensures same { ReadsOnly (T.state tx.old) (T.state tx.new) result }
     ensures ours { KeepsOurs (T.state tx.old) (T.state tx.new) result }
+    ensures cause { FromMaps (T.state tx.old) (T.state tx.new)
+        (λ s. IsSound s → AreStorable touched
+        → IfErr result (FailsSince T.state (FailsHolding (touched.uploads ≢ []))
+        tx.old tx.new)) }
     ensures err { FailsReading (T.state tx.old) (T.state tx.new) result }
     ensures stays { StaysWithin T.lenders T.state tx.old tx.new result }
 {

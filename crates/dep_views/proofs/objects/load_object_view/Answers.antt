@@ -1,10 +1,16 @@
 use Rattle.dep_tables.proofs.Results.{if_failed}
 use Rattle.dep_tables.proofs.Chains.{clean_before, stays_then, stays_ok, stays_err}
-use Rattle.std.proofs.Common.{sym, ◌∙◌}
+use Rattle.std.proofs.Common.{sym, ◌∙◌, ◌≢◌}
 use Rattle.dep_staging.proofs.Chains.{fails_reading, reads_ours, reads_then}
 use Rattle.dep_files.proofs.Results.{still_ours}
 use Rattle.dep_views.proofs.Chains.{still_seen}
 use Rattle.dep_views.proofs.Told.{viewed, none_viewed}
+use Rattle.std.specs.FinMap as finmap
+use Rattle.dep_row_maps.specs.TablesAre.{metadata_at}
+use Rattle.dep_row_maps.specs.Causes.{FailsHolding}
+use Rattle.dep_row_maps.specs.Causes.FailsByStatement.{files_read}
+use Rattle.dep_row_maps.specs.Causes.FailsHolding.{statement}
+use Rattle.dep_row_maps.proofs.Causes.{fails_then, if_err_is}
 use Rattle.dep_views.proofs.objects.load_object_view.Goals as goal
 
 pub returns-in_default-clause-map : goal.returns-in_default-clause-map
@@ -36,3 +42,13 @@ returns-clause-same g c = reads_then c.in_ok-described.ensures.stays c.in_ok-fil
 
 pub returns-clause-ours : goal.returns-clause-ours
 returns-clause-ours g c = reads_ours (returns-clause-stays g c) (returns-clause-same g c)
+
+pub returns-in_err-described-clause-cause : goal.returns-in_err-described-clause-cause
+returns-in_err-described-clause-cause g c clean inside ours s are storable =
+    if_err_is _ c.from_residual.result c.in_err-described.field-0.0 c.from_residual.ensures.1 (c.in_err-described.ensures.cause clean inside ours s are storable)
+
+pub returns-in_err-files-clause-cause : goal.returns-in_err-files-clause-cause
+returns-in_err-files-clause-cause g c clean inside ours s are storable =
+    if_err_is _ c.from_residual-in_err-files.result c.in_err-files.field-0.0 c.from_residual-in_err-files.ensures.1
+    (fails_then g.T.Statements.state c.args.tx.now c.load_object.new.tx c.load_files.new.tx c.load_object.ensures.stays.survives (FailsHolding (metadata_at s.objects c.args.object ≢ finmap.empty)) _
+    (statement (files_read _ (c.in_err-files.ensures.cause storable clean))))

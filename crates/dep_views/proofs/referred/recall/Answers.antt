@@ -1,7 +1,23 @@
 use Rattle.dep_views.proofs.Found.{known_more}
+use Rattle.std.specs.Prelude.{⊤}
+use Rattle.std.proofs.Common.{refl}
+use Rattle.dep_types.specs.declared.store_fault.StoreFault.TheVariants.{Memory}
+use Rattle.dep_row_maps.specs.Causes.{FailsByStatement, FailsHolding}
+use Rattle.dep_row_maps.specs.Causes.FailsHolding.{statement, memory}
+use Rattle.dep_row_maps.proofs.Causes.{fails_among, fails_first, if_err_is}
 use Rattle.dep_views.proofs.referred.recall.Goals as goal
 
 pub returns-in-Ok-clause-map : goal.returns-in-Ok-clause-map
 returns-in-Ok-clause-map g c clean inside ours s are sound known =
     let it = c.in_ok-found.ensures.map clean inside ours s are sound in
     (it, known_more s c.args.known.now c.insert.new.self c.args.upload c.in_ok-found.found it known (λ q. c.in-Ok.ensures.updates.0 q))
+
+pub returns-in_err-found-clause-cause : goal.returns-in_err-found-clause-cause
+returns-in_err-found-clause-cause g c clean inside ours s are sound storable =
+    if_err_is _ c.from_residual.result c.in_err-found.field-0.0 c.from_residual.ensures.1
+    (fails_among g.T.Statements.state c.args.tx.now c.load_referred.new.tx FailsByStatement (FailsHolding ⊤) (λ at now fault failed. statement failed) _
+    (c.in_err-found.ensures.cause clean inside ours s are sound storable))
+
+pub returns-in-Err-clause-cause : goal.returns-in-Err-clause-cause
+returns-in-Err-clause-cause g c clean inside ours s are sound storable =
+    fails_first g.T.Statements.state c.args.tx.now c.load_referred.new.tx (FailsHolding ⊤) Memory (memory tt refl)

@@ -1,7 +1,8 @@
-use Rattle.std.proofs.Common.{◌∙◌, ◌++◌, [], ◌∷◌, map, get_or, sym, ap}
+use Rattle.std.proofs.Common.{◌∙◌, ◌++◌, [], ◌∷◌, map, get_or, refl, sym, ap}
 use Rattle.std.proofs.lemmas.List.{map_more, take_all}
 use Rattle.dep_tables.specs.declared.segments.SegmentRow.{SegmentRow}
 use Rattle.dep_objects.proofs.Named.{pushed}
+use Rattle.dep_views.proofs.Causes.{not_empty}
 use Rattle.dep_views.proofs.segments.numbers_of.Goals as goal
 
 pub loop-segment-preserved : goal.loop-segment-preserved
@@ -15,7 +16,10 @@ loop-segment-preserved c =
     let grown = pushed c.push.result c.push.new.self.items (before ++ number ∷ []) before (sym c.is_err.ensures.value ∙ c.if-is_err.false) c.push.ensures.items in
     grown ∙ ap (λ l. l ++ number ∷ []) c.loop-segment.invariant ∙ sym (map_more f xs i none c.loop-segment-test.true)
 
-pub returns : goal.returns
-returns c =
+pub returns-clause-ok : goal.returns-clause-ok
+returns-clause-ok c =
     let f = λ (row : SegmentRow). row.number in
     c.from_vec.ensures ∙ c.loop-segment.invariant ∙ ap (map f) (take_all c.loop-segment.segment-index c.args.segments.now c.loop-segment-test.false)
+
+pub returns-then-is_err-clause-cause : goal.returns-then-is_err-clause-cause
+returns-then-is_err-clause-cause c = (not_empty c.args.segments.now c.loop-segment.segment-index c.loop-segment-test.true, refl)

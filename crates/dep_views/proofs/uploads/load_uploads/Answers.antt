@@ -1,5 +1,8 @@
-use Rattle.std.proofs.Common.{Ok, inl, ◌≡◌, ◌∙◌, ◌++◌, [], ◌∷◌, map, take, get_or, sym, ap}
+use Rattle.std.proofs.Common.{Ok, inl, ◌≡◌, ◌≢◌, refl, ◌∙◌, ◌++◌, [], ◌∷◌, map, take, get_or, sym, ap}
+use Rattle.std.specs.Prelude.{⊤}
 use Rattle.std.proofs.lemmas.List.{map_more, take_all}
+use Rattle.std.proofs.lemmas.List.Elements.{All-get_or}
+use Rattle.dep_types.specs.declared.store_fault.StoreFault.TheVariants.{Memory}
 use Rattle.sqlite.proofs.Callers.{unchanged_then}
 use Rattle.dep_objects.proofs.Named.{pushed}
 use Rattle.dep_files.proofs.Results.{still_ours}
@@ -9,6 +12,11 @@ use Rattle.dep_staging.proofs.Chains.{failed_since}
 use Rattle.dep_tables.proofs.Results.{if_failed}
 use Rattle.dep_tables.proofs.Chains.{clean_before, stays_then, stays_ok, stays_err}
 use Rattle.dep_views.proofs.Chains.{still_seen}
+use Rattle.dep_row_maps.specs.Causes.{FailsHolding}
+use Rattle.dep_row_maps.specs.Causes.FailsHolding.{memory}
+use Rattle.dep_row_maps.proofs.Causes.{fails_first, fails_later, holding_more, if_err_is}
+use Rattle.dep_types.specs.Limits.{IsStorable}
+use Rattle.dep_views.proofs.Causes.{not_empty}
 use Rattle.dep_views.proofs.uploads.load_uploads.Goals as goal
 
 pub uploads-preserved : goal.uploads-preserved
@@ -67,3 +75,22 @@ returns-then-is_err-clause-err g c clean inside ours is_open =
     let opened = (inv.0.kept before inside).was_open ((c.load_state.ensures.stays.kept clean (inv.0.inside before inside)).was_open is_open) in
     let same = inv.1 opened before ours in
     inl (unchanged_then old mid new same (c.in_ok-state.ensures.same same.0.is_open clean (still_ours old mid same ours)))
+
+pub returns-in_err-state-clause-cause : goal.returns-in_err-state-clause-cause
+returns-in_err-state-clause-cause g c is_open clean inside ours s are sound storable =
+    let old = c.args.tx.now in
+    let mid = c.uploads.tx in
+    let new = c.load_state.new.tx in
+    let inv = c.uploads.invariant in
+    let before = clean_before c.load_state.ensures.stays clean in
+    let same = inv.1 is_open before ours in
+    let xs = c.args.uploads.now in
+    let small = All-get_or IsStorable xs c.uploads.upload-index 0 c.uploads-test.true storable in
+    if_err_is _ c.from_residual.result c.in_err-state.field-0.0 c.from_residual.ensures.1
+    (fails_later g.T.Statements.state old mid new inv.0.survives (FailsHolding ⊤) (FailsHolding (xs ≢ [])) (holding_more (λ _. not_empty xs c.uploads.upload-index c.uploads-test.true)) _
+    (c.in_err-state.ensures.cause clean (inv.0.inside before inside) (still_ours (g.T.Statements.state old) (g.T.Statements.state mid) same ours) s
+    (still_seen (g.T.Statements.state old) (g.T.Statements.state mid) s same are) sound small))
+
+pub returns-then-is_err-clause-cause : goal.returns-then-is_err-clause-cause
+returns-then-is_err-clause-cause g c is_open clean inside ours s are sound storable =
+    fails_first g.T.Statements.state c.args.tx.now c.load_state.new.tx (FailsHolding (c.args.uploads.now ≢ [])) Memory (memory (not_empty c.args.uploads.now c.uploads.upload-index c.uploads-test.true) refl)

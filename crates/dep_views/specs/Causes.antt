@@ -1,0 +1,35 @@
+-- Which numbers a table can hold, and when a list is made of what was read.
+use Rattle.std.specs.Prelude.{◌≡◌, ◌≢◌, ⊤, ℕ, Some, All, IfSome}
+use Rattle.std.specs.FinMap as finmap
+use Rattle.dep_types.specs.Limits.{IsStorable}
+use Rattle.dep_types.specs.State.{State, Upload as Staged}
+use Rattle.dep_answers.specs.declared.subject.Subject.{Subject}
+use Rattle.dep_answers.specs.declared.subject.Subject.TheVariants.{Nothing, Object, ObjectRow, Metadata, File, Upload}
+use Rattle.dep_row_maps.specs.TablesAre.{metadata_at}
+use Rattle.dep_rulings.specs.declared.view.Touched.{Touched}
+
+-- each number that is touched is one that a table can hold
+pub record AreStorable (t : Touched) : Type 0 where
+  pub object : IfSome t.object IsStorable
+  pub file : IfSome t.file IsStorable
+  pub uploads : All IsStorable t.uploads
+
+-- the number by which it is looked up is
+abbrev pub IsStorableSubject : Subject → Type 0
+IsStorableSubject Nothing = ⊤
+IsStorableSubject (Object n) = IsStorable n
+IsStorableSubject (ObjectRow n) = IsStorable n
+IsStorableSubject (Metadata n) = IsStorable n
+IsStorableSubject (File id) = IsStorable id.file
+IsStorableSubject (Upload u) = IsStorable u
+
+-- the upload of this number has a segment
+abbrev pub HasSegments : State → ℕ → Type 0
+HasSegments s u = (it : Staged) × (finmap.get s.uploads u ≡ Some it) × (it.segments ≢ finmap.empty)
+
+-- a list is made of what is shown, which holds something: metadata, or the numbers of segments
+abbrev pub ShowsList : State → Subject → Type 0
+ShowsList s (Object n) = metadata_at s.objects n ≢ finmap.empty
+ShowsList s (Metadata n) = metadata_at s.objects n ≢ finmap.empty
+ShowsList s (Upload u) = HasSegments s u
+ShowsList s subject = ⊥
