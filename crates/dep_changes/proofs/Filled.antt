@@ -49,17 +49,13 @@ module _ (t : Tables) (s : State) (content : List ℕ) (n : ℕ) (d : Deposit) w
 pub ingested_row : (n : ℕ) (o : Object) (ingests : Bool) (was now : ObjectRow) → was ≡ object_row n o → now ≡ record was { ingested = was.ingested || ingests } → now ≡ object_row n (ingested_by ingests o)
 ingested_row n o ingests was now is after = after ∙ ap (λ (r : ObjectRow). record r { ingested = r.ingested || ingests }) is
 
--- what an object keeps until its files and its metadata are taken away
-abbrev pub marked : State → Object → (ingested : Bool) → Object
-marked s o ingested = record (blank s ingested) { metadata = o.metadata; files = o.files }
-
 module _ (s : State) (clock : ℕ) (next : Counters) (at_clock : clock ≡ s.clock) (at_next : next ≡ s.next) (now : ObjectRow) where
   pub blank_row_is : (k : ℕ) (ingested : Bool) → now ≡ record { object = k; ingested = ingested; object_tag = next.change; metadata_tag = next.change; files_tag = next.change; changed = clock } → now ≡ object_row k (blank s ingested)
   blank_row_is k ingested is = cc
 
-  pub marked_row : (n : ℕ) (o it : Object) (row : ObjectRow) → row ≡ object_row n it
-      → now ≡ record { object = row.object; ingested = row.ingested; object_tag = next.change; metadata_tag = next.change; files_tag = next.change; changed = clock } → now ≡ object_row n (marked s o it.ingested)
-  marked_row n o it row was is = cc
+  pub blank_again : (n : ℕ) (it : Object) (row : ObjectRow) → row ≡ object_row n it
+      → now ≡ record { object = row.object; ingested = row.ingested; object_tag = next.change; metadata_tag = next.change; files_tag = next.change; changed = clock } → now ≡ object_row n (blank s it.ingested)
+  blank_again n it row was is = cc
 
 -- ---- a new object
 

@@ -5,3 +5,5 @@ pub mod Added
 pub mod Filled
 pub mod Accepted
 pub mod Carried
+pub mod Causes
+pub mod Fits

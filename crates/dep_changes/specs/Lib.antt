@@ -1,2 +1,3 @@
 pub mod Told
 pub mod Changed
+pub mod Causes

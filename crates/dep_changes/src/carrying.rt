@@ -1,11 +1,12 @@
 //! What a decision makes of the tables.
 
-ghost use Rattle.std.specs.Prelude.{◌≡◌, Ok, OnOk, IsTrue};
+ghost use Rattle.std.specs.Prelude.{◌≡◌, Ok, OnOk, IfErr, IsTrue};
 ghost use Rattle.dep_types.specs.Numbers.{room_for};
 ghost use Rattle.dep_types.specs.Sound.{IsSound};
 ghost use Rattle.dep_types.specs.declared.config.Config.{Config};
 ghost use Rattle.dep_tables.specs.Clauses.{StaysWithin};
 ghost use Rattle.dep_row_maps.specs.Clauses.{FromMaps, KeepsOurs, SeesState};
+ghost use Rattle.dep_row_maps.specs.Causes.{FailsHolding, FailsSince};
 ghost use Rattle.dep_decisions.specs.Decisions.{numbers_for};
 ghost use Rattle.dep_decisions.specs.Effects.{effect};
 ghost use Rattle.dep_decisions.specs.declared.decision.Decision.TheVariants.{Show};
@@ -13,6 +14,7 @@ ghost use Rattle.dep_decisions.specs.declared.operation.Operation.{Operation};
 ghost use Rattle.dep_rulings.specs.Rulings.{IsRuling};
 ghost use Rattle.dep_rulings.specs.Views.{true_view};
 ghost use Rattle.dep_rulings.specs.declared.ruling.Ruling.TheVariants.{Do};
+ghost use Rattle.dep_changes.specs.Causes.{AreStorableSizes, IsStorableDecision, TakesMemory};
 ghost use Rattle.dep_changes.specs.Told.{TellsNumbers, TellsFor};
 ghost use Rattle.dep_changes.specs.Changed.{with_maps};
 
@@ -47,6 +49,12 @@ pub fn carry_out<T: Statements>(
         → OnOk result (SeesState (T.state tx.new) (effect config s op))) }
     ensures untouched { decision.now ≡ Show → (result ≡ Ok tt) × (tx.new ≡ tx.old) }
     ensures ours { KeepsOurs (T.state tx.old) (T.state tx.new) result }
+    ensures cause { FromMaps (T.state tx.old) (T.state tx.new)
+        (λ s. (config : Config) (op : Operation) → IsSound s → view.now ≡ true_view config s op
+        → IsRuling config s op (Do decision.now) → content.now ≡ op.content
+        → AreStorableSizes s content.now → IsStorableDecision s decision.now
+        → IfErr result (FailsSince T.state (FailsHolding (TakesMemory s decision.now))
+        tx.old tx.new)) }
     ensures stays { StaysWithin T.lenders T.state tx.old tx.new result }
 {
     let change = Change {
@@ -82,6 +90,12 @@ fn change_maps<T: Statements>(
         (with_maps s change.now.content.now decision.now))) }
     ensures untouched { decision.now ≡ Show → (result ≡ Ok tt) × (tx.new ≡ tx.old) }
     ensures ours { KeepsOurs (T.state tx.old) (T.state tx.new) result }
+    ensures cause { FromMaps (T.state tx.old) (T.state tx.new)
+        (λ s. IsSound s → TellsNumbers change.now.view.now s
+        → TellsFor change.now.view.now s change.now.content.now decision.now
+        → AreStorableSizes s change.now.content.now → IsStorableDecision s decision.now
+        → IfErr result (FailsSince T.state (FailsHolding (TakesMemory s decision.now))
+        tx.old tx.new)) }
     ensures stays { StaysWithin T.lenders T.state tx.old tx.new result }
 {
     match decision {

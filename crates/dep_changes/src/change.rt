@@ -1,6 +1,6 @@
 //! What a change is made with, and the row of the object that it touches.
 
-ghost use Rattle.std.specs.Prelude.{◌≡◌, Some, IfOk};
+ghost use Rattle.std.specs.Prelude.{◌≡◌, Some, None, IfOk, IfErr};
 
 use dep_rulings::View;
 use dep_types::{ObjectRow, Octets, StoreFault};
@@ -16,7 +16,8 @@ pub(crate) struct Change<'a> {
 
 /// The object that is touched. That none is there is a fault of the store, as the rules let no such request through.
 pub(crate) fn touched(view: &View) -> Result<ObjectRow, StoreFault>
-    ensures { IfOk result (λ row. view.now.object ≡ Some row) }
+    ensures told { IfOk result (λ row. view.now.object ≡ Some row) }
+    ensures absent { IfErr result (λ _. view.now.object ≡ None) }
 {
     match view.object {
         Some(row) => Ok(row),

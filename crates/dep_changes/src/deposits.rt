@@ -1,15 +1,21 @@
 //! Deposits.
 
-ghost use Rattle.std.specs.Prelude.{◌≡◌, ◌||◌, ℕ, Bool, Some, None, OnOk, IsTrue, length};
+ghost use Rattle.std.specs.Prelude.{◌≡◌, ◌≢◌, ◌⊎◌, ◌||◌, ℕ, Bool, [], Some, None, OnOk, IfErr, IsTrue, length};
 ghost use Rattle.std.specs.FinMap as map;
+ghost use Rattle.dep_types.specs.Limits.{IsStorable};
+ghost use Rattle.dep_types.specs.Sound.{IsSound};
 ghost use Rattle.dep_types.specs.State.{Object};
 ghost use Rattle.dep_types.specs.Rows.{object_row};
 ghost use Rattle.dep_types.specs.Numbers.{has_room};
 ghost use Rattle.dep_tables.specs.Clauses.{StaysWithin};
+ghost use Rattle.dep_tables.specs.Rows.{IsStorableObject};
 ghost use Rattle.dep_row_maps.specs.TablesAre.{with_metadata, with_object};
 ghost use Rattle.dep_row_maps.specs.Clauses.{FromMaps, KeepsOurs, SeesState};
+ghost use Rattle.dep_row_maps.specs.Causes.{FailsByOne, FailsByStatement, FailsHolding, FailsSince};
+ghost use Rattle.dep_objects.specs.Texts.{HavePlaces};
 ghost use Rattle.dep_decisions.specs.Decisions.{count_of};
 ghost use Rattle.dep_decisions.specs.Effects.{blank, joined, with_files, with_texts};
+ghost use Rattle.dep_changes.specs.Causes.{AreStorableSources, CopiesBeside, HasCopies, HasStorableNumbers, IsStorableDeposit, TellsStorableObject};
 ghost use Rattle.dep_changes.specs.Told.{TellsNumbers, TellsObject, AreSources, HasSources};
 ghost use Rattle.dep_changes.specs.Changed.{with_deposit, with_appended, with_new_files};
 
@@ -70,6 +76,10 @@ fn fill<T: Statements>(
         → OnOk result (SeesState (T.state tx.new)
         (with_deposit s change.now.content.now object deposit.now ingested))) }
     ensures ours { KeepsOurs (T.state tx.old) (T.state tx.new) result }
+    ensures cause { FailsByOne T.state tx.old tx.new result
+        (HasStorableNumbers change.now.view.now × IsStorable object
+        × IsStorableDeposit change.now.content.now change.now.view.now.uploads map.empty deposit.now)
+        (FailsHolding (HasCopies deposit.now)) }
     ensures stays { StaysWithin T.lenders T.state tx.old tx.new result }
 {
     match deposit {
@@ -92,6 +102,10 @@ pub(crate) fn create<T: Statements>(
         → OnOk result (SeesState (T.state tx.new)
         (with_deposit s change.now.content.now s.next.object deposit.now ingests))) }
     ensures ours { KeepsOurs (T.state tx.old) (T.state tx.new) result }
+    ensures cause { FailsByOne T.state tx.old tx.new result
+        (HasStorableNumbers change.now.view.now
+        × IsStorableDeposit change.now.content.now change.now.view.now.uploads map.empty deposit.now)
+        (FailsHolding (HasCopies deposit.now)) }
     ensures stays { StaysWithin T.lenders T.state tx.old tx.new result }
 {
     let object = change.view.next.object;
@@ -106,6 +120,7 @@ fn clear_metadata<T: Statements>(tx: &mut T, alloc: Global, object: u64) -> Resu
         → OnOk result (SeesState (T.state tx.new)
         (with_object s object (with_metadata o map.empty)))) }
     ensures ours { KeepsOurs (T.state tx.old) (T.state tx.new) result }
+    ensures cause { FailsByOne T.state tx.old tx.new result (IsStorable object) FailsByStatement }
     ensures stays { StaysWithin T.lenders T.state tx.old tx.new result }
 {
     let none = Metadata::new(alloc);
@@ -129,12 +144,16 @@ pub(crate) fn replace<T: Statements>(
         → OnOk result (SeesState (T.state tx.new)
         (with_deposit s change.now.content.now n deposit.now (o.ingested || ingests)))) }
     ensures ours { KeepsOurs (T.state tx.old) (T.state tx.new) result }
+    ensures cause { FromMaps (T.state tx.old) (T.state tx.new)
+        (λ s. IsSound s → TellsStorableObject change.now.view.now
+        → IsStorableDeposit change.now.content.now change.now.view.now.uploads map.empty deposit.now
+        → IfErr result (FailsSince T.state (FailsHolding (HasCopies deposit.now)) tx.old tx.new)) }
     ensures stays { StaysWithin T.lenders T.state tx.old tx.new result }
 {
     let row = ingested_by(touched(change.view)?, ingests);
-    write_row(tx, &blank_row(change.view, row.object, row.ingested))?;
     delete_files(tx, change.alloc, row.object)?;
     clear_metadata(tx, change.alloc, row.object)?;
+    write_row(tx, &blank_row(change.view, row.object, row.ingested))?;
     fill(tx, change, row.object, deposit)
 }
 
@@ -154,6 +173,10 @@ fn append_files<T: Statements>(
         (with_new_files s change.now.content.now row.object
         (with_files s it.files it) files.now))) }
     ensures ours { KeepsOurs (T.state tx.old) (T.state tx.new) result }
+    ensures cause { FailsByOne T.state tx.old tx.new result
+        (HasStorableNumbers change.now.view.now × IsStorableObject row
+        × AreStorableSources change.now.content.now change.now.view.now.uploads files.now)
+        (FailsHolding (files.now ≢ [])) }
     ensures stays { StaysWithin T.lenders T.state tx.old tx.new result }
 {
     write_row(tx, &files_changed(change.view, row))?;
@@ -174,6 +197,15 @@ fn append_texts<T: Statements>(
         (with_object s row.object
         (with_texts s (joined (map.entries metadata.now) it.metadata) it)))) }
     ensures ours { KeepsOurs (T.state tx.old) (T.state tx.new) result }
+    ensures cause { FromMaps (T.state tx.old) (T.state tx.new)
+        (λ s. (o it : Object) → TellsNumbers change.now.view.now s
+        → map.get s.objects row.object ≡ Some o → row ≡ object_row row.object it
+        → it.metadata ≡ o.metadata → it.files ≡ o.files
+        → HasStorableNumbers change.now.view.now → IsStorableObject row
+        → HavePlaces it.metadata (map.entries metadata.now)
+        → IfErr result (FailsSince T.state
+        (FailsHolding ((it.metadata ≢ map.empty) ⊎ (metadata.now ≢ map.empty)))
+        tx.old tx.new)) }
     ensures stays { StaysWithin T.lenders T.state tx.old tx.new result }
 {
     write_row(tx, &texts_changed(change.view, row))?;
@@ -195,6 +227,12 @@ pub(crate) fn append<T: Statements>(
         → OnOk result (SeesState (T.state tx.new)
         (with_appended s change.now.content.now n o deposit.now ingests))) }
     ensures ours { KeepsOurs (T.state tx.old) (T.state tx.new) result }
+    ensures cause { FromMaps (T.state tx.old) (T.state tx.new)
+        (λ s. (n : ℕ) (o : Object) → TellsNumbers change.now.view.now s
+        → TellsObject change.now.view.now s n o → TellsStorableObject change.now.view.now
+        → IsStorableDeposit change.now.content.now change.now.view.now.uploads o.metadata deposit.now
+        → IfErr result (FailsSince T.state (FailsHolding (CopiesBeside o.metadata deposit.now))
+        tx.old tx.new)) }
     ensures stays { StaysWithin T.lenders T.state tx.old tx.new result }
 {
     let row = ingested_by(touched(change.view)?, ingests);

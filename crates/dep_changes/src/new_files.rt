@@ -1,8 +1,11 @@
 //! New files, each under the next number, with their contents.
 
-ghost use Rattle.std.specs.Prelude.{◌≡◌, ◌+◌, ℕ, length, slice_get, Some, None, IfOk, OnOk, IsTrue};
+ghost use Rattle.std.specs.Prelude.{◌≡◌, ◌≢◌, ⊤, ◌+◌, ℕ, [], length, slice_get, Some, None, IfOk, IfErr, OnOk, IsTrue};
 ghost use Rattle.std.specs.FinMap as map;
+ghost use Rattle.dep_types.specs.Limits.{IsStorable};
+ghost use Rattle.dep_types.specs.Sound.{IsSound};
 ghost use Rattle.dep_types.specs.State.{Object, File, Upload};
+ghost use Rattle.dep_types.specs.declared.store_fault.StoreFault.TheVariants.{Memory};
 ghost use Rattle.dep_types.specs.Rows.{upload_row};
 ghost use Rattle.dep_types.specs.Numbers.{has_room};
 ghost use Rattle.dep_types.specs.Uploads.{assembled};
@@ -10,10 +13,12 @@ ghost use Rattle.dep_fixity.specs.Fixity.{digests_of};
 ghost use Rattle.dep_tables.specs.Clauses.{StaysWithin};
 ghost use Rattle.dep_row_maps.specs.TablesAre.{with_object};
 ghost use Rattle.dep_row_maps.specs.Clauses.{FromMaps, KeepsOurs, SeesState};
+ghost use Rattle.dep_row_maps.specs.Causes.{FailsByOne, FailsHolding, FailsSince};
 ghost use Rattle.dep_decisions.specs.Effects.{file_from, is_reference, with_files};
 ghost use Rattle.dep_decisions.specs.declared.decision.Source.TheVariants.{Posted};
 ghost use Rattle.dep_files.specs.Edits.{with_file};
 ghost use Rattle.dep_staging.specs.Assembling.{deposited};
+ghost use Rattle.dep_changes.specs.Causes.{AreStorableSources, HasStorableNumbers, IsStorableSource, IsStorableWhole, TellsStorableObject};
 ghost use Rattle.dep_changes.specs.Told.{TellsNumbers, TellsFile, TellsObject, IsSource, AreSources, IsWhole, whole_view};
 ghost use Rattle.dep_changes.specs.Changed.{made_file, with_new_file, with_new_files};
 
@@ -43,7 +48,8 @@ struct Extent {
 }
 
 fn copied(alloc: Global, text: &Text) -> Result<Text, StoreFault>
-    ensures { IfOk result (λ copied. copied ≡ text.now) }
+    ensures told { IfOk result (λ copied. copied ≡ text.now) }
+    ensures cause { IfErr result (λ fault. fault ≡ Memory) }
 {
     match Text::copied(alloc, text.as_str()) {
         Ok(copied) => Ok(copied),
@@ -52,7 +58,8 @@ fn copied(alloc: Global, text: &Text) -> Result<Text, StoreFault>
 }
 
 fn copied_behalf(alloc: Global, behalf: &Option<Text>) -> Result<Option<Text>, StoreFault>
-    ensures { IfOk result (λ copied. copied ≡ behalf.now) }
+    ensures told { IfOk result (λ copied. copied ≡ behalf.now) }
+    ensures cause { IfErr result (λ fault. fault ≡ Memory) }
 {
     match behalf {
         Some(text) => Ok(Some(copied(alloc, text)?)),
@@ -75,7 +82,7 @@ fn new_row(
     new: &NewFile,
     extent: Extent,
 ) -> Result<FileRow, StoreFault>
-    ensures { IfOk result (λ row. row ≡ record {
+    ensures told { IfOk result (λ row. row ≡ record {
       file = numbers.file;
       object = numbers.object;
       name = new.now.name;
@@ -87,6 +94,7 @@ fn new_row(
       by_reference = is_reference new.now.source;
       sha256 = extent.digests.sha256;
     }) }
+    ensures cause { IfErr result (λ fault. fault ≡ Memory) }
 {
     Ok(FileRow {
         file: numbers.file,
@@ -117,6 +125,10 @@ fn put_posted<T: Statements>(
         → OnOk result (SeesState (T.state tx.new)
         (with_file s numbers.object o numbers.file (made_file s new.now change.now.content.now)))) }
     ensures ours { KeepsOurs (T.state tx.old) (T.state tx.new) result }
+    ensures cause { FailsByOne T.state tx.old tx.new result
+        (HasStorableNumbers change.now.view.now × IsStorable numbers.object
+        × IsStorable numbers.file × IsStorable (length change.now.content.now))
+        (FailsHolding ⊤) }
     ensures stays { StaysWithin T.lenders T.state tx.old tx.new result }
 {
     let extent = Extent {
@@ -136,9 +148,11 @@ struct WholeUpload {
 // The upload that is seen at this place. That it isn't there or isn't whole is a fault of the store, as the rules let
 // no such request through.
 fn whole_upload(view: &View, index: usize) -> Result<WholeUpload, StoreFault>
-    ensures { IfOk result (λ whole. (u : ℕ) (it : Upload)
+    ensures told { IfOk result (λ whole. (u : ℕ) (it : Upload)
         → slice_get view.now.uploads index ≡ Some (whole_view u it)
         → (whole.row ≡ upload_row u it) × (whole.digests ≡ digests_of (assembled it))) }
+    ensures absent { IfErr result (λ _. (u : ℕ) (it : Upload)
+        → slice_get view.now.uploads index ≢ Some (whole_view u it)) }
 {
     let views = view.uploads.as_slice();
     if index >= views.len() {
@@ -171,6 +185,11 @@ fn put_assembled<T: Statements>(
         → OnOk result (SeesState (T.state tx.new)
         (deposited s numbers.object o numbers.file (made_file s new.now (assembled it)) u))) }
     ensures ours { KeepsOurs (T.state tx.old) (T.state tx.new) result }
+    ensures cause { FailsByOne T.state tx.old tx.new result
+        (HasStorableNumbers change.now.view.now × IsStorable numbers.object
+        × IsStorable numbers.file
+        × IsStorableWhole (slice_get change.now.view.now.uploads index))
+        (FailsHolding ⊤) }
     ensures stays { StaysWithin T.lenders T.state tx.old tx.new result }
 {
     let upload = whole_upload(change.view, index)?;
@@ -197,6 +216,12 @@ fn put_new_file<T: Statements>(
         (with_new_file s numbers.object o numbers.file
         (file_from s change.now.content.now new.now) new.now.source))) }
     ensures ours { KeepsOurs (T.state tx.old) (T.state tx.new) result }
+    ensures cause { FailsByOne T.state tx.old tx.new result
+        (HasStorableNumbers change.now.view.now × IsStorable numbers.object
+        × IsStorable numbers.file
+        × IsStorableSource change.now.content.now (slice_get change.now.view.now.uploads index)
+        new.now.source)
+        (FailsHolding ⊤) }
     ensures stays { StaysWithin T.lenders T.state tx.old tx.new result }
 {
     match new.source {
@@ -219,6 +244,10 @@ pub(crate) fn put_new_files<T: Statements>(
         → OnOk result (SeesState (T.state tx.new)
         (with_new_files s change.now.content.now object o files.now))) }
     ensures ours { KeepsOurs (T.state tx.old) (T.state tx.new) result }
+    ensures cause { FailsByOne T.state tx.old tx.new result
+        (HasStorableNumbers change.now.view.now × IsStorable object
+        × AreStorableSources change.now.content.now change.now.view.now.uploads files.now)
+        (FailsHolding (files.now ≢ [])) }
     ensures stays { StaysWithin T.lenders T.state tx.old tx.new result }
 {
     'files: for (index, new) in files.iter().enumerate() {
@@ -245,11 +274,15 @@ pub(crate) fn set_files<T: Statements>(
         → OnOk result (SeesState (T.state tx.new)
         (with_new_files s change.now.content.now n (with_files s map.empty o) files.now))) }
     ensures ours { KeepsOurs (T.state tx.old) (T.state tx.new) result }
+    ensures cause { FromMaps (T.state tx.old) (T.state tx.new)
+        (λ s. IsSound s → TellsStorableObject change.now.view.now
+        → AreStorableSources change.now.content.now change.now.view.now.uploads files.now
+        → IfErr result (FailsSince T.state (FailsHolding (files.now ≢ [])) tx.old tx.new)) }
     ensures stays { StaysWithin T.lenders T.state tx.old tx.new result }
 {
     let row = touched(change.view)?;
-    write_row(tx, &files_changed(change.view, row))?;
     delete_files(tx, change.alloc, row.object)?;
+    write_row(tx, &files_changed(change.view, row))?;
     put_new_files(tx, change, row.object, files)
 }
 
@@ -268,6 +301,11 @@ pub(crate) fn set_file<T: Statements>(
         (with_object s n
         (with_files s (map.insert o.files file (made_file s new.now change.now.content.now)) o)))) }
     ensures ours { KeepsOurs (T.state tx.old) (T.state tx.new) result }
+    ensures cause { FailsByOne T.state tx.old tx.new result
+        (TellsStorableObject change.now.view.now × IsStorable file
+        × IsStorable (length change.now.content.now)
+        × (new.now.source ≡ Posted (digests_of change.now.content.now)))
+        (FailsHolding ⊤) }
     ensures stays { StaysWithin T.lenders T.state tx.old tx.new result }
 {
     let Source::Posted(digests) = new.source else {

@@ -1,13 +1,19 @@
 //! Changes of one object.
 
-ghost use Rattle.std.specs.Prelude.{◌≡◌, ℕ, Some, OnOk, true};
+ghost use Rattle.std.specs.Prelude.{◌≡◌, ◌≢◌, ℕ, Some, OnOk, IfErr, true};
 ghost use Rattle.std.specs.FinMap as map;
 ghost use Rattle.dep_types.specs.State.{Object, File};
+ghost use Rattle.dep_types.specs.Limits.{IsStorable};
 ghost use Rattle.dep_types.specs.Rows.{object_row};
+ghost use Rattle.dep_types.specs.Sound.{IsSound};
 ghost use Rattle.dep_tables.specs.Clauses.{StaysWithin};
+ghost use Rattle.dep_tables.specs.Rows.{IsStorableObject};
 ghost use Rattle.dep_row_maps.specs.TablesAre.{metadata_at, files_at, with_object, without_object};
 ghost use Rattle.dep_row_maps.specs.Clauses.{FromMaps, KeepsOurs, SeesState};
+ghost use Rattle.dep_row_maps.specs.Causes.{FailsByOne, FailsByStatement, FailsHolding, FailsSince};
+ghost use Rattle.dep_objects.specs.Texts.{HavePlaces};
 ghost use Rattle.dep_decisions.specs.Effects.{changed, ingested_by, with_files, with_texts};
+ghost use Rattle.dep_changes.specs.Causes.{TellsStorableObject};
 ghost use Rattle.dep_changes.specs.Told.{TellsNumbers, TellsFile, TellsObject};
 
 use crate::change::touched;
@@ -26,6 +32,8 @@ pub(crate) fn write_row<T: Statements>(tx: &mut T, row: &ObjectRow) -> Result<()
         → o.files ≡ files_at s.objects row.now.object
         → OnOk result (SeesState (T.state tx.new) (with_object s row.now.object o))) }
     ensures ours { KeepsOurs (T.state tx.old) (T.state tx.new) result }
+    ensures cause { FailsByOne T.state tx.old tx.new result
+        (IsStorableObject row.now) FailsByStatement }
     ensures stays { StaysWithin T.lenders T.state tx.old tx.new result }
 {
     put_object(tx, row)
@@ -38,6 +46,8 @@ pub(crate) fn complete<T: Statements>(tx: &mut T, view: &View) -> Result<(), Sto
         → OnOk result (SeesState (T.state tx.new)
         (with_object s n (ingested_by true (changed s o))))) }
     ensures ours { KeepsOurs (T.state tx.old) (T.state tx.new) result }
+    ensures cause { FailsByOne T.state tx.old tx.new result
+        (TellsStorableObject view.now) FailsByStatement }
     ensures stays { StaysWithin T.lenders T.state tx.old tx.new result }
 {
     let row = touched(view)?;
@@ -80,6 +90,9 @@ pub(crate) fn set_texts<T: Statements>(
         → OnOk result (SeesState (T.state tx.new)
         (with_object s n (with_texts s metadata.now o)))) }
     ensures ours { KeepsOurs (T.state tx.old) (T.state tx.new) result }
+    ensures cause { FailsByOne T.state tx.old tx.new result
+        (TellsStorableObject view.now × HavePlaces map.empty (map.entries metadata.now))
+        (FailsHolding (metadata.now ≢ map.empty)) }
     ensures stays { StaysWithin T.lenders T.state tx.old tx.new result }
 {
     let row = touched(view)?;
@@ -111,6 +124,8 @@ pub(crate) fn drop_file<T: Statements>(tx: &mut T, view: &View, file: u64) -> Re
         → OnOk result (SeesState (T.state tx.new)
         (with_object s n (with_files s (map.remove o.files file) o)))) }
     ensures ours { KeepsOurs (T.state tx.old) (T.state tx.new) result }
+    ensures cause { FailsByOne T.state tx.old tx.new result
+        (TellsStorableObject view.now × IsStorable file) FailsByStatement }
     ensures stays { StaysWithin T.lenders T.state tx.old tx.new result }
 {
     let row = touched(view)?;
@@ -128,6 +143,9 @@ pub(crate) fn drop_object<T: Statements>(
         (λ s. (o : Object) → map.get s.objects object ≡ Some o
         → OnOk result (SeesState (T.state tx.new) (without_object s object))) }
     ensures ours { KeepsOurs (T.state tx.old) (T.state tx.new) result }
+    ensures cause { FromMaps (T.state tx.old) (T.state tx.new)
+        (λ s. IsSound s → IsStorable object
+        → IfErr result (FailsSince T.state FailsByStatement tx.old tx.new)) }
     ensures stays { StaysWithin T.lenders T.state tx.old tx.new result }
 {
     delete_files(tx, alloc, object)?;

@@ -1,13 +1,16 @@
 //! Changes of staged uploads.
 
-ghost use Rattle.std.specs.Prelude.{◌≡◌, ℕ, [], ◌∷◌, IfOk, OnOk};
+ghost use Rattle.std.specs.Prelude.{◌≡◌, ◌≢◌, ℕ, [], ◌∷◌, length, IfOk, IfErr, OnOk};
+ghost use Rattle.dep_types.specs.Limits.{IsStorable};
 ghost use Rattle.dep_types.specs.State.{Upload};
 ghost use Rattle.dep_tables.specs.Clauses.{StaysWithin};
 ghost use Rattle.dep_row_maps.specs.TablesAre.{with_upload};
 ghost use Rattle.dep_row_maps.specs.Clauses.{FromMaps, KeepsOurs, SeesState};
+ghost use Rattle.dep_row_maps.specs.Causes.{FailsByOne, FailsByStatement};
 ghost use Rattle.dep_decisions.specs.Effects.{fresh, with_segment};
 ghost use Rattle.dep_rulings.specs.declared.view.LiveUpload.{LiveUpload};
 ghost use Rattle.dep_rulings.specs.declared.view.UploadState.TheVariants.{Live};
+ghost use Rattle.dep_changes.specs.Causes.{HasStorableNumbers, HasStorableSizes, TellsStorableUpload};
 ghost use Rattle.dep_changes.specs.Told.{TellsNumbers, TellsUpload};
 
 use crate::change::Change;
@@ -27,6 +30,10 @@ pub(crate) fn open<T: Statements>(
         (λ s. TellsNumbers view.now s → OnOk result (SeesState (T.state tx.new)
         (with_upload s s.next.upload (fresh s opening.now)))) }
     ensures ours { KeepsOurs (T.state tx.old) (T.state tx.new) result }
+    ensures cause { FailsByOne T.state tx.old tx.new result
+        (HasStorableNumbers view.now
+        × HasStorableSizes opening.now.size opening.now.count opening.now.segment_size)
+        FailsByStatement }
     ensures stays { StaysWithin T.lenders T.state tx.old tx.new result }
 {
     open_upload(
@@ -45,8 +52,10 @@ pub(crate) fn open<T: Statements>(
 // The one upload that is touched. That it isn't there is a fault of the store, as the rules let no such request
 // through.
 fn live_upload(view: &View) -> Result<&LiveUpload, StoreFault>
-    ensures { IfOk result (λ live. (u : ℕ) (l : LiveUpload)
+    ensures told { IfOk result (λ live. (u : ℕ) (l : LiveUpload)
         → view.now.uploads ≡ record { upload = u; state = Live l } ∷ [] → live.now ≡ l) }
+    ensures absent { IfErr result (λ _. (u : ℕ) (l : LiveUpload)
+        → view.now.uploads ≢ record { upload = u; state = Live l } ∷ []) }
 {
     match view.uploads.as_slice() {
         [
@@ -71,6 +80,10 @@ pub(crate) fn receive<T: Statements>(
         → OnOk result (SeesState (T.state tx.new)
         (with_upload s u (with_segment s segment change.now.content.now it)))) }
     ensures ours { KeepsOurs (T.state tx.old) (T.state tx.new) result }
+    ensures cause { FailsByOne T.state tx.old tx.new result
+        (TellsStorableUpload change.now.view.now × IsStorable segment
+        × IsStorable (length change.now.content.now))
+        FailsByStatement }
     ensures stays { StaysWithin T.lenders T.state tx.old tx.new result }
 {
     let live = live_upload(change.view)?;

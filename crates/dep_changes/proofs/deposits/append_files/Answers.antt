@@ -9,6 +9,10 @@ use Rattle.dep_decisions.specs.Effects.{with_files}
 use Rattle.dep_changes.proofs.Chains.{ours_then}
 use Rattle.dep_changes.proofs.Added.{new_files_again}
 use Rattle.dep_changes.proofs.Steps.{files_of_row, its_number, its_own, at_number, texts_at, files_kept_at}
+use Rattle.std.proofs.Common.{◌≢◌, []}
+use Rattle.dep_row_maps.specs.Causes.{FailsByStatement, FailsHolding}
+use Rattle.dep_row_maps.proofs.Causes.{fails_among, if_err_is}
+use Rattle.dep_changes.proofs.Causes.{by_statement, caused_later, files_fit}
 use Rattle.dep_changes.proofs.deposits.append_files.Goals as goal
 
 pub returns-clause-map : goal.returns-clause-map
@@ -34,3 +38,18 @@ returns-clause-stays g c = stays_then c.in_ok-write_row.ensures.stays c.put_new_
 
 pub returns-clause-ours : goal.returns-clause-ours
 returns-clause-ours g c = ours_then c.in_ok-write_row.ensures.stays c.put_new_files.ensures.stays c.in_ok-write_row.ensures.ours c.put_new_files.ensures.ours
+
+pub returns-in_err-write_row-clause-cause : goal.returns-in_err-write_row-clause-cause
+returns-in_err-write_row-clause-cause g c storable clean inside =
+    let view = c.args.change.now.view.now in
+    let held = c.args.files.now ≢ [] in
+    let fits = files_fit view storable.0 c.args.row c.files_changed.result storable.1 c.files_changed.ensures in
+    if_err_is _ c.from_residual.result c.in_err-write_row.field-0.0 c.from_residual.ensures.1
+    (fails_among g.T.Statements.state c.args.tx.now c.write_row.new.tx FailsByStatement (FailsHolding held) (by_statement held) _ (c.in_err-write_row.ensures.cause fits clean inside))
+
+pub returns-clause-cause : goal.returns-clause-cause
+returns-clause-cause g c storable clean inside =
+    let held = c.args.files.now ≢ [] in
+    let before = clean_before c.put_new_files.ensures.stays clean in
+    caused_later g.T.Statements.state (FailsHolding held) (FailsHolding held) (λ at now fault it. it) c.put_new_files.result c.args.tx.now c.write_row.new.tx c.put_new_files.new.tx c.in_ok-write_row.ensures.stays.survives
+    (c.put_new_files.ensures.cause (storable.0, storable.1.object, storable.2) clean (c.in_ok-write_row.ensures.stays.inside before inside))

@@ -10,6 +10,10 @@ use Rattle.dep_decisions.specs.Effects.{blank}
 use Rattle.dep_changes.proofs.Chains.{ours_then}
 use Rattle.dep_changes.proofs.Filled.{blank_row_is, none_texts, none_files, still_have, deposit_again}
 use Rattle.dep_changes.proofs.Steps.{its_number, its_own, at_number, there_at}
+use Rattle.dep_row_maps.specs.Causes.{FailsByStatement, FailsHolding}
+use Rattle.dep_row_maps.proofs.Causes.{fails_among, if_err_is}
+use Rattle.dep_changes.specs.Causes.{HasCopies}
+use Rattle.dep_changes.proofs.Causes.{blank_fits, by_statement, caused_later}
 use Rattle.dep_changes.proofs.deposits.create.Goals as goal
 
 pub returns-clause-map : goal.returns-clause-map
@@ -38,3 +42,18 @@ returns-clause-stays g c = stays_then c.in_ok-write_row.ensures.stays c.fill.ens
 
 pub returns-clause-ours : goal.returns-clause-ours
 returns-clause-ours g c = ours_then c.in_ok-write_row.ensures.stays c.fill.ensures.stays c.in_ok-write_row.ensures.ours c.fill.ensures.ours
+
+pub returns-in_err-write_row-clause-cause : goal.returns-in_err-write_row-clause-cause
+returns-in_err-write_row-clause-cause g c storable clean inside =
+    let view = c.args.change.now.view.now in
+    let held = HasCopies c.args.deposit.now in
+    let fits = blank_fits view storable.0 c.blank_row.result _ _ storable.0.object c.blank_row.ensures in
+    if_err_is _ c.from_residual.result c.in_err-write_row.field-0.0 c.from_residual.ensures.1
+    (fails_among g.T.Statements.state c.args.tx.now c.write_row.new.tx FailsByStatement (FailsHolding held) (by_statement held) _ (c.in_err-write_row.ensures.cause fits clean inside))
+
+pub returns-clause-cause : goal.returns-clause-cause
+returns-clause-cause g c storable clean inside =
+    let held = HasCopies c.args.deposit.now in
+    let before = clean_before c.fill.ensures.stays clean in
+    caused_later g.T.Statements.state (FailsHolding held) (FailsHolding held) (λ at now fault it. it) c.fill.result c.args.tx.now c.write_row.new.tx c.fill.new.tx c.in_ok-write_row.ensures.stays.survives
+    (c.fill.ensures.cause (storable.0, storable.0.object, storable.1) clean (c.in_ok-write_row.ensures.stays.inside before inside))

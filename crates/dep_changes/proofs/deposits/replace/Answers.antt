@@ -8,63 +8,108 @@ use Rattle.dep_row_maps.specs.TablesAre.{with_object}
 use Rattle.dep_row_maps.proofs.Lens.{get_here}
 use Rattle.dep_decisions.specs.Effects.{blank, ingested_by}
 use Rattle.dep_changes.proofs.Chains.{ours_then}
-use Rattle.dep_changes.proofs.Filled.{ingested_row, marked, marked_row, still_have, deposit_again}
+use Rattle.dep_changes.proofs.Filled.{ingested_row, blank_again, still_have, deposit_again}
 use Rattle.dep_changes.proofs.Steps.{row_is, its_number, its_own, at_number, there_at, texts_at, files_kept_at, written_again}
+use Rattle.dep_row_maps.specs.Causes.{FailsByStatement, FailsHolding}
+use Rattle.dep_row_maps.proofs.Causes.{fails_among, fails_later, if_err_is}
+use Rattle.dep_changes.specs.Causes.{HasCopies}
+use Rattle.dep_changes.proofs.Causes.{by_statement, caused_later, blank_fits, found_fits, ingested_fits, never_absent}
 use Rattle.dep_changes.proofs.deposits.replace.Goals as goal
 
 pub returns-clause-map : goal.returns-clause-map
 returns-clause-map g c clean inside ours s are n o numbers told sources =
     let view = c.args.change.now.view.now in
     let content = c.args.change.now.content.now in
-    let one = g.T.Statements.state c.write_row.new.tx in
-    let two = g.T.Statements.state c.delete_files.new.tx in
-    let three = g.T.Statements.state c.clear_metadata.new.tx in
+    let one = g.T.Statements.state c.delete_files.new.tx in
+    let two = g.T.Statements.state c.clear_metadata.new.tx in
+    let three = g.T.Statements.state c.write_row.new.tx in
     let new = g.T.Statements.state c.fill.new.tx in
     let clean_three = clean_before c.fill.ensures.stays clean in
-    let clean_two = clean_before c.clear_metadata.ensures.stays clean_three in
-    let clean_one = clean_before c.delete_files.ensures.stays clean_two in
-    let inside_one = c.in_ok-write_row.ensures.stays.inside clean_one inside in
-    let ours_one = c.in_ok-write_row.ensures.ours clean_one inside ours in
-    let inside_two = c.in_ok-delete_files.ensures.stays.inside clean_two inside_one in
-    let ours_two = c.in_ok-delete_files.ensures.ours clean_two inside_one ours_one in
+    let clean_two = clean_before c.write_row.ensures.stays clean_three in
+    let clean_one = clean_before c.clear_metadata.ensures.stays clean_two in
+    let inside_one = c.in_ok-delete_files.ensures.stays.inside clean_one inside in
+    let ours_one = c.in_ok-delete_files.ensures.ours clean_one inside ours in
+    let inside_two = c.in_ok-clear_metadata.ensures.stays.inside clean_two inside_one in
+    let ours_two = c.in_ok-clear_metadata.ensures.ours clean_two inside_one ours_one in
     let row = c.ingested_by-row.result in
     let ingested = o.ingested || c.args.ingests in
     let it : Object = ingested_by c.args.ingests o in
-    let row_of = ingested_row n o c.args.ingests c.in_ok-touched.field-0 row (row_is s n o view.object told.0 c.in_ok-touched.field-0 c.in_ok-touched.ensures) c.ingested_by-row.ensures in
+    let row_of = ingested_row n o c.args.ingests c.in_ok-touched.field-0 row (row_is s n o view.object told.0 c.in_ok-touched.field-0 c.in_ok-touched.ensures.told) c.ingested_by-row.ensures in
     let number = its_number n it row row_of in
-    let now = c.blank_row.result in
-    let mark : Object = marked s o ingested in
-    let is = marked_row s view.clock view.next numbers.0 numbers.1 now n o it row row_of c.blank_row.ensures in
-    let to = its_number n mark now is in
-    let put = at_number (tables_of one) s now.object n mark to
-    (c.in_ok-write_row.ensures.map clean_one inside ours s are mark (its_own n mark now is) (texts_at s now.object n o mark to told.1 refl) (files_kept_at s now.object n o mark to told.1 refl)) in
-    let first : State = with_object s n mark in
-    let bare : Object = record mark { files = finmap.empty } in
-    let gone = written_again (tables_of two) s n mark bare (at_number (tables_of two) first row.object n bare number
-    (c.in_ok-delete_files.ensures.map clean_two inside_one ours_one first put mark (there_at first.objects row.object n mark number (get_here s.objects n mark)))) in
+    let left : Object = record o { files = finmap.empty } in
+    let gone = at_number (tables_of one) s row.object n left number (c.in_ok-delete_files.ensures.map clean_one inside ours s are o (there_at s.objects row.object n o number told.1)) in
+    let first : State = with_object s n left in
+    let bare : Object = record left { metadata = finmap.empty } in
+    let cleared = written_again (tables_of two) s n left bare (at_number (tables_of two) first row.object n bare number
+    (c.in_ok-clear_metadata.ensures.map clean_two inside_one ours_one first gone left (there_at first.objects row.object n left number (get_here s.objects n left)))) in
     let second : State = with_object s n bare in
+    let now = c.blank_row.result in
     let clear : Object = blank s ingested in
-    let cleared = written_again (tables_of three) s n bare clear (at_number (tables_of three) second row.object n clear number
-    (c.in_ok-clear_metadata.ensures.map clean_three inside_two ours_two second gone bare (there_at second.objects row.object n bare number (get_here s.objects n bare)))) in
+    let is = blank_again s view.clock view.next numbers.0 numbers.1 now n it row row_of c.blank_row.ensures in
+    let to = its_number n clear now is in
+    let put = written_again (tables_of three) s n bare clear (at_number (tables_of three) second now.object n clear to
+    (c.in_ok-write_row.ensures.map clean_three inside_two ours_two second cleared clear (its_own n clear now is) (texts_at second now.object n bare clear to (get_here s.objects n bare) refl) (files_kept_at second now.object n bare clear to (get_here s.objects n bare) refl))) in
     let third : State = with_object s n clear in
     ok_then c.fill.result
-    (c.fill.ensures.map clean (c.in_ok-clear_metadata.ensures.stays.inside clean_three inside_two) (c.in_ok-clear_metadata.ensures.ours clean_three inside_two ours_two) third cleared ingested numbers
+    (c.fill.ensures.map clean (c.in_ok-write_row.ensures.stays.inside clean_three inside_two) (c.in_ok-write_row.ensures.ours clean_three inside_two ours_two) third put ingested numbers
     (there_at third.objects row.object n clear number (get_here s.objects n clear)) (still_have third.objects s content view.uploads c.args.deposit.now sources))
     (λ done. deposit_again (tables_of new) s content row.object n clear c.args.deposit.now ingested number done)
 
-pub returns-in_err-delete_files-clause-stays : goal.returns-in_err-delete_files-clause-stays
-returns-in_err-delete_files-clause-stays g c = stays_err c.from_residual-in_err-delete_files.ensures.0 (stays_then c.in_ok-write_row.ensures.stays c.delete_files.ensures.stays)
-
 pub returns-in_err-clear_metadata-clause-stays : goal.returns-in_err-clear_metadata-clause-stays
-returns-in_err-clear_metadata-clause-stays g c = stays_err c.from_residual-in_err-clear_metadata.ensures.0 (stays_then (stays_then c.in_ok-write_row.ensures.stays c.in_ok-delete_files.ensures.stays) c.clear_metadata.ensures.stays)
+returns-in_err-clear_metadata-clause-stays g c = stays_err c.from_residual-in_err-clear_metadata.ensures.0 (stays_then c.in_ok-delete_files.ensures.stays c.clear_metadata.ensures.stays)
+
+pub returns-in_err-write_row-clause-stays : goal.returns-in_err-write_row-clause-stays
+returns-in_err-write_row-clause-stays g c = stays_err c.from_residual-in_err-write_row.ensures.0 (stays_then (stays_then c.in_ok-delete_files.ensures.stays c.in_ok-clear_metadata.ensures.stays) c.write_row.ensures.stays)
 
 pub returns-clause-stays : goal.returns-clause-stays
-returns-clause-stays g c = stays_then (stays_then (stays_then c.in_ok-write_row.ensures.stays c.in_ok-delete_files.ensures.stays) c.in_ok-clear_metadata.ensures.stays) c.fill.ensures.stays
+returns-clause-stays g c = stays_then (stays_then (stays_then c.in_ok-delete_files.ensures.stays c.in_ok-clear_metadata.ensures.stays) c.in_ok-write_row.ensures.stays) c.fill.ensures.stays
 
 pub returns-clause-ours : goal.returns-clause-ours
 returns-clause-ours g c =
-    let two = stays_then c.in_ok-write_row.ensures.stays c.in_ok-delete_files.ensures.stays in
-    let three = stays_then two c.in_ok-clear_metadata.ensures.stays in
-    let ours_two = ours_then {r = Ok tt} c.in_ok-write_row.ensures.stays c.in_ok-delete_files.ensures.stays c.in_ok-write_row.ensures.ours c.in_ok-delete_files.ensures.ours in
-    let ours_three = ours_then {r = Ok tt} two c.in_ok-clear_metadata.ensures.stays ours_two c.in_ok-clear_metadata.ensures.ours in
+    let two = stays_then c.in_ok-delete_files.ensures.stays c.in_ok-clear_metadata.ensures.stays in
+    let three = stays_then two c.in_ok-write_row.ensures.stays in
+    let ours_two = ours_then {r = Ok tt} c.in_ok-delete_files.ensures.stays c.in_ok-clear_metadata.ensures.stays c.in_ok-delete_files.ensures.ours c.in_ok-clear_metadata.ensures.ours in
+    let ours_three = ours_then {r = Ok tt} two c.in_ok-write_row.ensures.stays ours_two c.in_ok-write_row.ensures.ours in
     ours_then three c.fill.ensures.stays ours_three c.fill.ensures.ours
+
+pub returns-in_err-touched-clause-cause : goal.returns-in_err-touched-clause-cause
+returns-in_err-touched-clause-cause g c clean inside ours s are sound told fits = never_absent c.args.change.now.view.now told c.in_err-touched.ensures.absent
+
+pub returns-in_err-delete_files-clause-cause : goal.returns-in_err-delete_files-clause-cause
+returns-in_err-delete_files-clause-cause g c clean inside ours s are sound told fits =
+    let view = c.args.change.now.view.now in
+    let held = HasCopies c.args.deposit.now in
+    let row = ingested_fits c.in_ok-touched.field-0 c.ingested_by-row.result c.args.ingests (found_fits view told c.in_ok-touched.field-0 c.in_ok-touched.ensures.told) c.ingested_by-row.ensures in
+    if_err_is _ c.from_residual-in_err-delete_files.result c.in_err-delete_files.field-0.0 c.from_residual-in_err-delete_files.ensures.1
+    (fails_among g.T.Statements.state c.args.tx.now c.delete_files.new.tx FailsByStatement (FailsHolding held) (by_statement held) _ (c.in_err-delete_files.ensures.cause clean inside ours s are sound row.object))
+
+pub returns-in_err-clear_metadata-clause-cause : goal.returns-in_err-clear_metadata-clause-cause
+returns-in_err-clear_metadata-clause-cause g c clean inside ours s are sound told fits =
+    let view = c.args.change.now.view.now in
+    let held = HasCopies c.args.deposit.now in
+    let before = clean_before c.clear_metadata.ensures.stays clean in
+    let row = ingested_fits c.in_ok-touched.field-0 c.ingested_by-row.result c.args.ingests (found_fits view told c.in_ok-touched.field-0 c.in_ok-touched.ensures.told) c.ingested_by-row.ensures in
+    if_err_is _ c.from_residual-in_err-clear_metadata.result c.in_err-clear_metadata.field-0.0 c.from_residual-in_err-clear_metadata.ensures.1
+    (fails_later g.T.Statements.state c.args.tx.now c.delete_files.new.tx c.clear_metadata.new.tx c.in_ok-delete_files.ensures.stays.survives FailsByStatement (FailsHolding held) (by_statement held) _
+    (c.in_err-clear_metadata.ensures.cause row.object clean (c.in_ok-delete_files.ensures.stays.inside before inside)))
+
+pub returns-in_err-write_row-clause-cause : goal.returns-in_err-write_row-clause-cause
+returns-in_err-write_row-clause-cause g c clean inside ours s are sound told fits =
+    let view = c.args.change.now.view.now in
+    let held = HasCopies c.args.deposit.now in
+    let two = stays_then c.in_ok-delete_files.ensures.stays c.in_ok-clear_metadata.ensures.stays in
+    let before = clean_before c.write_row.ensures.stays clean in
+    let row = ingested_fits c.in_ok-touched.field-0 c.ingested_by-row.result c.args.ingests (found_fits view told c.in_ok-touched.field-0 c.in_ok-touched.ensures.told) c.ingested_by-row.ensures in
+    if_err_is _ c.from_residual-in_err-write_row.result c.in_err-write_row.field-0.0 c.from_residual-in_err-write_row.ensures.1
+    (fails_later g.T.Statements.state c.args.tx.now c.clear_metadata.new.tx c.write_row.new.tx two.survives FailsByStatement (FailsHolding held) (by_statement held) _
+    (c.in_err-write_row.ensures.cause (blank_fits view told.numbers c.blank_row.result _ _ row.object c.blank_row.ensures) clean (two.inside before inside)))
+
+pub returns-clause-cause : goal.returns-clause-cause
+returns-clause-cause g c clean inside ours s are sound told fits =
+    let view = c.args.change.now.view.now in
+    let held = HasCopies c.args.deposit.now in
+    let three = stays_then (stays_then c.in_ok-delete_files.ensures.stays c.in_ok-clear_metadata.ensures.stays) c.in_ok-write_row.ensures.stays in
+    let before = clean_before c.fill.ensures.stays clean in
+    let row = ingested_fits c.in_ok-touched.field-0 c.ingested_by-row.result c.args.ingests (found_fits view told c.in_ok-touched.field-0 c.in_ok-touched.ensures.told) c.ingested_by-row.ensures in
+    caused_later g.T.Statements.state (FailsHolding held) (FailsHolding held) (λ at now fault it. it) c.fill.result c.args.tx.now c.write_row.new.tx c.fill.new.tx three.survives
+    (c.fill.ensures.cause (told.numbers, row.object, fits) clean (three.inside before inside))

@@ -1,4 +1,9 @@
 use Rattle.std.proofs.lemmas.Result.{IfOk-from_err}
+use Rattle.std.specs.Prelude.{⊤}
+use Rattle.dep_row_maps.specs.Causes.{FailsByStatement, FailsHolding}
+use Rattle.dep_row_maps.specs.Causes.FailsHolding.{memory}
+use Rattle.dep_row_maps.proofs.Causes.{fails_first, if_err_is}
+use Rattle.dep_changes.proofs.Causes.{by_statement, caused_among, new_row_fits, whole_fits}
 use Rattle.dep_changes.proofs.new_files.put_assembled.Goals as goal
 
 pub returns-in_err-upload-clause-map : goal.returns-in_err-upload-clause-map
@@ -21,3 +26,19 @@ returns-clause-ours g c = c.assemble.ensures.ours
 
 pub returns-clause-stays : goal.returns-clause-stays
 returns-clause-stays g c = c.assemble.ensures.stays
+
+pub returns-in_err-upload-clause-cause : goal.returns-in_err-upload-clause-cause
+returns-in_err-upload-clause-cause g c storable clean inside = let whole = storable.3 in absurd (c.in_err-upload.ensures.absent whole.upload whole.it whole.told)
+
+pub returns-in_err-new_row-clause-cause : goal.returns-in_err-new_row-clause-cause
+returns-in_err-new_row-clause-cause g c storable clean inside =
+    if_err_is _ c.from_residual-in_err-new_row.result c.in_err-new_row.field-0.0 c.from_residual-in_err-new_row.ensures.1
+    (fails_first g.T.Statements.state c.args.tx.now c.args.tx.now (FailsHolding ⊤) _ (memory tt c.in_err-new_row.ensures.cause))
+
+pub returns-clause-cause : goal.returns-clause-cause
+returns-clause-cause g c storable clean inside =
+    let view = c.args.change.now.view.now in
+    let whole = storable.3 in
+    let upload = whole_fits c.in_ok-upload.upload.row whole.upload whole.it whole.fits (c.in_ok-upload.ensures.told whole.upload whole.it whole.told).0 in
+    let fits = new_row_fits view storable.0 c.in_ok-new_row.field-0 storable.1 storable.2 upload.size c.in_ok-new_row.ensures.told in
+    caused_among g.T.Statements.state FailsByStatement (FailsHolding ⊤) (by_statement ⊤) c.assemble.result c.args.tx.now c.assemble.new.tx (c.assemble.ensures.cause (upload, fits) clean inside)

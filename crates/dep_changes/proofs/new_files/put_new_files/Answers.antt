@@ -9,6 +9,12 @@ use Rattle.dep_changes.proofs.Added.{state_before, object_before, its_source, on
 use Rattle.std.proofs.lemmas.Option.{slice_get_read}
 use Rattle.std.proofs.lemmas.List.{take_all}
 use Rattle.dep_row_maps.specs.TablesAre.{TablesAre}
+use Rattle.std.proofs.Common.{◌≢◌, []}
+use Rattle.std.specs.Prelude.{⊤}
+use Rattle.dep_row_maps.specs.Causes.{FailsHolding}
+use Rattle.dep_row_maps.proofs.Causes.{fails_later, holding_more, if_err_is}
+use Rattle.dep_objects.proofs.Places.{has_some}
+use Rattle.dep_changes.proofs.Causes.{room_below}
 use Rattle.dep_changes.proofs.new_files.put_new_files.Goals as goal
 
 pub files-preserved : goal.files-preserved
@@ -48,3 +54,16 @@ returns-clause-map g c clean inside ours s are o numbers there sources =
     let now = g.T.Statements.state c.files.tx in
     subst (λ (new : List NewFile). TablesAre (tables_of now) (with_new_files s c.args.change.now.content.now c.args.object o new)) (take_all c.files.index c.args.files.now c.files-test.false)
     (c.files.invariant.2 clean inside ours s are o numbers there sources)
+
+pub returns-in_err-put_new_file-clause-cause : goal.returns-in_err-put_new_file-clause-cause
+returns-in_err-put_new_file-clause-cause g c storable clean inside =
+    let inv = c.files.invariant in
+    let files = c.args.files.now in
+    let i = c.files.index in
+    let x = c.index-files-index.result in
+    let within : i < length files = omega arith in
+    let at : slice_get files i ≡ Some x = slice_get_read files (length files) i x refl within c.index-files-index.is in
+    let before = clean_before c.put_new_file.ensures.stays clean in
+    if_err_is _ c.from_residual.result c.in_err-put_new_file.field-0.0 c.from_residual.ensures.1
+    (fails_later g.T.Statements.state c.args.tx.now c.files.tx c.put_new_file.new.tx inv.0.survives (FailsHolding ⊤) (FailsHolding (files ≢ [])) (holding_more (λ _. has_some files i within)) _
+    (c.in_err-put_new_file.ensures.cause (storable.0, storable.1, room_below c.args.change.now.view.now.next.file (length files) i c.requires within, storable.2 i x at) clean (inv.0.inside before inside)))

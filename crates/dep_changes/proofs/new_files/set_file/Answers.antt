@@ -11,6 +11,10 @@ use Rattle.dep_decisions.specs.Effects.{with_files}
 use Rattle.dep_changes.proofs.Chains.{ours_then}
 use Rattle.dep_changes.specs.Changed.{made_file}
 use Rattle.dep_changes.proofs.Steps.{files_row, number_is, its_number, its_own, at_number, there_at, texts_at, files_kept_at, written_again, file_replaced}
+use Rattle.std.specs.Prelude.{⊤}
+use Rattle.dep_row_maps.specs.Causes.{FailsByStatement, FailsHolding}
+use Rattle.dep_row_maps.proofs.Causes.{fails_among, fails_later, if_err_is}
+use Rattle.dep_changes.proofs.Causes.{by_statement, caused_later, files_fit, found_fits, never_absent}
 use Rattle.dep_changes.proofs.new_files.set_file.Goals as goal
 
 pub returns-clause-map : goal.returns-clause-map
@@ -26,10 +30,10 @@ returns-clause-map g c clean inside ours s are n o file numbers told source =
     let inside_one = c.in_ok-write_row.ensures.stays.inside clean_one inside in
     let ours_one = c.in_ok-write_row.ensures.ours clean_one inside ours in
     let row = c.in_ok-row.row in
-    let number = number_is s n o view.object told.0.0 row c.in_ok-row.ensures in
+    let number = number_is s n o view.object told.0.0 row c.in_ok-row.ensures.told in
     let now = c.files_changed.result in
     let mark : Object = with_files s o.files o in
-    let is = files_row s n o view.object told.0.0 row c.in_ok-row.ensures view.clock view.next numbers.0 numbers.1 now o.files c.files_changed.ensures in
+    let is = files_row s n o view.object told.0.0 row c.in_ok-row.ensures.told view.clock view.next numbers.0 numbers.1 now o.files c.files_changed.ensures in
     let to = its_number n mark now is in
     let put = at_number (tables_of one) s now.object n mark to
     (c.in_ok-write_row.ensures.map clean_one inside ours s are mark (its_own n mark now is) (texts_at s now.object n o mark to told.0.1 refl) (files_kept_at s now.object n o mark to told.0.1 refl)) in
@@ -57,3 +61,30 @@ returns-clause-ours g c =
     let two = stays_then c.in_ok-write_row.ensures.stays c.in_ok-delete_file.ensures.stays in
     let ours_two = ours_then {r = Ok tt} c.in_ok-write_row.ensures.stays c.in_ok-delete_file.ensures.stays c.in_ok-write_row.ensures.ours c.in_ok-delete_file.ensures.ours in
     ours_then two c.put_posted.ensures.stays ours_two c.put_posted.ensures.ours
+
+pub returns-in_err-row-clause-cause : goal.returns-in_err-row-clause-cause
+returns-in_err-row-clause-cause g c storable clean inside = never_absent c.args.change.now.view.now storable.0 c.in_err-row.ensures.absent
+
+pub returns-in_err-write_row-clause-cause : goal.returns-in_err-write_row-clause-cause
+returns-in_err-write_row-clause-cause g c storable clean inside =
+    let view = c.args.change.now.view.now in
+    let row = c.in_ok-row.row in
+    let fits = files_fit view storable.0.numbers row c.files_changed.result (found_fits view storable.0 row c.in_ok-row.ensures.told) c.files_changed.ensures in
+    if_err_is _ c.from_residual-in_err-write_row.result c.in_err-write_row.field-0.0 c.from_residual-in_err-write_row.ensures.1
+    (fails_among g.T.Statements.state c.args.tx.now c.write_row.new.tx FailsByStatement (FailsHolding ⊤) (by_statement ⊤) _ (c.in_err-write_row.ensures.cause fits clean inside))
+
+pub returns-in_err-delete_file-clause-cause : goal.returns-in_err-delete_file-clause-cause
+returns-in_err-delete_file-clause-cause g c storable clean inside =
+    let before = clean_before c.delete_file.ensures.stays clean in
+    if_err_is _ c.from_residual-in_err-delete_file.result c.in_err-delete_file.field-0.0 c.from_residual-in_err-delete_file.ensures.1
+    (fails_later g.T.Statements.state c.args.tx.now c.write_row.new.tx c.delete_file.new.tx c.in_ok-write_row.ensures.stays.survives FailsByStatement (FailsHolding ⊤) (by_statement ⊤) _
+    (c.in_err-delete_file.ensures.cause storable.1 clean (c.in_ok-write_row.ensures.stays.inside before inside)))
+
+pub returns-clause-cause : goal.returns-clause-cause
+returns-clause-cause g c storable clean inside =
+    let view = c.args.change.now.view.now in
+    let two = stays_then c.in_ok-write_row.ensures.stays c.in_ok-delete_file.ensures.stays in
+    let before = clean_before c.put_posted.ensures.stays clean in
+    let fits = found_fits view storable.0 c.in_ok-row.row c.in_ok-row.ensures.told in
+    caused_later g.T.Statements.state (FailsHolding ⊤) (FailsHolding ⊤) (λ at now fault it. it) c.put_posted.result c.args.tx.now c.delete_file.new.tx c.put_posted.new.tx two.survives
+    (c.put_posted.ensures.cause (storable.0.numbers, fits.object, storable.1, storable.2) clean (two.inside before inside))

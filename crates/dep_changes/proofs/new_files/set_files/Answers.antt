@@ -10,45 +10,80 @@ use Rattle.dep_decisions.specs.Effects.{with_files}
 use Rattle.dep_changes.proofs.Chains.{ours_then}
 use Rattle.dep_changes.proofs.Added.{new_files_again}
 use Rattle.dep_changes.proofs.Steps.{files_row, number_is, its_number, its_own, at_number, there_at, texts_at, files_kept_at, written_again}
+use Rattle.std.proofs.Common.{◌≢◌, []}
+use Rattle.dep_row_maps.specs.Causes.{FailsByStatement, FailsHolding}
+use Rattle.dep_row_maps.proofs.Causes.{fails_among, fails_later, if_err_is}
+use Rattle.dep_changes.proofs.Causes.{by_statement, caused_later, files_fit, found_fits, never_absent}
 use Rattle.dep_changes.proofs.new_files.set_files.Goals as goal
 
 pub returns-clause-map : goal.returns-clause-map
 returns-clause-map g c clean inside ours s are n o numbers told sources =
     let view = c.args.change.now.view.now in
     let content = c.args.change.now.content.now in
-    let one = g.T.Statements.state c.write_row.new.tx in
-    let two = g.T.Statements.state c.delete_files.new.tx in
+    let one = g.T.Statements.state c.delete_files.new.tx in
+    let two = g.T.Statements.state c.write_row.new.tx in
     let new = g.T.Statements.state c.put_new_files.new.tx in
     let clean_two = clean_before c.put_new_files.ensures.stays clean in
-    let clean_one = clean_before c.delete_files.ensures.stays clean_two in
-    let inside_one = c.in_ok-write_row.ensures.stays.inside clean_one inside in
-    let ours_one = c.in_ok-write_row.ensures.ours clean_one inside ours in
+    let clean_one = clean_before c.write_row.ensures.stays clean_two in
+    let inside_one = c.in_ok-delete_files.ensures.stays.inside clean_one inside in
+    let ours_one = c.in_ok-delete_files.ensures.ours clean_one inside ours in
     let row = c.in_ok-row.row in
-    let number = number_is s n o view.object told.0 row c.in_ok-row.ensures in
+    let number = number_is s n o view.object told.0 row c.in_ok-row.ensures.told in
+    let left : Object = record o { files = finmap.empty } in
+    let gone = at_number (tables_of one) s row.object n left number (c.in_ok-delete_files.ensures.map clean_one inside ours s are o (there_at s.objects row.object n o number told.1)) in
+    let first : State = with_object s n left in
     let now = c.files_changed.result in
-    let mark : Object = with_files s o.files o in
-    let is = files_row s n o view.object told.0 row c.in_ok-row.ensures view.clock view.next numbers.0 numbers.1 now o.files c.files_changed.ensures in
-    let to = its_number n mark now is in
-    let put = at_number (tables_of one) s now.object n mark to
-    (c.in_ok-write_row.ensures.map clean_one inside ours s are mark (its_own n mark now is) (texts_at s now.object n o mark to told.1 refl) (files_kept_at s now.object n o mark to told.1 refl)) in
-    let first : State = with_object s n mark in
     let bare : Object = with_files s finmap.empty o in
-    let gone = written_again (tables_of two) s n mark bare (at_number (tables_of two) first row.object n bare number
-    (c.in_ok-delete_files.ensures.map clean_two inside_one ours_one first put mark (there_at first.objects row.object n mark number (get_here s.objects n mark)))) in
+    let is = files_row s n o view.object told.0 row c.in_ok-row.ensures.told view.clock view.next numbers.0 numbers.1 now finmap.empty c.files_changed.ensures in
+    let to = its_number n bare now is in
+    let put = written_again (tables_of two) s n left bare (at_number (tables_of two) first now.object n bare to
+    (c.in_ok-write_row.ensures.map clean_two inside_one ours_one first gone bare (its_own n bare now is) (texts_at first now.object n left bare to (get_here s.objects n left) refl) (files_kept_at first now.object n left bare to (get_here s.objects n left) refl))) in
     let second : State = with_object s n bare in
     ok_then c.put_new_files.result
-    (c.put_new_files.ensures.map clean (c.in_ok-delete_files.ensures.stays.inside clean_two inside_one) (c.in_ok-delete_files.ensures.ours clean_two inside_one ours_one) second gone bare numbers
+    (c.put_new_files.ensures.map clean (c.in_ok-write_row.ensures.stays.inside clean_two inside_one) (c.in_ok-write_row.ensures.ours clean_two inside_one ours_one) second put bare numbers
     (there_at second.objects row.object n bare number (get_here s.objects n bare)) sources)
     (λ added. new_files_again (tables_of new) s content row.object n bare bare c.args.files.now number added)
 
-pub returns-in_err-delete_files-clause-stays : goal.returns-in_err-delete_files-clause-stays
-returns-in_err-delete_files-clause-stays g c = stays_err c.from_residual-in_err-delete_files.ensures.0 (stays_then c.in_ok-write_row.ensures.stays c.delete_files.ensures.stays)
+pub returns-in_err-write_row-clause-stays : goal.returns-in_err-write_row-clause-stays
+returns-in_err-write_row-clause-stays g c = stays_err c.from_residual-in_err-write_row.ensures.0 (stays_then c.in_ok-delete_files.ensures.stays c.write_row.ensures.stays)
 
 pub returns-clause-stays : goal.returns-clause-stays
-returns-clause-stays g c = stays_then (stays_then c.in_ok-write_row.ensures.stays c.in_ok-delete_files.ensures.stays) c.put_new_files.ensures.stays
+returns-clause-stays g c = stays_then (stays_then c.in_ok-delete_files.ensures.stays c.in_ok-write_row.ensures.stays) c.put_new_files.ensures.stays
 
 pub returns-clause-ours : goal.returns-clause-ours
 returns-clause-ours g c =
-    let two = stays_then c.in_ok-write_row.ensures.stays c.in_ok-delete_files.ensures.stays in
-    let ours_two = ours_then {r = Ok tt} c.in_ok-write_row.ensures.stays c.in_ok-delete_files.ensures.stays c.in_ok-write_row.ensures.ours c.in_ok-delete_files.ensures.ours in
+    let two = stays_then c.in_ok-delete_files.ensures.stays c.in_ok-write_row.ensures.stays in
+    let ours_two = ours_then {r = Ok tt} c.in_ok-delete_files.ensures.stays c.in_ok-write_row.ensures.stays c.in_ok-delete_files.ensures.ours c.in_ok-write_row.ensures.ours in
     ours_then two c.put_new_files.ensures.stays ours_two c.put_new_files.ensures.ours
+
+pub returns-in_err-row-clause-cause : goal.returns-in_err-row-clause-cause
+returns-in_err-row-clause-cause g c clean inside ours s are sound told sources = never_absent c.args.change.now.view.now told c.in_err-row.ensures.absent
+
+pub returns-in_err-delete_files-clause-cause : goal.returns-in_err-delete_files-clause-cause
+returns-in_err-delete_files-clause-cause g c clean inside ours s are sound told sources =
+    let view = c.args.change.now.view.now in
+    let held = c.args.files.now ≢ [] in
+    let fits = found_fits view told c.in_ok-row.row c.in_ok-row.ensures.told in
+    if_err_is _ c.from_residual-in_err-delete_files.result c.in_err-delete_files.field-0.0 c.from_residual-in_err-delete_files.ensures.1
+    (fails_among g.T.Statements.state c.args.tx.now c.delete_files.new.tx FailsByStatement (FailsHolding held) (by_statement held) _ (c.in_err-delete_files.ensures.cause clean inside ours s are sound fits.object))
+
+pub returns-in_err-write_row-clause-cause : goal.returns-in_err-write_row-clause-cause
+returns-in_err-write_row-clause-cause g c clean inside ours s are sound told sources =
+    let view = c.args.change.now.view.now in
+    let held = c.args.files.now ≢ [] in
+    let before = clean_before c.write_row.ensures.stays clean in
+    let row = c.in_ok-row.row in
+    let fits = files_fit view told.numbers row c.files_changed.result (found_fits view told row c.in_ok-row.ensures.told) c.files_changed.ensures in
+    if_err_is _ c.from_residual-in_err-write_row.result c.in_err-write_row.field-0.0 c.from_residual-in_err-write_row.ensures.1
+    (fails_later g.T.Statements.state c.args.tx.now c.delete_files.new.tx c.write_row.new.tx c.in_ok-delete_files.ensures.stays.survives FailsByStatement (FailsHolding held) (by_statement held) _
+    (c.in_err-write_row.ensures.cause fits clean (c.in_ok-delete_files.ensures.stays.inside before inside)))
+
+pub returns-clause-cause : goal.returns-clause-cause
+returns-clause-cause g c clean inside ours s are sound told sources =
+    let view = c.args.change.now.view.now in
+    let held = c.args.files.now ≢ [] in
+    let two = stays_then c.in_ok-delete_files.ensures.stays c.in_ok-write_row.ensures.stays in
+    let before = clean_before c.put_new_files.ensures.stays clean in
+    let fits = found_fits view told c.in_ok-row.row c.in_ok-row.ensures.told in
+    caused_later g.T.Statements.state (FailsHolding held) (FailsHolding held) (λ at now fault it. it) c.put_new_files.result c.args.tx.now c.write_row.new.tx c.put_new_files.new.tx two.survives
+    (c.put_new_files.ensures.cause (told.numbers, fits.object, sources) clean (two.inside before inside))

@@ -3,6 +3,9 @@ use Rattle.dep_tables.specs.Tables.{tables_of}
 use Rattle.dep_tables.proofs.Results.{ok_then}
 use Rattle.dep_files.specs.Edits.{without_files}
 use Rattle.dep_changes.proofs.Steps.{emptied, gone_after}
+use Rattle.dep_row_maps.specs.Causes.{FailsByStatement}
+use Rattle.dep_row_maps.proofs.Causes.{if_err_is}
+use Rattle.dep_changes.proofs.Causes.{caused_later}
 use Rattle.dep_changes.proofs.objects.drop_object.Goals as goal
 
 pub returns-clause-map : goal.returns-clause-map
@@ -16,3 +19,13 @@ returns-clause-map g c clean inside ours s are o there =
 
 pub returns-clause-stays : goal.returns-clause-stays
 returns-clause-stays g c = stays_then c.in_ok-delete_files.ensures.stays c.delete_object.ensures.stays
+
+pub returns-in_err-delete_files-clause-cause : goal.returns-in_err-delete_files-clause-cause
+returns-in_err-delete_files-clause-cause g c clean inside ours s are sound fits =
+    if_err_is _ c.from_residual.result c.in_err-delete_files.field-0.0 c.from_residual.ensures.1 (c.in_err-delete_files.ensures.cause clean inside ours s are sound fits)
+
+pub returns-clause-cause : goal.returns-clause-cause
+returns-clause-cause g c clean inside ours s are sound fits =
+    let before = clean_before c.delete_object.ensures.stays clean in
+    caused_later g.T.Statements.state FailsByStatement FailsByStatement (λ at now fault it. it) c.delete_object.result c.args.tx.now c.delete_files.new.tx c.delete_object.new.tx c.in_ok-delete_files.ensures.stays.survives
+    (c.delete_object.ensures.cause fits clean (c.in_ok-delete_files.ensures.stays.inside before inside))

@@ -8,6 +8,11 @@ use Rattle.dep_row_maps.proofs.Lens.{get_here}
 use Rattle.dep_decisions.specs.Effects.{with_texts}
 use Rattle.dep_changes.proofs.Chains.{ours_then}
 use Rattle.dep_changes.proofs.Steps.{texts_row, number_is, its_number, its_own, at_number, there_at, texts_at, files_kept_at, written_again}
+use Rattle.std.proofs.Common.{◌≢◌, []}
+use Rattle.std.specs.FinMap as finmap
+use Rattle.dep_row_maps.specs.Causes.{FailsByStatement, FailsHolding}
+use Rattle.dep_row_maps.proofs.Causes.{fails_among, fails_later, if_err_is}
+use Rattle.dep_changes.proofs.Causes.{by_statement, caused_later, found_fits, never_absent, texts_fit}
 use Rattle.dep_changes.proofs.objects.set_texts.Goals as goal
 
 pub returns-clause-map : goal.returns-clause-map
@@ -17,10 +22,10 @@ returns-clause-map g c clean inside ours s are n o numbers told =
     let new = g.T.Statements.state c.set_metadata.new.tx in
     let before = clean_before c.set_metadata.ensures.stays clean in
     let row = c.in_ok-row.row in
-    let number = number_is s n o view.object told.0 row c.in_ok-row.ensures in
+    let number = number_is s n o view.object told.0 row c.in_ok-row.ensures.told in
     let now = c.texts_changed.result in
     let mark : Object = with_texts s o.metadata o in
-    let is = texts_row s n o view.object told.0 row c.in_ok-row.ensures view.clock view.next numbers.0 numbers.1 now o.metadata c.texts_changed.ensures in
+    let is = texts_row s n o view.object told.0 row c.in_ok-row.ensures.told view.clock view.next numbers.0 numbers.1 now o.metadata c.texts_changed.ensures in
     let to = its_number n mark now is in
     let put = at_number (tables_of mid) s now.object n mark to
     (c.in_ok-write_row.ensures.map before inside ours s are mark (its_own n mark now is) (texts_at s now.object n o mark to told.1 refl) (files_kept_at s now.object n o mark to told.1 refl)) in
@@ -35,3 +40,24 @@ returns-clause-stays g c = stays_then c.in_ok-write_row.ensures.stays c.set_meta
 
 pub returns-clause-ours : goal.returns-clause-ours
 returns-clause-ours g c = ours_then c.in_ok-write_row.ensures.stays c.set_metadata.ensures.stays c.in_ok-write_row.ensures.ours c.set_metadata.ensures.ours
+
+pub returns-in_err-row-clause-cause : goal.returns-in_err-row-clause-cause
+returns-in_err-row-clause-cause g c storable clean inside = never_absent c.args.view.now storable.0 c.in_err-row.ensures.absent
+
+pub returns-in_err-write_row-clause-cause : goal.returns-in_err-write_row-clause-cause
+returns-in_err-write_row-clause-cause g c storable clean inside =
+    let view = c.args.view.now in
+    let held = c.args.metadata.now ≢ finmap.empty in
+    let row = c.in_ok-row.row in
+    let fits = texts_fit view storable.0.numbers row c.texts_changed.result (found_fits view storable.0 row c.in_ok-row.ensures.told) c.texts_changed.ensures in
+    if_err_is _ c.from_residual-in_err-write_row.result c.in_err-write_row.field-0.0 c.from_residual-in_err-write_row.ensures.1
+    (fails_among g.T.Statements.state c.args.tx.now c.write_row.new.tx FailsByStatement (FailsHolding held) (by_statement held) _ (c.in_err-write_row.ensures.cause fits clean inside))
+
+pub returns-clause-cause : goal.returns-clause-cause
+returns-clause-cause g c storable clean inside =
+    let view = c.args.view.now in
+    let held = c.args.metadata.now ≢ finmap.empty in
+    let before = clean_before c.set_metadata.ensures.stays clean in
+    let fits = found_fits view storable.0 c.in_ok-row.row c.in_ok-row.ensures.told in
+    caused_later g.T.Statements.state (FailsHolding held) (FailsHolding held) (λ at now fault it. it) c.set_metadata.result c.args.tx.now c.write_row.new.tx c.set_metadata.new.tx c.in_ok-write_row.ensures.stays.survives
+    (c.set_metadata.ensures.cause (fits.object, storable.1) clean (c.in_ok-write_row.ensures.stays.inside before inside))

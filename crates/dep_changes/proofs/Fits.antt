@@ -1,0 +1,114 @@
+-- What a sound state tells of the numbers that a change writes.
+use Rattle.std.proofs.Common.{◌≡◌, ◌≢◌, ℕ, ◌<◌, ◌≤◌, ◌^◌, List, [], ◌∷◌, length, slice_get, Option, Some, None, Result, IfErr, true, false, sym, ap, subst, ◌∙◌, arith, if◌then◌else◌}
+use Rattle.std.specs.Option.{option_map_or}
+use Rattle.std.specs.FinMap as finmap
+use Rattle.std.specs.FinSet as finset
+use Rattle.sqlite.specs.State as db
+use Rattle.dep_types.specs.Limits.{IsStorable}
+use Rattle.dep_types.specs.Numbers.{counters_after, room_for}
+use Rattle.dep_types.specs.Rows.{object_row, upload_row}
+use Rattle.dep_types.specs.Sound.{IsSound}
+use Rattle.dep_types.specs.State.{State, Object, File, Upload, Texts}
+use Rattle.dep_types.specs.declared.counters.Counters.{Counters}
+use Rattle.dep_types.specs.declared.store_fault.StoreFault.{StoreFault}
+use Rattle.dep_tables.specs.Rows.{IsStorableObject, IsStorableState, IsStorableUpload}
+use Rattle.dep_tables.specs.declared.state.StateRow.{StateRow}
+use Rattle.dep_row_maps.specs.Clauses.{FromMaps}
+use Rattle.dep_row_maps.specs.Causes.{FailsHolding, FailsSince}
+use Rattle.dep_decisions.proofs.Bounds.{bounded_after}
+use Rattle.dep_decisions.specs.declared.decision.Source.{Source}
+use Rattle.dep_decisions.specs.declared.decision.Source.TheVariants.{Posted, Assembled}
+use Rattle.dep_decisions.specs.declared.decision.NewFile.{NewFile}
+use Rattle.dep_decisions.specs.declared.decision.Deposit.{Deposit}
+use Rattle.dep_decisions.specs.declared.decision.Deposit.TheVariants.{Files, Metadata}
+use Rattle.dep_decisions.specs.declared.decision.Decision.{Decision}
+use Rattle.dep_rulings.specs.Views.{live_upload}
+use Rattle.dep_rulings.specs.declared.view.View.{View}
+use Rattle.dep_rulings.specs.declared.view.UploadView.{UploadView}
+use Rattle.dep_rulings.specs.declared.view.UploadState.TheVariants.{TimedOut, Unknown, Live}
+use Rattle.dep_changes.specs.Told.{AreSources, HasSources, IsSource, TellsFor, TellsNumbers, TellsObject, TellsUpload}
+use Rattle.dep_changes.specs.Causes.{AreStorableSizes, AreStorableSources, HasPlaces, HasStorableNumbers, IsStorableDecision, IsStorableDeposit, IsStorableSource, TakesMemory, TellsStorableObject, TellsStorableUpload}
+
+-- how an upload is seen that there is, or isn't
+abbrev seen_as : State → ℕ → Option Upload → List UploadView
+seen_as s u o = record { upload = u; state = option_map_or (λ (x : Upload). Live (live_upload false u x)) o (if finset.contains s.timed_out u then TimedOut else Unknown) } ∷ []
+
+module _ (s : State) (sound : IsSound s) where
+  pub numbers_fit : (view : View) → TellsNumbers view s → HasStorableNumbers view
+  numbers_fit view told =
+      let clock : s.clock < 2 ^ 63 = omega (arith, sound.clock) in
+      record {
+        clock = subst IsStorable (sym told.0) clock;
+        object = subst (λ (k : Counters). IsStorable k.object) (sym told.1) sound.object_bound;
+        upload = subst (λ (k : Counters). IsStorable k.upload) (sym told.1) sound.upload_bound;
+        change = subst (λ (k : Counters). IsStorable k.change) (sym told.1) sound.change_bound;
+      }
+
+  pub object_fits : (n : ℕ) (o : Object) → finmap.get s.objects n ≡ Some o → IsStorableObject (object_row n o)
+  object_fits n o there =
+      let it = sound.objects n o there in
+      record {
+        object = omega (arith, it.number_given.below, sound.object_bound);
+        object_tag = omega (arith, it.tag_given.below, sound.change_bound);
+        metadata_tag = omega (arith, it.metadata_tag_given.below, sound.change_bound);
+        files_tag = omega (arith, it.files_tag_given.below, sound.change_bound);
+        changed = omega (arith, it.past, sound.clock);
+      }
+
+  pub object_told : (view : View) (n : ℕ) (o : Object) → TellsNumbers view s → TellsObject view s n o → TellsStorableObject view
+  object_told view n o numbers told = record { numbers = numbers_fit view numbers; row = object_row n o; told = told.0; fits = object_fits n o told.1 }
+
+  pub file_fits : (n : ℕ) (o : Object) (f : ℕ) (file : File) → finmap.get s.objects n ≡ Some o → finmap.get o.files f ≡ Some file → IsStorable f
+  file_fits n o f file there has = let it = (sound.objects n o there).files f file has in omega (arith, it.number_given.below, sound.file_bound)
+
+  pub counters_fit : (view : View) (taken next : Counters) → TellsNumbers view s → room_for view.next taken ≡ true → next ≡ counters_after view.next taken → (row : StateRow) → row ≡ record { clock = view.clock; next = next } → IsStorableState row
+  counters_fit view taken next told room after row is =
+      let fit = bounded_after s sound taken (ap (λ (k : Counters). room_for k taken) (sym told.1) ∙ room) in
+      let same : next ≡ counters_after s.next taken = after ∙ ap (λ (k : Counters). counters_after k taken) told.1 in
+      subst IsStorableState (sym is) (record {
+        clock = (numbers_fit view told).clock;
+        object = subst (λ (k : Counters). IsStorable k.object) (sym same) fit.object;
+        file = subst (λ (k : Counters). IsStorable k.file) (sym same) fit.file;
+        upload = subst (λ (k : Counters). IsStorable k.upload) (sym same) fit.upload;
+        change = subst (λ (k : Counters). IsStorable k.change) (sym same) fit.change;
+      })
+
+  module _ (content : List ℕ) (sizes : AreStorableSizes s content) where
+    upload_fits : (u : ℕ) (it : Upload) → finmap.get s.uploads u ≡ Some it → IsStorableUpload (upload_row u it)
+    upload_fits u it there =
+        let known = sound.uploads u it there in
+        let its = sizes.uploads u it there in
+        record {
+          upload = omega (arith, known.number_given.below, sound.upload_bound);
+          size = its.size;
+          count = its.count;
+          segment_size = its.segment_size;
+          last = omega (arith, known.past, sound.clock);
+        }
+
+    source_fits : (seen : Option UploadView) (source : Source) → IsSource s content seen source → IsStorableSource content seen source
+    source_fits seen (Posted digests) told = sizes.content
+    source_fits seen (Assembled u) told = record { upload = u; it = told.upload; told = told.seen_so; fits = upload_fits u told.upload told.there }
+
+    pub sources_all : (seen : List UploadView) (new : List NewFile) → AreSources s content seen new → AreStorableSources content seen new
+    sources_all seen new told i one at = source_fits (slice_get seen i) one.source (told.0 i one at)
+
+    pub deposit_fits : (seen : List UploadView) (have : Texts) (d : Deposit) → HasSources s content seen d → HasPlaces have d → IsStorableDeposit content seen have d
+    deposit_fits seen have (Files new) told fits = sources_all seen new told
+    deposit_fits seen have (Metadata texts) told fits = fits
+
+    pub upload_told : (view : View) (u : ℕ) (it : Upload) (k : ℕ) → TellsNumbers view s → TellsUpload view s u it k → TellsStorableUpload view
+    upload_told view u it k numbers told = record {
+      numbers = numbers_fit view numbers;
+      upload = u;
+      live = live_upload false u it;
+      told = told.0 ∙ ap (seen_as s u) told.1;
+      fits = upload_fits u it told.1;
+    }
+
+-- why a call fails for a decision of this form
+pub causes_as : {T : Type 0} (state : T → db.State) (view : View) (content : List ℕ) (old new : T) (decision d : Decision) (r : Result (Unit {0}) StoreFault) → decision ≡ d
+    → FromMaps (state old) (state new) (λ s. IsSound s → TellsNumbers view s → TellsFor view s content d → AreStorableSizes s content → IsStorableDecision s d → IfErr r (FailsSince state (FailsHolding (TakesMemory s d)) old new))
+    → FromMaps (state old) (state new) (λ s. IsSound s → TellsNumbers view s → TellsFor view s content decision → AreStorableSizes s content → IsStorableDecision s decision → IfErr r (FailsSince state (FailsHolding (TakesMemory s decision)) old new))
+causes_as state view content old new decision d r is why =
+    subst (λ (it : Decision). FromMaps (state old) (state new) (λ s. IsSound s → TellsNumbers view s → TellsFor view s content it → AreStorableSizes s content → IsStorableDecision s it → IfErr r (FailsSince state (FailsHolding (TakesMemory s it)) old new))) (sym is) why

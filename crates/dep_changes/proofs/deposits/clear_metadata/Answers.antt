@@ -1,0 +1,12 @@
+use Rattle.std.proofs.Common.{◌≢◌}
+use Rattle.std.specs.FinMap as finmap
+use Rattle.dep_row_maps.specs.Causes.{FailsByStatement, FailsHolding}
+use Rattle.dep_changes.proofs.Causes.{caused_among, holding_nothing, no_places}
+use Rattle.dep_changes.proofs.deposits.clear_metadata.Goals as goal
+
+pub returns-clause-cause : goal.returns-clause-cause
+returns-clause-cause g c fits clean inside =
+    let m = c.new-none.result in
+    let held = m ≢ finmap.empty in
+    caused_among g.T.Statements.state (FailsHolding held) FailsByStatement (holding_nothing held (λ some. some c.new-none.ensures)) c.set_metadata-cleared.result c.args.tx.now c.set_metadata-cleared.new.tx
+    (c.set_metadata-cleared.ensures.cause (fits, no_places finmap.empty m c.new-none.ensures) clean inside)
