@@ -1,5 +1,6 @@
 -- A view that tells the state truly where an accepted request touches it tells all that its decision relies on.
-use Rattle.std.proofs.Common.{◌≡◌, ◌∙◌, ℕ, zero, suc, ◌&&◌, not, nat_le, Bool, true, false, List, [], ◌∷◌, length, ◌==◌, map, slice_get, Option, Some, None, is_some, option_map, option_and_then, unwrap_or, refl, sym, ap, subst, arith, if◌then◌else◌}
+use Rattle.std.proofs.Common.{◌≡◌, ◌≤◌, ◌∙◌, ℕ, zero, suc, ◌&&◌, not, nat_le, Bool, true, false, List, [], ◌∷◌, length, ◌==◌, map, slice_get, Option, Some, None, is_some, option_map, option_and_then, unwrap_or, refl, sym, ap, subst, arith, if◌then◌else◌}
+use Rattle.std.proofs.lemmas.Bool.Decides.{nat_tests}
 use Rattle.std.specs.List.{cons_option, filter_map}
 use Rattle.std.specs.Option.{option_map_or}
 use Rattle.std.specs.FinMap as finmap
@@ -282,6 +283,20 @@ module _ (config : Config) (s : State) (op : Operation) (sound : IsSound s) wher
       ∷ []) passed in
       none_of (finmap.get it.segments k) (not_true (has_segment it k) (both_true (nat_le 1 k && nat_le k it.count) (not (has_segment it k)) (unless-none _ UnexpectedSegment rows.0)).1)
 
+  below : (x y : ℕ) → nat_le x y ≡ true → x ≤ y
+  below x y e = grind (arith, nat_tests)
+
+  within : (it : state.Upload) (k : ℕ) → segment_refusal it k op.content ≡ None → k ≤ it.count
+  within it k passed =
+      let rows = all_passed
+      (unless (nat_le 1 k && nat_le k it.count && not (has_segment it k)) UnexpectedSegment
+      ∷ unless (length op.content == segment_length it k) InvalidSegmentSize
+      ∷ []) passed in
+      below k it.count (both_true (nat_le 1 k) (nat_le k it.count) (both_true (nat_le 1 k && nat_le k it.count) (not (has_segment it k)) (unless-none _ UnexpectedSegment rows.0)).0).1
+
+  upload_there : (u : ℕ) → upload_refusal s u ≡ None → (it : state.Upload) × (finmap.get s.uploads u ≡ Some it)
+  upload_there u present = some_of (finmap.get s.uploads u) (there_by (finmap.contains_key s.uploads u) (finset.contains s.timed_out u) present)
+
   received_told : (u : ℕ) (o : Option Kind) → kind_of op ≡ o → op.target.resource ≡ Upload u → upload_refusal s u ≡ None → option_and_then (size_refusal config s op) o ≡ None → Told s op.content (seen (Upload u)) (option_and_then (received u) o)
   received_told u None is at present passed = tt
   received_told u (Some (of.File name)) is at present passed = tt
@@ -289,9 +304,9 @@ module _ (config : Config) (s : State) (op : Operation) (sound : IsSound s) wher
   received_told u (Some of.References) is at present passed = tt
   received_told u (Some (of.Opening o)) is at present passed = tt
   received_told u (Some (of.Segment k)) is at present passed =
-      let there = some_of (finmap.get s.uploads u) (there_by (finmap.contains_key s.uploads u) (finset.contains s.timed_out u) present) in
+      let there = upload_there u present in
       let sized = ap (option_and_then (λ x. segment_refusal x k op.content)) (sym there.1) ∙ ap (λ (r : Resource). received_refusal s r k op.content) (sym at) ∙ passed in
-      (there.0, (ap (λ (r : Option (List Reference)). upload_view (is_some r) s u ∷ []) (no_references k is), there.1, lacks there.0 k sized))
+      (there.0, (ap (λ (r : Option (List Reference)). upload_view (is_some r) s u ∷ []) (no_references k is), there.1, lacks there.0 k sized, within there.0 k sized))
 
   sizes : size_rule config s op ≡ None → option_and_then (size_refusal config s op) (kind_of op) ≡ None
   unfolding size_rule
@@ -346,7 +361,7 @@ module _ (config : Config) (s : State) (op : Operation) (sound : IsSound s) wher
   asked (Upload u) Post at present e =
       let rows = all_passed (rows_met config s op (Upload u) Post) e in
       received_told u (kind_of op) refl at present (sizes rows.1.1.1.1.1.1.1.1.1.1.0)
-  asked (Upload u) Delete at present e = tt
+  asked (Upload u) Delete at present e = upload_there u present
   asked (Upload u) Get at present e = tt
   asked (Upload u) Head at present e = tt
   asked (Upload u) Put at present e = tt

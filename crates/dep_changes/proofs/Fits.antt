@@ -74,7 +74,7 @@ module _ (s : State) (sound : IsSound s) where
       })
 
   module _ (content : List ℕ) (sizes : AreStorableSizes s content) where
-    upload_fits : (u : ℕ) (it : Upload) → finmap.get s.uploads u ≡ Some it → IsStorableUpload (upload_row u it)
+    pub upload_fits : (u : ℕ) (it : Upload) → finmap.get s.uploads u ≡ Some it → IsStorableUpload (upload_row u it)
     upload_fits u it there =
         let known = sound.uploads u it there in
         let its = sizes.uploads u it there in
@@ -85,6 +85,9 @@ module _ (s : State) (sound : IsSound s) where
           segment_size = its.segment_size;
           last = omega (arith, known.past, sound.clock);
         }
+
+    pub segment_fits : (u : ℕ) (it : Upload) (k : ℕ) → finmap.get s.uploads u ≡ Some it → k ≤ it.count → IsStorable k
+    segment_fits u it k there within = let its = sizes.uploads u it there in omega (arith, within, its.count)
 
     source_fits : (seen : Option UploadView) (source : Source) → IsSource s content seen source → IsStorableSource content seen source
     source_fits seen (Posted digests) told = sizes.content

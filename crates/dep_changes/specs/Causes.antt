@@ -15,7 +15,7 @@ use Rattle.dep_decisions.specs.declared.decision.NewFile.{NewFile}
 use Rattle.dep_decisions.specs.declared.decision.Deposit.{Deposit}
 use Rattle.dep_decisions.specs.declared.decision.Deposit.TheVariants.{Files, Metadata}
 use Rattle.dep_decisions.specs.declared.decision.Decision.{Decision}
-use Rattle.dep_decisions.specs.declared.decision.Decision.TheVariants.{Create, Append, Replace, SetMetadata, SetFiles, SetFile, Open, Receive, DropUpload}
+use Rattle.dep_decisions.specs.declared.decision.Decision.TheVariants.{Create, Append, Replace, SetMetadata, SetFiles, SetFile, Open}
 use Rattle.dep_rulings.specs.declared.view.View.{View}
 use Rattle.dep_rulings.specs.declared.view.LiveUpload.{LiveUpload}
 use Rattle.dep_rulings.specs.declared.view.UploadView.{UploadView}
@@ -85,15 +85,13 @@ abbrev pub HasPlaces : (have : Texts) → Deposit → Type 0
 HasPlaces have (Files new) = ⊤
 HasPlaces have (Metadata texts) = HavePlaces have (map.entries texts)
 
--- what the decision itself names
+-- the sizes that an upload is opened with, and the places of new texts
 abbrev pub IsStorableDecision : State → Decision → Type 0
 IsStorableDecision s (Create d ingests) = HasPlaces map.empty d
 IsStorableDecision s (Append n d ingests) = HasPlaces (metadata_at s.objects n) d
 IsStorableDecision s (Replace n d ingests) = HasPlaces map.empty d
 IsStorableDecision s (SetMetadata n texts) = HavePlaces map.empty (map.entries texts)
 IsStorableDecision s (Open o) = HasStorableSizes o.size o.count o.segment_size
-IsStorableDecision s (Receive u k) = IsStorable k
-IsStorableDecision s (DropUpload u) = IsStorable u
 IsStorableDecision s _ = ⊤
 
 -- ---- what is copied

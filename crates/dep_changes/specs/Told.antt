@@ -1,5 +1,5 @@
 -- What a decision relies on of the state, as a view tells it.
-use Rattle.std.specs.Prelude.{◌≡◌, ℕ, false, List, [], ◌∷◌, length, slice_get, Option, Some, None}
+use Rattle.std.specs.Prelude.{◌≡◌, ◌≤◌, ℕ, false, List, [], ◌∷◌, length, slice_get, Option, Some, None}
 use Rattle.std.specs.FinMap as map
 use Rattle.dep_types.specs.Maps.{Numbered}
 use Rattle.dep_types.specs.State.{State, Object, File, Upload}
@@ -15,7 +15,7 @@ use Rattle.dep_decisions.specs.declared.decision.NewFile.{NewFile}
 use Rattle.dep_decisions.specs.declared.decision.Deposit.{Deposit}
 use Rattle.dep_decisions.specs.declared.decision.Deposit.TheVariants.{Files, Metadata}
 use Rattle.dep_decisions.specs.declared.decision.Decision.{Decision}
-use Rattle.dep_decisions.specs.declared.decision.Decision.TheVariants.{Create, Append, Replace, Complete, SetMetadata, SetFiles, SetFile, DropFile, DropObject, Receive}
+use Rattle.dep_decisions.specs.declared.decision.Decision.TheVariants.{Create, Append, Replace, Complete, SetMetadata, SetFiles, SetFile, DropFile, DropObject, Receive, DropUpload}
 use Rattle.dep_rulings.specs.Views.{upload_view}
 use Rattle.dep_rulings.specs.declared.view.View.{View}
 use Rattle.dep_rulings.specs.declared.view.UploadView.{UploadView}
@@ -77,11 +77,11 @@ HasSources s content seen (Metadata texts) = Unit {0}
 abbrev pub TellsFile : View → State → ℕ → Object → (f : ℕ) → File → Type 0
 TellsFile view s n o f file = TellsObject view s n o × (map.get o.files f ≡ Some file)
 
--- the upload of this number is told, and lacks this segment
+-- the upload of this number is told, and lacks this segment, which is one of those that it is to have
 abbrev pub TellsUpload : View → State → (u : ℕ) → Upload → (segment : ℕ) → Type 0
 TellsUpload view s u it k =
     (view.uploads ≡ upload_view false s u ∷ []) × (map.get s.uploads u ≡ Some it)
-    × (map.get it.segments k ≡ None)
+    × (map.get it.segments k ≡ None) × (k ≤ it.count)
 
 -- what a decision changes is there, what it takes is told, and what it puts in is new
 abbrev pub TellsFor : View → State → (content : List ℕ) → Decision → Type 0
@@ -101,4 +101,5 @@ TellsFor view s content (SetFile n f new) =
 TellsFor view s content (DropFile n f) = (o : Object) × (file : File) × TellsFile view s n o f file
 TellsFor view s content (DropObject n) = (o : Object) × TellsObject view s n o
 TellsFor view s content (Receive u k) = (it : Upload) × TellsUpload view s u it k
+TellsFor view s content (DropUpload u) = (it : Upload) × (map.get s.uploads u ≡ Some it)
 TellsFor view s content _ = Unit {0}

@@ -14,7 +14,7 @@ use Rattle.dep_staging.proofs.Causes.{drop_among}
 use Rattle.dep_decisions.specs.declared.decision.NewFile.{NewFile}
 use Rattle.dep_changes.specs.Causes.{AreStorableSources, CopiesBeside, HasPlaces}
 use Rattle.dep_changes.proofs.Causes.{by_statement, caused_among}
-use Rattle.dep_changes.proofs.Fits.{causes_as, counters_fit, deposit_fits, file_fits, numbers_fit, object_fits, object_told, sources_all, upload_told}
+use Rattle.dep_changes.proofs.Fits.{causes_as, counters_fit, deposit_fits, file_fits, numbers_fit, object_fits, object_told, segment_fits, sources_all, upload_fits, upload_told}
 use Rattle.dep_changes.proofs.Steps.{texts_of}
 use Rattle.dep_changes.proofs.carrying.change_maps.Goals as goal
 
@@ -256,7 +256,7 @@ returns-in-Receive-clause-cause g c =
     causes_as g.T.Statements.state view content c.args.tx.now c.receive.new.tx c.args.decision.now _ c.receive.result c.in-Receive.is
     (λ clean inside ours s are sound numbers told sizes fits.
     caused_among g.T.Statements.state FailsByStatement (FailsHolding ⊥) (by_statement ⊥) c.receive.result c.args.tx.now c.receive.new.tx
-    (c.receive.ensures.cause (upload_told s sound content sizes view c.in-Receive.upload told.0 c.in-Receive.segment numbers told.1, fits, sizes.content) clean inside))
+    (c.receive.ensures.cause (upload_told s sound content sizes view c.in-Receive.upload told.0 c.in-Receive.segment numbers told.1, segment_fits s sound content sizes c.in-Receive.upload told.0 c.in-Receive.segment told.1.1 told.1.3, sizes.content) clean inside))
 
 pub returns-in-DropUpload-clause-cause : goal.returns-in-DropUpload-clause-cause
 returns-in-DropUpload-clause-cause g c =
@@ -265,4 +265,4 @@ returns-in-DropUpload-clause-cause g c =
     causes_as g.T.Statements.state view content c.args.tx.now c.drop_upload.new.tx c.args.decision.now _ c.drop_upload.result c.in-DropUpload.is
     (λ clean inside ours s are sound numbers told sizes fits.
     caused_among g.T.Statements.state (FailsToDrop c.in-DropUpload.upload) (FailsHolding ⊥) (λ at now fault failed. by_statement ⊥ at now fault (drop_among at now fault c.in-DropUpload.upload failed)) c.drop_upload.result c.args.tx.now c.drop_upload.new.tx
-    (c.drop_upload.ensures.cause fits clean inside))
+    (c.drop_upload.ensures.cause (upload_fits s sound content sizes c.in-DropUpload.upload told.0 told.1).upload clean inside))
