@@ -5,7 +5,6 @@ use Rattle.dep_types.specs.Limits.{IsStorable}
 use Rattle.dep_types.specs.State.{State, Upload, Texts}
 use Rattle.dep_types.specs.Rows.{upload_row}
 use Rattle.dep_types.specs.declared.rows.ObjectRow.{ObjectRow}
-use Rattle.dep_fields.specs.declared.kind.Opening.{Opening}
 use Rattle.dep_tables.specs.Rows.{IsStorableObject, IsStorableUpload}
 use Rattle.dep_row_maps.specs.TablesAre.{metadata_at}
 use Rattle.dep_objects.specs.Texts.{HavePlaces}

@@ -1,4 +1,4 @@
-use Rattle.std.proofs.Common.{◌≡◌, ◌∙◌, Bool, true, false, refl, sym, ap}
+use Rattle.std.proofs.Common.{◌≡◌, ◌∙◌, true, false, refl, sym, ap}
 use Rattle.dep_types.specs.Numbers.{counters_after}
 use Rattle.dep_types.specs.declared.counters.Counters.{Counters}
 use Rattle.dep_tables.proofs.Chains.{clean_before, stays_then}

@@ -14,7 +14,7 @@ use Rattle.dep_staging.proofs.Causes.{drop_among}
 use Rattle.dep_decisions.specs.declared.decision.NewFile.{NewFile}
 use Rattle.dep_changes.specs.Causes.{AreStorableSources, CopiesBeside, HasPlaces}
 use Rattle.dep_changes.proofs.Causes.{by_statement, caused_among}
-use Rattle.dep_changes.proofs.Fits.{causes_as, counters_fit, deposit_fits, file_fits, numbers_fit, object_fits, object_told, segment_fits, sources_all, upload_fits, upload_told}
+use Rattle.dep_changes.proofs.Fits.{causes_as, deposit_fits, file_fits, numbers_fit, object_fits, object_told, segment_fits, sources_all, upload_fits, upload_told}
 use Rattle.dep_changes.proofs.Steps.{texts_of}
 use Rattle.dep_changes.proofs.carrying.change_maps.Goals as goal
 

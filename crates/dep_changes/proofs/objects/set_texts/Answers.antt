@@ -8,10 +8,10 @@ use Rattle.dep_row_maps.proofs.Lens.{get_here}
 use Rattle.dep_decisions.specs.Effects.{with_texts}
 use Rattle.dep_changes.proofs.Chains.{ours_then}
 use Rattle.dep_changes.proofs.Steps.{texts_row, number_is, its_number, its_own, at_number, there_at, texts_at, files_kept_at, written_again}
-use Rattle.std.proofs.Common.{◌≢◌, []}
+use Rattle.std.proofs.Common.{◌≢◌}
 use Rattle.std.specs.FinMap as finmap
 use Rattle.dep_row_maps.specs.Causes.{FailsByStatement, FailsHolding}
-use Rattle.dep_row_maps.proofs.Causes.{fails_among, fails_later, if_err_is}
+use Rattle.dep_row_maps.proofs.Causes.{fails_among, if_err_is}
 use Rattle.dep_changes.proofs.Causes.{by_statement, caused_later, found_fits, never_absent, texts_fit}
 use Rattle.dep_changes.proofs.objects.set_texts.Goals as goal
 

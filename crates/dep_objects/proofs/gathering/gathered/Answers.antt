@@ -1,4 +1,4 @@
-use Rattle.std.proofs.Common.{rules, ◌≡◌, ◌∙◌, [], None, ap, map as each, refl, subst, sym}
+use Rattle.std.proofs.Common.{rules, ◌≡◌, ◌∙◌, None, ap, map as each, refl, subst, sym}
 use Rattle.std.specs.FinMap as finmap
 use Rattle.dep_row_maps.specs.Laws.{pair_of}
 use Rattle.dep_objects.proofs.Following.{CanFollow, listed_follow}

@@ -3,7 +3,7 @@ use Rattle.std.proofs.lemmas.List.{take_all}
 use Rattle.dep_tables.proofs.Chains.{clean_before, stays_err, stays_ok, stays_then}
 use Rattle.dep_tables.specs.Tables.{tables_of}
 use Rattle.dep_objects.proofs.Appending.{one_more_name}
-use Rattle.std.proofs.Common.{◌≡◌, ◌≢◌, ◌+◌, ◌≤◌, ◌^◌, [], get_or, subst, sym}
+use Rattle.std.proofs.Common.{◌≢◌, ◌+◌, ◌≤◌, ◌^◌, [], subst, sym}
 use Rattle.std.proofs.lemmas.List.Elements.{All-get_or}
 use Rattle.dep_types.specs.declared.metadata.MetadataEntry.{MetadataEntry}
 use Rattle.dep_row_maps.specs.Causes.{FailsHolding}

@@ -9,9 +9,7 @@ use Rattle.std.proofs.Common.{◌≢◌, [], subst, sym}
 use Rattle.dep_row_maps.specs.Causes.{FailsHolding}
 use Rattle.dep_row_maps.specs.Causes.FailsHolding.{memory, statement}
 use Rattle.dep_row_maps.specs.Causes.FailsByStatement.{metadata_added}
-use Rattle.dep_row_maps.specs.Stored.{text_row}
 use Rattle.dep_row_maps.proofs.Causes.{fails_then, if_err_is}
-use Rattle.dep_tables.specs.declared.metadata.MetadataRow.{MetadataRow}
 use Rattle.dep_tables.specs.Rows.{IsStorableMetadata}
 use Rattle.dep_objects.proofs.Places.{has_some}
 use Rattle.dep_objects.proofs.metadata.put_texts.Goals as goal
