@@ -7,3 +7,4 @@ pub mod Accepted
 pub mod Carried
 pub mod Causes
 pub mod Fits
+pub mod Opened

@@ -84,14 +84,18 @@ abbrev pub HasPlaces : (have : Texts) → Deposit → Type 0
 HasPlaces have (Files new) = ⊤
 HasPlaces have (Metadata texts) = HavePlaces have (map.entries texts)
 
--- the sizes that an upload is opened with, and the places of new texts
+-- each new text has a place
+abbrev pub HasPlacesFor : State → Decision → Type 0
+HasPlacesFor s (Create d ingests) = HasPlaces map.empty d
+HasPlacesFor s (Append n d ingests) = HasPlaces (metadata_at s.objects n) d
+HasPlacesFor s (Replace n d ingests) = HasPlaces map.empty d
+HasPlacesFor s (SetMetadata n texts) = HavePlaces map.empty (map.entries texts)
+HasPlacesFor s _ = ⊤
+
+-- and an upload is opened with such sizes
 abbrev pub IsStorableDecision : State → Decision → Type 0
-IsStorableDecision s (Create d ingests) = HasPlaces map.empty d
-IsStorableDecision s (Append n d ingests) = HasPlaces (metadata_at s.objects n) d
-IsStorableDecision s (Replace n d ingests) = HasPlaces map.empty d
-IsStorableDecision s (SetMetadata n texts) = HavePlaces map.empty (map.entries texts)
 IsStorableDecision s (Open o) = HasStorableSizes o.size o.count o.segment_size
-IsStorableDecision s _ = ⊤
+IsStorableDecision s d = HasPlacesFor s d
 
 -- ---- what is copied
 

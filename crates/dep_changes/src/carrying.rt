@@ -1,6 +1,7 @@
 //! What a decision makes of the tables.
 
 ghost use Rattle.std.specs.Prelude.{◌≡◌, Ok, OnOk, IfErr, IsTrue};
+ghost use Rattle.dep_types.specs.Config.{HasLimits};
 ghost use Rattle.dep_types.specs.Numbers.{room_for};
 ghost use Rattle.dep_types.specs.Sound.{IsSound};
 ghost use Rattle.dep_types.specs.declared.config.Config.{Config};
@@ -14,7 +15,7 @@ ghost use Rattle.dep_decisions.specs.declared.operation.Operation.{Operation};
 ghost use Rattle.dep_rulings.specs.Rulings.{IsRuling};
 ghost use Rattle.dep_rulings.specs.Views.{true_view};
 ghost use Rattle.dep_rulings.specs.declared.ruling.Ruling.TheVariants.{Do};
-ghost use Rattle.dep_changes.specs.Causes.{AreStorableSizes, IsStorableDecision, TakesMemory};
+ghost use Rattle.dep_changes.specs.Causes.{AreStorableSizes, HasPlacesFor, IsStorableDecision, TakesMemory};
 ghost use Rattle.dep_changes.specs.Told.{TellsNumbers, TellsFor};
 ghost use Rattle.dep_changes.specs.Changed.{with_maps};
 
@@ -54,7 +55,7 @@ pub fn carry_out<T: Statements>(
     ensures cause { FromMaps (T.state tx.old) (T.state tx.new)
         (λ s. (config : Config) (op : Operation) → IsSound s → view.now ≡ true_view config s op
         → IsRuling config s op (Do decision.now) → content.now ≡ op.content
-        → AreStorableSizes s content.now → IsStorableDecision s decision.now
+        → HasLimits config → AreStorableSizes s content.now → HasPlacesFor s decision.now
         → IfErr result (FailsSince T.state (FailsHolding (TakesMemory s decision.now))
         tx.old tx.new)) }
     ensures stays { StaysWithin T.lenders T.state tx.old tx.new result }

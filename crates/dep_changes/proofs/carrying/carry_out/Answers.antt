@@ -14,6 +14,7 @@ use Rattle.dep_row_maps.specs.Causes.FailsByStatement.{state_written}
 use Rattle.dep_row_maps.proofs.Causes.{fails_then, if_err_is, if_err_then}
 use Rattle.dep_changes.specs.Causes.{TakesMemory}
 use Rattle.dep_changes.proofs.Fits.{counters_fit}
+use Rattle.dep_changes.proofs.Opened.{decision_storable}
 use Rattle.dep_changes.proofs.carrying.carry_out.Goals as goal
 
 pub returns-then-eq-clause-map : goal.returns-then-eq-clause-map
@@ -63,15 +64,15 @@ returns-clause-untouched g c show =
     absurd (cc)
 
 pub returns-in_err-change_maps-clause-cause : goal.returns-in_err-change_maps-clause-cause
-returns-in_err-change_maps-clause-cause g c clean inside ours s are config op sound seen ruling same sizes fits =
+returns-in_err-change_maps-clause-cause g c clean inside ours s are config op sound seen ruling same limits sizes places =
     let view = c.args.view.now in
     let d = c.args.decision.now in
     let content = c.args.content.now in
     if_err_is _ c.from_residual.result c.in_err-change_maps.field-0.0 c.from_residual.ensures.1
-    (c.in_err-change_maps.ensures.cause clean inside ours s are sound (numbers_told config s op view content d seen ruling.1 same) (told config s op view content d seen ruling.1 same sound ruling.0) sizes fits)
+    (c.in_err-change_maps.ensures.cause clean inside ours s are sound (numbers_told config s op view content d seen ruling.1 same) (told config s op view content d seen ruling.1 same sound ruling.0) sizes (decision_storable config s op limits d ruling.1 ruling.0 places))
 
 pub returns-clause-cause : goal.returns-clause-cause
-returns-clause-cause g c clean inside ours s are config op sound seen ruling same sizes fits =
+returns-clause-cause g c clean inside ours s are config op sound seen ruling same limits sizes places =
     let view = c.args.view.now in
     let d = c.args.decision.now in
     let content = c.args.content.now in
