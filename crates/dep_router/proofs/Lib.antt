@@ -1,4 +1,7 @@
-mod SegmentLemmas
-mod RouteLemmas
+mod SlashLemmas
+mod RowLemmas
+mod PathLemmas
+mod PartLemmas
+mod InsertLemmas
 mod EscapeLemmas
 mod PlaceLemmas

@@ -1,3 +1,3 @@
 pub mod Targets
-pub mod Segments
+pub mod Pages
 pub mod Places

@@ -1,9 +1,13 @@
 -- What a path names, before the path of a file in a bag is decoded.
-use Rattle.std.specs.Prelude.{◌≡◌, ⊤, ℕ, List, ◌++◌, Option, Some, None}
+use Rattle.std.specs.Prelude.{◌≡◌, ◌<◌, ⊤, ℕ, length, List, ◌++◌, Option, Some, None, codes}
+use Rattle.matchit.specs.Params.{named}
 use Rattle.dep_types.specs.declared.target.Resource.{Resource}
-use Rattle.dep_router.specs.declared.paths.Place.{Place}
-use Rattle.dep_router.specs.declared.paths.Place.TheVariants as at
+use Rattle.dep_router.specs.declared.pages.Page.{Page}
+use Rattle.dep_router.specs.declared.pages.Page.TheVariants.{BagFile}
+use Rattle.dep_router.specs.declared.reading.Place.{Place}
+use Rattle.dep_router.specs.declared.reading.Place.TheVariants as at
 use Rattle.dep_router.specs.Targets.{bag_file}
+use Rattle.dep_router.specs.Pages.{Parts}
 
 -- the resource that a place is
 abbrev pub resource_at : Option Place → Option Resource
@@ -11,10 +15,16 @@ resource_at (Some (at.Resource resource)) = Some resource
 resource_at (Some (at.InBag object path)) = bag_file object path.now
 resource_at None = None
 
--- the path is one that ends so
+-- a path in a bag is what a parameter of its page took
+abbrev pub IsPathOf : Page → Parts → Option Place → Type 0
+IsPathOf page parts (Some (at.InBag object path)) = (page ≡ BagFile) × (named (codes "path") parts ≡ Some path.now)
+IsPathOf page parts _ = ⊤
+
+-- the path is one that ends so, with at least one byte
 pub record EndsWith (path end : List ℕ) : Type 0 where
   pub front : List ℕ
   pub whole : path ≡ front ++ end
+  pub some : 0 < length end
 
 -- a path in a bag is the end of the path that names it
 abbrev pub EndsWithPlace : List ℕ → Option Place → Type 0

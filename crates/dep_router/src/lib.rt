@@ -3,9 +3,9 @@
 
 mod bag_paths;
 mod methods;
-mod paths;
+mod pages;
+mod reading;
 mod routed;
-mod segments;
 
 pub use methods::Allow;
 pub use routed::{Routed, Routes};

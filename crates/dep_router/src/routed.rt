@@ -1,10 +1,20 @@
 //! What a method and a path name.
-ghost use Rattle.std.specs.Prelude.{◌≡◌};
+ghost use Rattle.std.specs.Prelude.{◌≡◌, ◌<◌, [], length, drop, Some, IfErr, OnOk};
+ghost use Rattle.std.specs.String.{string_bytes};
+ghost use Rattle.matchit.specs.declared.error.InsertError.TheVariants.{OutOfMemory};
+ghost use Rattle.dep_router.specs.Pages.{routes};
+ghost use Rattle.dep_router.specs.Places.{EndsWithPlace, resource_at};
+ghost use Rattle.dep_router.specs.Targets as spec;
 ghost use Rattle.dep_router.specs.Targets.{target, segments, resource_of};
 
+use crate::bag_paths::decoded_from;
 use crate::methods::{Allow, method_at};
-use crate::paths::resource_at;
-use dep_types::{Resource, Target};
+use crate::pages::Page;
+use crate::reading::{Place, place_of_page};
+use dep_types::{Octets, Resource, Target};
+use matchit::{InsertError, Router};
+use std::alloc::{AllocError, Global};
+use std::marker::Model;
 
 /// What a method and a path name.
 #[derive(Drop)]
@@ -17,24 +27,53 @@ pub enum Routed {
     NotAllowed(Allow),
 }
 
-/// The routes of the server: which resources there are, at which paths, and which methods they have.
-#[derive(Clone, Copy)]
-pub struct Routes;
+/// The routes of the server: which resources there are, at which paths, and which methods they have. They are the same
+/// in every value, so contracts see nothing of it.
+#[derive(Drop)]
+pub struct Routes {
+    router: Router<Page>,
+}
+
+impl Model for Routes {
+    ghost use Rattle.std.specs.Prelude.{◌≡◌, ⊤};
+    ghost use Rattle.dep_router.specs.Pages.{routes};
+
+    ghost Value = { ⊤ };
+
+    ghost view = { λ r. tt };
+
+    ghost invariant = { λ r. r.router ≡ routes };
+}
 
 impl Routes {
+    /// The routes. Memory is taken here alone.
+    pub fn new(alloc: Global) -> Result<Routes, AllocError> {
+        let mut router = Router::new(alloc);
+        match add_routes(&mut router) {
+            Ok(()) => Ok(Routes { router }),
+            Err(_) => Err(AllocError),
+        }
+    }
+
     /// The resource that a path names, whatever the method. The path has no query, and is compared byte by byte:
     /// letters in another case or a slash at its end make another path, and nothing is decoded but the path within a
     /// bag, once. That is done where the path stands, which is why it is taken over: no memory is taken.
-    pub fn resource(&self, path: Vec<u8>) -> Option<Resource>
-        ensures { result ≡ resource_of (segments path.items) }
+    pub fn resource(&self, path: String) -> Option<Resource>
+        ensures { result ≡ resource_of (segments (string_bytes path)) }
     {
-        resource_at(path)
+        match self.place(&path)? {
+            Place::Resource(resource) => Some(resource),
+            Place::InBag(object, end) => {
+                let start = path.len() - end.len();
+                Some(bag_file(object, path.into_bytes(), start))
+            }
+        }
     }
 
     /// What a method and a path name. It takes no memory.
     #[tactic(auto, unfolding(crate::specs::Targets::target))]
-    pub fn route(&self, method: &[u8], path: Vec<u8>) -> Routed
-        ensures { result ≡ target method.now path.items }
+    pub fn route(&self, method: &[u8], path: String) -> Routed
+        ensures { result ≡ target method.now (string_bytes path) }
     {
         let Some(resource) = self.resource(path) else {
             return Routed::NotFound;
@@ -44,4 +83,40 @@ impl Routes {
             None => Routed::NotAllowed(Allow::of(&resource)),
         }
     }
+
+    fn place<'p>(&self, path: &'p str) -> Option<Place<'p>>
+        ensures named { resource_at result ≡ resource_of (segments path.now) }
+        ensures ends { EndsWithPlace path.now result }
+    {
+        match self.router.at(path) {
+            Ok(found) => place_of_page(*found.value, &found.params),
+            Err(_) => None,
+        }
+    }
+}
+
+// A file in the bag of an object, whose path starts at this place.
+fn bag_file(object: u64, path: Vec<u8>, start: usize) -> Resource
+    requires { start < length path.items }
+    ensures { Some result ≡ spec.bag_file object (drop start path.items) }
+{
+    Resource::BagFile(object, Octets::from_vec(decoded_from(path, start)))
+}
+
+// Adds the routes of the profile. None of them is misspelled and no two conflict, so only memory can be wanted.
+fn add_routes(router: &mut Router<Page>) -> Result<(), InsertError>
+    requires { router.old ≡ [] }
+    ensures ok { OnOk result (router.new ≡ routes) }
+    ensures err { IfErr result (λ e. e ≡ OutOfMemory) }
+{
+    router.insert("/service", Page::Service)?;
+    router.insert("/objects/{object}", Page::Object)?;
+    router.insert("/objects/{object}/metadata", Page::Metadata)?;
+    router.insert("/objects/{object}/files", Page::FileSet)?;
+    router.insert("/objects/{object}/files/{file}", Page::File)?;
+    router.insert("/objects/{object}/bag", Page::BagList)?;
+    router.insert("/objects/{object}/bag/{*path}", Page::BagFile)?;
+    router.insert("/staging", Page::Staging)?;
+    router.insert("/staging/{upload}", Page::Upload)?;
+    Ok(())
 }
