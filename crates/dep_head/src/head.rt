@@ -1,4 +1,5 @@
 //! Heads of requests.
+ghost use Rattle.std.specs.String.{string_bytes};
 ghost use Rattle.std.specs.Prelude.{◌≡◌, ◌↔◌, [], length, codes, IfOk, IsTrue, IsErrOf, Err};
 ghost use Rattle.httparse.specs.Grammar.{RequestHead};
 ghost use Rattle.http_uri.specs.Uri.{Spells, uri_path};
@@ -54,7 +55,7 @@ impl Error for HeadFault {}
 pub struct Head {
     text: Vec<u8>,
     method: Span,
-    path: Vec<u8>,
+    path: String,
     minor: u8,
     fields: Vec<HeaderSpan>,
 }
@@ -62,10 +63,11 @@ pub struct Head {
 impl Model for Head {
     ghost use Rattle.dep_head.specs.Head.{HeadParts};
     ghost use Rattle.dep_head.specs.Spans.{spanned_parts, SpansFit};
+    ghost use Rattle.std.specs.String.{string_bytes};
 
     ghost Value = { HeadParts };
 
-    ghost view = { λ h. spanned_parts h.text.items h.method h.path.items h.minor h.fields.items };
+    ghost view = { λ h. spanned_parts h.text.items h.method (string_bytes h.path) h.minor h.fields.items };
 
     ghost invariant = { λ h. SpansFit h.text.items h.method h.fields.items };
 }
@@ -79,15 +81,15 @@ impl Head {
     }
 
     /// The path of the request's target as it stands there: nothing is decoded, and the query is left out.
-    pub fn path(&self) -> &[u8]
+    pub fn path(&self) -> &str
         ensures { result.now ≡ self.now.path }
     {
         &self.path
     }
 
     /// Takes the path over, without a copy. The head has an empty one from then on.
-    pub fn take_path(&mut self) -> Vec<u8>
-        ensures path { result.items ≡ self.old.path }
+    pub fn take_path(&mut self) -> String
+        ensures path { string_bytes result ≡ self.old.path }
         ensures rest { self.new ≡ record {
           method = self.old.method;
           path = [];
@@ -95,7 +97,7 @@ impl Head {
           fields = self.old.fields;
         } }
     {
-        let none = Vec::new(*self.path.allocator());
+        let none = String::new(*self.path.allocator());
         mem::replace(&mut self.path, none)
     }
 
@@ -159,13 +161,13 @@ pub fn read_head(alloc: Global, text: &[u8]) -> Result<Head, HeadFault>
 }
 
 // The path of a request's target. What else a target has is of no use here.
-fn read_path(alloc: Global, target: &[u8]) -> Result<Vec<u8>, HeadFault>
+fn read_path(alloc: Global, target: &[u8]) -> Result<String, HeadFault>
     ensures read { IfOk result (λ path. (uri : Uri) × Spells target.now uri
-        × (path.items ≡ uri_path uri)) }
+        × (string_bytes path ≡ uri_path uri)) }
     ensures refused { result ≡ Err HeadFault.NotAHead → (uri : Uri) → ¬ Spells target.now uri }
 {
     let path = match Uri::from_bytes(alloc, target) {
-        Ok(uri) => Vec::from_slice(alloc, uri.path().as_bytes()),
+        Ok(uri) => String::from_str(alloc, uri.path()),
         Err(UriError::Invalid(_)) => return Err(HeadFault::NotAHead),
         Err(UriError::OutOfMemory) => return Err(HeadFault::Memory),
     };
