@@ -1,5 +1,5 @@
 -- How the serving of an arrival goes on, and how it ends.
-use Rattle.std.proofs.Common.{◌≡◌, ◌≢◌, ◌⊎◌, inl, inr, ℕ, Bool, true, false, if◌then◌else◌, List, [], ◌∷◌, ◌++◌, IsTrue, refl, sym, ap, subst, ◌∙◌, append_assoc, Option}
+use Rattle.std.proofs.Common.{◌≡◌, ◌≢◌, ◌⊎◌, inl, ℕ, Bool, true, false, if◌then◌else◌, List, [], ◌∷◌, ◌++◌, IsTrue, refl, sym, ap, subst, ◌∙◌, append_assoc, Option}
 use Rattle.std.proofs.lemmas.List.{append-nil}
 use Rattle.std.specs.Io.KnownBytes.{Appends}
 use Rattle.dep_types.specs.State.{State}
@@ -7,7 +7,6 @@ use Rattle.dep_types.specs.declared.config.Config.{Config}
 use Rattle.dep_types.specs.Writing.{IsProperPrefix, HasRisen}
 use Rattle.dep_types.specs.declared.refusal.Refusal.{Refusal}
 use Rattle.dep_types.specs.declared.store_fault.StoreFault.{StoreFault}
-use Rattle.dep_types.specs.declared.store_fault.StoreFault.TheVariants.{Store, Memory}
 use Rattle.dep_message.specs.Places.{Place, Open, Shut, Reading, HasBytes, place_with}
 use Rattle.dep_message.specs.Heads.{closes}
 use Rattle.dep_message.specs.Stream.{Item, Fault, Continue, Request, FirstAt, Waits}
@@ -15,10 +14,10 @@ use Rattle.dep_message.specs.declared.message.Message.{Message}
 use Rattle.dep_message.proofs.Reading.{reads_one}
 use Rattle.dep_answers.specs.Steps.{sent_by}
 use Rattle.dep_types.specs.Conditions.{Condition, StandsFor, HasCleanDisk, Leaves}
-use Rattle.dep_server.specs.Machine.{starting_state, step, replies, state_after, continue_line, Fails, Serves, given_up, cut_short, serves_all, step_fails, gives_up, SendsUpTo, all, cut, want_of_memory, store_fault, answer_at_place}
+use Rattle.dep_server.specs.Machine.{starting_state, step, replies, state_after, continue_line, Fails, Serves, given_up, cut_short, serves_all, step_fails, gives_up, SendsUpTo, want_of_memory, answer_at_place}
 use Rattle.dep_server.specs.Causes.{IsCutInContent}
 use Rattle.dep_server.specs.Sending.{IsReplySent, SendsOver, SendsReply, Outside, Passes, SendsStep, reply_to}
-use Rattle.dep_server.specs.Serving.{Arrival, IsDeadIfShut, FailsFrom, IsAnsweredBy, IsFixedSent, IsAnsweredShut, OnlyContinues, IsStill, ReadsWith, Answers, Progress, ServesFrom, ServesOver, answer_after}
+use Rattle.dep_server.specs.Serving.{Arrival, IsDeadIfShut, FailsFrom, IsAnsweredBy, IsFixedSent, IsAnsweredShut, IsStill, ReadsWith, Answers, Progress, ServesFrom, ServesOver, answer_after}
 use Rattle.dep_server.specs.Shut.{LeavesNoMore, IfShut, EndsFixed, has_ended}
 use Rattle.dep_server.specs.Shut as fixed
 use Rattle.dep_server.proofs.ShutLemmas.{leaves_same, leaves_both, shut_both, sends_up_to, is_fixed, continues_more, ends_fixed, sends_behind, sends_no_more}

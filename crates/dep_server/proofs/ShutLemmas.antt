@@ -1,14 +1,14 @@
 -- What is sent over an archive that a fault shut, and what it leaves.
-use Rattle.std.proofs.Common.{◌≡◌, ◌≢◌, ◌⊎◌, inl, inr, ℕ, suc, List, [], ◌∷◌, ◌++◌, IsTrue, refl, sym, ap, subst, ◌∙◌}
+use Rattle.std.proofs.Common.{◌≡◌, ◌≢◌, inl, inr, ℕ, suc, List, [], ◌∷◌, ◌++◌, refl, sym, ap, subst}
 use Rattle.std.proofs.lemmas.List.{append-nil}
-use Rattle.dep_types.specs.Conditions.{Condition, HasCleanDisk}
+use Rattle.dep_types.specs.Conditions.{Condition}
 use Rattle.dep_types.specs.declared.store_fault.StoreFault.{StoreFault}
 use Rattle.dep_types.specs.declared.store_fault.StoreFault.TheVariants.{Store, Memory}
 use Rattle.dep_message.specs.Stream.{Item, Fault, Continue, Request}
-use Rattle.dep_server.specs.Machine.{SendsUpTo, all, cut, want_of_memory, store_fault}
+use Rattle.dep_server.specs.Machine.{SendsUpTo, all, cut}
 use Rattle.dep_server.specs.Sending.{IsSentUpTo, Outside, Passes, reply_to}
-use Rattle.dep_server.specs.Serving.{IsFixedSent, IsAnsweredShut, OnlyContinues, answer_after}
-use Rattle.dep_server.specs.Shut.{LeavesNoMore, IfShut, continues, IsFixed, EndsFixed, gives_up, cuts_continue, SendsFixed}
+use Rattle.dep_server.specs.Serving.{IsAnsweredShut, OnlyContinues, answer_after}
+use Rattle.dep_server.specs.Shut.{LeavesNoMore, IfShut, IsFixed, EndsFixed, gives_up, cuts_continue, SendsFixed}
 use Rattle.dep_server.specs.Standing.{IsClean, store_of}
 use Rattle.dep_server.specs.Turns.{Turn}
 use Rattle.dep_server.specs.Conversation.{AreFixed, Talks, silent, turn}

@@ -19,7 +19,7 @@ use Rattle.dep_server.proofs.SendingLemmas.{appends_none, appends_both}
 use Rattle.dep_server.proofs.HubLemmas.{keeps_same, stopped_run}
 use Rattle.dep_server.proofs.ShutLemmas.{conversation_shut}
 use Rattle.dep_server.specs.Turns.{Turn, pieces_of, replies_of, record_of, records_of, EndsAs, last_answer, IsPiece, ArePieces, most_reads, reads_made, reads_after, with_opened, with_closed, Exchanges, none_yet, one_more, LeftByExchanges, IsEndedBy}
-use Rattle.dep_server.specs.Conversation.{Wire, Session, session, Transfers, Rests, GivesNothing, Clocks, Converses, IsAnswered, IsUnserved, ConversesOver, next_after, AddsAll, StopsAll, Talk, OneTurn, NoTurn, TurnsTo, TalksUntil, Talks, silent, turn}
+use Rattle.dep_server.specs.Conversation.{Wire, Session, session, Transfers, GivesNothing, Clocks, Converses, IsAnswered, IsUnserved, ConversesOver, next_after, AddsAll, StopsAll, Talk, OneTurn, NoTurn, TurnsTo, TalksUntil, Talks, silent, turn}
 use Rattle.dep_server.specs.declared.connection.Served.{Served}
 use Rattle.dep_server.specs.declared.connection.Served.TheVariants.{Ended, Closed, Unserved, ReadFault, WriteFault, Bound}
 

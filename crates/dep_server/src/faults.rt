@@ -10,7 +10,7 @@ use std::fmt;
 pub enum HubFault {
     /// The configuration breaks a rule of its check.
     Config,
-    /// There was no memory for the check, or for the service document.
+    /// There was no memory for the check, for the service document, or for the routes.
     Memory,
 }
 

@@ -11,7 +11,7 @@ use crate::arrived::Arrived;
 use crate::connections::{ConnId, Connection, index_among};
 use crate::faults::{ConnectFault, HubFault};
 use crate::serving::{Piece, serve};
-use dep_answers::Service;
+use crate::site::Site;
 use dep_message::Intake;
 use dep_moment::Moment;
 use dep_types::{Config, ConfigFault, Outlet};
@@ -20,7 +20,7 @@ use std::alloc::Global;
 /// All connections, and the one store that they share.
 #[derive(Drop)]
 pub struct Hub<A> {
-    config: Service,
+    config: Site,
     store: A,
     connections: Vec<Connection>,
     next: u64,
@@ -61,7 +61,7 @@ impl<A: Archive> Hub<A> {
                 return Err((HubFault::Config, store));
             }
         }
-        let Ok(config) = Service::new(alloc, config) else {
+        let Ok(config) = Site::new(alloc, config) else {
             return Err((HubFault::Memory, store));
         };
         Ok(Hub {

@@ -9,6 +9,7 @@ mod faults;
 mod hub;
 mod sending;
 mod serving;
+mod site;
 mod step;
 
 pub use archive::Archive;

@@ -10,8 +10,8 @@ ghost use Rattle.dep_server.specs.Serving.{ServesOver, IsDeadIfShut, arrival_of,
 use crate::archive::Archive;
 use crate::arrived::Arrived;
 use crate::sending::{Answered, send_want_of_memory};
+use crate::site::Site;
 use crate::step::{StreamRefusal, answer_continue, answer_fault, answer_message};
-use dep_answers::Service;
 use dep_message::{Intake, Step, closes};
 use dep_moment::Moment;
 use dep_types::Outlet;
@@ -26,13 +26,13 @@ pub(crate) struct Piece<'a> {
 
 /// Takes the piece, and answers each item that is complete with it.
 pub(crate) fn serve<A: Archive, O: Outlet>(
-    service: &Service,
+    site: &Site,
     store: &mut A,
     intake: &mut Intake,
     piece: &Piece<'_>,
     out: &mut O,
 ) -> Arrived
-    ensures served { ServesOver service.now
+    ensures served { ServesOver site.now
         (arrival_of intake.old piece.now.bytes.now piece.now.moment)
         (outside (O.taken out.old) (O.failures out.old) (A.condition store.old))
         (outside (O.taken out.new) (O.failures out.new)
@@ -51,7 +51,7 @@ pub(crate) fn serve<A: Archive, O: Outlet>(
             Ok(Step::Dead) => return Arrived::Closed,
             Ok(Step::Refused(refusal, is_bare)) => {
                 let fault = StreamRefusal { refusal, is_bare };
-                let answer = answer_fault(service, store, fault, piece.moment, out);
+                let answer = answer_fault(site, store, fault, piece.moment, out);
                 return end(intake, answer);
             }
             Ok(Step::Continue100) => match answer_continue(store, out) {
@@ -60,7 +60,7 @@ pub(crate) fn serve<A: Archive, O: Outlet>(
             },
             Ok(Step::Message(message)) => {
                 let is_last = closes(&message.head);
-                match answer_message(service, store, message, piece.moment, out) {
+                match answer_message(site, store, message, piece.moment, out) {
                     Answered::Sent => {
                         if is_last {
                             return end(intake, Answered::Sent);

@@ -16,13 +16,14 @@ ghost use Rattle.dep_server.specs.Serving.{Answers};
 
 use crate::archive::Archive;
 use crate::sending::{Answered, send, send_fault, send_performed};
+use crate::site::Site;
 use dep_answers::{Delivery, Performed, Service, refused};
 use dep_decisions::Operation;
 use dep_fields::SwordFields;
 use dep_head::Head;
 use dep_message::{Message, closes, is_without_body};
 use dep_moment::Moment;
-use dep_router::{Routed, Routes};
+use dep_router::Routed;
 use dep_tags::IfMatch;
 use dep_types::{Octets, Outlet, Refusal, StoreFault, Target};
 use std::alloc::{AllocError, Global};
@@ -36,19 +37,19 @@ pub(crate) struct StreamRefusal {
 
 /// Steps a whole message: the clock goes on, and then the message is answered.
 pub(crate) fn answer_message<A: Archive, O: Outlet>(
-    service: &Service,
+    site: &Site,
     store: &mut A,
     message: Message,
     moment: Moment,
     out: &mut O,
 ) -> Answered
-    ensures { Answers service.now
+    ensures { Answers site.now
         (outside (O.taken out.old) (O.failures out.old) (A.condition store.old))
         (outside (O.taken out.new) (O.failures out.new) (A.condition store.new))
         (Request message) moment result }
 {
-    match store.tick(service.config(), moment) {
-        Ok(clock) => match perform(service, store, message, clock) {
+    match store.tick(site.config(), moment) {
+        Ok(clock) => match perform(site, store, message, clock) {
             Ok(performed) => {
                 let answered = send_performed(store, &performed, out);
                 drop(performed);
@@ -75,25 +76,25 @@ pub(crate) fn answer_continue<A: Archive, O: Outlet>(store: &A, out: &mut O) -> 
 
 /// Steps a fault of a stream: the clock goes on, and the connection is closed after the reply.
 pub(crate) fn answer_fault<A: Archive, O: Outlet>(
-    service: &Service,
+    site: &Site,
     store: &mut A,
     fault: StreamRefusal,
     moment: Moment,
     out: &mut O,
 ) -> Answered
-    ensures { Answers service.now
+    ensures { Answers site.now
         (outside (O.taken out.old) (O.failures out.old) (A.condition store.old))
         (outside (O.taken out.new) (O.failures out.new) (A.condition store.new))
         (Fault fault.refusal fault.is_bare) moment result }
 {
-    match store.tick(service.config(), moment) {
+    match store.tick(site.config(), moment) {
         Ok(clock) => {
             let delivery = Delivery {
                 clock,
                 is_bare: fault.is_bare,
                 closes: true,
             };
-            match refused(service.alloc(), fault.refusal, None, delivery) {
+            match refused(site.alloc(), fault.refusal, None, delivery) {
                 Ok(performed) => {
                     let answered = send_performed(store, &performed, out);
                     drop(performed);
@@ -108,7 +109,7 @@ pub(crate) fn answer_fault<A: Archive, O: Outlet>(
 
 // What a message comes to, once the clock has gone on and is this one.
 fn perform<A: Archive>(
-    service: &Service,
+    site: &Site,
     store: &mut A,
     message: Message,
     clock: Moment,
@@ -117,7 +118,7 @@ fn perform<A: Archive>(
         → StandsFor (A.condition store.old) s
         → clock ≡ s.clock
         → IfOk result (λ p. Performs
-        (routed_step service.now s message (target message.head.method message.head.path))
+        (routed_step site.now s message (target message.head.method message.head.path))
         (A.condition store.new) p) }
     ensures err { IsTrue (A.condition store.new).is_open → (s : State)
         → StandsFor (A.condition store.old) s
@@ -129,18 +130,18 @@ fn perform<A: Archive>(
     ensures stop { HasCleanDisk (A.condition store.new) → (s : State)
         → StandsFor (A.condition store.old) s
         → Leaves (A.condition store.new) (λ found. (found ≡ s) ⊎ (found ≡
-        (routed_step service.now s message (target message.head.method message.head.path)).state)) }
+        (routed_step site.now s message (target message.head.method message.head.path)).state)) }
 {
     let delivery = Delivery {
         clock,
         is_bare: is_without_body(&message.head),
         closes: closes(&message.head),
     };
-    let alloc = service.alloc();
+    let alloc = site.alloc();
     let mut message = message;
     let path = message.head.take_path();
-    match Routes.route(message.head.method(), path) {
-        Routed::To(target) => operate(service, store, message, target),
+    match site.route(message.head.method(), path) {
+        Routed::To(target) => operate(site.service(), store, message, target),
         Routed::NotFound => {
             drop(message);
             refuse(alloc, Refusal::NotFound, None, delivery)

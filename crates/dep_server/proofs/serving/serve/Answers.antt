@@ -16,7 +16,7 @@ loop-intake-init g c =
     let at = (outside (g.O.Outlet.taken c.args.out.now) (g.O.Outlet.failures c.args.out.now) (g.A.Archive.condition c.args.store.now)) in
     let e = c.in_default.ensures.ok in
     record {
-      served = subst (λ (r : Reading). Progress c.args.service.now (arrival_of c.args.intake.now c.args.piece.now.bytes.now c.args.piece.now.moment) at at r.place) (sym e) (served_none c.args.service.now (arrival_of c.args.intake.now c.args.piece.now.bytes.now c.args.piece.now.moment) at);
+      served = subst (λ (r : Reading). Progress c.args.site.now (arrival_of c.args.intake.now c.args.piece.now.bytes.now c.args.piece.now.moment) at at r.place) (sym e) (served_none c.args.site.now (arrival_of c.args.intake.now c.args.piece.now.bytes.now c.args.piece.now.moment) at);
       limit = ap (λ (r : Reading). r.limit) e;
       dead = λ dead. subst IsDeadIfShut (sym e) (fed_dead c.args.intake.now c.args.piece.now.bytes.now dead);
     }
@@ -24,35 +24,35 @@ loop-intake-init g c =
 pub returns-in-Err-clause-served : goal.returns-in-Err-clause-served
 returns-in-Err-clause-served g c =
     let at = (outside (g.O.Outlet.taken c.args.out.now) (g.O.Outlet.failures c.args.out.now) (g.A.Archive.condition c.args.store.now)) in
-    serves_gives_up c.args.service.now (arrival_of c.args.intake.now c.args.piece.now.bytes.now c.args.piece.now.moment) at at (place_with c.args.intake.now.place c.args.piece.now.bytes.now) (served_none c.args.service.now (arrival_of c.args.intake.now c.args.piece.now.bytes.now c.args.piece.now.moment) at)
+    serves_gives_up c.args.site.now (arrival_of c.args.intake.now c.args.piece.now.bytes.now c.args.piece.now.moment) at at (place_with c.args.intake.now.place c.args.piece.now.bytes.now) (served_none c.args.site.now (arrival_of c.args.intake.now c.args.piece.now.bytes.now c.args.piece.now.moment) at)
     (g.O.Outlet.taken c.give_up.new.out) (g.O.Outlet.failures c.give_up.new.out) (g.met.A.Archive.settled c.args.store.now)
     c.give_up.result c.in-Err.ensures.err.1 c.give_up.ensures.sent c.give_up.ensures.cause c.give_up.new.intake.place (ap (λ (r : Reading). r.place) c.give_up.ensures.shut)
 
 pub returns-in-Err-next-clause-served : goal.returns-in-Err-next-clause-served
 returns-in-Err-next-clause-served g c =
-    serves_gives_up c.args.service.now (arrival_of c.args.intake.now c.args.piece.now.bytes.now c.args.piece.now.moment) (outside (g.O.Outlet.taken c.args.out.now) (g.O.Outlet.failures c.args.out.now) (g.A.Archive.condition c.args.store.now)) (outside (g.O.Outlet.taken c.loop-intake.out) (g.O.Outlet.failures c.loop-intake.out) (g.A.Archive.condition c.loop-intake.store)) c.loop-intake.intake.place c.loop-intake.invariant.served
+    serves_gives_up c.args.site.now (arrival_of c.args.intake.now c.args.piece.now.bytes.now c.args.piece.now.moment) (outside (g.O.Outlet.taken c.args.out.now) (g.O.Outlet.failures c.args.out.now) (g.A.Archive.condition c.args.store.now)) (outside (g.O.Outlet.taken c.loop-intake.out) (g.O.Outlet.failures c.loop-intake.out) (g.A.Archive.condition c.loop-intake.store)) c.loop-intake.intake.place c.loop-intake.invariant.served
     (g.O.Outlet.taken c.give_up-in-Err-next.new.out) (g.O.Outlet.failures c.give_up-in-Err-next.new.out) (g.met.A.Archive.settled c.loop-intake.store)
     c.give_up-in-Err-next.result c.in-Err-next.ensures.1 c.give_up-in-Err-next.ensures.sent c.give_up-in-Err-next.ensures.cause c.give_up-in-Err-next.new.intake.place (ap (λ (r : Reading). r.place) c.give_up-in-Err-next.ensures.shut)
 
 pub returns-in-Ok-NeedMore-clause-served : goal.returns-in-Ok-NeedMore-clause-served
 returns-in-Ok-NeedMore-clause-served g c =
     let h = rw c.in-Ok-NeedMore.field-0-is at c.in-Ok-NeedMore.ensures in
-    serves_waiting c.args.service.now (arrival_of c.args.intake.now c.args.piece.now.bytes.now c.args.piece.now.moment) (outside (g.O.Outlet.taken c.args.out.now) (g.O.Outlet.failures c.args.out.now) (g.A.Archive.condition c.args.store.now)) (outside (g.O.Outlet.taken c.loop-intake.out) (g.O.Outlet.failures c.loop-intake.out) (g.A.Archive.condition c.loop-intake.store)) c.loop-intake.intake.place c.loop-intake.invariant.served (g.met.A.Archive.settled c.loop-intake.store)
+    serves_waiting c.args.site.now (arrival_of c.args.intake.now c.args.piece.now.bytes.now c.args.piece.now.moment) (outside (g.O.Outlet.taken c.args.out.now) (g.O.Outlet.failures c.args.out.now) (g.A.Archive.condition c.args.store.now)) (outside (g.O.Outlet.taken c.loop-intake.out) (g.O.Outlet.failures c.loop-intake.out) (g.A.Archive.condition c.loop-intake.store)) c.loop-intake.intake.place c.loop-intake.invariant.served (g.met.A.Archive.settled c.loop-intake.store)
     c.next.new.self.place (ap (λ (r : Reading). r.place) h.0) StaysOpen (λ dead. answer_open c.loop-intake.intake (c.loop-intake.invariant.dead dead) h.2) (λ e. cc) waits
     (λ same. subst (λ n. Waits n c.loop-intake.intake.place) (c.loop-intake.invariant.limit ∙ same) h.1)
 
 pub returns-in-Ok-Dead-clause-served : goal.returns-in-Ok-Dead-clause-served
 returns-in-Ok-Dead-clause-served g c =
     let h = rw c.in-Ok-Dead.field-0-is at c.in-Ok-Dead.ensures in
-    serves_waiting c.args.service.now (arrival_of c.args.intake.now c.args.piece.now.bytes.now c.args.piece.now.moment) (outside (g.O.Outlet.taken c.args.out.now) (g.O.Outlet.failures c.args.out.now) (g.A.Archive.condition c.args.store.now)) (outside (g.O.Outlet.taken c.loop-intake.out) (g.O.Outlet.failures c.loop-intake.out) (g.A.Archive.condition c.loop-intake.store)) c.loop-intake.intake.place c.loop-intake.invariant.served (g.met.A.Archive.settled c.loop-intake.store)
+    serves_waiting c.args.site.now (arrival_of c.args.intake.now c.args.piece.now.bytes.now c.args.piece.now.moment) (outside (g.O.Outlet.taken c.args.out.now) (g.O.Outlet.failures c.args.out.now) (g.A.Archive.condition c.args.store.now)) (outside (g.O.Outlet.taken c.loop-intake.out) (g.O.Outlet.failures c.loop-intake.out) (g.A.Archive.condition c.loop-intake.store)) c.loop-intake.intake.place c.loop-intake.invariant.served (g.met.A.Archive.settled c.loop-intake.store)
     c.next.new.self.place (ap (λ (r : Reading). r.place) h.0) Closed (λ dead. ap answer_at_place (sym h.1)) (λ e. cc) has_ended
-    (λ same. subst (λ q. Waits c.args.service.now.max_upload q) (sym h.1) tt)
+    (λ same. subst (λ q. Waits c.args.site.now.max_upload q) (sym h.1) tt)
 
 pub returns-in-Ok-Refused-clause-served : goal.returns-in-Ok-Refused-clause-served
 returns-in-Ok-Refused-clause-served g c =
     let h = rw c.in-Ok-Refused.field-0-is at c.in-Ok-Refused.ensures in
     let item : Item = Fault c.in-Ok-Refused.refusal c.in-Ok-Refused.is_bare in
-    serves_last c.args.service.now (arrival_of c.args.intake.now c.args.piece.now.bytes.now c.args.piece.now.moment) (outside (g.O.Outlet.taken c.args.out.now) (g.O.Outlet.failures c.args.out.now) (g.A.Archive.condition c.args.store.now)) (outside (g.O.Outlet.taken c.loop-intake.out) (g.O.Outlet.failures c.loop-intake.out) (g.A.Archive.condition c.loop-intake.store)) (outside (g.O.Outlet.taken c.answer_fault-answer.new.out) (g.O.Outlet.failures c.answer_fault-answer.new.out) (g.A.Archive.condition c.answer_fault-answer.new.store)) c.loop-intake.intake.place c.next.new.self.place c.loop-intake.invariant.served (g.met.A.Archive.settled c.answer_fault-answer.new.store)
+    serves_last c.args.site.now (arrival_of c.args.intake.now c.args.piece.now.bytes.now c.args.piece.now.moment) (outside (g.O.Outlet.taken c.args.out.now) (g.O.Outlet.failures c.args.out.now) (g.A.Archive.condition c.args.store.now)) (outside (g.O.Outlet.taken c.loop-intake.out) (g.O.Outlet.failures c.loop-intake.out) (g.A.Archive.condition c.loop-intake.store)) (outside (g.O.Outlet.taken c.answer_fault-answer.new.out) (g.O.Outlet.failures c.answer_fault-answer.new.out) (g.A.Archive.condition c.answer_fault-answer.new.store)) c.loop-intake.intake.place c.next.new.self.place c.loop-intake.invariant.served (g.met.A.Archive.settled c.answer_fault-answer.new.store)
     item c.answer_fault-answer.result (first_at _ _ _ _ item c.loop-intake.invariant.limit h.first) (λ _. fault_shuts _ _ _ _ _ h.first) c.answer_fault-answer.ensures
     c.end.new.intake.place (ap (λ (r : Reading). r.place) c.end.ensures.shut) c.end.result c.end.ensures.answer
 
@@ -60,7 +60,7 @@ pub loop-intake-preserved-in-Sent : goal.loop-intake-preserved-in-Sent
 loop-intake-preserved-in-Sent g c =
     let h = rw c.in-Ok-Continue100.field-0-is at c.in-Ok-Continue100.ensures in
     record {
-      served = served_more Continue c.loop-intake.invariant.served (first_at _ _ _ _ Continue c.loop-intake.invariant.limit h.first) (c.in-Sent.ensures c.args.service.now c.args.piece.now.moment);
+      served = served_more Continue c.loop-intake.invariant.served (first_at _ _ _ _ Continue c.loop-intake.invariant.limit h.first) (c.in-Sent.ensures c.args.site.now c.args.piece.now.moment);
       limit = h.limit ∙ c.loop-intake.invariant.limit;
       dead = λ dead shut. absurd (continue_goes_on _ _ _ h.first shut);
     }
@@ -69,9 +69,9 @@ pub returns-in_default-answer_continue : goal.returns-in_default-answer_continue
 returns-in_default-answer_continue g c =
     let h = rw c.in-Ok-Continue100.field-0-is at c.in-Ok-Continue100.ensures in
     record {
-      served = serves_last c.args.service.now (arrival_of c.args.intake.now c.args.piece.now.bytes.now c.args.piece.now.moment) (outside (g.O.Outlet.taken c.args.out.now) (g.O.Outlet.failures c.args.out.now) (g.A.Archive.condition c.args.store.now)) (outside (g.O.Outlet.taken c.loop-intake.out) (g.O.Outlet.failures c.loop-intake.out) (g.A.Archive.condition c.loop-intake.store)) (outside (g.O.Outlet.taken c.answer_continue.new.out) (g.O.Outlet.failures c.answer_continue.new.out) (g.A.Archive.condition c.loop-intake.store)) c.loop-intake.intake.place c.next.new.self.place c.loop-intake.invariant.served (g.met.A.Archive.settled c.loop-intake.store)
+      served = serves_last c.args.site.now (arrival_of c.args.intake.now c.args.piece.now.bytes.now c.args.piece.now.moment) (outside (g.O.Outlet.taken c.args.out.now) (g.O.Outlet.failures c.args.out.now) (g.A.Archive.condition c.args.store.now)) (outside (g.O.Outlet.taken c.loop-intake.out) (g.O.Outlet.failures c.loop-intake.out) (g.A.Archive.condition c.loop-intake.store)) (outside (g.O.Outlet.taken c.answer_continue.new.out) (g.O.Outlet.failures c.answer_continue.new.out) (g.A.Archive.condition c.loop-intake.store)) c.loop-intake.intake.place c.next.new.self.place c.loop-intake.invariant.served (g.met.A.Archive.settled c.loop-intake.store)
           Continue c.answer_continue.result (first_at _ _ _ _ Continue c.loop-intake.invariant.limit h.first) (λ sent. absurd (c.in_default-answer_continue.not-Sent sent))
-          (c.answer_continue.ensures c.args.service.now c.args.piece.now.moment)
+          (c.answer_continue.ensures c.args.site.now c.args.piece.now.moment)
           c.end-in_default-answer_continue.new.intake.place (ap (λ (r : Reading). r.place) c.end-in_default-answer_continue.ensures.shut) c.end-in_default-answer_continue.result c.end-in_default-answer_continue.ensures.answer;
       limit = ap (λ (r : Reading). r.limit) c.end-in_default-answer_continue.ensures.shut ∙ (h.limit ∙ c.loop-intake.invariant.limit);
       dead = λ dead. subst IsDeadIfShut (sym c.end-in_default-answer_continue.ensures.shut) (λ _. refl);
@@ -95,7 +95,7 @@ returns-then-is_last g c =
     let item : Item = Request c.in-Ok-Message.message in
     let ends : closes c.in-Ok-Message.message.head ≡ true = sym c.closes-is_last.ensures ∙ c.if-is_last.true in
     record {
-      served = serves_last c.args.service.now (arrival_of c.args.intake.now c.args.piece.now.bytes.now c.args.piece.now.moment) (outside (g.O.Outlet.taken c.args.out.now) (g.O.Outlet.failures c.args.out.now) (g.A.Archive.condition c.args.store.now)) (outside (g.O.Outlet.taken c.loop-intake.out) (g.O.Outlet.failures c.loop-intake.out) (g.A.Archive.condition c.loop-intake.store)) (outside (g.O.Outlet.taken c.answer_message.new.out) (g.O.Outlet.failures c.answer_message.new.out) (g.A.Archive.condition c.answer_message.new.store)) c.loop-intake.intake.place c.next.new.self.place c.loop-intake.invariant.served (g.met.A.Archive.settled c.answer_message.new.store)
+      served = serves_last c.args.site.now (arrival_of c.args.intake.now c.args.piece.now.bytes.now c.args.piece.now.moment) (outside (g.O.Outlet.taken c.args.out.now) (g.O.Outlet.failures c.args.out.now) (g.A.Archive.condition c.args.store.now)) (outside (g.O.Outlet.taken c.loop-intake.out) (g.O.Outlet.failures c.loop-intake.out) (g.A.Archive.condition c.loop-intake.store)) (outside (g.O.Outlet.taken c.answer_message.new.out) (g.O.Outlet.failures c.answer_message.new.out) (g.A.Archive.condition c.answer_message.new.store)) c.loop-intake.intake.place c.next.new.self.place c.loop-intake.invariant.served (g.met.A.Archive.settled c.answer_message.new.store)
           item Sent (first_at _ _ _ _ item c.loop-intake.invariant.limit h.first) (λ sent. request_shuts _ _ _ c.in-Ok-Message.message ends h.first) c.in-Sent-answer_message.ensures
           c.end-then-is_last.new.intake.place (ap (λ (r : Reading). r.place) c.end-then-is_last.ensures.shut) c.end-then-is_last.result c.end-then-is_last.ensures.answer;
       limit = ap (λ (r : Reading). r.limit) c.end-then-is_last.ensures.shut ∙ (h.limit ∙ c.loop-intake.invariant.limit);
@@ -108,7 +108,7 @@ returns-in_default-answer_message g c =
     let h = rw c.in-Ok-Message.field-0-is at c.in-Ok-Message.ensures in
     let item : Item = Request c.in-Ok-Message.message in
     record {
-      served = serves_last c.args.service.now (arrival_of c.args.intake.now c.args.piece.now.bytes.now c.args.piece.now.moment) (outside (g.O.Outlet.taken c.args.out.now) (g.O.Outlet.failures c.args.out.now) (g.A.Archive.condition c.args.store.now)) (outside (g.O.Outlet.taken c.loop-intake.out) (g.O.Outlet.failures c.loop-intake.out) (g.A.Archive.condition c.loop-intake.store)) (outside (g.O.Outlet.taken c.answer_message.new.out) (g.O.Outlet.failures c.answer_message.new.out) (g.A.Archive.condition c.answer_message.new.store)) c.loop-intake.intake.place c.next.new.self.place c.loop-intake.invariant.served (g.met.A.Archive.settled c.answer_message.new.store)
+      served = serves_last c.args.site.now (arrival_of c.args.intake.now c.args.piece.now.bytes.now c.args.piece.now.moment) (outside (g.O.Outlet.taken c.args.out.now) (g.O.Outlet.failures c.args.out.now) (g.A.Archive.condition c.args.store.now)) (outside (g.O.Outlet.taken c.loop-intake.out) (g.O.Outlet.failures c.loop-intake.out) (g.A.Archive.condition c.loop-intake.store)) (outside (g.O.Outlet.taken c.answer_message.new.out) (g.O.Outlet.failures c.answer_message.new.out) (g.A.Archive.condition c.answer_message.new.store)) c.loop-intake.intake.place c.next.new.self.place c.loop-intake.invariant.served (g.met.A.Archive.settled c.answer_message.new.store)
           item c.answer_message.result (first_at _ _ _ _ item c.loop-intake.invariant.limit h.first) (λ sent. absurd (c.in_default-answer_message.not-Sent sent)) c.answer_message.ensures
           c.end-in_default-answer_message.new.intake.place (ap (λ (r : Reading). r.place) c.end-in_default-answer_message.ensures.shut) c.end-in_default-answer_message.result c.end-in_default-answer_message.ensures.answer;
       limit = ap (λ (r : Reading). r.limit) c.end-in_default-answer_message.ensures.shut ∙ (h.limit ∙ c.loop-intake.invariant.limit);

@@ -7,7 +7,7 @@ use Rattle.dep_server.proofs.serving.serve.Given as goal
 -- what was read so far was answered
 abbrev pub invariant-loop-intake : goal.invariant-loop-intake
 invariant-loop-intake g l = record {
-  served : Progress l.service (arrival_of l.fn.intake l.piece.bytes.now l.piece.moment)
+  served : Progress l.site (arrival_of l.fn.intake l.piece.bytes.now l.piece.moment)
       (outside (g.O.Outlet.taken l.fn.out) (g.O.Outlet.failures l.fn.out) (g.A.Archive.condition l.fn.store))
       (outside (g.O.Outlet.taken l.out) (g.O.Outlet.failures l.out) (g.A.Archive.condition l.store)) l.intake.place;
   limit : l.intake.limit ≡ l.fn.intake.limit;

@@ -13,7 +13,7 @@ use Rattle.dep_server.proofs.step.answer_fault.Goals as goal
 pub returns-in-Ok-refused : goal.returns-in-Ok-refused
 unfolding step
 returns-in-Ok-refused g c =
-    let config = c.args.service.now in
+    let config = c.args.site.now in
     let delivery : Delivery = record { clock = c.in-Ok.clock; is_bare = c.args.fault.is_bare; closes = true } in
     let x = c.send_performed-answered.ensures in
     record {
@@ -36,7 +36,7 @@ returns-in-Ok-refused g c =
 pub returns-in-Err-refused : goal.returns-in-Err-refused
 unfolding step
 returns-in-Err-refused g c =
-    let config = c.args.service.now in
+    let config = c.args.site.now in
     let new = g.A.Archive.condition c.tick.new.self in
     answers_fixed config (outside (g.O.Outlet.taken c.args.out.now) (g.O.Outlet.failures c.args.out.now) (g.A.Archive.condition c.args.store.now)) (outside (g.O.Outlet.taken c.send_fault.new.out) (g.O.Outlet.failures c.send_fault.new.out) (g.A.Archive.condition c.tick.new.self)) (Fault c.args.fault.refusal c.args.fault.is_bare) c.args.moment Memory
     c.tick.ensures.honest c.tick.ensures.open
@@ -55,7 +55,7 @@ pub returns-in-Err : goal.returns-in-Err
 unfolding step
 returns-in-Err g c =
     let new = g.A.Archive.condition c.tick.new.self in
-    answers_fixed c.args.service.now (outside (g.O.Outlet.taken c.args.out.now) (g.O.Outlet.failures c.args.out.now) (g.A.Archive.condition c.args.store.now)) (outside (g.O.Outlet.taken c.send_fault-in-Err.new.out) (g.O.Outlet.failures c.send_fault-in-Err.new.out) (g.A.Archive.condition c.tick.new.self)) (Fault c.args.fault.refusal c.args.fault.is_bare) c.args.moment c.in-Err.store_fault
+    answers_fixed c.args.site.now (outside (g.O.Outlet.taken c.args.out.now) (g.O.Outlet.failures c.args.out.now) (g.A.Archive.condition c.args.store.now)) (outside (g.O.Outlet.taken c.send_fault-in-Err.new.out) (g.O.Outlet.failures c.send_fault-in-Err.new.out) (g.A.Archive.condition c.tick.new.self)) (Fault c.args.fault.refusal c.args.fault.is_bare) c.args.moment c.in-Err.store_fault
     c.tick.ensures.honest c.tick.ensures.open
     (λ disk s stands. record {
       left = s;

@@ -11,7 +11,7 @@ use Rattle.dep_server.proofs.step.answer_message.Goals as goal
 pub returns-in-Ok-perform : goal.returns-in-Ok-perform
 unfolding step
 returns-in-Ok-perform g c =
-    let config = c.args.service.now in
+    let config = c.args.site.now in
     let m : Message = c.args.message in
     let x = c.send_performed-answered.ensures in
     record {
@@ -33,7 +33,7 @@ returns-in-Ok-perform g c =
 pub returns-in-Err-perform : goal.returns-in-Err-perform
 unfolding step
 returns-in-Err-perform g c =
-    let config = c.args.service.now in
+    let config = c.args.site.now in
     let m : Message = c.args.message in
     let new = g.A.Archive.condition c.perform.new.store in
     answers_fixed config (outside (g.O.Outlet.taken c.args.out.now) (g.O.Outlet.failures c.args.out.now) (g.A.Archive.condition c.args.store.now)) (outside (g.O.Outlet.taken c.send_fault.new.out) (g.O.Outlet.failures c.send_fault.new.out) (g.A.Archive.condition c.perform.new.store)) (Request m) c.args.moment c.in-Err-perform.fault
@@ -52,7 +52,7 @@ pub returns-in-Err : goal.returns-in-Err
 unfolding step
 returns-in-Err g c =
     let new = g.A.Archive.condition c.tick.new.self in
-    answers_fixed c.args.service.now (outside (g.O.Outlet.taken c.args.out.now) (g.O.Outlet.failures c.args.out.now) (g.A.Archive.condition c.args.store.now)) (outside (g.O.Outlet.taken c.send_fault-in-Err.new.out) (g.O.Outlet.failures c.send_fault-in-Err.new.out) (g.A.Archive.condition c.tick.new.self)) (Request c.args.message) c.args.moment c.in-Err.fault
+    answers_fixed c.args.site.now (outside (g.O.Outlet.taken c.args.out.now) (g.O.Outlet.failures c.args.out.now) (g.A.Archive.condition c.args.store.now)) (outside (g.O.Outlet.taken c.send_fault-in-Err.new.out) (g.O.Outlet.failures c.send_fault-in-Err.new.out) (g.A.Archive.condition c.tick.new.self)) (Request c.args.message) c.args.moment c.in-Err.fault
     c.tick.ensures.honest c.tick.ensures.open
     (λ disk s stands. record {
       left = s;

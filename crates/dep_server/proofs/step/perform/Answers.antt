@@ -1,5 +1,6 @@
 use Rattle.std.proofs.Common.{◌∙◌}
 use Rattle.std.proofs.lemmas.Result.{IfOk-weaker}
+use Rattle.std.specs.String.{string_bytes}
 use Rattle.dep_router.specs.declared.routed.Routed.TheVariants.{NotAllowed}
 use Rattle.dep_answers.specs.declared.performed.Delivery.{Delivery}
 use Rattle.dep_server.proofs.Leaving.{stays_as}
@@ -11,23 +12,23 @@ returns-in-To-clause-ok g c disk s stands clock =
     let same = same_operation c.args.message c.take_path-path.new.self c.in-To.target c.take_path-path.ensures.rest in
     let after = g.A.Archive.condition c.operate.new.store in
     IfOk-weaker c.operate.result _ _
-    (λ p h. performs_operation c.args.service.now c.args.message c.in-To.target (c.in-To.ensures ∙ asked_same c.args.message.head c.take_path-path.new.self c.method.result.now c.take_path-path.result.items c.method.ensures c.take_path-path.ensures.rest c.take_path-path.ensures.path) after s p
-    (performs_same c.args.service.now s _ _ after p same h))
-    (c.operate.ensures.ok disk s stands)
+    (λ p h. performs_operation c.args.site.now c.args.message c.in-To.target (c.in-To.ensures ∙ asked_same c.args.message.head c.take_path-path.new.self c.method.result.now (string_bytes c.take_path-path.result) c.method.ensures c.take_path-path.ensures.rest c.take_path-path.ensures.path) after s p
+    (performs_same c.args.site.now s _ _ after p same h))
+    ((rw c.service.ensures at c.operate.ensures.ok) disk s stands)
 
 pub returns-in-To-clause-stop : goal.returns-in-To-clause-stop
 returns-in-To-clause-stop g c disk s stands =
     let same = same_operation c.args.message c.take_path-path.new.self c.in-To.target c.take_path-path.ensures.rest in
     let after = g.A.Archive.condition c.operate.new.store in
-    leaves_operation c.args.service.now c.args.message c.in-To.target (c.in-To.ensures ∙ asked_same c.args.message.head c.take_path-path.new.self c.method.result.now c.take_path-path.result.items c.method.ensures c.take_path-path.ensures.rest c.take_path-path.ensures.path) after s
-    (leaves_same c.args.service.now s _ _ after same (c.operate.ensures.stop disk s stands))
+    leaves_operation c.args.site.now c.args.message c.in-To.target (c.in-To.ensures ∙ asked_same c.args.message.head c.take_path-path.new.self c.method.result.now (string_bytes c.take_path-path.result) c.method.ensures c.take_path-path.ensures.rest c.take_path-path.ensures.path) after s
+    (leaves_same c.args.site.now s _ _ after same ((rw c.service.ensures at c.operate.ensures.stop) disk s stands))
 
 pub returns-in-NotFound-clause-ok : goal.returns-in-NotFound-clause-ok
 returns-in-NotFound-clause-ok g c disk s stands clock =
     let delivery : Delivery = record { clock = c.args.clock; is_bare = c.is_without_body.result; closes = c.closes.result } in
     IfOk-weaker c.refuse.result _ _
-    (λ p h. performs_none c.args.service.now c.args.message delivery p c.is_without_body.ensures c.closes.ensures (g.A.Archive.condition c.args.store.now) s stands clock
-    (c.in-NotFound.ensures ∙ asked_same c.args.message.head c.take_path-path.new.self c.method.result.now c.take_path-path.result.items c.method.ensures c.take_path-path.ensures.rest c.take_path-path.ensures.path) h)
+    (λ p h. performs_none c.args.site.now c.args.message delivery p c.is_without_body.ensures c.closes.ensures (g.A.Archive.condition c.args.store.now) s stands clock
+    (c.in-NotFound.ensures ∙ asked_same c.args.message.head c.take_path-path.new.self c.method.result.now (string_bytes c.take_path-path.result) c.method.ensures c.take_path-path.ensures.rest c.take_path-path.ensures.path) h)
     c.refuse.ensures
 
 pub returns-in-NotFound-clause-stop : goal.returns-in-NotFound-clause-stop
@@ -39,8 +40,8 @@ pub returns-in-NotAllowed-clause-ok : goal.returns-in-NotAllowed-clause-ok
 returns-in-NotAllowed-clause-ok g c disk s stands clock =
     let delivery : Delivery = record { clock = c.args.clock; is_bare = c.is_without_body.result; closes = c.closes.result } in
     IfOk-weaker c.refuse-in-NotAllowed.result _ _
-    (λ p h. performs_not_allowed c.args.service.now c.args.message delivery p c.is_without_body.ensures c.closes.ensures (g.A.Archive.condition c.args.store.now) s stands clock
-    c.as_str.result.now ((λ i. NotAllowed (c.as_str.ensures i)) ∙ c.in-NotAllowed.ensures ∙ asked_same c.args.message.head c.take_path-path.new.self c.method.result.now c.take_path-path.result.items c.method.ensures c.take_path-path.ensures.rest c.take_path-path.ensures.path) h)
+    (λ p h. performs_not_allowed c.args.site.now c.args.message delivery p c.is_without_body.ensures c.closes.ensures (g.A.Archive.condition c.args.store.now) s stands clock
+    c.as_str.result.now ((λ i. NotAllowed (c.as_str.ensures i)) ∙ c.in-NotAllowed.ensures ∙ asked_same c.args.message.head c.take_path-path.new.self c.method.result.now (string_bytes c.take_path-path.result) c.method.ensures c.take_path-path.ensures.rest c.take_path-path.ensures.path) h)
     c.refuse-in-NotAllowed.ensures
 
 pub returns-in-NotAllowed-clause-stop : goal.returns-in-NotAllowed-clause-stop

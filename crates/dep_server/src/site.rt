@@ -1,0 +1,68 @@
+//! What every request is answered from.
+ghost use Rattle.std.specs.Prelude.{◌≡◌, IfOk};
+ghost use Rattle.std.specs.String.{string_bytes};
+ghost use Rattle.dep_router.specs.Targets.{target};
+
+use dep_answers::Service;
+use dep_router::{Routed, Routes};
+use dep_types::Config;
+use std::alloc::{AllocError, Global};
+use std::marker::Model;
+
+/// The service that every request is answered from, and the routes by which it is found. Both are made once. Contracts
+/// see the configuration.
+#[derive(Drop)]
+pub(crate) struct Site {
+    service: Service,
+    routes: Routes,
+}
+
+impl Model for Site {
+    ghost use Rattle.dep_types.specs.declared.config.Config.{Config};
+
+    ghost Value = { Config };
+
+    ghost view = { λ s. s.service };
+}
+
+impl Site {
+    /// The site of a configuration.
+    pub fn new(alloc: Global, config: Config) -> Result<Site, AllocError>
+        ensures { IfOk result (λ site. site ≡ config) }
+    {
+        let service = Service::new(alloc, config)?;
+        match Routes::new(alloc) {
+            Ok(routes) => Ok(Site { service, routes }),
+            Err(AllocError) => {
+                drop(service);
+                Err(AllocError)
+            }
+        }
+    }
+
+    /// The allocator that replies grow in.
+    pub fn alloc(&self) -> Global {
+        self.service.alloc()
+    }
+
+    /// The configuration.
+    pub fn config(&self) -> &Config
+        ensures { result.now ≡ self.now }
+    {
+        self.service.config()
+    }
+
+    /// The service.
+    pub fn service(&self) -> &Service
+        ensures { result.now ≡ self.now }
+    {
+        &self.service
+    }
+
+    /// What a method and a path name. It takes no memory.
+    pub fn route(&self, method: &[u8], path: String) -> Routed
+        ensures { result ≡ target method.now (string_bytes path) }
+    {
+        self.routes.route(method, path)
+    }
+}
