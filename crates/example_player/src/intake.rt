@@ -77,7 +77,7 @@ fn tell_message(message: &Message, page: &mut Page) {
     page.tell(&[
         head.method(),
         b" ",
-        head.path(),
+        head.path().as_bytes(),
         closing.as_bytes(),
         bare.as_bytes(),
         b": ",
