@@ -6,14 +6,23 @@ use std::alloc::Global;
 
 /// An archive that an example can be played on.
 pub trait ExampleArchive: Archive + Drop {
+    /// What is left of it once it is closed.
+    type Tables: Drop;
+
     /// A new archive.
     fn made(alloc: Global) -> Result<Self, Trouble>;
 
-    /// The archive, closed and opened again.
-    fn reopened(self, alloc: Global) -> Result<Self, Trouble>;
+    /// Closes it.
+    fn closed(self) -> Self::Tables;
 
-    /// The archive, whose tables a statement has changed.
-    fn changed(self, alloc: Global, statement: &str) -> Result<Self, Trouble>;
+    /// The archive on these tables.
+    fn opened(alloc: Global, tables: Self::Tables) -> Result<Self, Trouble>;
+
+    /// The tables, on which no archive opens: that comes to the fault of this name.
+    fn unopened(alloc: Global, tables: Self::Tables, fault: &str) -> Result<Self::Tables, Trouble>;
+
+    /// The tables, which a statement has changed.
+    fn changed(tables: Self::Tables, statement: &str) -> Result<Self::Tables, Trouble>;
 
     /// Makes a call of it, and tells in a word what that came to.
     fn answers(

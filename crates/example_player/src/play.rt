@@ -29,7 +29,7 @@ const ANSWERS: [&str; 15] = [
 
 /// An example that is played, its bytes cut in one way.
 #[derive(Drop)]
-pub struct Play<A> {
+pub struct Play<A: ExampleArchive> {
     alloc: Global,
     settings: Settings,
     side: Side<A>,
@@ -115,6 +115,7 @@ impl<A: ExampleArchive> Play<A> {
             "config" => self.settings.configure(self.alloc, rest),
             "next" => self.number_next(rest),
             "sql" => self.side.change(self.alloc, rest),
+            "unopened" => self.side.fail_to_open(self.alloc, rest),
             "connection" | "close" | "crowd" => self.commands(word, rest),
             "export" | "audit" => self.calls(word, rest),
             _ => self.turns(word, rest),

@@ -10,9 +10,11 @@ use std::mem;
 
 /// What an example is played against.
 #[derive(Drop)]
-pub enum Side<A> {
+pub enum Side<A: ExampleArchive> {
     /// Nothing was played yet, and the archive is to be a new one.
     New,
+    /// The tables of an archive that is closed.
+    Closed(A::Tables),
     /// An archive that no hub has.
     Archive(A),
     Server(Server<A>),
@@ -29,7 +31,7 @@ impl<A: ExampleArchive> Side<A> {
         page: &mut Page,
     ) -> Result<&'static str, Trouble> {
         match self {
-            Side::New => Err(Trouble::Line("no hub is there")),
+            Side::New | Side::Closed(_) => Err(Trouble::Line("no hub is there")),
             Side::Archive(store) => match exchange.call {
                 Some(call) => store.answers(alloc, call, page),
                 None => Err(Trouble::Line("no hub is there")),
@@ -41,7 +43,7 @@ impl<A: ExampleArchive> Side<A> {
 
     /// Opens a hub over the archive, where none is there yet.
     pub fn open(&mut self, alloc: Global, settings: &Settings) -> Result<(), Trouble> {
-        if let Side::New | Side::Archive(_) = self {
+        if let Side::New | Side::Closed(_) | Side::Archive(_) = self {
             let store = self.take_store(alloc)?;
             self.change_to(Side::Server(Server::open(alloc, settings, store)?));
         }
@@ -70,15 +72,22 @@ impl<A: ExampleArchive> Side<A> {
 
     /// The archive is closed and opened again.
     pub fn reopen(&mut self, alloc: Global) -> Result<(), Trouble> {
-        let store = self.take_store(alloc)?;
-        self.change_to(Side::Archive(store.reopened(alloc)?));
+        let tables = self.take_tables(alloc)?;
+        self.change_to(Side::Archive(A::opened(alloc, tables)?));
         Ok(())
     }
 
-    /// A statement changes the tables of the archive, which is opened again.
+    /// A statement changes the tables of the archive, which stays closed until it is needed.
     pub fn change(&mut self, alloc: Global, statement: &str) -> Result<(), Trouble> {
-        let store = self.take_store(alloc)?;
-        self.change_to(Side::Archive(store.changed(alloc, statement)?));
+        let tables = self.take_tables(alloc)?;
+        self.change_to(Side::Closed(A::changed(tables, statement)?));
+        Ok(())
+    }
+
+    /// The archive doesn't open: that comes to the fault of this name.
+    pub fn fail_to_open(&mut self, alloc: Global, fault: &str) -> Result<(), Trouble> {
+        let tables = self.take_tables(alloc)?;
+        self.change_to(Side::Closed(A::unopened(alloc, tables, fault)?));
         Ok(())
     }
 
@@ -105,11 +114,20 @@ impl<A: ExampleArchive> Side<A> {
         }
     }
 
-    fn take_store(&mut self, alloc: Global) -> Result<A, Trouble> {
-        if let Side::New = self {
-            return A::made(alloc);
-        }
+    fn take_tables(&mut self, alloc: Global) -> Result<A::Tables, Trouble> {
         match mem::replace(self, Side::New) {
+            Side::Closed(tables) => Ok(tables),
+            other => {
+                self.change_to(other);
+                Ok(self.take_store(alloc)?.closed())
+            }
+        }
+    }
+
+    fn take_store(&mut self, alloc: Global) -> Result<A, Trouble> {
+        match mem::replace(self, Side::New) {
+            Side::New => A::made(alloc),
+            Side::Closed(tables) => A::opened(alloc, tables),
             Side::Archive(store) => Ok(store),
             Side::Server(server) => Ok(server.into_store()),
             other => {

@@ -23,19 +23,6 @@ pub struct MemoryArchive {
     store: Store<MemStore>,
 }
 
-impl MemoryArchive {
-    fn open(alloc: Global, connection: Connection<MemStore>) -> Result<MemoryArchive, Trouble> {
-        if !connection.is_autocommit() {
-            return Err(Trouble::Line("the statement left a transaction open"));
-        }
-        match Store::open(alloc, connection) {
-            Ok(store) => Ok(MemoryArchive { store }),
-            Err((OpenFault::Memory, _)) => Err(Trouble::Memory),
-            Err((_, _)) => Err(Trouble::Line("the archive can't be opened")),
-        }
-    }
-}
-
 impl Archive for MemoryArchive {
     ghost condition = { λ a. condition_of over_memory a.store };
 
@@ -61,18 +48,50 @@ impl Archive for MemoryArchive {
 }
 
 impl ExampleArchive for MemoryArchive {
+    type Tables = Connection<MemStore>;
+
     fn made(alloc: Global) -> Result<MemoryArchive, Trouble> {
-        MemoryArchive::open(alloc, Connection::open_in_memory(alloc)?)
+        MemoryArchive::opened(alloc, Connection::open_in_memory(alloc)?)
     }
 
-    fn reopened(self, alloc: Global) -> Result<MemoryArchive, Trouble> {
-        MemoryArchive::open(alloc, self.store.close())
+    fn closed(self) -> Connection<MemStore> {
+        self.store.close()
     }
 
-    fn changed(self, alloc: Global, statement: &str) -> Result<MemoryArchive, Trouble> {
-        let mut connection = self.store.close();
+    fn opened(alloc: Global, connection: Connection<MemStore>) -> Result<MemoryArchive, Trouble> {
+        match open(alloc, connection) {
+            Ok(store) => Ok(MemoryArchive { store }),
+            Err((OpenFault::Memory, _)) => Err(Trouble::Memory),
+            Err((_, _)) => Err(Trouble::Line("the archive can't be opened")),
+        }
+    }
+
+    fn unopened(
+        alloc: Global,
+        connection: Connection<MemStore>,
+        fault: &str,
+    ) -> Result<Connection<MemStore>, Trouble> {
+        match open(alloc, connection) {
+            Ok(store) => {
+                drop(store);
+                Err(Trouble::Line("the archive is opened"))
+            }
+            Err((came, connection)) => match is_fault(alloc, came, fault) {
+                Ok(()) => Ok(connection),
+                Err(why) => {
+                    drop(connection);
+                    Err(why)
+                }
+            },
+        }
+    }
+
+    fn changed(
+        mut connection: Connection<MemStore>,
+        statement: &str,
+    ) -> Result<Connection<MemStore>, Trouble> {
         match execute(&mut connection, statement) {
-            Ok(()) => MemoryArchive::open(alloc, connection),
+            Ok(()) => Ok(connection),
             Err(why) => {
                 drop(connection);
                 Err(why)
@@ -90,9 +109,37 @@ impl ExampleArchive for MemoryArchive {
     }
 }
 
+// A store on the connection. That no transaction is open was seen where the last statement was executed.
+fn open(
+    alloc: Global,
+    connection: Connection<MemStore>,
+) -> Result<Store<MemStore>, (OpenFault, Connection<MemStore>)> {
+    if connection.is_autocommit() {
+        Store::open(alloc, connection)
+    } else {
+        Err((OpenFault::Store, connection))
+    }
+}
+
+// What an opening came to has to be the fault of this name.
+fn is_fault(alloc: Global, came: OpenFault, fault: &str) -> Result<(), Trouble> {
+    let came = match came {
+        OpenFault::UnknownVersion => "unknown-version",
+        OpenFault::Store => "store-fault",
+        OpenFault::Memory => return Err(Trouble::Memory),
+    };
+    if came == fault {
+        return Ok(());
+    }
+    Err(Trouble::Other(format!(in alloc;
+        "it is written not to open by \"{fault}\", and came to \"{came}\""
+    )?))
+}
+
 fn execute(connection: &mut Connection<MemStore>, statement: &str) -> Result<(), Trouble> {
     match connection.execute(statement, &[]) {
-        Ok(_) => Ok(()),
+        Ok(_) if connection.is_autocommit() => Ok(()),
+        Ok(_) => Err(Trouble::Line("the statement left a transaction open")),
         Err(Error::SqliteFailure(ErrorCode::OutOfMemory)) => Err(Trouble::Memory),
         Err(_) => Err(Trouble::Line("the statement fails")),
     }
