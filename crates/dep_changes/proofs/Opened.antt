@@ -1,9 +1,8 @@
 -- An upload that the rules let through is opened with sizes within the limits.
-use Rattle.std.proofs.Common.{◌≡◌, ◌∙◌, ℕ, ◌<◌, ◌≤◌, ◌^◌, ◌&&◌, nat_le, nat_lt, Bool, true, false, [], ◌∷◌, Option, Some, None, option_map, option_and_then, unwrap_or, refl, sym, subst, arith, List, if◌then◌else◌}
+use Rattle.std.proofs.Common.{◌≡◌, ℕ, ◌≤◌, ◌&&◌, nat_le, nat_lt, Bool, true, false, [], ◌∷◌, Option, Some, None, option_map, option_and_then, unwrap_or, refl, sym, subst, arith, List, if◌then◌else◌}
 use Rattle.std.proofs.lemmas.Bool.Decides.{nat_tests}
 use Rattle.std.specs.Prelude.{⊤}
 use Rattle.dep_types.specs.Config.{HasLimits}
-use Rattle.dep_types.specs.Limits.{IsLimit}
 use Rattle.dep_types.specs.Maps.{first_of}
 use Rattle.dep_types.specs.State.{State}
 use Rattle.dep_types.specs.Uploads.{sizes_agree}
