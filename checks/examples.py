@@ -4,7 +4,8 @@
     checks/examples.py crates/examples/data/texts.txt crates/examples/data/deposits.txt
 
 docs/EXAMPLES.md says how a file is written. Examples whose lines need the server of this repository itself (an intake
-by itself, a reader or a writer that fails, a statement of SQL) are left out and counted. With `--lengths` in front, a
+by itself, a reader or a writer that fails, a statement of SQL) are left out and counted. Where files fail or stop, an
+example is played as if none did. With `--lengths` in front, a
 `Content-Length: ?` that has to come back is taken as the length of what stands behind it, and told.
 """
 
@@ -18,7 +19,7 @@ WORDS = ("open", "closed", "cut", "gone", "ended", "served")
 CALLED = ("done", "damaged", "no-such-object", "transfer-fault")
 BLOCK = 65_536
 LEFT_OUT = {"intake", "reader-fails", "reads", "writer-takes", "writer-fails-after", "unserved", "bound", "read-fault",
-            "write-fault", "crowd", "full", "refused", "sql", "unopened", "shut", "cut", "store-fault"}
+            "write-fault", "crowd", "full", "sql", "unopened", "shut", "cut", "store-fault"}
 NAMES = {"base": "base", "title": "title", "abstract": "abstract", "depositor": "depositor",
          "on-behalf-of": "on_behalf_of", "require-if-match": "require_if_match", "max-upload": "max_upload",
          "max-assembled": "max_assembled", "max-segments": "max_segments", "staging-max-idle": "staging_max_idle"}
@@ -92,6 +93,7 @@ class Play:
         self.config, self.archive, self.server = model.Config(), model.Archive(), None
         self.moment, self.stream, self.want, self.name = MOMENT, b"", b"", None
         self.current, self.longest, self.call = 1, 0, None
+        self.has_faults, self.looks = False, []
 
     def line(self, line):
         word, _, rest = line.partition(" ")
@@ -120,6 +122,8 @@ class Play:
 
     def open(self):
         if self.server is None:
+            if not self.config.is_accepted():
+                raise Wrong("the configuration is refused")
             self.server = model.Server(self.config, self.archive)
             self.current = self.server.connect()
 
@@ -136,6 +140,14 @@ class Play:
             self.archive.next[kind], self.server = int(value), None
         elif word in ("restart", "reopen"):
             self.server = None
+        elif word == "refused":
+            if self.config.is_accepted():
+                raise Wrong("the configuration is accepted")
+            self.server = None
+        elif word in ("fails", "stops"):
+            self.has_faults = True
+        elif word == "looks":
+            self.looks = rest.split()
         elif word == "audit":
             self.server = None
             counts = {str(key): len(item.files) for key, item in self.archive.objects.items()}
@@ -159,7 +171,9 @@ class Play:
 
     def ends(self, word):
         self.open()
-        current = self.current
+        current, before = self.current, self.looked()
+        if self.has_faults:
+            current = self.server.connect()
         if word in ("ended", "served"):
             current, word = self.server.connect(), {"ended": "open", "served": "closed"}[word]
         sent, came = b"", "open"
@@ -168,7 +182,14 @@ class Play:
             part, came = self.server.arrive(current, piece, self.moment)
             sent += part
         self.compare(sent, came, word)
+        if self.has_faults and not self.stream.startswith(b"GET ") and before == self.looked():
+            raise Wrong("nothing that is looked at has changed")
         self.stream, self.want = b"", b""
+
+    def looked(self):
+        """The replies to what is looked at, once the time has passed."""
+        asked = [f"GET {path} HTTP/1.1\r\nHost: a\r\n\r\n".encode() for path in self.looks]
+        return [self.server.arrive(self.server.connect(), request, self.moment) for request in asked]
 
     def compare(self, sent, came, word):
         want = self.measured(self.want)
@@ -197,6 +218,8 @@ def played(words, lines, way, lengths):
             raise Wrong(f"{number}, {way}: {wrong}") from None
     if play.stream or play.want:
         raise Wrong(f"{number}: no word says what the last exchange comes to")
+    if play.has_faults != bool(play.looks):
+        raise Wrong(f"{number}: an example has faults and looks, or neither")
     return play
 
 

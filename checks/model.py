@@ -141,6 +141,12 @@ class Config:
     max_segments: int = 1_000
     staging_max_idle: int = 3_600
 
+    def is_accepted(self):
+        base = re.fullmatch(r"http://(\[[0-9a-f:]+\]|[0-9a-z.\-]+)(?::([1-9][0-9]*))?", self.base)
+        return (base is not None and base.group(2) != "80" and int(base.group(2) or 1) < 65_536
+                and 1 <= self.max_upload <= 16_777_216 and 1 <= self.max_assembled <= 536_870_912
+                and 1 <= self.max_segments <= 1_000 and 1 <= self.staging_max_idle <= 31_536_000)
+
 
 @dataclass
 class Archive:
