@@ -2,11 +2,10 @@
 # Exports bags through the program, from a store that `swordd serve` made by curl, and has each folder checked by the
 # system's sha256sum and by a validator that knows RFC 8493 alone (checks/validate-bag), which also has to see damage.
 # Then it audits the store, before and after statements of sqlite3 that damage it. It needs curl, sqlite3, python3 and
-# sha256sum, and takes some seconds once the program is built. The status is 1 where anything came otherwise.
+# sha256sum, and the program built (checks/built says where), and takes some seconds. The status is 1 where anything
+# came otherwise. checks/bags.py is the same story for a machine that has python3 alone.
 checks=$(cd "$(dirname "$0")" && pwd) || exit 2
-crate=$checks/../crates/swordd
-(cd "$crate" && rt run -- replay 0 http://127.0.0.1 </dev/null) >/dev/null || exit 2
-program=$crate/out/swordd
+program=$("$checks/built" swordd) || exit 2
 folder=$(mktemp -d) || exit 2
 port=$((20000 + $$ % 20000))
 base=http://127.0.0.1:$port

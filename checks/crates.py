@@ -1,7 +1,9 @@
-"""The crates that crates.txt lists, and copies of them in folders of their own, over the work that their checks kept."""
+"""The crates that crates.txt lists, the programs that were built of them, and copies of them in folders of their own, over
+the work that their checks kept."""
 
 import os
 import shutil
+import sys
 from pathlib import Path
 
 ROOT = Path(__file__).resolve().parent.parent
@@ -25,6 +27,16 @@ def libraries_below(name, lines):
         if below in lines:
             found |= {below} | libraries_below(below, lines)
     return found
+
+
+def built_program(name):
+    """Returns the path of a program: the one that the gate or `rt run` built, or the one that the environment names under
+    the name in capitals (SWORDD, EXAMPLES). Where there is none, this program ends."""
+    path = Path(os.environ.get(name.upper()) or ROOT / "crates" / name / "out" / name)
+    if not os.access(path, os.X_OK):
+        print(f"{path} isn't there: build it by rt ci, or in crates/{name} by rt run", file=sys.stderr)
+        sys.exit(2)
+    return path
 
 
 def begin_room(room, names, lines):

@@ -1,14 +1,15 @@
 #!/bin/sh
 # A repository's client by curl: a deposit, its metadata, a large file in segments, its bag and its end, from end to end
-# against `swordd serve` on a new store, with what came back compared. It needs curl, sqlite3 and sha256sum, and takes
-# some seconds once the program is built. The status is 1 where anything came otherwise.
-crate=$(cd "$(dirname "$0")/../crates/swordd" && pwd) || exit 2
-(cd "$crate" && rt run -- replay 0 http://127.0.0.1 </dev/null) >/dev/null || exit 2
+# against `swordd serve` on a new store, with what came back compared. It needs curl, sqlite3, sha256sum and python3, and
+# the program built (checks/built says where), and takes some seconds. The status is 1 where anything came otherwise.
+# checks/client.py is the same story for a machine that has python3 alone.
+checks=$(cd "$(dirname "$0")" && pwd) || exit 2
+program=$("$checks/built" swordd) || exit 2
 folder=$(mktemp -d) || exit 2
 port=$((20000 + $$ % 20000))
 base=http://127.0.0.1:$port
 # Each call of curl below is one connection; the server ends after the last.
-"$crate/out/swordd" serve $port "$folder/deposits.db" 20 2>"$folder/said" &
+"$program" serve $port "$folder/deposits.db" 20 2>"$folder/said" &
 server=$!
 trap 'kill $server 2>/dev/null; rm -r "$folder"' EXIT
 failed=0

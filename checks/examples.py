@@ -260,6 +260,7 @@ def texts_of(path):
 
 
 def play_file(words, path, lengths):
+    """Returns how many examples came out right, were left out, and were wrong."""
     numbered, starts = numbered_lines(path)
     words.update(played(words, numbered[:starts[0] if starts else None], "whole", lengths).words)
     right, left_out, failed = 0, 0, 0
@@ -274,15 +275,16 @@ def play_file(words, path, lengths):
             failed += 1
             print(f"{path}:{numbered[at][0]}: \"{title}\": {wrong}")
     print(f"{path}: {right} examples, {left_out} left out, {failed} wrong")
-    return failed
+    return right, left_out, failed
 
 
 def main(arguments):
     lengths = arguments[:1] == ["--lengths"]
-    words, failed = {}, 0
+    words, counts = {}, [0, 0, 0]
     for path in arguments[lengths:]:
-        failed += play_file(words, path, lengths)
-    return 1 if failed else 0
+        counts = [count + more for count, more in zip(counts, play_file(words, path, lengths))]
+    print("the second server: {} examples, {} left out, {} wrong".format(*counts))
+    return 1 if counts[2] else 0
 
 
 if __name__ == "__main__":

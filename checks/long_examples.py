@@ -132,6 +132,7 @@ def main():
         else:
             path.write_text(text)
         print(f"{name}: {text.count(chr(10))} lines, {len(text.encode())} bytes")
+    print(f"long examples: {len(FILES)} files")
     sys.exit("a file isn't as it would be written" if is_other else 0)
 
 

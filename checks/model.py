@@ -879,79 +879,89 @@ class Fault(Exception):
 
 
 class Connection:
-    """The bytes of a connection that no request has used."""
+    """The bytes of a connection that no request has used, and how far the request in work was read: its head, its content
+    so far, and the place behind what of the bytes is read."""
 
     def __init__(self):
-        self.rest, self.is_open, self.told_to_go_on = b"", True, False
+        self.rest, self.is_open = bytearray(), True
+        self.begin()
+
+    def begin(self):
+        self.head, self.content, self.place, self.told_to_go_on = None, bytearray(), 0, False
 
     def next(self, config):
         """The next item: a request, "continue", a Fault that is raised, or None."""
-        end = self.rest.find(b"\r\n\r\n", 0, 16384)
-        if end < 0:
-            if len(self.rest) >= 16384:
-                raise Fault("BadRequest")
-            return None
-        request = read_head(self.rest[:end + 4])
-        bare = request.method == "HEAD"
+        if self.head is None:
+            end = self.rest.find(b"\r\n\r\n", 0, 16384)
+            if end < 0:
+                if len(self.rest) >= 16384:
+                    raise Fault("BadRequest")
+                return None
+            self.head, self.place = read_head(bytes(self.rest[:end + 4])), end + 4
+        request = self.head
         try:
-            waits, found = self.body(request, end + 4, config)
+            waits, used = self.body(request, config)
         except Fault as fault:
-            raise Fault(fault.refusal, bare) from None
+            raise Fault(fault.refusal, request.method == "HEAD") from None
         if waits and not self.told_to_go_on:
             self.told_to_go_on = True
             return "continue"
-        if found is None:
+        if used is None:
             return None
-        request.content, used = found
-        self.rest, self.told_to_go_on = self.rest[used:], False
+        request.content = bytes(self.content)
+        del self.rest[:used]
+        self.begin()
         return request
 
-    def body(self, request, at, config):
-        """Whether the client waits to be told to go on, and the content with the place behind it."""
+    def body(self, request, config):
+        """Whether the client waits to be told to go on, and the place behind the content, once that is there."""
         lengths, codings = request.values("Content-Length"), request.values("Transfer-Encoding")
         expects = [value.lower() for value in request.values("Expect")] == [b"100-continue"]
         if not lengths and not codings:
-            return False, (b"", at)
+            return False, self.place
         if not codings and len(lengths) == 1 and re.fullmatch(rb"[0-9]+", lengths[0]):
             length = int(lengths[0])
             if length > config.max_upload:
                 raise Fault("MaxUploadSizeExceeded")
-            waits = expects and length > 0 and request.version == 1
-            content = self.rest[at:at + length]
-            return waits, (content, at + length) if len(content) == length else None
+            if expects and length > 0 and request.version == 1 and not self.told_to_go_on:
+                return True, None
+            end = self.place + length
+            if len(self.rest) < end:
+                return False, None
+            self.content += self.rest[self.place:end]
+            return False, end
         if not lengths and len(codings) == 1 and codings[0].lower() == b"chunked" and request.version == 1:
             if expects and not self.told_to_go_on:
                 return True, None
-            return expects, self.chunks(at, config.max_upload)
+            return False, self.chunks(config.max_upload)
         raise Fault("BadRequest")
 
-    def chunks(self, at, most):
-        content = b""
+    def chunks(self, most):
         while True:
-            end = self.rest.find(b"\r\n", at, at + 1024)
+            end = self.rest.find(b"\r\n", self.place, self.place + 1024)
             if end < 0:
-                if len(self.rest) - at >= 1024:
+                if len(self.rest) - self.place >= 1024:
                     raise Fault("BadRequest")
                 return None
-            line = re.fullmatch(rb"([0-9A-Fa-f]+)(?:[; \t][\t\x20-\x7e\x80-\xff]*)?", self.rest[at:end])
+            line = re.fullmatch(rb"([0-9A-Fa-f]+)(?:[; \t][\t\x20-\x7e\x80-\xff]*)?", self.rest[self.place:end])
             if not line:
                 raise Fault("BadRequest")
             size, at = int(line.group(1), 16), end + 2
             if size == 0:
-                return self.trailers(content, at)
-            if len(content) + size > most:
+                return self.trailers(at)
+            if len(self.content) + size > most:
                 raise Fault("MaxUploadSizeExceeded")
             if len(self.rest) < at + size + 2:
                 return None
             if self.rest[at + size:at + size + 2] != b"\r\n":
                 raise Fault("BadRequest")
-            content += self.rest[at:at + size]
-            at += size + 2
+            self.content += self.rest[at:at + size]
+            self.place = at + size + 2
 
-    def trailers(self, content, at):
-        """They end at CR LF where they begin so, and else at their first CR LF CR LF."""
+    def trailers(self, at):
+        """The place behind them. They end at CR LF where they begin so, and else at their first CR LF CR LF."""
         if self.rest.startswith(b"\r\n", at):
-            return content, at + 2
+            return at + 2
         end = self.rest.find(b"\r\n\r\n", at, at + 16384)
         if end < 0:
             if len(self.rest) - at >= 16384:
@@ -960,7 +970,7 @@ class Connection:
         lines = self.rest[at:end].split(b"\r\n")
         if not all(re.fullmatch(TOKEN.pattern + rb":[^\x00\r\n]*", line) for line in lines):
             raise Fault("BadRequest")
-        return content, end + 4
+        return end + 4
 
 
 def read_head(text):

@@ -1,10 +1,10 @@
 #!/usr/bin/env python3
 """A repository's client by Python's http.client: one connection that is kept alive, contents in chunks, Expect, and
-what was answered compared byte for byte. It builds the program and runs `swordd serve` on a new store.
+what was answered compared byte for byte, against `swordd serve` on a new store.
 
     checks/python.py
 
-The status is 0 where all came as it should.
+The status is 0 where all came as it should. It needs nothing else, and takes a second.
 """
 
 import hashlib
@@ -15,16 +15,10 @@ import socket
 import sys
 import urllib.parse
 
-from served import Server, build
+from expectations import expect, status_of
+from served import Server, digest
 
 PLAIN = "text/plain; charset=utf-8"
-wrong = []
-
-
-def expect(what, came, wanted):
-    if came != wanted:
-        wrong.append(what)
-        print(f"WRONG: {what}: {came!r} in place of {wanted!r}")
 
 
 class Client:
@@ -43,10 +37,6 @@ class Client:
         if reply.status not in (204,) and method != "HEAD":
             expect(f"length of request {self.number}", int(reply.headers["Content-Length"]), len(content))
         return reply, content
-
-
-def digest(content):
-    return "SHA-256=" + hashlib.sha256(content).hexdigest()
 
 
 def deposit_and_read(client):
@@ -158,7 +148,6 @@ def break_off(client):
 
 
 def main():
-    build()
     with Server(4) as server:
         client = Client(server)
         deposit_and_read(client)
@@ -175,8 +164,7 @@ def main():
         client.ask(404, "GET", "/objects/6")
         client.connection.close()
         expect("end of the server", server.ends(), (0, ""))
-        print(f"python: {last + client.number} requests, {len(wrong)} wrong")
-    return 1 if wrong else 0
+    return status_of(f"python: {last + client.number} requests")
 
 
 if __name__ == "__main__":

@@ -702,7 +702,7 @@ def main():
             is_other |= not (DATA / name).exists() or (DATA / name).read_text() != text
         else:
             (DATA / name).write_text(text)
-    print(f"{count} cases")
+    print(f"order of refusals: {count} cases")
     sys.exit("a file isn't as it would be written" if is_other else 0)
 
 

@@ -1,19 +1,20 @@
 """Starts `swordd serve` for the checks of a client: on a free port, over a store in a folder of its own."""
 
+import hashlib
+import http.client
 import pathlib
 import socket
 import subprocess
 import tempfile
 import time
 
-CRATE = pathlib.Path(__file__).resolve().parent.parent / "crates/swordd"
-PROGRAM = CRATE / "out/swordd"
+from commands import start
+from expectations import expect
 
 
-def build():
-    """Proves and builds the program, where that wasn't done yet."""
-    subprocess.run(["rt", "run", "--", "replay", "0", "http://127.0.0.1"], cwd=CRATE, check=True,
-                   stdin=subprocess.DEVNULL, stdout=subprocess.DEVNULL)
+def digest(content):
+    """What a Digest field says of a content."""
+    return "SHA-256=" + hashlib.sha256(content).hexdigest()
 
 
 def free_port():
@@ -23,15 +24,15 @@ def free_port():
 
 
 class Server:
-    """A server that ends after so many connections, over the store `deposits.db` of a folder."""
+    """A server that ends after so many connections, over the store `deposits.db` of a folder. `how` is what
+    `subprocess.Popen` takes besides."""
 
-    def __init__(self, count, folder=None, port=None):
+    def __init__(self, count, folder=None, port=None, **how):
         self.kept = tempfile.TemporaryDirectory() if folder is None else None
         self.store = pathlib.Path(folder or self.kept.name) / "deposits.db"
         self.port = port or free_port()
         self.base = f"http://127.0.0.1:{self.port}"
-        self.process = subprocess.Popen([PROGRAM, "serve", str(self.port), str(self.store), str(count)],
-                                        stderr=subprocess.PIPE)
+        self.process = start("serve", str(self.port), self.store, str(count), stderr=subprocess.PIPE, **how)
 
     def wait_until_it_listens(self):
         """Looks into the table of sockets, since a connection would be counted."""
@@ -50,6 +51,20 @@ class Server:
             if line.startswith("VmHWM:"):
                 return int(line.split()[1]) / 1024
         return None
+
+    def ask(self, status, method, path, body=None, headers=None):
+        """One request over a connection of its own: its status has to be this one. Returns the reply and its content."""
+        connection = http.client.HTTPConnection("127.0.0.1", self.port, timeout=60)
+        connection.request(method, path, body, headers or {})
+        reply = connection.getresponse()
+        content = reply.read()
+        connection.close()
+        expect(f"{method} {path}", reply.status, status)
+        return reply, content
+
+    def path_of(self, url):
+        """The path of a URL that the server told."""
+        return url.removeprefix(self.base)
 
     def ends(self):
         """Its exit status, once it has served all its connections, and what it wrote on standard error."""

@@ -7,7 +7,8 @@ with the same durability (write-ahead log, synchronous=FULL) on the same disk, i
 It prints deposits of 1 KiB and of 16 MiB, reads of both, a file of 512 MiB in segments and its deposit by reference, and
 the greatest memory that the server had: after the deposits and reads, after as many again, and at the end. Then it
 exports the bag of that file beside `cp` and `sync`, and audits the store beside `sha256sum` of as many bytes, each less
-what an open of the store takes by itself. Outside the gate; it builds the program first. Numbers of one run on a busy machine say little: run it on one that does nothing else.
+what an open of the store takes by itself. It measures, so it is no part of checks/all: numbers of one run on a busy
+machine say little. Run it on one that does nothing else.
 """
 
 import hashlib
@@ -21,7 +22,8 @@ import sys
 import tempfile
 import time
 
-from served import PROGRAM, Server, build
+from crates import built_program
+from served import Server
 
 MIB = 1024 * 1024
 SMALL, LARGE = 1024, 16 * MIB
@@ -149,19 +151,19 @@ def ran(*words):
 
 def exported_and_audited(folder, store, item, mebibytes):
     """The commands, beside those of the system over the same bytes."""
-    bag = f"{folder}/bag"
-    status, opened, room = ran(PROGRAM, "export", store, "4000000000000000000", f"{folder}/none")
+    program, bag = built_program("swordd"), f"{folder}/bag"
+    status, opened, room = ran(program, "export", store, "4000000000000000000", f"{folder}/none")
     assert status == 1, status
     print(f"{'open of the store alone':<44} {opened:10.2f} s       {room:10.0f} MiB of memory", flush=True)
     size = store.stat().st_size / MIB
     for what, words, wanted, octets in (
-            (f"export of {mebibytes} MiB", (PROGRAM, "export", store, item, bag), 0, mebibytes),
+            (f"export of {mebibytes} MiB", (program, "export", store, item, bag), 0, mebibytes),
             (f"cp and sync of {mebibytes} MiB", ("sh", "-c", f"cp -r {bag} {bag}-2 && sync {bag}-2/data/*/*"), 0, mebibytes),
-            (f"audit of a store of {size:.0f} MiB", (PROGRAM, "audit", store), 0, size),
+            (f"audit of a store of {size:.0f} MiB", (program, "audit", store), 0, size),
             (f"sha256sum of {mebibytes} MiB", ("sh", "-c", f"sha256sum {bag}/data/*/*"), 0, mebibytes)):
         status, took, peak = ran(*words)
         assert status == wanted, (what, status)
-        if words[0] == PROGRAM:
+        if words[0] == program:
             took, told = took - opened, f", {peak - room:.0f} MiB of memory above the open's"
         else:
             told = ""
@@ -180,7 +182,6 @@ def plain(folder):
 
 def main(arguments):
     mebibytes = int(arguments[1]) if arguments[:1] == ["--segmented"] else 512
-    build()
     with tempfile.TemporaryDirectory() as folder:
         with Server(1, folder) as server:
             client = Client(server)

@@ -1,0 +1,136 @@
+#!/usr/bin/env python3
+"""Exports bags through the program, from a store that `swordd serve` made, and looks at each folder: its files, both
+manifests by hashlib, and checks/validate-bag, a validator that knows RFC 8493 alone and also has to see damage. Then it
+audits the store, before and after statements of Python's sqlite3 that damage it.
+
+    checks/bags.py
+
+It is the story of checks/bag.sh without curl, sha256sum and sqlite3. The status is 0 where all is so. It needs nothing
+else, and takes two seconds.
+"""
+
+import hashlib
+import os
+import pathlib
+import shutil
+import sqlite3
+import subprocess
+import sys
+import tempfile
+
+from commands import NO_SUCH_OBJECT, STORE_FAULT, TRANSFER_FAULT, USAGE, ends
+from expectations import expect, status_of
+from served import Server
+
+VALIDATOR = pathlib.Path(__file__).resolve().parent / "validate-bag"
+TAGS = ["bagit.txt", "bag-info.txt", "manifest-sha256.txt", "metadata/sword.json", "tagmanifest-sha256.txt"]
+LONG = 255 * "y"
+DAMAGE = """UPDATE blocks SET bytes = X'616264' WHERE owner = 5; UPDATE files SET size = 4 WHERE file = 4;
+    UPDATE blocks SET place = 9 WHERE owner = 2 AND place = 0; DELETE FROM blocks WHERE owner = 3;"""
+
+
+def fill(server, large):
+    """Makes an object of four files and metadata, one of metadata alone, and one of a file."""
+    def deposit(status, path, disposition, content, media="application/octet-stream"):
+        server.ask(status, "POST", path, content, {"Content-Disposition": disposition, "Content-Type": media})
+    metadata = '{"dc:title":"T"}'
+    deposit(201, "/service", "attachment; filename=50%.txt", b"abc")
+    deposit(200, "/objects/1", "attachment; filename=%2e%2e", large)
+    deposit(200, "/objects/1", "attachment; filename*=UTF-8''d%C3%A9j%C3%A0%20vu.txt", b"abc")
+    deposit(200, "/objects/1", f"attachment; filename={LONG}", b"")
+    deposit(200, "/objects/1", "attachment; metadata=true", metadata, "application/json")
+    deposit(201, "/service", "attachment; metadata=true", metadata, "application/json")
+    deposit(201, "/service", "attachment; filename=a.txt", b"abc")
+
+
+def has(bag, *names):
+    """The folder has just these files and empty folders."""
+    found = [it.relative_to(bag) for it in bag.rglob("*") if it.is_file() or not any(it.iterdir())]
+    expect(f"the files of {bag.name}", sorted(map(str, found)), sorted(names))
+
+
+def is_valid_by_validator(bag):
+    ran = subprocess.run([sys.executable, "-B", VALIDATOR, bag], capture_output=True, text=True)
+    return ran.returncode == 0
+
+
+def is_valid(bag):
+    """By both manifests and by the validator."""
+    for manifest in ("manifest-sha256.txt", "tagmanifest-sha256.txt"):
+        for line in (bag / manifest).read_text(encoding="utf-8").splitlines():
+            told, _, path = line.partition("  ")
+            content = (bag / path.replace("%25", "%")).read_bytes()
+            expect(f"the SHA-256 of {path}", hashlib.sha256(content).hexdigest(), told)
+    expect(f"the validator's word on {bag.name}", is_valid_by_validator(bag), True)
+
+
+def damage(bag, folder):
+    """The validator sees a changed byte, a file too many, a file too few, and another tag file."""
+    for number, works in enumerate((
+            lambda copy: (copy / "data/1/50%.txt").write_bytes(b"abcx"), lambda copy: (copy / "data/9").write_bytes(b""),
+            lambda copy: next((copy / "data/3").iterdir()).unlink(),
+            lambda copy: (copy / "bagit.txt").write_bytes((bag / "bagit.txt").read_bytes() + b"x"))):
+        copy = folder / f"damaged-{number}"
+        shutil.copytree(bag, copy)
+        works(copy)
+        expect(f"the validator's word on damage {number}", is_valid_by_validator(copy), False)
+
+
+def export(store, folder, large):
+    first, second = folder / "first", folder / "second"
+    files = ["data/1/50%.txt", "data/2/%2e%2e", "data/3/déjà vu.txt", f"data/4/{LONG}"]
+    expect("what an export prints", ends(0, "", "export", store, "1", first), b"")
+    has(first, *TAGS, *files)
+    is_valid(first)
+    expect("the large file", (first / files[1]).read_bytes(), large)
+    ends(0, "", "export", store, "2", second)
+    has(second, *TAGS, "data")
+    is_valid(second)
+    damage(first, folder)
+
+
+def export_wrongly(store, folder):
+    """Faults come in their order: the words, the store, the folder, the object."""
+    other, first, none = folder / "other.db", folder / "first", folder / "none"
+    other.write_text("no database at all, but a text that is longer than a head of one: " + 200 * "0")
+    ends(1, USAGE, "export", other, "01", first)
+    ends(1, USAGE, "export", store, "4000000000000000001", none)
+    ends(2, STORE_FAULT, "export", other, "9", first)
+    ends(3, TRANSFER_FAULT, "export", store, "9", first)
+    ends(3, TRANSFER_FAULT, "export", store, "1", none / "inside")
+    expect("whether a folder was made", none.exists(), False)
+    is_valid(first)
+    ends(1, NO_SUCH_OBJECT, "export", store, "9", none)
+    expect("what is in the folder of no object", list(none.iterdir()), [])
+
+
+def audit(store, folder):
+    """Before and after the store is damaged, of which an export then gives a front."""
+    expect("an audit", ends(0, "", "audit", store), b"files 5 damaged 0\n")
+    expect("an audit of no store", ends(0, "", "audit", folder / "new.db"), b"files 0 damaged 0\n")
+    ends(2, STORE_FAULT, "audit", folder / "other.db")
+    database = sqlite3.connect(store)
+    database.executescript(DAMAGE)
+    database.close()
+    told = b"damaged 1 2\ndamaged 1 3\ndamaged 3 5\nfiles 5 damaged 3\n"
+    expect("an audit of what is damaged", ends(4, "", "audit", store), told)
+    third = folder / "third"
+    ends(2, STORE_FAULT, "export", store, "1", third)
+    has(third, *TAGS, "data/1/50%.txt", "data/2/%2e%2e", "data/3/déjà vu.txt")
+
+
+def main():
+    large = os.urandom(200_000)
+    with tempfile.TemporaryDirectory() as name:
+        folder = pathlib.Path(name)
+        with Server(7, folder) as server:
+            fill(server, large)
+            expect("the end of the server", server.ends(), (0, ""))
+        export(server.store, folder, large)
+        export_wrongly(server.store, folder)
+        audit(server.store, folder)
+    return status_of("bags: exported whole, valid, and damage is seen")
+
+
+if __name__ == "__main__":
+    sys.exit(main())

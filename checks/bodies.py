@@ -1,0 +1,137 @@
+#!/usr/bin/env python3
+"""Plays examples over servers with a wrong body, on each of which they have to come otherwise than is written.
+
+    checks/bodies.py                          those of checks/bodies, in one build
+    checks/bodies.py CRATE/NAME [FILE..]      another one, in a build of its own
+
+The bodies of checks/bodies are allowed by every contract, since a request may always be answered 500 or 503, so only
+examples refuse them. All stand in one copy of the repository, and each is in force only where the abstract of the
+configuration is its name. So one build of the program `examples`, by `rt try`, plays for each a file that refuses it, with
+that abstract and with another one, at which all has to be as it is written.
+
+CRATE/NAME is an edit NAME.edit of crates/CRATE/must-fail or wrong-bodies. It is played over the files, each behind
+texts.txt (by default all that crates/examples/args names), of which one has to refuse it. The prover may refuse it too:
+nothing is proved here.
+
+Each body has a line. The status is 0 where all are refused. It needs the kit. A build takes 100 to 200 processor seconds,
+two minutes or more, and 3 GB.
+"""
+
+import pathlib
+import re
+import subprocess
+import sys
+import tempfile
+
+from crates import ROOT, begin_room, copy_parts, libraries_below, listed_crates
+from edits import Failure, edited_texts
+
+DATA = ROOT / "crates/examples/data"
+BODIES = ROOT / "checks/bodies"
+# Which file of examples refuses which body.
+PLAYED = {"always_500": "one-file.txt", "always_503": "one-file.txt", "connects_never": "hubs.txt",
+          "cuts_each_content": "one-file.txt", "ends_at_once": "conversations.txt"}
+WITHOUT = "no_wrong_body"
+# The service document without its abstract.
+SERVICE_LENGTH = 626
+SECONDS = "1800"
+
+
+def lay_out(room, edits):
+    """Makes the folder a repository of the program `examples` and of all that it stands on, with the edits made."""
+    lines = listed_crates()
+    names = [it for it in lines if it == "examples" or it in libraries_below("examples", lines)]
+    begin_room(room, names, lines)
+    for name in names:
+        copy_parts(ROOT / "crates" / name, room / "crates" / name)
+    for edit in edits:
+        crate = room / "crates" / edit.parent.name
+        if edit.parent.parent != BODIES:
+            crate = room / "crates" / edit.parent.parent.name
+        for path, text in edited_texts(edit, crate).items():
+            (crate / path).write_text(text, encoding="utf-8")
+
+
+def play(edits, cases):
+    """Builds the program with these edits and plays the cases, texts by their names. Returns the status of each that
+    ended, and what each printed."""
+    with tempfile.TemporaryDirectory(prefix="bodies-") as folder:
+        room, written = pathlib.Path(folder, "room"), pathlib.Path(folder, "cases")
+        lay_out(room, edits)
+        written.mkdir()
+        for name, text in cases.items():
+            (written / name).write_text(text, encoding="utf-8")
+        words = ["--steps", "1", "--seconds", SECONDS, "--data", f"texts.txt={DATA / 'texts.txt'}", "--cases", str(written)]
+        ran = subprocess.run(["rt", "try", *words, "--", "texts.txt", "{}"], cwd=room / "crates/examples",
+                             capture_output=True, text=True, errors="replace")
+    statuses = dict(re.findall(r"(?m)^case=(\S+) run=ended status=(\d+) ", ran.stderr))
+    if not statuses:
+        print(f"nothing was played (status {ran.returncode})\n{ran.stdout}{ran.stderr}", end="")
+    printed = re.split(r"(?m)^== (.*)\n", ran.stdout)
+    return {name: int(status) for name, status in statuses.items()}, dict(zip(printed[1::2], printed[2::2]))
+
+
+def examples_at(file, abstract):
+    """The examples of a file, each with this abstract, which the service document tells."""
+    lines = f"config abstract {abstract}\nlet abstract {abstract}\nlet service-length {SERVICE_LENGTH + len(abstract)}"
+    return re.sub(r"(?m)^(# .*)$", rf"\1\n{lines}", (DATA / file).read_text(encoding="utf-8"))
+
+
+def told(printed):
+    """The first line on an example, if there is one."""
+    return next((line for line in printed.splitlines() if re.match(r"case:\d", line)), printed)
+
+
+def try_together():
+    """Tries the bodies that share a build. Returns how many are refused, and how many not."""
+    edits = sorted(BODIES.glob("*/*.edit"))
+    cases = {edit.stem: examples_at(PLAYED[edit.stem], edit.stem) for edit in edits}
+    without = {edit.stem: f"{WITHOUT}.{PLAYED[edit.stem]}" for edit in edits}
+    cases |= {name: examples_at(name.removeprefix(f"{WITHOUT}."), WITHOUT) for name in without.values()}
+    statuses, printed = play(edits, cases)
+    refused = 0
+    for edit in edits:
+        name, beside = edit.stem, without[edit.stem]
+        if statuses.get(name) in (1, 2) and statuses.get(beside) == 0:
+            refused += 1
+            print(f"refused: {name}, by {PLAYED[name]}: {told(printed[name])}")
+        else:
+            print(f"NOT REFUSED: {name}: status {statuses.get(name)}, and {statuses.get(beside)} without it")
+            print(printed.get(name, ""), printed.get(beside, ""), end="")
+    return refused, len(edits) - refused
+
+
+def edit_of(crate, body):
+    """The edit of this name that stands with the crate."""
+    for folder in ("must-fail", "wrong-bodies"):
+        edit = ROOT / "crates" / crate / folder / f"{body}.edit"
+        if edit.exists():
+            return edit
+    raise Failure("NOT APPLIED", f"{crate} has no edit {body}")
+
+
+def try_alone(name, files):
+    """Tries a body in a build of its own. Returns how many are refused, and how many not."""
+    crate, _, body = name.partition("/")
+    listed = (ROOT / "crates/examples/args").read_text(encoding="utf-8").split()
+    files = [pathlib.Path(it) for it in files] or [DATA / it for it in listed if it != "texts.txt"]
+    statuses, printed = play([edit_of(crate, body)], {it.name: it.read_text(encoding="utf-8") for it in files})
+    refusing = sorted(file for file, status in statuses.items() if status in (1, 2))
+    for file in refusing:
+        print(f"refused: {name}, by {file}: {told(printed[file])}")
+    if not refusing:
+        print(f"NOT REFUSED: {name}, by any of {len(statuses)} files")
+    return int(bool(refusing)), int(not refusing)
+
+
+def main(words):
+    try:
+        refused, others = try_alone(words[0], words[1:]) if words else try_together()
+    except Failure as failure:
+        sys.exit(f"bodies.py: {failure}")
+    print(f"wrong bodies: {refused} refused, {others} not")
+    return 1 if others else 0
+
+
+if __name__ == "__main__":
+    sys.exit(main(sys.argv[1:]))

@@ -1,0 +1,108 @@
+#!/usr/bin/env python3
+"""A repository's client by Python's http.client, each request over a connection of its own: a deposit, its metadata, a
+large file in segments, its bag and its end, against `swordd serve` on a new store, with what came back compared.
+
+    checks/client.py
+
+It is the story of checks/curl.sh without curl and sqlite3. The status is 0 where all came as it should. It needs nothing
+else, and takes a second.
+"""
+
+import base64
+import hashlib
+import json
+import os
+import sqlite3
+import sys
+
+from expectations import expect, status_of
+from served import Server
+
+SEGMENT = 65_536
+REQUESTS = 20
+
+
+def has(what, content, text):
+    """Whether a document has these letters."""
+    expect(f"{text} in {what}", text in content.decode(), True)
+
+
+def deposit_a_file(server):
+    """Returns the path of the object."""
+    _, document = server.ask(200, "GET", "/service")
+    has("the service document", document, '"@type":"ServiceDocument"')
+    told = base64.b64encode(hashlib.sha256(b"abc").digest()).decode()
+    headers = {"Content-Type": "text/plain", "Content-Disposition": "attachment; filename=a.txt"}
+    reply, _ = server.ask(201, "POST", "/service", b"abc", {**headers, "Digest": "SHA-256=" + told})
+    expect("the object's URL", reply.headers["Location"], server.base + "/objects/1")
+    path = server.path_of(reply.headers["Location"])
+    _, content = server.ask(200, "GET", path + "/files/1")
+    expect("the file", content, b"abc")
+    other = base64.b64encode(hashlib.sha256(b"").digest()).decode()
+    _, document = server.ask(412, "POST", "/service", b"abc", {**headers, "Digest": "SHA-256=" + other})
+    has("the refusal", document, '"@type":"DigestMismatch"')
+    return path
+
+
+def replace_metadata(server, path):
+    headers = {"Content-Type": "application/json"}
+    reply, _ = server.ask(204, "PUT", path + "/metadata", '{"dc:title":"Observations"}', headers)
+    expect("the tag of the metadata", reply.headers["ETag"], '"2"')
+    _, document = server.ask(200, "GET", path + "/metadata")
+    has("the metadata", document, '"dc:title":"Observations"')
+    server.ask(412, "DELETE", path + "/metadata", headers={"If-Match": '"1"'})
+
+
+def deposit_in_segments(server, path, content):
+    """A file in four segments, the last one first, which becomes the object's second file."""
+    headers = {"Content-Disposition": f"segment-init; size={len(content)}; segment_count=4; segment_size={SEGMENT}"}
+    reply, _ = server.ask(201, "POST", "/staging", headers=headers)
+    upload = reply.headers["Location"]
+    for number in (4, 1, 3, 2):
+        segment = content[(number - 1) * SEGMENT:number * SEGMENT]
+        headers = {"Content-Disposition": f"segment; segment_number={number}"}
+        server.ask(204, "POST", server.path_of(upload), segment, headers)
+    _, document = server.ask(200, "GET", server.path_of(upload))
+    has("the upload", document, '"expecting":[],"received":[1,2,3,4]')
+    document = {"byReferenceFiles": [{"@id": upload, "contentDisposition": "attachment; filename=large"}]}
+    headers = {"Content-Disposition": "attachment; by-reference=true", "Content-Type": "application/json"}
+    server.ask(200, "POST", path, json.dumps(document), headers)
+    server.ask(404, "GET", server.path_of(upload))
+    _, came = server.ask(200, "GET", path + "/files/2")
+    expect("the large file", came, content)
+
+
+def read_bag(server, path, content):
+    """The manifest of the bag, line by line, and a file of it."""
+    _, manifest = server.ask(200, "GET", path + "/bag/manifest-sha256.txt")
+    payload = {"data/1/a.txt": b"abc", "data/2/large": content}
+    lines = [f"{hashlib.sha256(part).hexdigest()}  {name}\n" for name, part in payload.items()]
+    expect("the manifest", manifest.decode(), "".join(lines))
+    _, came = server.ask(200, "GET", path + "/bag/data/2/large")
+    expect("the file of the bag", came, content)
+
+
+def look_at_store(server):
+    """The store once the object is deleted and the server has ended."""
+    database = sqlite3.connect(server.store)
+    expect("the integrity check", database.execute("PRAGMA integrity_check").fetchall(), [("ok",)])
+    expect("the blocks that are left", database.execute("SELECT count(*) FROM blocks").fetchall(), [(0,)])
+    database.close()
+
+
+def main():
+    content = os.urandom(200_000)
+    with Server(REQUESTS) as server:
+        path = deposit_a_file(server)
+        replace_metadata(server, path)
+        deposit_in_segments(server, path, content)
+        read_bag(server, path, content)
+        server.ask(204, "DELETE", path)
+        server.ask(404, "GET", path)
+        expect("the end of the server", server.ends(), (0, ""))
+        look_at_store(server)
+    return status_of(f"client: {REQUESTS} requests, each over a connection of its own")
+
+
+if __name__ == "__main__":
+    sys.exit(main())

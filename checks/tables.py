@@ -1,0 +1,74 @@
+#!/usr/bin/env python3
+"""The file of a store, read by Python's sqlite3 once `swordd serve` has written it: the queries of checks/tables.txt, each
+of which has to show what is written there.
+
+    checks/tables.py
+
+checks/tables.sh does the same by curl and the sqlite3 shell. The status is 0 where all is so. It needs nothing else, and
+takes a second.
+"""
+
+import hashlib
+import os
+import pathlib
+import sqlite3
+import sys
+
+from expectations import expect, status_of
+from served import Server
+
+QUERIES = pathlib.Path(__file__).resolve().parent / "tables.txt"
+
+
+def deposit(server, contents):
+    """Makes the requests that tables.txt speaks of."""
+    named = "attachment; filename="
+    server.ask(201, "POST", "/service", contents["a.txt"],
+               {"Content-Type": "text/plain", "Content-Disposition": named + "a.txt"})
+    server.ask(204, "PUT", "/objects/1/metadata", '{"dc:title":"Observations"}', {"Content-Type": "application/json"})
+    server.ask(200, "POST", "/objects/1", contents["large"],
+               {"Content-Type": "image/png", "Content-Disposition": named + "large"})
+    server.ask(201, "POST", "/staging",
+               headers={"Content-Disposition": "segment-init; size=100000; segment_count=2; segment_size=65536"})
+    server.ask(204, "POST", "/staging/1", contents["segment"],
+               {"Content-Disposition": "segment; segment_number=1"})
+
+
+def read_queries(contents):
+    """Returns the queries, each with the lines that it has to show, and those of contents, each with its content."""
+    shown, whole = [], []
+    for line in QUERIES.read_text(encoding="utf-8").splitlines():
+        if line.startswith("? "):
+            shown.append((line[2:], []))
+        elif line.startswith("= "):
+            name, _, query = line[2:].partition(" ")
+            whole.append((query, contents[name]))
+        elif line and not line.startswith("#"):
+            for name, content in contents.items():
+                line = line.replace("{%s}" % name, hashlib.sha256(content).hexdigest().upper())
+            shown[-1][1].append(line)
+    return shown, whole
+
+
+def as_shown(row):
+    """A row as the sqlite3 shell shows it."""
+    return "|".join("" if it is None else str(it) for it in row)
+
+
+def main():
+    contents = {"a.txt": b"abc", "large": os.urandom(65_537), "segment": os.urandom(65_536)}
+    with Server(5) as server:
+        deposit(server, contents)
+        expect("the end of the server", server.ends(), (0, ""))
+        database = sqlite3.connect(f"file:{server.store}?mode=ro", uri=True)
+        shown, whole = read_queries(contents)
+        for query, lines in shown:
+            expect(query, [as_shown(row) for row in database.execute(query)], lines)
+        for query, content in whole:
+            expect(query, b"".join(bytes.fromhex(row[0]) for row in database.execute(query)), content)
+        database.close()
+    return status_of(f"tables: {len(shown) + len(whole)} queries")
+
+
+if __name__ == "__main__":
+    sys.exit(main())
