@@ -124,16 +124,16 @@ FILES = {"rounds.txt": rounds, "cut-requests.txt": cut_requests}
 
 
 def main():
-    words, is_other = examples.texts_of(DATA / "texts.txt"), False
+    words, others = examples.texts_of(DATA / "texts.txt"), []
     for name, made in FILES.items():
         text, path = made(words), DATA / name
-        if "--check" in sys.argv:
-            is_other |= not path.exists() or path.read_text() != text
-        else:
+        if "--check" not in sys.argv:
             path.write_text(text)
+        elif not path.exists() or path.read_text() != text:
+            others.append(name)
         print(f"{name}: {text.count(chr(10))} lines, {len(text.encode())} bytes")
     print(f"long examples: {len(FILES)} files")
-    sys.exit("a file isn't as it would be written" if is_other else 0)
+    sys.exit(f"not as they would be written: {' '.join(others)}" if others else 0)
 
 
 if __name__ == "__main__":

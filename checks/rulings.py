@@ -693,17 +693,17 @@ def file_text(name):
 
 
 def main():
-    is_other, count = False, 0
+    others, count = [], 0
     for name in FILES:
         text, cases_there = file_text(name)
         count += cases_there
         print(f"{name}: {cases_there} cases, {text.count(chr(10))} lines, {len(text.encode())} bytes")
-        if "--check" in sys.argv:
-            is_other |= not (DATA / name).exists() or (DATA / name).read_text() != text
-        else:
+        if "--check" not in sys.argv:
             (DATA / name).write_text(text)
+        elif not (DATA / name).exists() or (DATA / name).read_text() != text:
+            others.append(name)
     print(f"order of refusals: {count} cases")
-    sys.exit("a file isn't as it would be written" if is_other else 0)
+    sys.exit(f"not as they would be written: {' '.join(others)}" if others else 0)
 
 
 if __name__ == "__main__":
