@@ -1,10 +1,9 @@
 -- Chunks behind a head, of which a reader was fed the first bytes.
-use Rattle.std.proofs.Common.{◌≡◌, ℕ, ◌+◌, ◌-◌, ◌≤◌, ◌<◌, Bool, List, [], ◌++◌, length, take, drop, sym, ap, subst, ◌∙◌, length-drop, arith, refl, inl, inr}
+use Rattle.std.proofs.Common.{◌≡◌, ℕ, ◌+◌, ◌≤◌, ◌<◌, Bool, false, List, [], ◌++◌, length, take, drop, sym, ap, subst, ◌∙◌, append_assoc, append-nil, length-append, arith, refl, inl, inr}
 use Rattle.std.proofs.lemmas.Bool.{cases_lt}
-use Rattle.std.proofs.lemmas.List.{length-take-le, take-append-drop, drop-drop, take-append-le}
-use Rattle.std.proofs.Math.Seq.{take-append_seam}
-use Rattle.dep_head.specs.Head.{HeadParts}
-use Rattle.dep_body.specs.Body.{IsBodyText, IsChunkedPart, IsPartOfBody, begun_line}
+use Rattle.std.proofs.lemmas.List.{take-append-drop, drop-drop, take-append-le}
+use Rattle.std.proofs.Math.Seq.{take-append_seam, drop-append_seam}
+use Rattle.dep_body.specs.Body.{IsChunkedPart, IsPartOfBody, begun_line}
 use Rattle.dep_body.specs.Feeding.{EndsBody, ShowsFault, HasFed}
 use Rattle.dep_body.specs.ReaderValue.{ReaderValue}
 use Rattle.dep_body.specs.declared.frame.Framing.TheVariants.{Chunked as InChunks}
@@ -13,26 +12,33 @@ use Rattle.dep_body.proofs.ChunkLemmas.{chunks_none}
 use Rattle.dep_body.proofs.LineEnds.{end_nil}
 use Rattle.dep_body.proofs.OneBody.{body_no_part}
 use Rattle.dep_message.specs.Heads.{is_bare}
-use Rattle.dep_message.specs.Stream.{IsFaultText, refusal_of}
-use Rattle.dep_message.specs.Working.{IsBegun, Begins, ReadsChunks}
+use Rattle.dep_message.specs.Places.{Open, HasBytes}
+use Rattle.dep_message.specs.Stream.{IsFaultText, Waits, refusal_of}
+use Rattle.dep_message.specs.Working.{IsBegun, Begins, Finds, Keeps, ReadsChunks}
 use Rattle.dep_message.specs.declared.progress.ChunkedRequest.{ChunkedRequest}
-use Rattle.dep_message.proofs.Slices.{rest_is}
-use Rattle.dep_message.proofs.Bodies.{body_fault}
+use Rattle.dep_message.specs.declared.used.UsedBytes.{UsedBytes}
+use Rattle.dep_message.specs.declared.work.Found.TheVariants as F
+use Rattle.dep_message.specs.declared.work.Work.{Work}
+use Rattle.dep_message.proofs.Bodies.{body_fault, head_size, waits_for_body, whole_request}
+use Rattle.dep_message.proofs.Reading.{has_bytes}
 
 -- nothing is a part of a body
 pub nothing_is_part : (limit : ℕ) → IsPartOfBody limit InChunks []
 nothing_is_part limit =
     ([], record { before = []; rest = []; held = []; chunks = chunks_none limit; unit = begun_line end_nil (omega arith); content_is = refl })
 
--- the slice of the bytes that the reader was not fed yet
-abbrev pub rest_of : List ℕ → ℕ → List ℕ
-rest_of slice read = take (length slice - read) (drop read slice)
-
--- what was fed, and the rest
-pub fed_is : (bytes slice : List ℕ) (h r : ℕ) → slice ≡ bytes → take r (drop h bytes) ++ rest_of slice (h + r) ≡ drop h bytes
-fed_is bytes slice h r same =
-    ap (λ l. take r (drop h bytes) ++ l) (rest_is (h + r) slice ∙ (ap (drop (h + r)) same ∙ sym (drop-drop r h bytes)))
-    ∙ take-append-drop r (drop h bytes)
+-- of what was used, nothing is behind the head
+pub reads_none : (limit : ℕ) (continued : Bool) (front : List ℕ) (request : ChunkedRequest) → request.used.items ≡ front
+    → IsBegun limit continued front request.head InChunks → request.reader.limit ≡ limit → HasFed request.reader [] → ReadsChunks limit continued request
+reads_none limit continued front request used_is begun limit_is has_fed = record {
+  front = front;
+  fed = [];
+  used_is = used_is ∙ sym (append-nil front);
+  begun = begun;
+  limit_is = limit_is;
+  has_fed = has_fed;
+  part = nothing_is_part limit;
+}
 
 front_of : (a b x y : List ℕ) → a ++ x ≡ b ++ y → length b < length a → (z : List ℕ) × (b ++ z ≡ a)
 front_of a b x y e less =
@@ -52,47 +58,66 @@ ends_behind limit content fed piece used e part =
       | inr within ↦ omega (arith, e.used_is, within)
     ]
 
--- with the rest it is a part of a body still
-pub part_now : (l limit : ℕ) (content bytes slice : List ℕ) (h r : ℕ) → l ≡ limit → slice ≡ bytes
-    → IsChunkedPart l (take r (drop h bytes) ++ rest_of slice (h + r)) content → IsPartOfBody limit InChunks (drop h bytes)
-part_now l limit content bytes slice h r same_limit same part =
-    (content, rw (sym same_limit) (subst (λ t. IsChunkedPart l t content) (fed_is bytes slice h r same) part))
+-- all bytes are the head, what the reader was fed, and its piece
+whole_is : (limit : ℕ) (continued : Bool) (request : ChunkedRequest) (piece buffer : List ℕ) (r : ReadsChunks limit continued request) → piece ≡ buffer
+    → request.used.items ++ buffer ≡ r.front ++ (r.fed ++ piece)
+whole_is limit continued request piece buffer r same =
+    ap (λ l. l ++ buffer) r.used_is ∙ (append_assoc r.front r.fed buffer ∙ ap (λ l. r.front ++ (r.fed ++ l)) (sym same))
 
-pub reads_on : (limit : ℕ) (continued : Bool) (bytes slice : List ℕ) (request : ChunkedRequest) (reader : ReaderValue) → slice ≡ bytes
-    → reader.limit ≡ request.reader.limit → ReadsChunks limit continued bytes request
-    → HasFed reader (take request.read (drop request.head_length bytes) ++ rest_of slice (request.head_length + request.read))
-    → IsPartOfBody limit InChunks (drop request.head_length bytes)
-    → ReadsChunks limit continued bytes (record request { reader = reader; read = length slice - request.head_length })
-reads_on limit continued bytes slice request reader same same_limit reads fed part =
-    let all : drop request.head_length bytes ≡ take (length slice - request.head_length) (drop request.head_length bytes) =
-    sym (rest_is request.head_length bytes) ∙ ap (λ (l : List ℕ). take (length l - request.head_length) (drop request.head_length bytes)) (sym same) in
-    record {
-      begun = reads.begun;
-      within = omega (arith, ap length same, reads.within);
-      limit_is = same_limit ∙ reads.limit_is;
-      fed = subst (HasFed reader) (fed_is bytes slice request.head_length request.read same ∙ all) fed;
-      part = subst (IsPartOfBody limit InChunks) all part;
-    }
+-- some byte was there
+pub used_bytes : (limit : ℕ) (continued : Bool) (request : ChunkedRequest) (buffer : List ℕ) → ReadsChunks limit continued request
+    → HasBytes (Open continued (request.used.items ++ buffer))
+used_bytes limit continued request buffer r =
+    let some : 0 < length r.front = head_size limit continued r.front request.head InChunks r.begun in
+    let whole = whole_is limit continued request buffer buffer r refl in
+    has_bytes continued (request.used.items ++ buffer) (omega (arith, some, ap length whole, length-append r.front (r.fed ++ buffer)))
 
--- the body ended, and has so many bytes behind those fed before
-pub ends_now : (l limit : ℕ) (content bytes slice : List ℕ) (h r used : ℕ) → l ≡ limit → slice ≡ bytes → h + r ≤ length bytes
-    → IsPartOfBody limit InChunks (take r (drop h bytes)) → EndsBody l content (take r (drop h bytes)) (rest_of slice (h + r)) used
-    → IsBodyText limit InChunks (take (r + used) (drop h bytes)) content
-ends_now l limit content bytes slice h r used same_limit same within part e =
-    let size : length (take r (drop h bytes)) ≡ r = length-take-le r (drop h bytes) (omega (arith, length-drop h bytes)) in
-    let count : length e.text ≡ r + used =
-    ends_behind l content (take r (drop h bytes)) (rest_of slice (h + r)) used e (rw same_limit part) ∙ ap (λ n. n + used) size in
-    let text : take (r + used) (drop h bytes) ≡ e.text =
-    ap (λ n. take n (drop h bytes)) (sym count)
-    ∙ (ap (take (length e.text)) (sym (fed_is bytes slice h r same) ∙ e.stream_is) ∙ take-append_seam e.text e.behind) in
-    rw (sym same_limit, text) e.body
+module _ (limit : ℕ) (continued : Bool) (request : ChunkedRequest) (piece buffer : List ℕ) (r : ReadsChunks limit continued request) (same : piece ≡ buffer)
+    (l : ℕ) (content : List ℕ) (same_limit : l ≡ limit) where
+  -- with the piece it is a part of a body still
+  pub part_now : IsChunkedPart l (r.fed ++ piece) content → IsPartOfBody limit InChunks (r.fed ++ piece)
+  part_now part = (content, rw (sym same_limit) part)
 
--- the body shows a fault
-pub faulty_now : (l limit : ℕ) (continued : Bool) (content bytes slice : List ℕ) (h r : ℕ) (head : HeadParts) (fault : FrameFault) → l ≡ limit → slice ≡ bytes
-    → IsBegun limit continued (take h bytes) head InChunks → ShowsFault l content (take r (drop h bytes)) (rest_of slice (h + r)) fault
-    → Begins (λ text. IsFaultText limit continued text (refusal_of fault) (is_bare head)) bytes
-faulty_now l limit continued content bytes slice h r head fault same_limit same begun s =
-    let whole : take h bytes ++ (s.text ++ s.behind) ≡ bytes =
-    ap (λ t. take h bytes ++ t) (sym s.stream_is ∙ fed_is bytes slice h r same) ∙ take-append-drop h bytes in
-    subst (Begins (λ text. IsFaultText limit continued text (refusal_of fault) (is_bare head))) whole
-    (body_fault limit continued (take h bytes) s.text s.behind head InChunks fault begun (content, rw (sym same_limit) s.shown))
+  pub waits_on : IsChunkedPart l (r.fed ++ piece) content → Waits limit (Open continued (request.used.items ++ buffer))
+  waits_on part =
+      subst (λ (b : List ℕ). Waits limit (Open continued b)) (sym (whole_is limit continued request piece buffer r same))
+      (waits_for_body limit continued r.front (r.fed ++ piece) request.head InChunks r.begun (part_now part))
+
+  -- the body ended, and has so many bytes of the piece
+  pub takes_chunks : (used : ℕ) (new : Work) → EndsBody l content r.fed piece used → Keeps limit false (drop used buffer) new
+      → Finds limit continued (request.used.items ++ buffer) new (F.Message (record { head = request.head; content = content }))
+  takes_chunks used new e keeps =
+      let some : 0 < length r.front = head_size limit continued r.front request.head InChunks r.begun in
+      let count : length e.text ≡ length r.fed + used = ends_behind l content r.fed piece used e (rw same_limit r.part) in
+      let behind : e.behind ≡ drop used buffer =
+      sym (drop-append_seam e.text e.behind) ∙ (ap (drop (length e.text)) (sym e.stream_is) ∙ (ap (λ n. drop n (r.fed ++ piece)) count
+      ∙ (sym (drop-drop used (length r.fed) (r.fed ++ piece)) ∙ (ap (drop used) (drop-append_seam r.fed piece) ∙ ap (drop used) same)))) in (
+        r.front ++ e.text,
+        e.behind,
+        whole_is limit continued request piece buffer r same ∙ (ap (λ t. r.front ++ t) e.stream_is ∙ sym (append_assoc r.front e.text e.behind)),
+        whole_request limit continued r.front e.text (record { head = request.head; content = content }) InChunks r.begun (rw (sym same_limit) e.body),
+        omega (arith, some, length-append r.front e.text),
+        subst (λ (b : List ℕ). Keeps limit false b new) (sym behind) keeps,
+      )
+
+  -- the body shows a fault
+  pub faulty_now : (fault : FrameFault) → ShowsFault l content r.fed piece fault
+      → Begins (λ text. IsFaultText limit continued text (refusal_of fault) (is_bare request.head)) (request.used.items ++ buffer)
+  faulty_now fault s =
+      subst (Begins (λ text. IsFaultText limit continued text (refusal_of fault) (is_bare request.head)))
+      (ap (λ t. r.front ++ t) (sym s.stream_is) ∙ sym (whole_is limit continued request piece buffer r same))
+      (body_fault limit continued r.front s.text s.behind request.head InChunks fault r.begun (content, rw (sym same_limit) s.shown))
+
+-- with the piece the reader was fed so much more
+pub reads_on : (limit : ℕ) (continued : Bool) (request : ChunkedRequest) (piece : List ℕ) (reader : ReaderValue) (used : UsedBytes) (r : ReadsChunks limit continued request)
+    → used.items ≡ request.used.items ++ piece → reader.limit ≡ request.reader.limit → HasFed reader (r.fed ++ piece) → IsPartOfBody limit InChunks (r.fed ++ piece)
+    → ReadsChunks limit continued (record request { reader = reader; used = used })
+reads_on limit continued request piece reader used r used_is same_limit has_fed part = record {
+  front = r.front;
+  fed = r.fed ++ piece;
+  used_is = used_is ∙ whole_is limit continued request piece piece r refl;
+  begun = r.begun;
+  limit_is = same_limit ∙ r.limit_is;
+  has_fed = has_fed;
+  part = part;
+}

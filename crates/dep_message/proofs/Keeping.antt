@@ -1,11 +1,11 @@
 -- What is kept of the bytes.
-use Rattle.std.proofs.Common.{◌≡◌, ℕ, ◌+◌, ◌-◌, ◌≤◌, ◌<◌, Bool, false, List, ◌++◌, length, take, drop, sym, ap, subst, ◌∙◌, append-nil, append_assoc, length-append, arith, refl}
+use Rattle.std.proofs.Common.{◌≡◌, ℕ, ◌+◌, ◌-◌, ◌≤◌, ◌<◌, Bool, false, List, [], ◌++◌, length, take, drop, sym, ap, subst, ◌∙◌, append-nil, append_assoc, length-append, arith, refl}
 use Rattle.std.proofs.lemmas.List.{length-take-le, take-append-drop}
 use Rattle.std.proofs.Math.Seq.{take-add, drop-append_seam}
 use Rattle.dep_head.specs.Head.{HeadParts}
 use Rattle.dep_body.specs.declared.frame.Framing.{Framing}
 use Rattle.dep_message.specs.Places.{Reading, Place, Open, HasBytes, place_with}
-use Rattle.dep_message.specs.Working.{IsFresh, IsKnown, IsBegun, ReadsChunks, Keeps, Finds, bytes_apart, kept_bytes, reading_of}
+use Rattle.dep_message.specs.Working.{IsFresh, IsKnown, IsBegun, ReadsChunks, Keeps, Finds, bytes_with, kept_bytes, reading_of}
 use Rattle.dep_message.specs.Stream.{Waits}
 use Rattle.dep_message.specs.declared.intake.Standing.{Standing}
 use Rattle.dep_message.specs.declared.intake.Standing.TheVariants.{Live}
@@ -29,7 +29,7 @@ pub keeps_fresh : (limit : ℕ) (continued : Bool) (bytes : List ℕ) (work : Wo
 keeps_fresh limit continued bytes work fresh same_limit same_continued same_bytes = record {
   limit_is = same_limit;
   continued_is = same_continued;
-  bytes_are = ap (λ (p : Progress). work.buffer ++ bytes_apart p) fresh ∙ (append-nil work.buffer ∙ same_bytes);
+  bytes_are = ap (λ (p : Progress). bytes_with p work.buffer) fresh ∙ same_bytes;
   known = subst (λ (p : Progress). IsKnown work.limit work.continued work.buffer p) (sym fresh) (searched_none work.buffer);
 }
 
@@ -38,10 +38,16 @@ pub keeps_sized : (work : Work) (request : SizedRequest) → IsBegun work.limit 
     → Keeps work.limit work.continued (work.buffer ++ request.behind.items) (record work { progress = Sized request })
 keeps_sized work request begun = record { limit_is = refl; continued_is = refl; bytes_are = refl; known = begun }
 
-pub keeps_chunked : (work : Work) (request : ChunkedRequest) → ReadsChunks work.limit work.continued work.buffer request
-    → Keeps work.limit work.continued work.buffer (record work { progress = Chunked request })
-keeps_chunked work request reads =
-    record { limit_is = refl; continued_is = refl; bytes_are = append-nil work.buffer; known = reads }
+-- the bytes of a request in chunks that were used, and others behind them
+pub keeps_chunked : (work : Work) (request : ChunkedRequest) → ReadsChunks work.limit work.continued request
+    → Keeps work.limit work.continued (request.used.items ++ work.buffer) (record work { progress = Chunked request })
+keeps_chunked work request reads = record { limit_is = refl; continued_is = refl; bytes_are = refl; known = reads }
+
+-- the same with no others
+pub keeps_used : (work : Work) (request : ChunkedRequest) (bytes : List ℕ) → ReadsChunks work.limit work.continued request → request.used.items ≡ bytes
+    → Keeps work.limit work.continued bytes (record work { buffer = []; progress = Chunked request })
+keeps_used work request bytes reads same =
+    record { limit_is = refl; continued_is = refl; bytes_are = append-nil request.used.items ∙ same; known = reads }
 
 -- a buffer that begins with a head has some bytes
 pub begun_bytes : (limit : ℕ) (continued : Bool) (buffer : List ℕ) (n : ℕ) (head : HeadParts) (frame : Framing) → n ≤ length buffer
@@ -86,7 +92,7 @@ pub keeps_apart : (old new : Work) (n : ℕ) (request : SizedRequest) → IsBegu
 keeps_apart old new n request begun behind same_limit same_continued front place = record {
   limit_is = same_limit;
   continued_is = same_continued;
-  bytes_are = ap (λ (p : Progress). new.buffer ++ bytes_apart p) place ∙ (ap (λ l. l ++ request.behind.items) front ∙ (ap (λ l. take n old.buffer ++ l) behind ∙ take-append-drop n old.buffer));
+  bytes_are = ap (λ (p : Progress). bytes_with p new.buffer) place ∙ (ap (λ l. l ++ request.behind.items) front ∙ (ap (λ l. take n old.buffer ++ l) behind ∙ take-append-drop n old.buffer));
   known = subst (λ (p : Progress). IsKnown new.limit new.continued new.buffer p) (sym place) (rw (same_limit, same_continued, front) begun);
 }
 

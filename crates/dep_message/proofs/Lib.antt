@@ -1,4 +1,5 @@
 pub mod Slices
+pub mod Walks
 pub mod Reading
 pub mod OneReading
 pub mod Bodies

@@ -1,5 +1,5 @@
 -- Words of private functions: the bytes that are kept, and what is known of the first request of them.
-use Rattle.std.specs.Prelude.{◌≡◌, ℕ, ◌+◌, ◌<◌, ◌≤◌, Bool, true, false, List, [], ◌++◌, length, take, drop, None, Result, Ok, MatchResult}
+use Rattle.std.specs.Prelude.{◌≡◌, ℕ, ◌<◌, ◌≤◌, Bool, true, false, List, ◌++◌, length, take, None, Result, Ok, MatchResult}
 use Rattle.std.specs.declared.alloc.AllocError.{AllocError}
 use Rattle.dep_head.specs.Head.{HeadParts, IsHeadText, head_end, head_limit}
 use Rattle.dep_body.specs.Framing.{framing}
@@ -37,31 +37,33 @@ pub record IsBegun (limit : ℕ) (continued : Bool) (front : List ℕ) (head : H
 abbrev pub HasBegun : Work → List ℕ → HeadParts → Framing → Type 0
 HasBegun work front head frame = IsBegun work.limit work.continued front head frame
 
--- the bytes behind the head are in chunks, and the reader was fed the first of them, which are no whole body
-pub record ReadsChunks (limit : ℕ) (continued : Bool) (bytes : List ℕ) (request : ChunkedRequest)
-    : Type 0 where
-  pub begun : IsBegun limit continued (take request.head_length bytes) request.head InChunks
-  pub within : request.head_length + request.read ≤ length bytes
+-- the bytes that were used are the head, and behind it what the reader was fed, which is no whole body in chunks
+pub record ReadsChunks (limit : ℕ) (continued : Bool) (request : ChunkedRequest) : Type 0 where
+  pub front : List ℕ
+  pub fed : List ℕ
+  pub used_is : request.used.items ≡ front ++ fed
+  pub begun : IsBegun limit continued front request.head InChunks
   pub limit_is : request.reader.limit ≡ limit
-  pub fed : HasFed request.reader (take request.read (drop request.head_length bytes))
-  pub part : IsPartOfBody limit InChunks (take request.read (drop request.head_length bytes))
+  pub has_fed : HasFed request.reader fed
+  pub part : IsPartOfBody limit InChunks fed
 
--- the bytes that stand apart from the buffer, behind it
-abbrev pub bytes_apart : Progress → List ℕ
-bytes_apart (Searched n) = []
-bytes_apart (Sized request) = request.behind.items
-bytes_apart (Chunked request) = []
+-- the bytes of the buffer with those that stand apart from it: before it, where they were used and are in memory
+-- no more, or behind it
+abbrev pub bytes_with : Progress → List ℕ → List ℕ
+bytes_with (Searched n) buffer = buffer
+bytes_with (Sized request) buffer = buffer ++ request.behind.items
+bytes_with (Chunked request) buffer = request.used.items ++ buffer
 
--- all bytes that are kept
+-- all bytes that no item has used
 abbrev pub kept_bytes : Work → List ℕ
-kept_bytes work = work.buffer ++ bytes_apart work.progress
+kept_bytes work = bytes_with work.progress work.buffer
 
 -- what is known of the first request is so
 abbrev pub IsKnown : ℕ → Bool → List ℕ → Progress → Type 0
 IsKnown limit continued buffer (Searched n) = IsSearched n buffer
 IsKnown limit continued buffer (Sized request) =
     IsBegun limit continued buffer request.head (Length request.length)
-IsKnown limit continued buffer (Chunked request) = ReadsChunks limit continued buffer request
+IsKnown limit continued buffer (Chunked request) = ReadsChunks limit continued request
 
 -- the request before is done with, and nothing is known of the next
 abbrev pub IsFresh : Work → Type 0

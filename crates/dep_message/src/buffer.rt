@@ -60,6 +60,14 @@ impl Buffer {
         self.free_room();
     }
 
+    /// Drops all bytes. The room stays for the next ones.
+    pub fn clear(&mut self)
+        ensures { self.new ≡ [] }
+    {
+        self.bytes.clear();
+        self.gone = 0;
+    }
+
     /// Keeps so many bytes at the front alone. It gives room back where memory allows, and never fails.
     pub fn truncate(&mut self, count: usize)
         requires { count ≤ length self.old }

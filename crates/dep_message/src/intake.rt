@@ -37,7 +37,7 @@ pub(crate) enum Standing {
 }
 
 /// The bytes of a connection that no item has used. It keeps how far they were read, so that no byte of a body is read
-/// again for a later piece.
+/// again for a later piece. Of a body in chunks the bytes that were read are in memory no more, and its content is.
 #[derive(Drop)]
 pub struct Intake {
     work: Work,

@@ -8,6 +8,7 @@ mod intake;
 pub mod laws;
 mod message;
 mod progress;
+mod used;
 mod work;
 
 pub use heads::{closes, is_without_body};

@@ -1,6 +1,7 @@
 //! How far the first request of a connection's bytes was read.
 ghost use Rattle.std.specs.Prelude.{◌≡◌, ◌++◌, OnOk, OnErr};
 
+use crate::used::UsedBytes;
 use dep_body::ChunkReader;
 use dep_head::Head;
 use std::alloc::AllocError;
@@ -19,11 +20,9 @@ pub(crate) struct SizedRequest {
 #[derive(Drop)]
 pub(crate) struct ChunkedRequest {
     pub head: Head,
-    /// How many bytes the head has.
-    pub head_length: usize,
+    /// The bytes of the head, and those behind it that the reader was fed.
+    pub used: UsedBytes,
     pub reader: ChunkReader,
-    /// How many of the bytes behind the head the reader has read.
-    pub read: usize,
 }
 
 /// How far the first request was read.

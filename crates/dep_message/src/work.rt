@@ -9,6 +9,7 @@ use crate::first::{FirstHead, FramedHead, first_head, refusal_for};
 use crate::heads::is_without_body;
 use crate::message::Message;
 use crate::progress::{ChunkedRequest, Progress, SizedRequest};
+use crate::used::UsedBytes;
 use dep_body::{ChunkReader, Fed, FrameFault, Framing};
 use dep_head::Head;
 use dep_types::{Octets, Refusal};
@@ -110,12 +111,7 @@ impl Work {
         match first.framing {
             Framing::Empty => Ok(self.take(first.length, first.head, Vec::new(self.alloc))),
             Framing::Length(length) => self.begin_sized(first.head, first.length, length as usize),
-            Framing::Chunked => self.read_chunks(ChunkedRequest {
-                head: first.head,
-                head_length: first.length,
-                reader: ChunkReader::new(self.alloc, self.limit),
-                read: 0,
-            }),
+            Framing::Chunked => self.begin_chunks(first.head, first.length),
         }
     }
 
@@ -149,6 +145,21 @@ impl Work {
         Ok(Found::Nothing)
     }
 
+    fn begin_chunks(&mut self, head: Head, head_length: usize) -> Result<Found, AllocError>
+        requires fresh { IsFresh self.old }
+        requires within { head_length ≤ length self.old.buffer }
+        requires begun { HasBegun self.old (take head_length self.old.buffer) head Framing.Chunked }
+        ensures { FindsNext self.old self.old.buffer self.new result }
+    {
+        let used = UsedBytes::new().and(&self.buffer.as_slice()[..head_length]);
+        self.buffer.drop_front(head_length);
+        self.read_chunks(ChunkedRequest {
+            head,
+            used,
+            reader: ChunkReader::new(self.alloc, self.limit),
+        })
+    }
+
     // Reads on where the bytes are a head, and those behind it stand apart.
     fn read_sized(&mut self, mut request: SizedRequest) -> Result<Found, AllocError>
         requires fresh { IsFresh self.old }
@@ -173,27 +184,25 @@ impl Work {
         }
     }
 
-    // Reads on where the first request comes in chunks.
+    // Reads on where the first request comes in chunks: the reader is fed the buffer, which is dropped then.
     fn read_chunks(&mut self, mut request: ChunkedRequest) -> Result<Found, AllocError>
         requires fresh { IsFresh self.old }
-        requires reads { ReadsChunks self.old.limit self.old.continued self.old.buffer request }
-        ensures { FindsNext self.old self.old.buffer self.new result }
+        requires reads { ReadsChunks self.old.limit self.old.continued request }
+        ensures { FindsNext self.old (request.used.items ++ self.old.buffer) self.new result }
     {
         let bytes = self.buffer.as_slice();
-        let read = request.head_length + request.read;
-        match request.reader.feed(&bytes[read..]) {
+        match request.reader.feed(bytes) {
             Err(error) => {
                 self.keep_place(Progress::Chunked(request));
                 Err(error)
             }
             Ok(Fed::More) => {
-                request.read = bytes.len() - request.head_length;
+                request.used = request.used.and(bytes);
+                self.buffer.clear();
                 self.keep_place(Progress::Chunked(request));
                 Ok(Found::Nothing)
             }
-            Ok(Fed::Done(used)) => {
-                Ok(self.take(read + used, request.head, request.reader.content()))
-            }
+            Ok(Fed::Done(used)) => Ok(self.take(used, request.head, request.reader.content())),
             Ok(Fed::Bad) => Ok(fault_of(request.head, FrameFault::Bad)),
             Ok(Fed::TooLarge) => Ok(fault_of(request.head, FrameFault::TooLarge)),
         }

@@ -1,4 +1,4 @@
-use Rattle.std.proofs.Common.{[], ◌++◌, refl, ap, List, ℕ}
+use Rattle.std.proofs.Common.{refl}
 use Rattle.dep_message.proofs.SearchOn.{searched_none}
 use Rattle.dep_message.proofs.work.Work.new.Goals as goal
 
@@ -6,6 +6,6 @@ pub returns : goal.returns
 returns c = record {
   limit_is = refl;
   continued_is = refl;
-  bytes_are = ap (λ (l : List ℕ). l ++ []) c.new.ensures;
+  bytes_are = c.new.ensures;
   known = searched_none c.new.result;
 }

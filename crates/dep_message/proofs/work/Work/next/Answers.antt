@@ -1,17 +1,16 @@
-use Rattle.std.proofs.Common.{sym, ◌∙◌, ◌++◌, subst, append-nil, List, ℕ}
-use Rattle.dep_message.specs.Working.{FindsNext, bytes_apart}
+use Rattle.std.proofs.Common.{sym, ◌∙◌, subst}
+use Rattle.dep_message.specs.Working.{FindsNext, bytes_with}
 use Rattle.dep_message.specs.declared.progress.Progress.{Progress}
 use Rattle.dep_message.proofs.work.Work.next.Goals as goal
 
 pub returns-in-Sized : goal.returns-in-Sized
 returns-in-Sized c =
     let w = c.args.self.now in
-    subst (λ (p : Progress). FindsNext w (w.buffer ++ bytes_apart p) c.read_sized.new.self c.read_sized.result)
+    subst (λ (p : Progress). FindsNext w (bytes_with p w.buffer) c.read_sized.new.self c.read_sized.result)
     (sym (sym c.replace.ensures.value ∙ c.in-Sized.is)) c.read_sized.ensures
 
 pub returns-in-Chunked : goal.returns-in-Chunked
 returns-in-Chunked c =
     let w = c.args.self.now in
-    subst (λ (p : Progress). FindsNext w (w.buffer ++ bytes_apart p) c.read_chunks.new.self c.read_chunks.result)
-    (sym (sym c.replace.ensures.value ∙ c.in-Chunked.is))
-    (subst (λ (l : List ℕ). FindsNext w l c.read_chunks.new.self c.read_chunks.result) (sym (append-nil w.buffer)) c.read_chunks.ensures)
+    subst (λ (p : Progress). FindsNext w (bytes_with p w.buffer) c.read_chunks.new.self c.read_chunks.result)
+    (sym (sym c.replace.ensures.value ∙ c.in-Chunked.is)) c.read_chunks.ensures

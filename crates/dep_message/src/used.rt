@@ -1,0 +1,33 @@
+//! Bytes that were used and are in memory no more.
+ghost use Rattle.std.specs.Prelude.{◌≡◌, ℕ, List, [], ◌++◌};
+ghost use Rattle.std.specs.Borrow.{ftrue};
+
+use std::marker::Model;
+
+/// Bytes that were used and are in memory no more. Proofs alone read them: it takes no memory, and its functions do
+/// nothing. Nothing here ties it to what came. The clauses of `Intake` do: `feed` adds just the piece to the bytes that an
+/// intake stands for, and what `next` gives is spelled by them.
+#[derive(Drop)]
+pub(crate) struct UsedBytes {
+    pub ghost items: { List ℕ },
+}
+
+impl Model for UsedBytes {
+    ghost also_owns = { λ _. ftrue };
+}
+
+impl UsedBytes {
+    /// No bytes.
+    pub fn new() -> UsedBytes
+        ensures { result.items ≡ [] }
+    {
+        UsedBytes {}
+    }
+
+    /// These, and more behind them.
+    pub fn and(&self, _bytes: &[u8]) -> UsedBytes
+        ensures { result.items ≡ self.now.items ++ _bytes.now }
+    {
+        UsedBytes {}
+    }
+}
