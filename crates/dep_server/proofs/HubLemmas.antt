@@ -111,7 +111,7 @@ ended_left limit (gives_up [] at r b x) found h = absurd (subst HasBytes r b)
 ended_left limit (gives_up (x ∷ xs) at r b y) found h = absurd r.1
 
 -- what was left goes on with the piece
-beyond : (limit : ℕ) (stream piece : List ℕ) (reading : Reading) → KeepsRest limit stream reading
+pub beyond : (limit : ℕ) (stream piece : List ℕ) (reading : Reading) → KeepsRest limit stream reading
     → (items : List Item) (at : Place) → Reads limit (place_with reading.place piece) items at → ReadsBeyond limit stream piece items at
 beyond limit stream piece reading k items at r = (
   k.items,

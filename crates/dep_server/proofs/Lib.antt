@@ -7,3 +7,7 @@ pub mod HubLemmas
 pub mod TalkLemmas
 mod TurnLemmas
 mod ShutLemmas
+mod Endings
+mod NextLemmas
+mod PartLemmas
+mod HoldingLemmas

@@ -18,6 +18,7 @@ use Rattle.dep_server.specs.Machine.{starting_state, step, replies, state_after,
 use Rattle.dep_server.specs.Causes.{IsCutInContent}
 use Rattle.dep_server.specs.Sending.{IsReplySent, SendsOver, SendsReply, Outside, Passes, SendsStep, reply_to}
 use Rattle.dep_server.specs.Serving.{Arrival, IsDeadIfShut, FailsFrom, IsAnsweredBy, IsFixedSent, IsAnsweredShut, IsStill, ReadsWith, Answers, Progress, ServesFrom, ServesOver, answer_after}
+use Rattle.dep_server.specs.Nexts.{RunsOut}
 use Rattle.dep_server.specs.Shut.{LeavesNoMore, IfShut, EndsFixed, has_ended}
 use Rattle.dep_server.specs.Shut as fixed
 use Rattle.dep_server.proofs.ShutLemmas.{leaves_same, leaves_both, shut_both, sends_up_to, is_fixed, continues_more, ends_fixed, sends_behind, sends_no_more}
@@ -55,7 +56,7 @@ served_none config came at = record {
 }
 
 -- what tells a client to go on leaves any state as it is
-still_more : (config : Config) (items : List Item) (item : Item) (moment : ℕ) (front sent : List ℕ) → IsStill config items moment front → IsAnsweredShut item sent Sent
+pub still_more : (config : Config) (items : List Item) (item : Item) (moment : ℕ) (front sent : List ℕ) → IsStill config items moment front → IsAnsweredShut item sent Sent
     → IsStill config (items ++ item ∷ []) moment (front ++ sent)
 unfolding step
 still_more config items Continue moment front sent still h s = (
@@ -66,7 +67,7 @@ still_more config items (Fault r bare) moment front sent still h s = absurd h.2
 still_more config items (Request m) moment front sent still h s = absurd h.2
 
 -- the last item fails, and any state stays
-fails_still : (config : Config) (s : State) (item : Item) (moment : ℕ) (sent : List ℕ) (answer : Answered) → answer ≢ Sent → IsAnsweredShut item sent answer
+pub fails_still : (config : Config) (s : State) (item : Item) (moment : ℕ) (sent : List ℕ) (answer : Answered) → answer ≢ Sent → IsAnsweredShut item sent answer
     → Fails config s item moment sent s (answer_after answer)
 unfolding step
 fails_still config s item moment sent Sent never h = absurd (never refl)
@@ -280,32 +281,32 @@ module _ (config : Config) (came : Arrival) (old now : Outside) (at : Place) (v 
   }
 
   -- memory runs out before the next item
-  pub serves_gives_up : (holds : Option (List ℕ)) (after : ℕ) → Settles now.store → (answer : Arrived) → HasBytes at
-      → (sent : List ℕ) × Appends now.taken holds sent × SendsUpTo want_of_memory sent answer → (answer ≡ Cut → HasRisen now.failures after)
-      → (p : Place) → p ≡ Shut
-      → ServesOver config came old (record { taken = holds; failures = after; store = now.store }) p answer
-  serves_gives_up holds after settles answer has a cause p e = record {
-    sent = v.sent ++ a.0;
-    passes = passes_both v.passes (passes_at now.taken holds now.failures after now.store a.0 a.1);
+  pub serves_gives_up : (new : Outside) (answer : Arrived) → Settles new.store → RunsOut at now new answer → (p : Place) → p ≡ Shut → ServesOver config came old new p answer
+  serves_gives_up new answer settles o p e = record {
+    sent = v.sent ++ o.sent;
+    passes = passes_both v.passes o.stays.passes;
     serves = λ same dead disk s stands.
-        let b = v.replied disk s stands in
-        subst (λ q. ServesFrom config came s (v.sent ++ a.0) old (record { taken = holds; failures = after; store = now.store }) q answer) (sym e)
-        (subst (λ bytes. ServesFrom config came s (bytes ++ a.0) old (record { taken = holds; failures = after; store = now.store }) Shut answer) (sym b.whole)
+        let b = v.replied (o.stays.passes.honest disk) s stands in
+        let kept = o.stays.state (state_after config s v.items came.moment) b.stands in
+        subst (λ q. ServesFrom config came s (v.sent ++ o.sent) old new q answer) (sym e)
+        (subst (λ bytes. ServesFrom config came s (bytes ++ o.sent) old new Shut answer) (sym b.whole)
         (record {
           left = state_after config s v.items came.moment;
-          serves = gives_up v.items at v.reads has a.2;
-          stands = λ _. b.stands;
-          stays_clean = λ _. now.store.open_if_kept (state_after config s v.items came.moment) b.stands;
-          stop = stays_as now.store (state_after config s v.items came.moment) settles b.stands;
-          cause = λ c. inl (subst (λ n. HasRisen n after) b.failures (cause c));
+          serves = gives_up v.items at v.reads o.some o.sends;
+          stands = λ _. kept;
+          stays_clean = λ _. new.store.open_if_kept (state_after config s v.items came.moment) kept;
+          stop = stays_as new.store (state_after config s v.items came.moment) settles kept;
+          cause = λ c. inl (subst (λ n. HasRisen n new.failures) b.failures (o.cause c));
         }));
-    shut = λ disk none. let so_far = v.shut disk none in (sends_behind v.sent a.0 answer so_far.0 (fixed.gives_up (inl refl) a.2), so_far.1);
+    shut = λ disk none.
+        let so_far = v.shut (o.stays.passes.honest disk) none in
+        (sends_behind v.sent o.sent answer so_far.0 (fixed.gives_up (inl refl) o.sends), leaves_both old.store now.store new.store so_far.1 o.stays.leaves);
     still = λ disk none same dead s.
-        let t = v.still disk none s in
-        subst (λ q. Serves config (ReadsWith came) s came.moment (v.sent ++ a.0) s q answer) (sym e)
-        (subst (λ left. Serves config (ReadsWith came) s came.moment (v.sent ++ a.0) left Shut answer) t.0
-        (subst (λ bytes. Serves config (ReadsWith came) s came.moment (bytes ++ a.0) (state_after config s v.items came.moment) Shut answer) t.1
-        (gives_up v.items at v.reads has a.2)));
+        let t = v.still (o.stays.passes.honest disk) none s in
+        subst (λ q. Serves config (ReadsWith came) s came.moment (v.sent ++ o.sent) s q answer) (sym e)
+        (subst (λ left. Serves config (ReadsWith came) s came.moment (v.sent ++ o.sent) left Shut answer) t.0
+        (subst (λ bytes. Serves config (ReadsWith came) s came.moment (bytes ++ o.sent) (state_after config s v.items came.moment) Shut answer) t.1
+        (gives_up v.items at v.reads o.some o.sends)));
   }
 
 -- an item is answered, and it is the last

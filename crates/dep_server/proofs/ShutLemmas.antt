@@ -14,7 +14,7 @@ use Rattle.dep_server.specs.Turns.{Turn}
 use Rattle.dep_server.specs.Conversation.{AreFixed, Talks, silent, turn}
 use Rattle.dep_server.specs.declared.hub.Hub.{Hub}
 use Rattle.dep_server.specs.declared.arrived.Arrived.{Arrived}
-use Rattle.dep_server.specs.declared.arrived.Arrived.TheVariants.{Closed}
+use Rattle.dep_server.specs.declared.arrived.Arrived.TheVariants.{Open as StaysOpen, Closed}
 use Rattle.dep_server.specs.declared.sending.Answered.{Answered}
 use Rattle.dep_server.specs.declared.sending.Answered.TheVariants.{Sent, GaveUp, CutShort}
 
@@ -41,6 +41,10 @@ pub sends_up_to : (whole sent : List ℕ) (answer : Answered) → IsSentUpTo who
 sends_up_to whole sent Sent h = absurd h
 sends_up_to whole sent GaveUp h = subst (λ bytes. SendsUpTo whole bytes Closed) (sym h) all
 sends_up_to whole sent CutShort h = cut h
+
+-- and then the connection has ended
+pub ends_sent : (whole sent : List ℕ) → SendsUpTo whole sent StaysOpen → ⊥
+ends_sent whole sent h = elim h [ ]
 
 pub is_fixed : (fault : StoreFault) → IsFixed (reply_to fault)
 is_fixed Store = inr refl

@@ -4,7 +4,9 @@ pub mod Records
 pub mod Causes
 pub mod Sending
 pub mod Serving
+pub mod Nexts
 pub mod Standing
+pub mod Holding
 pub mod Turns
 pub mod Conversation
 pub mod Numbers

@@ -1,21 +1,22 @@
 //! All connections, and the one store that they share.
-ghost use Rattle.std.specs.Prelude.{◌+◌, ◌≡◌, ◌<◌, ◌≤◌, ℕ, [], ◌∷◌, ◌++◌, List, length, IfOk, IfErr, OnErr, IfSome, None, IsErrOf, IsSome, ◌⊎◌, ◌≢◌};
+ghost use Rattle.std.specs.Prelude.{◌+◌, ◌≡◌, ◌<◌, ◌≤◌, ℕ, [], ◌∷◌, ◌++◌, List, length, MatchResult, IfOk, IfErr, OnErr, IfSome, None, IsErrOf, IsSome, ◌⊎◌, ◌≢◌};
 ghost use Rattle.dep_types.specs.State.{State};
 ghost use Rattle.dep_types.specs.Config.{IsChecked};
 ghost use Rattle.dep_types.specs.Conditions.{StandsFor, Leaves};
-ghost use Rattle.dep_server.specs.Records.{Connect, Close, Record, World, Run, Absent, stopped, first_world};
+ghost use Rattle.dep_server.specs.Records.{Connect, Close, Record, Line, World, Run, Absent, Live, stopped, first_world};
 ghost use Rattle.dep_server.specs.Numbers.{Ascends, Ascends-prop, most_connections, last_number};
 
 use crate::archive::Archive;
 use crate::arrived::Arrived;
 use crate::connections::{ConnId, Connection, index_among};
 use crate::faults::{ConnectFault, HubFault};
-use crate::serving::{Piece, serve};
+use crate::next::Next;
+use crate::serving::{Piece, answer_next, give_up, serve};
 use crate::site::Site;
 use dep_message::Intake;
 use dep_moment::Moment;
 use dep_types::{Config, ConfigFault, Outlet};
-use std::alloc::Global;
+use std::alloc::{AllocError, Global};
 
 /// All connections, and the one store that they share.
 #[derive(Drop)]
@@ -34,6 +35,7 @@ const LAST_NUMBER: u64 = 4_000_000_000_000_000_000;
 
 impl<A: Archive> Hub<A> {
     ghost use Rattle.dep_server.specs.Standing.{StandsAfter, StandsAt, IsClean, IsHonest, store_of, Adds, Moves, ComesTo, intake_of};
+    ghost use Rattle.dep_server.specs.Holding.{KeepsHolding, MovesLine, OffersTo, ComesToNext, with_held};
 
     /// A hub over the store, without connections. A refusal hands the store back.
     pub fn new(alloc: Global, config: Config, store: A) -> Result<Hub<A>, (HubFault, A)>
@@ -80,6 +82,12 @@ impl<A: Archive> Hub<A> {
             (λ number. Moves A.condition self.old self.new (Connect number) []) }
         ensures same { OnErr result ((w : World) → StandsAt A.condition self.old w
             → StandsAt A.condition self.new w) }
+        // What the others hold stays.
+        ensures holding { MatchResult result
+            (λ number. MovesLine A.condition self.old self.new number (Live []) (λ held. held))
+            (λ _. (lines : ℕ → Line) (held : ℕ → List ℕ)
+            → KeepsHolding A.condition self.old lines held
+            → KeepsHolding A.condition self.new lines held) }
         ensures config { self.new.config ≡ self.old.config }
         ensures store { self.new.store ≡ self.old.store }
         ensures next { IfOk result (λ number.
@@ -149,10 +157,63 @@ impl<A: Archive> Hub<A> {
         serve(&self.config, &mut self.store, &mut kept.intake, &piece, out)
     }
 
+    /// Takes a piece of a connection's stream, and answers nothing of it: `answer` does, one item at
+    /// a time. Where memory runs out the fixed reply for it is sent, and the connection is `Closed`,
+    /// or `Cut`. Otherwise it is `Open`, also where it has ended, which the next `answer` tells.
+    /// Nothing bounds what is held: offer no more before an `answer` was `Waiting`.
+    pub fn offer<O: Outlet>(&mut self, connection: ConnId, piece: &[u8], out: &mut O) -> Arrived
+        ensures config { self.new.config ≡ self.old.config }
+        ensures next { self.new.next ≡ self.old.next }
+        ensures store { self.new.store ≡ self.old.store }
+        ensures absent { intake_of self.old.connections.items connection ≡ None
+            → result ≡ Arrived.NoSuch }
+        // A connection that was there is there.
+        ensures there { IsSome (intake_of self.old.connections.items connection)
+            → (result ≢ Arrived.NoSuch) × IsSome (intake_of self.new.connections.items connection) }
+        ensures offers { OffersTo A.condition (O.taken out.old) (O.taken out.new)
+            (O.failures out.old) (O.failures out.new)
+            self.old self.new connection piece.now result }
+    {
+        let Some(i) = index_among(self.connections.as_slice(), connection.number()) else {
+            return Arrived::NoSuch;
+        };
+        let kept = &mut self.connections[i];
+        match kept.intake.feed(piece) {
+            Ok(()) => Arrived::Open,
+            Err(AllocError) => give_up(&mut kept.intake, out),
+        }
+    }
+
+    /// Answers the next item of a connection, where one is complete in what was offered. It sends one
+    /// reply at most.
+    pub fn answer<O: Outlet>(&mut self, connection: ConnId, moment: Moment, out: &mut O) -> Next
+        ensures config { self.new.config ≡ self.old.config }
+        ensures next { self.new.next ≡ self.old.next }
+        ensures absent { intake_of self.old.connections.items connection ≡ None
+            → result ≡ Next.NoSuch }
+        // The store is open after it only where it was before, and the disk honest.
+        ensures clean { IsClean A.condition self.new → IsClean A.condition self.old }
+        ensures honest { IsHonest A.condition self.new → IsHonest A.condition self.old }
+        // A connection that was there is there.
+        ensures there { IsSome (intake_of self.old.connections.items connection)
+            → (result ≢ Next.NoSuch) × IsSome (intake_of self.new.connections.items connection) }
+        ensures answers { ComesToNext A.condition (O.taken out.old) (O.taken out.new)
+            (O.failures out.old) (O.failures out.new) self.old self.new connection moment result }
+    {
+        let Some(i) = index_among(self.connections.as_slice(), connection.number()) else {
+            return Next::NoSuch;
+        };
+        let kept = &mut self.connections[i];
+        answer_next(&self.config, &mut self.store, &mut kept.intake, moment, out)
+    }
+
     /// Forgets a connection.
     pub fn close(&mut self, connection: ConnId)
         ensures adds { Adds A.condition self.old self.new (Close connection) [] }
         ensures moves { Moves A.condition self.old self.new (Close connection) [] }
+        // What it held never arrives, and what the others hold stays.
+        ensures holding { MovesLine A.condition self.old self.new connection Absent
+            (with_held connection []) }
         ensures gone { intake_of self.new.connections.items connection ≡ None }
         // What a stop now leaves.
         ensures rests { (w : World) → StandsAt A.condition self.old w

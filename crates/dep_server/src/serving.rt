@@ -1,14 +1,16 @@
 //! One arrival: the items that are complete now are answered in order.
-ghost use Rattle.std.specs.Prelude.{◌≡◌, ◌≢◌, ℕ, List};
+ghost use Rattle.std.specs.Prelude.{◌≡◌, ◌≢◌, ◌<◌, ℕ, List};
 ghost use Rattle.std.specs.Io.KnownBytes.{Appends};
 ghost use Rattle.dep_types.specs.Writing.{HasRisen};
 ghost use Rattle.dep_server.specs.Machine.{SendsUpTo, want_of_memory};
-ghost use Rattle.dep_message.specs.Places.{Reading, shut_reading};
+ghost use Rattle.dep_message.specs.Places.{Reading, shut_reading, left_to_read};
 ghost use Rattle.dep_server.specs.Sending.{outside};
 ghost use Rattle.dep_server.specs.Serving.{ServesOver, IsDeadIfShut, arrival_of, answer_after};
+ghost use Rattle.dep_server.specs.Nexts.{AnswersNext, ended_as};
 
 use crate::archive::Archive;
 use crate::arrived::Arrived;
+use crate::next::Next;
 use crate::sending::{Answered, send_want_of_memory};
 use crate::site::Site;
 use crate::step::{StreamRefusal, answer_continue, answer_fault, answer_message};
@@ -45,35 +47,74 @@ pub(crate) fn serve<A: Archive, O: Outlet>(
         return give_up(intake, out);
     }
     loop {
-        match intake.next() {
-            Err(AllocError) => return give_up(intake, out),
-            Ok(Step::NeedMore) => return Arrived::Open,
-            Ok(Step::Dead) => return Arrived::Closed,
-            Ok(Step::Refused(refusal, is_bare)) => {
-                let fault = StreamRefusal { refusal, is_bare };
-                let answer = answer_fault(site, store, fault, piece.moment, out);
-                return end(intake, answer);
-            }
-            Ok(Step::Continue100) => match answer_continue(store, out) {
-                Answered::Sent => {}
-                answer => return end(intake, answer),
-            },
-            Ok(Step::Message(message)) => {
-                let is_last = closes(&message.head);
-                match answer_message(site, store, message, piece.moment, out) {
-                    Answered::Sent => {
-                        if is_last {
-                            return end(intake, Answered::Sent);
-                        }
+        match answer_next(site, store, intake, piece.moment, out) {
+            Next::More => {}
+            Next::Waiting => return Arrived::Open,
+            Next::Closed => return Arrived::Closed,
+            Next::Cut => return Arrived::Cut,
+            Next::NoSuch => unreachable!(),
+        }
+    }
+}
+
+/// Answers the next item, where one is complete. It is never `NoSuch`.
+pub(crate) fn answer_next<A: Archive, O: Outlet>(
+    site: &Site,
+    store: &mut A,
+    intake: &mut Intake,
+    moment: Moment,
+    out: &mut O,
+) -> Next
+    ensures answers { AnswersNext site.now intake.old moment
+        (outside (O.taken out.old) (O.failures out.old) (A.condition store.old))
+        (outside (O.taken out.new) (O.failures out.new) (A.condition store.new))
+        intake.new.place result }
+    ensures limit { intake.new.limit ≡ intake.old.limit }
+    ensures dead { IsDeadIfShut intake.old → IsDeadIfShut intake.new }
+    ensures less { result ≡ Next.More
+        → left_to_read intake.new.place < left_to_read intake.old.place }
+{
+    match intake.next() {
+        Err(AllocError) => last(give_up(intake, out)),
+        Ok(Step::NeedMore) => Next::Waiting,
+        Ok(Step::Dead) => Next::Closed,
+        Ok(Step::Refused(refusal, is_bare)) => {
+            let fault = StreamRefusal { refusal, is_bare };
+            let answer = answer_fault(site, store, fault, moment, out);
+            last(end(intake, answer))
+        }
+        Ok(Step::Continue100) => match answer_continue(store, out) {
+            Answered::Sent => Next::More,
+            answer => last(end(intake, answer)),
+        },
+        Ok(Step::Message(message)) => {
+            let is_last = closes(&message.head);
+            match answer_message(site, store, message, moment, out) {
+                Answered::Sent => {
+                    if is_last {
+                        last(end(intake, Answered::Sent))
+                    } else {
+                        Next::More
                     }
-                    answer => return end(intake, answer),
                 }
+                answer => last(end(intake, answer)),
             }
         }
     }
 }
 
-fn give_up<O: Outlet>(intake: &mut Intake, out: &mut O) -> Arrived
+// What the end of a connection comes to.
+fn last(ended: Arrived) -> Next
+    ensures { result ≡ ended_as ended }
+{
+    match ended {
+        Arrived::Cut => Next::Cut,
+        _ => Next::Closed,
+    }
+}
+
+/// Ends a connection for want of memory: the fixed reply for it is sent, and nothing is read any more.
+pub(crate) fn give_up<O: Outlet>(intake: &mut Intake, out: &mut O) -> Arrived
     ensures sent { (sent : List ℕ) × Appends (O.taken out.old) (O.taken out.new) sent
         × SendsUpTo want_of_memory sent result }
     ensures shut { intake.new ≡ shut_reading intake.old }

@@ -5,8 +5,8 @@ use Rattle.dep_server.specs.Serving.{Progress, IsDeadIfShut, arrival_of}
 use Rattle.dep_server.proofs.serving.serve.Given as goal
 
 -- what was read so far was answered
-abbrev pub invariant-loop-intake : goal.invariant-loop-intake
-invariant-loop-intake g l = record {
+abbrev pub invariant-loop : goal.invariant-loop
+invariant-loop g l = record {
   served : Progress l.site (arrival_of l.fn.intake l.piece.bytes.now l.piece.moment)
       (outside (g.O.Outlet.taken l.fn.out) (g.O.Outlet.failures l.fn.out) (g.A.Archive.condition l.fn.store))
       (outside (g.O.Outlet.taken l.out) (g.O.Outlet.failures l.out) (g.A.Archive.condition l.store)) l.intake.place;
@@ -14,5 +14,5 @@ invariant-loop-intake g l = record {
   dead : IsDeadIfShut l.fn.intake → IsDeadIfShut l.intake;
 }
 
-abbrev pub decreases-loop-intake : goal.decreases-loop-intake
-decreases-loop-intake g l = left_to_read l.intake.place
+abbrev pub decreases-loop : goal.decreases-loop
+decreases-loop g l = left_to_read l.intake.place

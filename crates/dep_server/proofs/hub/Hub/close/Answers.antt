@@ -6,6 +6,7 @@ use Rattle.dep_server.specs.Standing.{intake_of}
 use Rattle.dep_server.specs.declared.connections.Connection.{Connection}
 use Rattle.dep_server.proofs.ConnectionLemmas.{index_none, intake_remove, ascends_remove}
 use Rattle.dep_server.proofs.HubLemmas.{closes_moves, moves_adds, absent_already, leaves_as_before}
+use Rattle.dep_server.proofs.HoldingLemmas.{closes_line}
 use Rattle.dep_server.proofs.hub.Hub.close.Goals as goal
 
 pub returns-in-Some-clause-moves : goal.returns-in-Some-clause-moves
@@ -49,3 +50,14 @@ returns-in-Some-clause-rests g c =
 pub returns-in_default-clause-rests : goal.returns-in_default-clause-rests
 returns-in_default-clause-rests g c =
     leaves_as_before g.A.Archive.condition c.args.self.now _ refl (g.met.A.Archive.settled c.args.self.now.store)
+
+pub returns-in-Some-clause-holding : goal.returns-in-Some-clause-holding
+returns-in-Some-clause-holding g c =
+    let index = (λ i. index_of (sym c.number.ensures i) (sym c.as_slice.ensures.value i)) ∙ sym c.in-Some.ensures.value in
+    closes_line c.args.self.now.config.max_upload c.args.connection c.args.self.now.connections.items c.remove.new.self.items
+    (λ m. ap (λ (cs : List Connection). intake_of cs m) c.remove.ensures.items ∙ intake_remove c.args.connection 0 c.args.self.now.next c.in-Some.i c.args.self.now.connections.items index c.args.self.now.ascends m)
+
+pub returns-in_default-clause-holding : goal.returns-in_default-clause-holding
+returns-in_default-clause-holding g c =
+    closes_line c.args.self.now.config.max_upload c.args.connection c.args.self.now.connections.items c.args.self.now.connections.items
+    (absent_already c.args.connection c.args.self.now.connections.items (index_none c.args.connection c.args.self.now.connections.items ((λ i. index_of (sym c.number.ensures i) (sym c.as_slice.ensures.value i)) ∙ (sym c.index_among.ensures.value ∙ c.in_default.is))))

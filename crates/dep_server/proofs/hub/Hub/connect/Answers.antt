@@ -8,6 +8,7 @@ use Rattle.dep_server.specs.Standing.{intake_of}
 use Rattle.dep_server.specs.declared.connections.Connection.{Connection}
 use Rattle.dep_server.proofs.ConnectionLemmas.{absent_above, ascends_push, pushed_there}
 use Rattle.dep_server.proofs.HubLemmas.{connects_moves, moves_adds, leaves_as_before}
+use Rattle.dep_server.proofs.HoldingLemmas.{connects_line, holds_same}
 use Rattle.dep_server.proofs.hub.Hub.connect.Goals as goal
 
 pub returns-clause-moves : goal.returns-clause-moves
@@ -95,3 +96,17 @@ returns-clause-store g c = refl
 
 pub returns-clause-kept : goal.returns-clause-kept
 returns-clause-kept g c = tt
+
+pub returns-clause-holding : goal.returns-clause-holding
+returns-clause-holding g c =
+    connects_line c.args.self.now.config.max_upload c.new-2.result c.args.self.now.next c.args.self.now.connections.items c.push.new.self.items c.args.self.now.ascends c.new-2.ensures
+    (c.in_default.ensures.items ∙ (λ i. c.args.self.now.connections.items ++ record {
+      number = sym c.new-2.ensures i;
+      intake = (c.new.ensures ∙ ap (λ (x : Config). record { limit = x.max_upload; place = Open false []; is_dead = false }) c.config.ensures) i;
+    } ∷ []))
+
+pub returns-then-len-ge-MOST_CONNECTIONS-clause-holding : goal.returns-then-len-ge-MOST_CONNECTIONS-clause-holding
+returns-then-len-ge-MOST_CONNECTIONS-clause-holding g c = λ lines held kept. kept
+
+pub returns-in-Err-clause-holding : goal.returns-in-Err-clause-holding
+returns-in-Err-clause-holding g c = holds_same c.args.self.now.config.max_upload c.args.self.now.connections.items c.push.new.self.items c.in-Err.ensures.items
