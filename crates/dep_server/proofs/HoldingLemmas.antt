@@ -1,19 +1,17 @@
 -- What a hub stands for that holds bytes which have not arrived, after each of its calls.
 use Rattle.std.proofs.Common.{◌≡◌, ◌≢◌, ℕ, ◌==◌, ◌≤◌, Bool, true, false, List, [], ◌∷◌, ◌++◌, set, get_or, Option, Some, None, if◌then◌else◌, refl, sym, ap, subst, ◌∙◌, arith}
 use Rattle.std.proofs.lemmas.Bool.{eqb-true}
-use Rattle.std.specs.Io.KnownBytes.{Appends}
 use Rattle.dep_types.specs.State.{State}
 use Rattle.dep_types.specs.declared.config.Config.{Config}
 use Rattle.dep_types.specs.Conditions.{Condition, StandsFor, Leaves}
-use Rattle.dep_message.specs.Places.{Open, Shut, Reading, shut_reading, HasBytes, place_with}
-use Rattle.dep_server.specs.Machine.{SendsUpTo, want_of_memory}
+use Rattle.dep_message.specs.Places.{Open, Reading, shut_reading, place_with}
+use Rattle.dep_server.specs.Machine.{want_of_memory}
 use Rattle.dep_server.specs.Records.{Connect, Close, Arrive, Record, stopped, first_world, connects, closes, arrives, Run, goes_on, stops, Line, Absent, Live, World, with_line}
 use Rattle.dep_server.specs.Sending.{Outside, outside}
 use Rattle.dep_server.specs.Serving.{IsDeadIfShut}
-use Rattle.dep_server.specs.Shut.{IfShut}
 use Rattle.dep_server.specs.Nexts.{RunsOut, AnswersNext}
 use Rattle.dep_server.specs.Standing.{intake_of, IsKeptAs, StandsAt, store_of, IsClean}
-use Rattle.dep_server.specs.Holding.{with_held, fed, IsHeldAs, Outcome, arrived_by, IsNext, IsRefused, KeepsHolding, StandsHolding, StandsHoldingAfter, MovesLine, PartArrives, AnswersShut, AnswersOver, ComesToNext, Offers, OffersTo}
+use Rattle.dep_server.specs.Holding.{with_held, fed, IsHeldAs, Outcome, arrived_by, IsNext, IsRefused, KeepsHolding, StandsHolding, StandsHoldingAfter, MovesLine, PartArrives, AnswersOver, ComesToNext, OffersTo}
 use Rattle.dep_server.specs.Numbers.{index_of, Ascends}
 use Rattle.dep_server.specs.declared.arrived.Arrived.{Arrived}
 use Rattle.dep_server.specs.declared.arrived.Arrived.TheVariants as came
@@ -23,9 +21,10 @@ use Rattle.dep_server.specs.declared.connections.Connection.{Connection}
 use Rattle.dep_server.specs.declared.hub.Hub.{Hub}
 use Rattle.dep_server.proofs.Leaving.{Settles, stays_as, leaves_wider}
 use Rattle.dep_server.proofs.ConnectionLemmas.{index_some, intake_set, intake_push, absent_above}
-use Rattle.dep_server.proofs.HubLemmas.{kept_fresh, stopped_run, keeps_same}
+use Rattle.dep_server.proofs.HubLemmas.{kept_fresh, stopped_run}
 use Rattle.dep_server.proofs.ShutLemmas.{ends_sent}
-use Rattle.dep_server.proofs.PartLemmas.{place_nothing, place_twice, open_closed, open_cut, Keeps, NextOver, over_next, over_out}
+use Rattle.dep_server.proofs.HeldLemmas.{place_nothing, place_twice, open_closed, open_cut, Keeps, NextOver}
+use Rattle.dep_server.proofs.PartLemmas.{over_next, over_out}
 
 -- ---- lines, and what is held of them
 

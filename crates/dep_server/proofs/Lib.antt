@@ -9,5 +9,6 @@ mod TurnLemmas
 mod ShutLemmas
 mod Endings
 mod NextLemmas
+mod HeldLemmas
 mod PartLemmas
 mod HoldingLemmas

@@ -1,20 +1,19 @@
 -- How the serving of an arrival goes on, and how it ends.
 use Rattle.std.proofs.Common.{◌≡◌, ◌≢◌, ◌⊎◌, inl, ℕ, Bool, true, false, if◌then◌else◌, List, [], ◌∷◌, ◌++◌, IsTrue, refl, sym, ap, subst, ◌∙◌, append_assoc, Option}
 use Rattle.std.proofs.lemmas.List.{append-nil}
-use Rattle.std.specs.Io.KnownBytes.{Appends}
 use Rattle.dep_types.specs.State.{State}
 use Rattle.dep_types.specs.declared.config.Config.{Config}
 use Rattle.dep_types.specs.Writing.{IsProperPrefix, HasRisen}
 use Rattle.dep_types.specs.declared.refusal.Refusal.{Refusal}
 use Rattle.dep_types.specs.declared.store_fault.StoreFault.{StoreFault}
-use Rattle.dep_message.specs.Places.{Place, Open, Shut, Reading, HasBytes, place_with}
+use Rattle.dep_message.specs.Places.{Place, Open, Shut, Reading, place_with}
 use Rattle.dep_message.specs.Heads.{closes}
 use Rattle.dep_message.specs.Stream.{Item, Fault, Continue, Request, FirstAt, Waits}
 use Rattle.dep_message.specs.declared.message.Message.{Message}
 use Rattle.dep_message.proofs.Reading.{reads_one}
 use Rattle.dep_answers.specs.Steps.{sent_by}
 use Rattle.dep_types.specs.Conditions.{Condition, StandsFor, HasCleanDisk, Leaves}
-use Rattle.dep_server.specs.Machine.{starting_state, step, replies, state_after, continue_line, Fails, Serves, given_up, cut_short, serves_all, step_fails, gives_up, SendsUpTo, want_of_memory, answer_at_place}
+use Rattle.dep_server.specs.Machine.{starting_state, step, replies, state_after, continue_line, Fails, Serves, given_up, cut_short, serves_all, step_fails, gives_up, answer_at_place}
 use Rattle.dep_server.specs.Causes.{IsCutInContent}
 use Rattle.dep_server.specs.Sending.{IsReplySent, SendsOver, SendsReply, Outside, Passes, SendsStep, reply_to}
 use Rattle.dep_server.specs.Serving.{Arrival, IsDeadIfShut, FailsFrom, IsAnsweredBy, IsFixedSent, IsAnsweredShut, IsStill, ReadsWith, Answers, Progress, ServesFrom, ServesOver, answer_after}

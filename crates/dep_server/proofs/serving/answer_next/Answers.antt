@@ -1,4 +1,4 @@
-use Rattle.std.proofs.Common.{◌≡◌, true, false, refl, sym, ap, subst, ◌∙◌}
+use Rattle.std.proofs.Common.{◌≡◌, true, false, sym, ap, subst, ◌∙◌}
 use Rattle.dep_message.specs.Heads.{closes}
 use Rattle.dep_message.specs.Places.{Reading}
 use Rattle.dep_message.specs.Stream.{Item, Fault, Continue, Request}

@@ -1,4 +1,4 @@
-use Rattle.std.proofs.Common.{refl, sym, ap, subst, ◌∙◌}
+use Rattle.std.proofs.Common.{sym, ap, subst, ◌∙◌}
 use Rattle.dep_message.specs.Places.{Reading, place_with}
 use Rattle.dep_server.specs.Sending.{outside}
 use Rattle.dep_server.specs.Serving.{Progress, IsDeadIfShut, arrival_of}
