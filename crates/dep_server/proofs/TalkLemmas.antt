@@ -456,10 +456,10 @@ module _ {A : Type 0} (condition : A → Condition) where
 
   -- where the store is open, or honest, at the end of the turns, it was so before
   pub later_clean : {C : Type 0} (ticks : C → ℕ → C → Type 0) (n : ℕ) (old new : Session condition C) (served : Served) → TalksUntil condition ticks n old new served → IsClean condition new.hub → IsClean condition old.hub
-  later_clean ticks n old new served t clean = talks_clean n old.hub new.hub old.wire.failures new.wire.failures t.talk.turns t.talk.talks clean
+  later_clean ticks n old new came t clean = talks_clean n old.hub new.hub old.wire.failures new.wire.failures t.talk.turns t.talk.talks clean
 
   pub later_honest : {C : Type 0} (ticks : C → ℕ → C → Type 0) (n : ℕ) (old new : Session condition C) (served : Served) → TalksUntil condition ticks n old new served → IsHonest condition new.hub → IsHonest condition old.hub
-  later_honest ticks n old new served t honest = talks_honest n old.hub new.hub old.wire.failures new.wire.failures t.talk.turns t.talk.talks honest
+  later_honest ticks n old new came t honest = talks_honest n old.hub new.hub old.wire.failures new.wire.failures t.talk.turns t.talk.talks honest
 
   -- not opened
   pub unserved : {C : Type 0} (clock : C) (old new : Hub A) (wire : Wire) → ((w : World) → StandsAt condition old w → StandsAt condition new w) → new.store ≡ old.store
