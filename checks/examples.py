@@ -3,9 +3,9 @@
 
     checks/examples.py crates/examples/data/texts.txt crates/examples/data/deposits.txt
 
-docs/EXAMPLES.md says how a file is written. Examples whose lines need the server of this repository itself (an intake
-by itself, a reader or a writer that fails, a statement of SQL) are left out and counted. Where files fail or stop, an
-example is played as if none did. With `--lengths` in front, a
+docs/EXAMPLES.md says how a file is written. Examples whose lines need the server of this repository itself (a reader or
+a writer that fails, a statement of SQL) are left out and counted. Where files fail or stop, an example is played as if
+none did. With `--lengths` in front, a
 `Content-Length: ?` that has to come back is taken as the length of what stands behind it, and told.
 """
 
@@ -18,8 +18,8 @@ MOMENT = 1_523_836_800
 WORDS = ("open", "closed", "cut", "gone", "ended", "served")
 CALLED = ("done", "damaged", "no-such-object", "transfer-fault")
 BLOCK = 65_536
-LEFT_OUT = {"intake", "reader-fails", "reads", "writer-takes", "writer-fails-after", "unserved", "bound", "read-fault",
-            "write-fault", "crowd", "full", "sql", "unopened", "shut", "cut", "store-fault"}
+LEFT_OUT = {"reader-fails", "reads", "writer-takes", "writer-fails-after", "unserved", "bound", "read-fault",
+            "write-fault", "crowd", "full", "sql", "unopened", "cut", "store-fault"}
 NAMES = {"base": "base", "title": "title", "abstract": "abstract", "depositor": "depositor",
          "on-behalf-of": "on_behalf_of", "require-if-match": "require_if_match", "max-upload": "max_upload",
          "max-assembled": "max_assembled", "max-segments": "max_segments", "staging-max-idle": "staging_max_idle"}
@@ -93,7 +93,7 @@ class Play:
         self.config, self.archive, self.server = model.Config(), model.Archive(), None
         self.moment, self.stream, self.want, self.name = MOMENT, b"", b"", None
         self.current, self.longest, self.call = 1, 0, None
-        self.has_faults, self.looks = False, []
+        self.has_faults, self.looks, self.intake = False, [], None
 
     def line(self, line):
         word, _, rest = line.partition(" ")
@@ -144,6 +144,10 @@ class Play:
             if self.config.is_accepted():
                 raise Wrong("the configuration is accepted")
             self.server = None
+        elif word == "intake":
+            self.intake = model.Intake(self.config)
+        elif word == "shut":
+            self.intake.is_dead = True
         elif word in ("fails", "stops"):
             self.has_faults = True
         elif word == "looks":
@@ -179,7 +183,7 @@ class Play:
         sent, came = b"", "open"
         self.longest = max(self.longest, len(self.stream))
         for piece in pieces(self.way, self.stream):
-            part, came = self.server.arrive(current, piece, self.moment)
+            part, came = self.intake.arrive(piece) if self.intake else self.server.arrive(current, piece, self.moment)
             sent += part
         self.compare(sent, came, word)
         if self.has_faults and not self.stream.startswith(b"GET ") and before == self.looked():

@@ -183,6 +183,10 @@ class Request:
     def values(self, name):
         return [value for key, value in self.fields if key.lower() == name.lower()]
 
+    def closes(self):
+        asked = [member.lower() for member in self.members("Connection")]
+        return self.version == 0 or b"close" in asked
+
     def members(self, name):
         """The members of a comma list over several lines, empty ones skipped."""
         found = [member.strip(b" \t") for value in self.values(name) for member in value.split(b",")]
@@ -579,11 +583,15 @@ def a_number(text):
     return int(text) if re.fullmatch(r"[1-9][0-9]{0,18}", text) and int(text) <= GREATEST else None
 
 
-def resource(target):
-    """The resource of a target, with its numbers, or None."""
+def path_of(target):
     path = re.sub(rb"[?#].*", b"", target, flags=re.S)
     path = re.sub(rb"^[A-Za-z][A-Za-z0-9+.\-]*://[^/]*", b"", path) or (b"/" if b"://" in target else b"")
-    parts = path.decode("latin-1").split("/")
+    return path.decode("latin-1")
+
+
+def resource(target):
+    """The resource of a target, with its numbers, or None."""
+    parts = path_of(target).split("/")
     if parts[0] != "" or len(parts) < 2:
         return None
     parts = parts[1:]
@@ -995,6 +1003,33 @@ def read_head(text):
     return request
 
 
+class Intake:
+    """A stream by itself, whose items are told as lines."""
+
+    def __init__(self, config):
+        self.config, self.connection, self.is_dead, self.has_ended = config, Connection(), False, False
+
+    def arrive(self, piece):
+        """The lines of the items that the piece completes, and whether the stream is open."""
+        told = b""
+        self.connection.rest += piece
+        while not self.is_dead and not self.has_ended:
+            try:
+                item = self.connection.next(self.config)
+            except Fault as fault:
+                self.is_dead = True
+                return told + b"refused %s%s\r\n" % (fault.refusal.encode(), b" without-body" * fault.bare), "closed"
+            if item is None:
+                break
+            if item == "continue":
+                told += b"continue\r\n"
+                continue
+            self.has_ended = item.closes()
+            words = " closing" * self.has_ended + " without-body" * (item.method == "HEAD")
+            told += f"{item.method} {path_of(item.target)}{words}: ".encode("latin-1") + item.content + b"\r\n"
+        return told, "closed" if self.is_dead else "open"
+
+
 class Server:
     """Connections over one archive."""
 
@@ -1041,7 +1076,6 @@ class Server:
             reply = self.refused(refused.args[0])
             if refused.args[0] == "MethodNotAllowed":
                 reply.allow = METHODS[resource(request.target)[0]]
-        asked = [member.lower() for member in request.members("Connection")]
-        reply.closes = request.version == 0 or b"close" in asked
+        reply.closes = request.closes()
         connection.is_open = not reply.closes
         return reply.spelled(self.archive.clock, request.method == "HEAD")
