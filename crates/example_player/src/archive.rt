@@ -1,6 +1,7 @@
 //! An archive, as an example needs it.
 
 use dep_server::Archive;
+use example_faults::FaultyFiles;
 use example_text::{ArchiveCall, Page, Trouble};
 use std::alloc::Global;
 
@@ -8,6 +9,9 @@ use std::alloc::Global;
 pub trait ExampleArchive: Archive + Drop {
     /// What is left of it once it is closed.
     type Tables: Drop;
+
+    /// Files that such an archive is kept in.
+    type Files: FaultyFiles;
 
     /// A new archive.
     fn made(alloc: Global) -> Result<Self, Trouble>;

@@ -1,10 +1,10 @@
 //! An intake by itself, whose steps are told as lines.
 
-use crate::server::word_of;
 use dep_message::{Intake, Message, Step, closes, is_without_body};
 use dep_server::Arrived;
+use example_faults::word_of;
 use example_text::{Exchange, Page, Trouble};
-use std::alloc::AllocError;
+use std::alloc::{AllocError, Global};
 
 /// The pieces come one after another, and each step that the intake gives is a line on the page.
 pub fn takes(
@@ -18,6 +18,33 @@ pub fn takes(
         came = steps(intake, page)?;
     }
     Ok(word_of(came))
+}
+
+/// Whether these bytes are one whole request, whose client waits for nothing.
+pub fn is_one_request(alloc: Global, max_upload: u64, stream: &[u8]) -> Result<bool, AllocError> {
+    let mut intake = Intake::new(alloc, max_upload);
+    let is_one = begins_with_one(&mut intake, stream);
+    drop(intake);
+    is_one
+}
+
+fn begins_with_one(intake: &mut Intake, stream: &[u8]) -> Result<bool, AllocError> {
+    feed(intake, stream)?;
+    Ok(gives_message(intake)? && needs_more(intake)?)
+}
+
+fn gives_message(intake: &mut Intake) -> Result<bool, AllocError> {
+    let step = next(intake)?;
+    let is_message = matches!(&step, Step::Message(_));
+    drop(step);
+    Ok(is_message)
+}
+
+fn needs_more(intake: &mut Intake) -> Result<bool, AllocError> {
+    let step = next(intake)?;
+    let is_end = matches!(&step, Step::NeedMore);
+    drop(step);
+    Ok(is_end)
 }
 
 // A call that fails changes nothing, so it may be made again.

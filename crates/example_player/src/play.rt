@@ -1,12 +1,15 @@
 //! An example is played line by line.
 
 use crate::archive::ExampleArchive;
+use crate::intake::is_one_request;
 use crate::side::Side;
 use dep_message::Intake;
+use example_faults::{Fault, Script, play_faults};
 use example_text::{
     ArchiveCall, Cut, Exchange, Settings, Trouble, Words, blank, fill, first_word, number,
 };
 use std::alloc::{AllocError, Global};
+use std::mem;
 
 /// The words that say what an exchange comes to.
 const ANSWERS: [&str; 15] = [
@@ -34,6 +37,8 @@ pub struct Play<A: ExampleArchive> {
     settings: Settings,
     side: Side<A>,
     exchange: Exchange,
+    cut: Cut,
+    script: Script,
     longest: usize,
 }
 
@@ -44,6 +49,8 @@ impl<A: ExampleArchive> Play<A> {
             settings: Settings::new(alloc)?,
             side: Side::New,
             exchange: Exchange::new(alloc, cut),
+            cut,
+            script: Script::new(alloc),
             longest: 0,
         })
     }
@@ -68,9 +75,12 @@ impl<A: ExampleArchive> Play<A> {
         done
     }
 
-    /// No exchange may be left. It tells the longest stream of one.
+    /// No exchange may be left. The faults that are written happen now. It tells the longest stream of an exchange.
     pub fn finish(&self) -> Result<usize, Trouble> {
         self.exchange.is_answered()?;
+        if self.script.has_faults() {
+            play_faults::<A::Files>(self.alloc, &self.script, &self.settings)?;
+        }
         Ok(self.longest)
     }
 
@@ -80,13 +90,52 @@ impl<A: ExampleArchive> Play<A> {
         if self.exchange.call.is_none() {
             self.side.open(self.alloc, &self.settings)?;
         }
+        if self.script.has_faults() {
+            self.side.turn_to_new()?;
+        }
         self.is_as_written(answer)?;
         self.longest = self.longest.max(self.exchange.stream.len());
+        if self.script.has_faults() {
+            return self.keep(answer);
+        }
         self.exchange.clear();
         Ok(())
     }
 
+    // The exchange will be played with faults too.
+    fn keep(&mut self, answer: &str) -> Result<(), Trouble> {
+        if !matches!(answer, "open" | "closed") {
+            return Err(Trouble::Line(
+                "where a file fails or stops an exchange ends open or closed",
+            ));
+        }
+        let mut next = Exchange::new(self.alloc, self.cut);
+        next.moment = self.exchange.moment;
+        let exchange = mem::replace(&mut self.exchange, next);
+        self.script.add(exchange, answer)
+    }
+
     fn is_as_written(&mut self, answer: &str) -> Result<(), Trouble> {
+        match self.comes(answer) {
+            Err(Trouble::Memory) if self.may_come_again()? => Err(self.again(answer)),
+            came => came,
+        }
+    }
+
+    // A request that was given up for want of memory has changed nothing. It comes once more, and has to come to what is
+    // written.
+    fn again(&mut self, answer: &str) -> Trouble {
+        if self.side.turn_to_new().is_err() {
+            return Trouble::Memory;
+        }
+        match self.comes(answer) {
+            Ok(()) => Trouble::Memory,
+            Err(Trouble::Memory) => Trouble::Line("a request is given up twice"),
+            Err(why) => why,
+        }
+    }
+
+    fn comes(&mut self, answer: &str) -> Result<(), Trouble> {
         let mut page = self.exchange.page(self.alloc)?;
         let came = self
             .side
@@ -95,8 +144,29 @@ impl<A: ExampleArchive> Play<A> {
             .has_come(self.alloc, page.bytes()?, came, answer)
     }
 
+    // Whether the exchange is one request to a hub, and neither its reader nor its writer fails.
+    fn may_come_again(&self) -> Result<bool, AllocError> {
+        if !self.exchange.is_plain() || !self.side.has_hub() {
+            return Ok(false);
+        }
+        let stream = self.exchange.stream.as_slice();
+        is_one_request(self.alloc, self.settings.max_upload(), stream)
+    }
+
     fn sets(&mut self, word: &str, rest: &str) -> Result<(), Trouble> {
         match word {
+            "at" => {
+                self.exchange.is_answered()?;
+                self.exchange.moment = number(rest)?;
+                Ok(())
+            }
+            "fails" => self.script.add_faults(Fault::Fails, rest),
+            "stops" => self.script.add_faults(Fault::Stops, rest),
+            "looks" => self.script.add_looks(self.alloc, rest),
+            "config" => self.configures(rest),
+            _ if self.script.has_faults() => {
+                Err(Trouble::Line("no such line stands where a file fails or stops"))
+            }
             "reader-fails" | "reads" | "writer-takes" | "writer-fails-after" => {
                 self.exchange.set(word, rest)
             }
@@ -104,15 +174,17 @@ impl<A: ExampleArchive> Play<A> {
         }
     }
 
+    // A part of the configuration: where a file fails or stops it holds from the first exchange on.
+    fn configures(&mut self, rest: &str) -> Result<(), Trouble> {
+        self.exchange.is_answered()?;
+        self.script.is_unbegun()?;
+        self.settings.configure(self.alloc, rest)
+    }
+
     // A line that stands between two exchanges.
     fn between(&mut self, word: &str, rest: &str) -> Result<(), Trouble> {
         self.exchange.is_answered()?;
         match word {
-            "at" => {
-                self.exchange.moment = number(rest)?;
-                Ok(())
-            }
-            "config" => self.settings.configure(self.alloc, rest),
             "next" => self.number_next(rest),
             "sql" => self.side.change(self.alloc, rest),
             "unopened" => self.side.fail_to_open(self.alloc, rest),

@@ -1,10 +1,11 @@
 //! A hub and its connections.
 
 use dep_moment::Moment;
-use dep_server::{Archive, Arrived, ConnId, ConnectFault, Hub, HubFault, Served, serve_connection};
+use dep_server::{Archive, ConnId, ConnectFault, Hub, HubFault, Served, serve_connection};
 use dep_types::{ReaderInlet, Through};
+use example_faults::{arrives, connected, hub_over, word_of};
 use example_text::{Exchange, Page, Settings, Source, Trouble};
-use std::alloc::{AllocError, Global};
+use std::alloc::Global;
 
 /// A hub and its connections, which have the numbers 1, 2 and so on.
 #[derive(Drop)]
@@ -55,6 +56,11 @@ impl<A: Archive + Drop> Server<A> {
         Ok(())
     }
 
+    /// Goes on at a new connection.
+    pub fn turn_to_new(&mut self) -> Result<(), Trouble> {
+        self.turn((self.connections.len() as u64).saturating_add(1))
+    }
+
     fn numbered(&self, number: u64) -> Result<ConnId, Trouble> {
         match self.connections.get((number as usize).wrapping_sub(1)) {
             Some(connection) => Ok(*connection),
@@ -93,19 +99,13 @@ impl<A: Archive + Drop> Server<A> {
         page: &mut Page,
     ) -> Result<&'static str, Trouble> {
         match answer {
-            "open" | "closed" | "cut" | "gone" => Ok(self.arrives(exchange, page)),
+            "open" | "closed" | "cut" | "gone" => {
+                let pieces = exchange.cut.pieces(exchange.stream.as_slice());
+                let came = arrives(&mut self.hub, self.current, pieces, exchange.moment, page);
+                Ok(word_of(came))
+            }
             _ => self.serves(alloc, exchange, answer, page),
         }
-    }
-
-    // The pieces of an exchange arrive, one after another. It tells what the last one came to.
-    fn arrives(&mut self, exchange: &Exchange, page: &mut Page) -> &'static str {
-        let mut out = Through::new(page);
-        let mut came = Arrived::Open;
-        for piece in exchange.cut.pieces(exchange.stream.as_slice()) {
-            came = self.hub.arrive(self.current, piece, Moment::new(exchange.moment), &mut out);
-        }
-        word_of(came)
     }
 
     // A connection of its own is served.
@@ -136,34 +136,13 @@ impl<A: Archive + Drop> Server<A> {
     }
 }
 
-/// What a piece came to, in the word of the files.
-pub fn word_of(came: Arrived) -> &'static str {
-    match came {
-        Arrived::Open => "open",
-        Arrived::Closed => "closed",
-        Arrived::Cut => "cut",
-        Arrived::NoSuch => "gone",
-    }
-}
-
-// A hub over the archive, or why there is none, with the archive.
-fn hub<A: Archive + Drop>(
-    alloc: Global,
-    settings: &Settings,
-    store: A,
-) -> Result<Hub<A>, (HubFault, A)> {
-    match settings.config(alloc) {
-        Ok(config) => Hub::new(alloc, config, store),
-        Err(AllocError) => Err((HubFault::Memory, store)),
-    }
-}
-
+// A hub over the archive.
 fn opened<A: Archive + Drop>(
     alloc: Global,
     settings: &Settings,
     store: A,
 ) -> Result<Hub<A>, Trouble> {
-    match hub(alloc, settings, store) {
+    match hub_over(alloc, settings, store) {
         Ok(hub) => Ok(hub),
         Err((fault, store)) => {
             drop(store);
@@ -181,7 +160,7 @@ pub fn refused<A: Archive + Drop>(
     settings: &Settings,
     store: A,
 ) -> Result<A, Trouble> {
-    match hub(alloc, settings, store) {
+    match hub_over(alloc, settings, store) {
         Ok(hub) => {
             drop(hub);
             Err(Trouble::Line("the configuration is accepted"))
@@ -201,12 +180,4 @@ fn first<A: Archive + Drop>(
 ) -> Result<(Vec<ConnId>, ConnId), Trouble> {
     let current = connected(hub)?;
     Ok(([current].to_vec(alloc)?, current))
-}
-
-fn connected<A: Archive + Drop>(hub: &mut Hub<A>) -> Result<ConnId, Trouble> {
-    match hub.connect() {
-        Ok(connection) => Ok(connection),
-        Err(ConnectFault::Memory) => Err(Trouble::Memory),
-        Err(ConnectFault::Full) => Err(Trouble::Line("there is no room for a connection")),
-    }
 }

@@ -50,6 +50,19 @@ impl<A: ExampleArchive> Side<A> {
         Ok(())
     }
 
+    /// Whether there is a hub.
+    pub fn has_hub(&self) -> bool {
+        matches!(self, Side::Server(_))
+    }
+
+    /// The hub's next exchange comes on a new connection.
+    pub fn turn_to_new(&mut self) -> Result<(), Trouble> {
+        match self {
+            Side::Server(server) => server.turn_to_new(),
+            _ => Err(Trouble::Line("no hub is there")),
+        }
+    }
+
     /// Its hub, which is opened where none is there yet.
     pub fn server(
         &mut self,

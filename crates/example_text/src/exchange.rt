@@ -4,6 +4,7 @@ use crate::archive_call::ArchiveCall;
 use crate::cut::Cut;
 use crate::escapes::expand;
 use crate::page::Page;
+use crate::reply::{WANT_OF_MEMORY, is_cut_in_content};
 use crate::settings::number;
 use crate::trouble::{Trouble, differing};
 use crate::words::Words;
@@ -11,10 +12,6 @@ use std::alloc::{AllocError, Global};
 
 /// The moment of the published replies.
 const MOMENT: u64 = 1_523_836_800;
-
-/// The reply where there is no memory for another.
-const WANT_OF_MEMORY: &[u8] =
-    b"HTTP/1.1 503 Service Unavailable\r\nContent-Length: 0\r\nConnection: close\r\n\r\n";
 
 /// One exchange.
 #[derive(Drop)]
@@ -106,6 +103,11 @@ impl Exchange {
         Ok(())
     }
 
+    /// Whether neither its reader nor its writer fails, and it is no call of the archive.
+    pub fn is_plain(&self) -> bool {
+        !self.reader_fails && self.most == usize::MAX && self.call.is_none()
+    }
+
     /// A page as the exchange's writer has it.
     pub fn page(&self, alloc: Global) -> Result<Page, AllocError> {
         Page::new(alloc, self.at_once, self.most)
@@ -143,7 +145,7 @@ impl Exchange {
     }
 
     // Whether the connection was given up for want of memory: behind whole replies the one that says so, or a reply
-    // that is cut though its writer would take more.
+    // that is cut in its content though its writer would take more.
     fn is_given_up(&self, sent: &[u8], came: &str) -> bool {
         match came {
             "unserved" => sent.is_empty(),
@@ -151,12 +153,21 @@ impl Exchange {
                 Some(front) => self.want.as_slice().starts_with(front),
                 None => false,
             },
-            "cut" | "write-fault" | "store-fault" => {
+            "cut" => {
+                let is_short = sent.len() < self.most;
+                is_short && is_cut_in_content(self.want.as_slice(), sent) || self.is_cut_503(sent)
+            }
+            "write-fault" | "store-fault" => {
                 let is_short = sent.len() < self.most && self.want.as_slice().starts_with(sent);
-                is_short || self.most < usize::MAX && WANT_OF_MEMORY.starts_with(sent)
+                is_short || self.is_cut_503(sent)
             }
             _ => false,
         }
+    }
+
+    // Whether the writer failed in the reply that says so.
+    fn is_cut_503(&self, sent: &[u8]) -> bool {
+        self.most < usize::MAX && WANT_OF_MEMORY.starts_with(sent)
     }
 }
 

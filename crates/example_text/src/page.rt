@@ -28,7 +28,7 @@ impl Page {
         })
     }
 
-    /// What it took, unless there was no memory for all that was told.
+    /// What it took, unless there was no memory for all that was told, or for a write.
     pub fn bytes(&self) -> Result<&[u8], AllocError> {
         if self.is_whole {
             Ok(self.bytes.as_slice())
@@ -67,7 +67,10 @@ impl Write for Page {
     fn write(&mut self, bytes: &[u8]) -> io::Result<usize> {
         let left = self.most.saturating_sub(self.bytes.len());
         let taken = bytes.len().min(self.at_once).min(left);
-        self.bytes.extend_from_slice(&bytes[..taken])?;
+        if let Err(error) = self.bytes.extend_from_slice(&bytes[..taken]) {
+            self.is_whole = false;
+            return Err(error.into());
+        }
         Ok(taken)
     }
 

@@ -5,6 +5,7 @@ ghost use Rattle.dep_schema.proofs.Transacting.{leaves_as_was};
 ghost use Rattle.dep_store.specs.Archive.{condition_of};
 
 use crate::calls::answered;
+use crate::files::MemoryFiles;
 use dep_answers::{Performed, Service};
 use dep_decisions::Operation;
 use dep_moment::Moment;
@@ -49,6 +50,8 @@ impl Archive for MemoryArchive {
 
 impl ExampleArchive for MemoryArchive {
     type Tables = Connection<MemStore>;
+
+    type Files = MemoryFiles;
 
     fn made(alloc: Global) -> Result<MemoryArchive, Trouble> {
         MemoryArchive::opened(alloc, Connection::open_in_memory(alloc)?)

@@ -4,6 +4,7 @@
 
 mod archive;
 mod calls;
+mod files;
 mod sockets;
 
 use crate::archive::MemoryArchive;

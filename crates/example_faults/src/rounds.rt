@@ -1,0 +1,117 @@
+//! A script is played with a fault at each call of a file.
+
+use crate::fault::{Fault, FaultyFile};
+use crate::files::FaultyFiles;
+use crate::play::{End, FaultPlay, Part};
+use crate::script::Script;
+use example_text::{Settings, Trouble};
+use std::alloc::Global;
+
+const UNOPENED: Trouble = Trouble::Line("the archive is not opened where no call of a file fails");
+
+const GIVEN_UP: Trouble = Trouble::Line("a request is given up where no call of a file fails");
+
+/// Plays the script over such files with no fault, and then with each of its faults from each call on, up to a number
+/// of calls that leaves one over. What goes wrong is played once more: where it comes out right then, there was no
+/// memory.
+pub fn play_faults<F: FaultyFiles>(
+    alloc: Global,
+    script: &Script,
+    settings: &Settings,
+) -> Result<(), Trouble> {
+    script.is_whole()?;
+    let mut play = FaultPlay::new(alloc, script, settings);
+    let played = all_faults::<F>(alloc, script, &mut play);
+    drop(play);
+    played
+}
+
+fn all_faults<F: FaultyFiles>(
+    alloc: Global,
+    script: &Script,
+    play: &mut FaultPlay<'_>,
+) -> Result<(), Trouble> {
+    if let Err(why) = recorded::<F>(alloc, play) {
+        return Err(if recorded::<F>(alloc, play).is_ok() {
+            Trouble::Memory
+        } else {
+            why
+        });
+    }
+    for (fault, file) in &script.faults {
+        at_each_call::<F>(alloc, play, *fault, *file)?;
+    }
+    Ok(())
+}
+
+fn recorded<F: FaultyFiles>(alloc: Global, play: &mut FaultPlay<'_>) -> Result<(), Trouble> {
+    play.begin(Part::Record);
+    drop(F::made(alloc, FaultyFile::Log, u64::MAX).played(alloc, play));
+    is_done(play)
+}
+
+fn is_done(play: &mut FaultPlay<'_>) -> Result<(), Trouble> {
+    match play.end() {
+        End::Done => Ok(()),
+        End::Unopened => Err(UNOPENED),
+        End::Stopped => Err(GIVEN_UP),
+        End::Wrong(why) => Err(why),
+    }
+}
+
+fn at_each_call<F: FaultyFiles>(
+    alloc: Global,
+    play: &mut FaultPlay<'_>,
+    fault: Fault,
+    file: FaultyFile,
+) -> Result<(), Trouble> {
+    for calls in 0..u64::MAX {
+        match round::<F>(alloc, play, fault, file, calls) {
+            Ok(true) => {}
+            Ok(false) if calls == 0 => return Err(Trouble::Line("no call is made of that file")),
+            Ok(false) => return Ok(()),
+            Err(why) => {
+                if round::<F>(alloc, play, fault, file, calls).is_ok() {
+                    return Err(Trouble::Memory);
+                }
+                return Err(Trouble::Other(format!(in alloc;
+                    "{fault} {file} after {calls} calls: {why}"
+                )?));
+            }
+        }
+    }
+    Ok(())
+}
+
+// Plays up to the fault after so many calls, and on from what it left. It tells whether all these calls were made.
+fn round<F: FaultyFiles>(
+    alloc: Global,
+    play: &mut FaultPlay<'_>,
+    fault: Fault,
+    file: FaultyFile,
+    calls: u64,
+) -> Result<bool, Trouble> {
+    play.begin(match fault {
+        Fault::Fails => Part::ThroughFault,
+        Fault::Stops => Part::UpToFault,
+    });
+    let mut files = F::made(alloc, file, calls).played(alloc, play);
+    let is_spent = files.is_spent();
+    let files = files.left(alloc, fault)?;
+    has_stopped(play, is_spent)?;
+    play.begin(Part::Resume);
+    drop(files.played(alloc, play));
+    is_done(play)?;
+    Ok(is_spent)
+}
+
+// The requests came to their end, or to a call of a file that failed.
+fn has_stopped(play: &mut FaultPlay<'_>, is_spent: bool) -> Result<(), Trouble> {
+    match play.end() {
+        End::Wrong(why) => Err(why),
+        End::Done => Ok(()),
+        End::Unopened | End::Stopped if is_spent => Ok(()),
+        End::Unopened => Err(UNOPENED),
+        End::Stopped => Err(GIVEN_UP),
+    }
+}

@@ -1,0 +1,99 @@
+//! The requests of an example.
+
+use crate::fault::{Fault, FaultyFile};
+use example_text::{Exchange, Trouble};
+use std::alloc::{AllocError, Global};
+
+/// A request, and whether the connection is closed behind its reply.
+#[derive(Drop)]
+pub struct Request {
+    pub exchange: Exchange,
+    pub closes: bool,
+}
+
+impl Request {
+    /// Whether it asks for no change.
+    pub fn is_get(&self) -> bool {
+        self.exchange.stream.as_slice().starts_with(b"GET ")
+    }
+}
+
+/// The requests of an example, each on a connection of its own, and what is to happen to which file meanwhile.
+#[derive(Drop)]
+pub struct Script {
+    pub requests: Vec<Request>,
+    /// The requests by which the archive is looked at.
+    pub looks: Vec<Vec<u8>>,
+    /// What happens to which file, one after another.
+    pub faults: Vec<(Fault, FaultyFile)>,
+}
+
+impl Script {
+    pub fn new(alloc: Global) -> Script {
+        Script {
+            requests: Vec::new(alloc),
+            looks: Vec::new(alloc),
+            faults: Vec::new(alloc),
+        }
+    }
+
+    /// Whether something happens to a file.
+    pub fn has_faults(&self) -> bool {
+        !self.faults.is_empty()
+    }
+
+    /// No request may stand above here.
+    pub fn is_unbegun(&self) -> Result<(), Trouble> {
+        if self.requests.is_empty() {
+            Ok(())
+        } else {
+            Err(Trouble::Line("such a line stands above the first exchange"))
+        }
+    }
+
+    /// Adds what happens, at each of these files.
+    pub fn add_faults(&mut self, fault: Fault, files: &str) -> Result<(), Trouble> {
+        self.is_unbegun()?;
+        for file in files.split(' ') {
+            self.faults.push((fault, FaultyFile::named(file)?))?;
+        }
+        Ok(())
+    }
+
+    /// Adds a GET for each of these paths to what is looked at.
+    pub fn add_looks(&mut self, alloc: Global, paths: &str) -> Result<(), Trouble> {
+        self.is_unbegun()?;
+        if !self.has_faults() {
+            return Err(Trouble::Line("no line above says which file fails or stops"));
+        }
+        for path in paths.split(' ') {
+            self.looks.push(get(alloc, path)?)?;
+        }
+        Ok(())
+    }
+
+    /// Adds an exchange that ends in this word.
+    pub fn add(&mut self, exchange: Exchange, answer: &str) -> Result<(), Trouble> {
+        self.requests.push(Request {
+            exchange,
+            closes: answer == "closed",
+        })?;
+        Ok(())
+    }
+
+    /// There has to be something that is asked, and something that is looked at.
+    pub fn is_whole(&self) -> Result<(), Trouble> {
+        if self.requests.is_empty() {
+            return Err(Trouble::Line("no exchange is there"));
+        }
+        if self.looks.is_empty() {
+            return Err(Trouble::Line("no line says what is looked at"));
+        }
+        Ok(())
+    }
+}
+
+fn get(alloc: Global, path: &str) -> Result<Vec<u8>, AllocError> {
+    let text = format!(in alloc; "GET {path} HTTP/1.1\r\nHost: a\r\n\r\n")?;
+    text.as_bytes().to_vec(alloc)
+}

@@ -1,0 +1,49 @@
+//! What is sent in place of the reply that is written.
+
+/// The reply where there is no memory for another.
+pub const WANT_OF_MEMORY: &[u8] =
+    b"HTTP/1.1 503 Service Unavailable\r\nContent-Length: 0\r\nConnection: close\r\n\r\n";
+
+/// The reply where the store has failed.
+const STORE_FAULT: &[u8] =
+    b"HTTP/1.1 500 Internal Server Error\r\nContent-Length: 0\r\nConnection: close\r\n\r\n";
+
+/// How what was sent stands to the reply that is written.
+#[derive(Clone, Copy, PartialEq, Eq)]
+pub enum Reply {
+    AsWritten,
+    /// The fixed reply of a fault of the store, or that of want of memory.
+    Fixed,
+    /// Its head is whole, and its content is cut.
+    Cut,
+    Other,
+}
+
+impl Reply {
+    /// That of these bytes.
+    pub fn of(want: &[u8], sent: &[u8]) -> Reply {
+        if sent == want {
+            Reply::AsWritten
+        } else if sent == STORE_FAULT || sent == WANT_OF_MEMORY {
+            Reply::Fixed
+        } else if is_cut_in_content(want, sent) {
+            Reply::Cut
+        } else {
+            Reply::Other
+        }
+    }
+}
+
+/// Whether not all of a reply was sent, and its head was.
+pub fn is_cut_in_content(want: &[u8], sent: &[u8]) -> bool {
+    sent.len() < want.len() && want.starts_with(sent) && holds_head(sent)
+}
+
+fn holds_head(sent: &[u8]) -> bool {
+    for i in 0..sent.len() {
+        if sent[i..].starts_with(b"\r\n\r\n") {
+            return true;
+        }
+    }
+    false
+}

@@ -1,0 +1,97 @@
+//! The files of an archive, in memory.
+
+use dep_store::Store;
+use example_faults::{Fault, FaultPlay, FaultyFile, FaultyFiles};
+use example_text::Trouble;
+use sqlite::{Alter, Connection, Files, Options};
+use sqlite_disk::{Crash, Disk, Fuse, Memory};
+use std::alloc::Global;
+
+/// A log and a database in memory, of which one fails from a call on.
+#[derive(Drop)]
+pub struct MemoryFiles {
+    files: Files<Fuse<Memory>>,
+}
+
+impl FaultyFiles for MemoryFiles {
+    fn made(alloc: Global, file: FaultyFile, calls: u64) -> MemoryFiles {
+        let (log, db) = match file {
+            FaultyFile::Log => (calls, u64::MAX),
+            FaultyFile::Database => (u64::MAX, calls),
+        };
+        MemoryFiles {
+            files: Files {
+                log: Fuse::new(Memory::new(alloc), log),
+                db: Fuse::new(Memory::new(alloc), db),
+            },
+        }
+    }
+
+    fn played(self, alloc: Global, play: &mut FaultPlay<'_>) -> MemoryFiles {
+        MemoryFiles {
+            files: played_in(alloc, self.files, play),
+        }
+    }
+
+    fn is_spent(&mut self) -> bool {
+        is_spent(&mut self.files.log) || is_spent(&mut self.files.db)
+    }
+
+    fn left(mut self, alloc: Global, fault: Fault) -> Result<MemoryFiles, Trouble> {
+        match fault {
+            Fault::Fails => Ok(MemoryFiles {
+                files: Files {
+                    log: copied(alloc, &self.files.log)?,
+                    db: copied(alloc, &self.files.db)?,
+                },
+            }),
+            Fault::Stops => {
+                self.files.log.crash();
+                self.files.db.crash();
+                Ok(self)
+            }
+        }
+    }
+}
+
+fn is_spent(file: &mut Fuse<Memory>) -> bool {
+    !file.may_be_used() || file.len().is_err()
+}
+
+// A file with the same bytes, whose calls go through.
+fn copied(alloc: Global, file: &Fuse<Memory>) -> Result<Fuse<Memory>, Trouble> {
+    let mut copy = Memory::new(alloc);
+    if copy.write_at(0, file.inner().bytes()).is_err() || copy.sync().is_err() {
+        return Err(Trouble::Memory);
+    }
+    Ok(Fuse::new(copy, u64::MAX))
+}
+
+fn played_in(
+    alloc: Global,
+    files: Files<Fuse<Memory>>,
+    play: &mut FaultPlay<'_>,
+) -> Files<Fuse<Memory>> {
+    if !files.may_be_used() {
+        return files;
+    }
+    match Connection::open_files(alloc, files, Options::new(1)) {
+        Ok(connection) => played_on(alloc, connection, play).into_store().close(),
+        Err((_, left)) => left.into_files(),
+    }
+}
+
+// Opens the store in the database and plays over it. The database is handed back.
+fn played_on<S: Alter + Drop>(
+    alloc: Global,
+    connection: Connection<S>,
+    play: &mut FaultPlay<'_>,
+) -> Connection<S> {
+    if !connection.is_autocommit() {
+        return connection;
+    }
+    match Store::open(alloc, connection) {
+        Ok(store) => play.plays(store).close(),
+        Err((_, connection)) => connection,
+    }
+}
