@@ -58,7 +58,8 @@ impl<A: Archive + Drop> Server<A> {
 
     /// Goes on at a new connection.
     pub fn turn_to_new(&mut self) -> Result<(), Trouble> {
-        self.turn((self.connections.len() as u64).saturating_add(1))
+        let next = (self.connections.len() as u64).saturating_add(1);
+        self.turn(next)
     }
 
     fn numbered(&self, number: u64) -> Result<ConnId, Trouble> {
