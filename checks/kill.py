@@ -182,6 +182,7 @@ def main(arguments):
     wrong, changes = [], 0
     for number in range(rounds):
         changes += play(number, wrong)
+    find("no deposit was answered", changes, wrong)
     print(f"kill: {rounds} rounds, {changes} deposits answered, {len(wrong)} wrong (seed {seed})")
     return 1 if wrong else 0
 
