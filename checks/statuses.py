@@ -94,10 +94,11 @@ def change(store, statement):
 
 
 def want_of_memory(store, folder):
-    """Status 2 too: the first allocation of each command is refused."""
-    env = {"LD_PRELOAD": str(build_refuser(folder)), "REFUSED": "1"}
-    for words in (REPLAY, *commands_over(store, folder)):
-        ends(2, STORE_FAULT, *words, env=env)
+    """Status 2 too: an allocation of each command is refused, from its words to the opening of the store."""
+    refuser = str(build_refuser(folder))
+    for refused in ("1", "20", "300"):
+        for words in (REPLAY, *commands_over(store, folder)):
+            ends(2, STORE_FAULT, *words, env={"LD_PRELOAD": refuser, "REFUSED": refused})
 
 
 def transfer_faults(store, folder):
