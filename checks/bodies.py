@@ -4,8 +4,9 @@
     checks/bodies.py                          those of checks/bodies, in one build
     checks/bodies.py CRATE/NAME [FILE..]      another one, in a build of its own
 
-The bodies of checks/bodies are allowed by every contract, since a request may always be answered 500 or 503, so only
-examples refuse them. All stand in one copy of the repository, and each is in force only where the abstract of the
+Most bodies of checks/bodies are allowed by every contract, since a request may always be answered 500 or 503, so only
+examples refuse them. Two the prover refuses as well (`replies_before_it_commits`, `forgets_the_timed_out`): they show that
+the rounds over disks that stop find such a server. All stand in one copy of the repository, and each is in force only where the abstract of the
 configuration is its name. So one build of the program `examples`, by `rt try`, plays for each a file that refuses it, with
 that abstract and with another one, at which all has to be as it is written.
 
@@ -30,7 +31,8 @@ DATA = ROOT / "crates/examples/data"
 BODIES = ROOT / "checks/bodies"
 # Which file of examples refuses which body.
 PLAYED = {"always_500": "one-file.txt", "always_503": "one-file.txt", "connects_never": "hubs.txt",
-          "cuts_each_content": "one-file.txt", "ends_at_once": "conversations.txt"}
+          "cuts_each_content": "one-file.txt", "ends_at_once": "conversations.txt",
+          "forgets_the_timed_out": "stopped-disks.txt", "replies_before_it_commits": "stopped-disks.txt"}
 WITHOUT = "no_wrong_body"
 # The service document without its abstract.
 SERVICE_LENGTH = 626
