@@ -5,17 +5,17 @@
     checks/bodies.py CRATE/NAME [FILE..]      another one, in a build of its own
 
 Most bodies of checks/bodies are allowed by every contract, since a request may always be answered 500 or 503, so only
-examples refuse them. Two the prover refuses as well (`replies_before_it_commits`, `forgets_the_timed_out`): they show that
-the rounds over disks that stop find such a server. All stand in one copy of the repository, and each is in force only where the abstract of the
-configuration is its name. So one build of the program `examples`, by `rt try`, plays for each a file that refuses it, with
-that abstract and with another one, at which all has to be as it is written.
+examples refuse them. Two the prover refuses as well (`replies_before_it_commits`, `forgets_the_timed_out`): they show
+that the rounds over disks that stop find such a server. All stand in one copy of the repository, and each is in force
+only where the abstract of the configuration is its name. So one build of the program `examples`, by `rt try`, plays for
+each a file that refuses it, with that abstract and with another one, at which all has to be as it is written.
 
 CRATE/NAME is an edit NAME.edit of crates/CRATE/must-fail or wrong-bodies. It is played over the files, each behind
 texts.txt (by default all that crates/examples/args names), of which one has to refuse it. The prover may refuse it too:
 nothing is proved here.
 
-Each body has a line. The status is 0 where all are refused. It needs the kit. A build takes 100 to 200 processor seconds,
-two minutes or more, and 3 GB.
+Each body has a line. The status is 0 where all are refused. It needs the kit. A build takes 150 to 230 processor
+seconds at a slow hour, three minutes or more, and 3.6 GB.
 """
 
 import pathlib
@@ -34,9 +34,12 @@ PLAYED = {"always_500": "one-file.txt", "always_503": "one-file.txt", "connects_
           "cuts_each_content": "one-file.txt", "ends_at_once": "conversations.txt",
           "forgets_the_timed_out": "stopped-disks.txt", "replies_before_it_commits": "stopped-disks.txt"}
 # Of these files one example alone is played, with stops of the log alone, since the program that `rt try` builds is slow.
-ONLY = {"stopped-disks.txt": "an upload that timed out stays so, whatever the moment"}
+ONLY = {"conversations.txt": "a deposit and its file in one input",
+        "stopped-disks.txt": "an upload that timed out stays so, whatever the moment"}
 ALL_WAYS, ONE_WAY = "stops log database\nfails log database\n", "stops log\n"
 WITHOUT = "no_wrong_body"
+# No wrong body: a database in memory gets a smaller cache, whose 8 MB that program would write byte by byte at each open.
+FEW_PAGES = BODIES / "few_pages.edit"
 # The service document without its abstract.
 SERVICE_LENGTH = 626
 SECONDS = "1800"
@@ -49,12 +52,16 @@ def lay_out(room, edits):
     begin_room(room, names, lines)
     for name in names:
         copy_parts(ROOT / "crates" / name, room / "crates" / name)
+    apply(FEW_PAGES, room / "crates/examples")
     for edit in edits:
-        crate = room / "crates" / edit.parent.name
-        if edit.parent.parent != BODIES:
-            crate = room / "crates" / edit.parent.parent.name
-        for path, text in edited_texts(edit, crate).items():
-            (crate / path).write_text(text, encoding="utf-8")
+        folder = edit.parent if edit.parent.parent == BODIES else edit.parent.parent
+        apply(edit, room / "crates" / folder.name)
+
+
+def apply(edit, crate):
+    """Makes the changes of an edit in a copy of its crate, which earlier edits may have changed."""
+    for path, text in edited_texts(edit, crate).items():
+        (crate / path).write_text(text, encoding="utf-8")
 
 
 def play(edits, cases):
