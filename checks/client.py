@@ -19,7 +19,7 @@ from expectations import expect, status_of
 from served import Server
 
 SEGMENT = 65_536
-REQUESTS = 20
+REQUESTS = 21
 
 
 def has(what, content, text):
@@ -27,20 +27,24 @@ def has(what, content, text):
     expect(f"{text} in {what}", text in content.decode(), True)
 
 
+def in_base64(digest):
+    return base64.b64encode(digest.digest()).decode()
+
+
 def deposit_a_file(server):
     """Returns the path of the object."""
     _, document = server.ask(200, "GET", "/service")
     has("the service document", document, '"@type":"ServiceDocument"')
-    told = base64.b64encode(hashlib.sha256(b"abc").digest()).decode()
+    told = f"SHA-256={in_base64(hashlib.sha256(b'abc'))}, SHA-512={in_base64(hashlib.sha512(b'abc'))}"
     headers = {"Content-Type": "text/plain", "Content-Disposition": "attachment; filename=a.txt"}
-    reply, _ = server.ask(201, "POST", "/service", b"abc", {**headers, "Digest": "SHA-256=" + told})
+    reply, _ = server.ask(201, "POST", "/service", b"abc", {**headers, "Digest": told})
     expect("the object's URL", reply.headers["Location"], server.base + "/objects/1")
     path = server.path_of(reply.headers["Location"])
     _, content = server.ask(200, "GET", path + "/files/1")
     expect("the file", content, b"abc")
-    other = base64.b64encode(hashlib.sha256(b"").digest()).decode()
-    _, document = server.ask(412, "POST", "/service", b"abc", {**headers, "Digest": "SHA-256=" + other})
-    has("the refusal", document, '"@type":"DigestMismatch"')
+    for other in ("SHA-256=" + in_base64(hashlib.sha256()), "SHA-512=" + in_base64(hashlib.sha512())):
+        _, document = server.ask(412, "POST", "/service", b"abc", {**headers, "Digest": other})
+        has("the refusal", document, '"@type":"DigestMismatch"')
     return path
 
 

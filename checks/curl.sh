@@ -1,15 +1,15 @@
 #!/bin/sh
 # A repository's client by curl: a deposit, its metadata, a large file in segments, its bag and its end, from end to end
-# against `swordd serve` on a new store, with what came back compared. It needs curl, sqlite3, sha256sum and python3, and
-# the program built (checks/built says where), and takes some seconds. The status is 1 where anything came otherwise.
-# checks/client.py is the same story for a machine that has python3 alone.
+# against `swordd serve` on a new store, with what came back compared. It needs curl, sqlite3, sha256sum, sha512sum and
+# python3, and the program built (checks/built says where), and takes some seconds. The status is 1 where anything came
+# otherwise. checks/client.py is the same story for a machine that has python3 alone.
 checks=$(cd "$(dirname "$0")" && pwd) || exit 2
 program=$("$checks/built" swordd) || exit 2
 folder=$(mktemp -d) || exit 2
 port=$((20000 + $$ % 20000))
 base=http://127.0.0.1:$port
 # Each call of curl below is one connection; the server ends after the last.
-"$program" serve $port "$folder/deposits.db" 20 2>"$folder/said" &
+"$program" serve $port "$folder/deposits.db" 21 2>"$folder/said" &
 server=$!
 trap 'kill $server 2>/dev/null; rm -r "$folder"' EXIT
 failed=0
@@ -47,7 +47,8 @@ has '"@type":"ServiceDocument"'
 printf abc >"$folder/a.txt"
 ask 201 --data-binary "@$folder/a.txt" -H 'Content-Type: text/plain' \
     -H 'Content-Disposition: attachment; filename=a.txt' \
-    -H 'Digest: SHA-256=ungWv48Bz+pBQUDeXa4iI7ADYaOWF3qctBD/YfIAFa0=' "$base/service"
+    -H 'Digest: SHA-256=ungWv48Bz+pBQUDeXa4iI7ADYaOWF3qctBD/YfIAFa0=' \
+    -H "Digest: SHA-512=$(sha512sum "$folder/a.txt" | cut -c1-128)" "$base/service"
 object=$(told Location)
 [ "$object" = "$base/objects/1" ] || wrong "the deposit is at $object"
 ask 200 "$object/files/1"
@@ -55,6 +56,9 @@ cmp -s "$folder/body" "$folder/a.txt" || wrong 'the file came back otherwise'
 
 ask 412 --data-binary "@$folder/a.txt" -H 'Content-Disposition: attachment; filename=a.txt' \
     -H 'Digest: SHA-256=47DEQpj8HBSa+/TImW+5JCeuQeRkm5NMpJWZG3hSuFU=' "$base/service"
+has '"@type":"DigestMismatch"'
+ask 412 --data-binary "@$folder/a.txt" -H 'Content-Disposition: attachment; filename=a.txt' \
+    -H "Digest: SHA-512=$(sha512sum /dev/null | cut -c1-128)" "$base/service"
 has '"@type":"DigestMismatch"'
 
 ask 204 -X PUT --data-binary '{"dc:title":"Observations"}' -H 'Content-Type: application/json' "$object/metadata"

@@ -19,7 +19,7 @@ WORDS = ("open", "closed", "cut", "gone", "ended", "served")
 CALLED = ("done", "damaged", "no-such-object", "transfer-fault")
 BLOCK = 65_536
 LEFT_OUT = {"reader-fails", "reads", "writer-takes", "writer-fails-after", "unserved", "bound", "read-fault",
-            "write-fault", "crowd", "full", "sql", "unopened", "cut", "store-fault"}
+            "write-fault", "crowd", "full", "sql", "store", "unopened", "cut", "store-fault"}
 NAMES = {"base": "base", "title": "title", "abstract": "abstract", "depositor": "depositor",
          "on-behalf-of": "on_behalf_of", "require-if-match": "require_if_match", "max-upload": "max_upload",
          "max-assembled": "max_assembled", "max-segments": "max_segments", "staging-max-idle": "staging_max_idle"}

@@ -22,6 +22,7 @@ CONTEXT = "https://swordapp.github.io/swordv3/swordv3.jsonld"
 SWORD = "http://purl.org/net/sword/3.0"
 BINARY = SWORD + "/package/Binary"
 METADATA = SWORD + "/types/Metadata"
+ALGORITHMS = {b"sha-256": hashlib.sha256, b"sha-512": hashlib.sha512}
 TOKEN = re.compile(rb"[!#$%&'*+\-.^_`|~0-9A-Za-z]+")
 
 REFUSALS = {
@@ -123,7 +124,7 @@ class Upload:
     size: int
     count: int
     segment_size: int
-    sha256: bytes | None
+    promised: dict
     last: int
     segments: dict = field(default_factory=dict)
 
@@ -279,16 +280,15 @@ def kind_of(value):
         numbers = [number(parameters, name) for name in (b"size", b"segment_count", b"segment_size")]
         if 0 in numbers:
             raise Malformed
-        digest = read_digest(parameters[b"digest"].split(b",")) if b"digest" in parameters else None
-        return "opening", (*numbers, digest)
+        return "opening", (*numbers, read_digests(parameters.get(b"digest", b"").split(b",")))
     if kind == b"segment":
         return "segment", number(parameters, b"segment_number")
     raise Malformed
 
 
-def read_digest(members):
-    """The SHA-256 that is promised, or None."""
-    found = set()
+def read_digests(members):
+    """The digests that are promised, by the names of their algorithms in lower case."""
+    promised = {}
     for member in members:
         member = member.strip(b" \t")
         if not member:
@@ -296,21 +296,30 @@ def read_digest(members):
         name, sign, value = member.partition(b"=")
         if not sign:
             raise Malformed
-        if name.lower() != b"sha-256":
+        name = name.lower()
+        if name not in ALGORITHMS:
             continue
-        if re.fullmatch(rb"[0-9A-Fa-f]{64}", value):
-            found.add(bytes.fromhex(value.decode()))
-            continue
-        try:
-            digest = base64.b64decode(value, validate=True)
-        except binascii.Error:
-            raise Malformed from None
-        if len(digest) != 32 or base64.b64encode(digest) != value:
+        digest = spelled_digest(value, ALGORITHMS[name]().digest_size)
+        if promised.setdefault(name, digest) != digest:
             raise Malformed
-        found.add(digest)
-    if len(found) > 1:
+    return promised
+
+
+def spelled_digest(value, size):
+    """The digest of so many bytes that a text spells."""
+    if re.fullmatch(rb"[0-9A-Fa-f]{%d}" % (2 * size), value):
+        return bytes.fromhex(value.decode())
+    try:
+        digest = base64.b64decode(value, validate=True)
+    except binascii.Error:
+        raise Malformed from None
+    if len(digest) != size or base64.b64encode(digest) != value:
         raise Malformed
-    return found.pop() if found else None
+    return digest
+
+
+def has_digests(content, promised):
+    return all(ALGORITHMS[name](content).digest() == digest for name, digest in promised.items())
 
 
 # ---- documents read
@@ -372,7 +381,7 @@ class Reference:
     media: str
     length: int | None
     packaging: str | None
-    sha256: bytes | None
+    promised: dict
 
 
 def ipv4_number(part):
@@ -451,10 +460,10 @@ def read_reference(entry):
     packaging = entry.get("packaging")
     if "packaging" in entry and not isinstance(packaging, str):
         raise Malformed
-    if "digest" in entry and not isinstance(entry["digest"], str):
+    digest = entry.get("digest", "")
+    if not isinstance(digest, str):
         raise Malformed
-    digest = read_digest(entry["digest"].encode().split(b",")) if "digest" in entry else None
-    return Reference(url_text(entry["@id"]), name, media, length, packaging, digest)
+    return Reference(url_text(entry["@id"]), name, media, length, packaging, read_digests(digest.encode().split(b",")))
 
 
 def read_references(content):
@@ -476,7 +485,7 @@ def service_document(config):
         "@context": CONTEXT, "@id": config.base + "/service", "@type": "ServiceDocument", "accept": ["*/*"],
         "acceptDeposits": True, "acceptMetadata": [METADATA], "acceptPackaging": [BINARY],
         "byReferenceDeposit": True, "dc:title": config.title, "dcterms:abstract": config.abstract,
-        "digest": ["SHA-256"], "maxAssembledSize": config.max_assembled, "maxSegments": config.max_segments,
+        "digest": ["SHA-256", "SHA-512"], "maxAssembledSize": config.max_assembled, "maxSegments": config.max_segments,
         "maxUploadSize": config.max_upload, "onBehalfOf": config.on_behalf_of, "root": config.base + "/service",
         "staging": config.base + "/staging", "stagingMaxIdle": config.staging_max_idle, "version": SWORD,
     })
@@ -730,10 +739,10 @@ class Step:
         self.check_formats()
         self.media = self.check_media()
         try:
-            promised = read_digest(request.members("Digest"))
+            promised = read_digests(request.members("Digest"))
         except Malformed:
             raise Refused("BadRequest") from None
-        refuse_if(promised not in (None, hashlib.sha256(request.content).digest()), "DigestMismatch")
+        refuse_if(not has_digests(request.content, promised), "DigestMismatch")
 
     def read_kind(self, operation, deposits):
         values, kind, told = self.request.values("Content-Disposition"), None, None
@@ -787,14 +796,15 @@ class Step:
             raise
 
     def open_upload(self):
-        size, count, segment_size, digest = self.told
+        size, count, segment_size, promised = self.told
         config, archive = self.config, self.archive
         refuse_if(size > config.max_assembled, "MaxAssembledSizeExceeded")
         refuse_if(count > config.max_segments, "SegmentLimitExceeded")
         refuse_if(segment_size > config.max_upload, "InvalidSegmentSize")
         refuse_if(not (count - 1) * segment_size < size <= count * segment_size, "InvalidSegmentSize")
         key = archive.take("upload")
-        upload = archive.uploads[key] = Upload(size, count, segment_size, digest, archive.clock)
+        kept = {name: digest for name, digest in promised.items() if name == b"sha-256"}
+        upload = archive.uploads[key] = Upload(size, count, segment_size, kept, archive.clock)
         location = f"{config.base}/staging/{key}"
         return Reply(201, "application/json", upload_document(config, key, upload), location=location)
 
@@ -824,9 +834,8 @@ class Step:
         refuse_if(any(r.length not in (None, u.size) for r, u in zip(references, uploads)), "BadRequest")
         for reference, upload in zip(references, uploads):
             joined = b"".join(content for _, content in sorted(upload.segments.items()))
-            digest = hashlib.sha256(joined).digest()
-            refuse_if(upload.sha256 not in (None, digest), "DigestMismatch")
-            refuse_if(reference.sha256 not in (None, digest), "DigestMismatch")
+            refuse_if(not has_digests(joined, upload.promised), "DigestMismatch")
+            refuse_if(not has_digests(joined, reference.promised), "DigestMismatch")
         return list(zip(keys, references))
 
     def new_files(self, change, references):

@@ -28,6 +28,14 @@ def sha256(text):
     return hashlib.sha256(text.encode()).hexdigest()
 
 
+def sha512(text):
+    return hashlib.sha512(text.encode()).hexdigest()
+
+
+# The digests that a text may promise: the name of each, its size in bytes, and that of a content in hexadecimal digits.
+DIGESTS = {"sha-256": (32, sha256), "sha-512": (64, sha512)}
+
+
 # ---- settings: each sets one thing of the archive, the configuration or the request
 
 def key_of(setting):
@@ -77,25 +85,32 @@ def listed(case, name):
     return None if lines is None else [m.strip(" \t") for m in ",".join(lines).split(",") if m.strip(" \t")]
 
 
-def digest_read(members):
-    """The SHA-256 that a Digest text promises, None where it promises none, Refused where it's unreadable."""
-    promised = set()
-    for member in members:
-        refuse_if("=" not in member, "BadRequest")
-        name, value = member.split("=", 1)
-        if name.lower() != "sha-256":
-            continue
-        if re.fullmatch(r"[0-9a-fA-F]{64}", value):
-            promised.add(value.lower())
-            continue
-        try:
-            raw = base64.b64decode(value, validate=True)
-        except ValueError:
-            raise Refused("BadRequest")
-        refuse_if(len(raw) != 32, "BadRequest")
-        promised.add(raw.hex())
-    refuse_if(len(promised) > 1, "BadRequest")
-    return promised.pop() if promised else None
+def hexadecimal(value, size):
+    """The digits of a digest of so many bytes, in either spelling."""
+    if re.fullmatch(r"[0-9a-fA-F]+", value) and len(value) == 2 * size:
+        return value.lower()
+    try:
+        raw = base64.b64decode(value, validate=True)
+    except ValueError:
+        raise Refused("BadRequest")
+    refuse_if(len(raw) != size, "BadRequest")
+    return raw.hex()
+
+
+def digests_read(members):
+    """What a Digest text promises, by the names of DIGESTS, Refused where it's unreadable."""
+    refuse_if(any("=" not in member for member in members), "BadRequest")
+    pairs = [member.split("=", 1) for member in members]
+    promised = {}
+    for known, (size, _) in DIGESTS.items():
+        found = {hexadecimal(value, size) for name, value in pairs if name.lower() == known}
+        refuse_if(len(found) > 1, "BadRequest")
+        promised |= {known: digest for digest in found}
+    return promised
+
+
+def is_kept(promised, content):
+    return all(DIGESTS[name][1](content) == digest for name, digest in promised.items())
 
 
 def disposition_read(text):
@@ -141,7 +156,7 @@ def kind_read(text):
     if form == "segment-init":
         sizes = [number(given.get(name), 1) for name in ("size", "segment_count", "segment_size")]
         try:
-            promised = digest_read([m for m in given.get("digest", "").split(",") if m])
+            promised = digests_read([m for m in given.get("digest", "").split(",") if m])
         except Refused:
             return None
         return None if None in sizes else ("opening", (*sizes, promised))
@@ -172,7 +187,7 @@ class Upload:
     def __init__(self, text):
         parts = re.fullmatch(r"(\d+) (\d+) (\d+)(?: promised SHA-256=(\w+))? segments (.*)", text)
         self.size, self.count, self.segment_size = (int(parts[i]) for i in (1, 2, 3))
-        self.promised = parts[4]
+        self.promised = {"sha-256": parts[4]} if parts[4] else {}
         self.segments = [None if s == "-" else s for s in parts[5].split()]
         assert len(self.segments) == self.count
 
@@ -304,7 +319,7 @@ class Entry:
         self.packaging = entry.get("packaging", BINARY)
         refuse_if(not isinstance(self.packaging, str), "ContentMalformed")
         try:
-            self.promised = digest_read(entry.get("digest", "").split(",") if entry.get("digest") else [])
+            self.promised = digests_read(entry.get("digest", "").split(",") if entry.get("digest") else [])
         except Refused:
             raise Refused("ContentMalformed")
         found = re.fullmatch(re.escape(base) + r"/staging/([1-9]\d*)", url)
@@ -328,8 +343,8 @@ def references_read(case):
     refuse_if(any(None in u.segments for _, u in uploads), "BadRequest")
     refuse_if(any(e.length is not None and e.length != u.size for e, u in uploads), "BadRequest")
     for e, u in uploads:
-        actual = sha256("".join(u.segments))
-        refuse_if(any(p is not None and p != actual for p in (u.promised, e.promised)), "DigestMismatch")
+        joined = "".join(u.segments)
+        refuse_if(not is_kept(u.promised, joined) or not is_kept(e.promised, joined), "DigestMismatch")
     return entries
 
 
@@ -409,8 +424,7 @@ def add_content(asked, case, for_whom):
         once(case, "Content-Type", is_media, "BadRequest")
     if asked.kind in ("metadata", "references"):
         once(case, "Content-Type", is_json, "ContentTypeNotAcceptable")
-    promised = digest_read(listed(case, "Digest") or [])
-    refuse_if(promised not in (None, sha256(content)), "DigestMismatch")
+    refuse_if(not is_kept(digests_read(listed(case, "Digest") or []), content), "DigestMismatch")
     add_deposit(asked, case, for_whom)
     sizes(case, (asked.kind, asked.told), asked.numbers, content)
 

@@ -8,7 +8,7 @@ setting is written says checks/order.py; ` & ` joins several.
 
 import json
 
-from order import BINARY, FORMAT, GREATEST, ZIP, sha256
+from order import BINARY, FORMAT, GREATEST, ZIP, sha256, sha512
 
 # ---- what breaks a rule, by the number of the rule, and what breaks none
 
@@ -23,7 +23,8 @@ TYPE = [(11, "Content-Type: text/plain | text/plain"), (11, "Content-Type:"), (1
 JSON_TYPE = [(11, "Content-Type: application/json | application/json"), (11, "Content-Type:"),
              (11, "Content-Type: text/plain"), (11, "Content-Type: application/jsonp")]
 DIGEST = [(12, "Digest: SHA-256"), (12, "Digest: SHA-256=x"), (12, "Digest: SHA-256=" + sha256("other")),
-          (12, f"Digest: SHA-256={sha256('a')}, SHA-256={sha256('b')}")]
+          (12, f"Digest: SHA-256={sha256('a')}, SHA-256={sha256('b')}"), (12, "Digest: SHA-512=x"),
+          (12, "Digest: SHA-512=" + sha512("other"))]
 GIVEN = ["On-Behalf-Of: ann & on-behalf-of true", "Content-Encoding: IDENTITY", "Digest: MD5=x", "Digest:"]
 NO_KIND = [(9, "Content-Disposition: attachment"), (9, "Content-Disposition: attachment; filename=a | attachment; filename=a"),
            (9, "Content-Disposition: attachment; filename=.."), (9, "Content-Disposition: attachment; metadata=yes"),
@@ -73,6 +74,7 @@ REFERENCES = [
     (13.6, "entry 3 " + entry(4, "incomplete")),
     (13.7, "entry 2 " + entry(5, "abcd", contentLength=2)), (13.7, "entry 2 " + entry(5, "abcd", contentLength=5)),
     (13.8, "entry 1 " + entry(7, "ijk", digest="SHA-256=" + sha256("abc"))), (13.8, "entry 1 " + entry(8, "f")),
+    (13.8, "entry 1 " + entry(7, "ijk", digest="SHA-512=" + sha512("abc"))),
 ]
 REFERENCES_HELD = ["entry 6 " + entry(7, "ijk", contentLength=3, packaging=BINARY),
                    "entry 6 " + entry(3, "f.bin", contentType="text/plain", ttl=None),
@@ -81,7 +83,8 @@ DOCUMENT = [(13, "content {"), (13, "content []"), (13, 'content {"@type":"ByRef
             (13, 'content {"dc:title":["T",null]}')]
 DOCUMENT_HELD = ["content {}", 'content {"dc:title":["U","V"],"dcterms:issued":"1999","x":1,"dc:date":[]}',
                  'content {"@type":"Metadata","dc:title":"T"}']
-FILE_HELD = ["Content-Type: text/plain", f"Packaging: {BINARY}", "Digest: sha-256=" + sha256("abc"), "no content",
+FILE_HELD = ["Content-Type: text/plain", f"Packaging: {BINARY}", "Digest: sha-256=" + sha256("abc"),
+             f"Digest: SHA-512={sha512('abc')}, SHA-256={sha256('abc')}", "no content",
              "Content-Disposition: attachment; filename=b; metadata=false", "Metadata-Format: x"]
 METADATA_HELD = [f"Metadata-Format: {FORMAT}", "Content-Type: Application/JSON ;x", f"Packaging: {ZIP}"]
 UNREAD = " & ".join(["require-if-match true", 'If-Match: "9"', "Content-Encoding: gzip", "Content-Disposition: x", "In-Progress: yes",

@@ -273,7 +273,7 @@ CELLS = {"On-Behalf-Of": "behalf", "Content-Disposition": "disposition", "In-Pro
 ENTRY_KEYS = [f"entry {k}" for k in range(1, 13)]
 ENTRY_NAMES = ("a-number", "no-url", "no-name", "no-media-type", "no-length", "no-packaging", "no-digest", "another-host",
                "another-number", "a-package", "abcde-again", "an-idle-upload", "an-unknown-upload", "a-missing-segment",
-               "a-smaller-length", "a-greater-length", "another-digest", "a-broken-promise")
+               "a-smaller-length", "a-greater-length", "another-digest", "a-broken-promise", "another-sha512")
 # What stands in many requests has a name.
 NAMES = {
     "as-file": cases.AS_FILE, "as-metadata": cases.AS_METADATA, "as-references": cases.AS_REFERENCES, "as-opening": cases.OPENING,
@@ -282,7 +282,7 @@ NAMES = {
     "named-twice": cases.NO_KIND[1][1], "both-kinds": cases.NO_KIND[4][1], "binary-twice": cases.PACKAGING[0][1],
     "zip": cases.PACKAGING[1][1], "format-twice": cases.FORMATS[0][1], "other-format": cases.FORMATS[1][1],
     "json-twice": cases.JSON_TYPE[0][1], "long-type": cases.TYPE[2][1], "digest-of-other": cases.DIGEST[2][1],
-    "two-digests": cases.DIGEST[3][1],
+    "two-digests": cases.DIGEST[3][1], "sha512-of-other": cases.DIGEST[5][1],
     **{f"with-{name}": setting for name, (_, setting) in zip(ENTRY_NAMES, cases.REFERENCES, strict=True)},
 }
 NAME_OF = {setting: name for name, setting in NAMES.items()}

@@ -14,7 +14,7 @@ from expectations import expect
 
 def digest(content):
     """What a Digest field says of a content."""
-    return "SHA-256=" + hashlib.sha256(content).hexdigest()
+    return f"SHA-256={hashlib.sha256(content).hexdigest()},SHA-512={hashlib.sha512(content).hexdigest()}"
 
 
 def free_port():
@@ -72,7 +72,11 @@ class Server:
         return status, self.process.stderr.read().decode()
 
     def __enter__(self):
-        return self.wait_until_it_listens()
+        try:
+            return self.wait_until_it_listens()
+        except RuntimeError:
+            self.__exit__()
+            raise
 
     def __exit__(self, *_):
         if self.process.poll() is None:

@@ -2,27 +2,43 @@
 """Times `swordd serve` by Python's http.client over one connection, beside a write of the same bytes by Python's sqlite3
 with the same durability (write-ahead log, synchronous=FULL) on the same disk, in the same run.
 
-    checks/speed.py [--segmented MIB]
+    checks/speed.py [--segmented MIB] [--before PROGRAM]
+    checks/speed.py --digests [--before PROGRAM]
 
 It prints deposits of 1 KiB and of 16 MiB, reads of both, a file of 512 MiB in segments and its deposit by reference, and
 the greatest memory that the server had: after the deposits and reads, after as many again, and at the end. Then it
 exports the bag of that file beside `cp` and `sync`, and audits the store beside `sha256sum` of as many bytes, each less
-what an open of the store takes by itself. It measures, so it is no part of checks/all: numbers of one run on a busy
+what an open of the store takes by itself. In the end, or by --digests alone, it measures what SHA-512 costs:
+
+- a deposit of 16 MiB, beside one by PROGRAM, a swordd that computes none (of version 1): at most what `openssl speed sha512`
+  takes for as many bytes. Without PROGRAM or openssl it says that this is skipped.
+- the first open of a store of version 1 with 512 MiB, which Python's sqlite3 makes by the statements of
+  crates/examples/data/older-stores.txt: an audit that makes it a store of version 2 takes at most twice what `sha512sum`
+  takes for the same bytes above what the next audit takes. Where the store stays one of version 1, it says that this is
+  skipped.
+
+The status is 1 where one of these takes more. It measures, so it is no part of checks/all: numbers of one run on a busy
 machine say little. Run it on one that does nothing else.
 """
 
+import argparse
 import hashlib
 import http.client
 import json
 import os
 import pathlib
+import re
+import shutil
 import sqlite3
+import statistics
 import subprocess
 import sys
 import tempfile
 import time
 
+import older_store
 from crates import built_program
+from expectations import expect, wrong
 from served import Server
 
 MIB = 1024 * 1024
@@ -180,29 +196,131 @@ def plain(folder):
     store.database.close()
 
 
-def main(arguments):
-    mebibytes = int(arguments[1]) if arguments[:1] == ["--segmented"] else 512
-    with tempfile.TemporaryDirectory() as folder:
-        with Server(1, folder) as server:
-            client = Client(server)
-            small_and_large(client)
-            first = server.peak()
-            small_and_large(client)
-            second = server.peak()
-            item = segmented(client, mebibytes)
-            print(f"peak memory: {first:.0f} MiB after the deposits and reads, {second:.0f} MiB after as many again, "
-                  f"{server.peak():.0f} MiB at the end")
+def seconds_of(work):
+    began = time.perf_counter()
+    work()
+    return time.perf_counter() - began
+
+
+def openssl_seconds(size):
+    """What the digest of so many bytes takes by openssl, or None where there is none."""
+    if not shutil.which("openssl"):
+        return None
+    said = subprocess.run(["openssl", "speed", "-mr", "-seconds", "2", "-bytes", "65536", "sha512"],
+                          capture_output=True, text=True)
+    rates = re.findall(r"^\+F:\d+:sha512:([0-9.]+)$", said.stdout, re.M)
+    return size / float(rates[0]) if rates else None
+
+
+def deposits_beside(before):
+    """The median seconds of a deposit of 16 MiB by the program before and by this one, asked in turn."""
+    took, content = ([], []), os.urandom(LARGE)
+    with Server(1, executable=before) as older, Server(1) as newer:
+        clients = Client(older), Client(newer)
+        for turn in range(24):
+            for client, seconds in zip(clients, took):
+                spent = seconds_of(lambda: client.deposit(content))
+                if turn >= 4:
+                    seconds.append(spent)
+        for client in clients:
             client.connection.close()
-            status, said = server.ends()
-            assert (status, said) == (0, ""), (status, said)
-        began = time.perf_counter()
-        with Server(1, folder) as server:
-            size = server.store.stat().st_size / MIB
-            print(f"open of a store of {size:.0f} MiB: {time.perf_counter() - began:.2f} s, {server.peak():.0f} MiB")
-        exported_and_audited(folder, server.store, item, mebibytes)
-        plain(folder)
-    return 0
+    return map(statistics.median, took)
+
+
+def cost_of_sha512(before):
+    """What SHA-512 costs a deposit."""
+    digest = openssl_seconds(LARGE)
+    if digest is None or before is None:
+        print("skipped: what SHA-512 costs a deposit, for want of " + ("openssl" if digest is None else "--before PROGRAM"))
+        return
+    without, deposit = deposits_beside(before)
+    cost = deposit - without
+    print(f"deposit of 16 MiB {1000 * deposit:.1f} ms, by the program before {1000 * without:.1f} ms: {1000 * cost:.1f} ms "
+          f"more; SHA-512 by openssl {1000 * digest:.1f} ms", flush=True)
+    expect("SHA-512 in a deposit costs at most what it costs by openssl", cost <= digest, True)
+
+
+def make_older_store(folder, mebibytes):
+    """A store of version 1, and its files beside it: one object with files of 16 MiB. Returns their SHA-512."""
+    folder.mkdir()
+    digests, count = [], mebibytes // 16
+    database = sqlite3.connect(folder / "older.db", isolation_level=None)
+    database.execute("PRAGMA journal_mode=WAL")
+    database.execute("BEGIN")
+    for text in older_store.statements():
+        if text.startswith(("CREATE", "INSERT INTO format")):
+            database.execute(text)
+    database.execute("INSERT INTO state VALUES (1, 1523836800, 2, ?1 + 1, 1, ?1 + 1)", (count,))
+    database.execute("INSERT INTO objects VALUES (1, 1, ?1, 1, ?1, 1523836800)", (count,))
+    for file in range(1, count + 1):
+        content = os.urandom(LARGE)
+        digests.append(hashlib.sha512(content).digest())
+        pathlib.Path(folder, f"file-{file:03}").write_bytes(content)
+        database.execute("INSERT INTO files VALUES (?1, 1, 'a', 'application/octet-stream', ?2, ?1, 1523836800, NULL, 0, ?3)",
+                         (file, LARGE, hashlib.sha256(content).digest()))
+        blocks = ((file, at // BLOCK, content[at:at + BLOCK]) for at in range(0, LARGE, BLOCK))
+        database.executemany("INSERT INTO blocks VALUES (0, ?, 1, ?, ?)", blocks)
+    database.execute("COMMIT")
+    database.close()
+    return digests
+
+
+def cost_of_upgrade(folder, mebibytes):
+    """What it takes to make a store of version 1 one of version 2."""
+    digests = make_older_store(folder, mebibytes)
+    store, files = folder / "older.db", sorted(map(str, folder.glob("file-*")))
+
+    audit = built_program("swordd"), "audit", store
+    (_, first, room), (_, second, _), (_, summed, _) = found = ran(*audit), ran(*audit), ran("sha512sum", *files)
+    expect("the statuses of two audits and of sha512sum", [it[0] for it in found], [0, 0, 0])
+    print(f"first open and audit of a store of version 1 with {mebibytes} MiB {first:.2f} s and {room:.0f} MiB of memory, "
+          f"the next audit {second:.2f} s: {first - second:.2f} s more; sha512sum {summed:.2f} s", flush=True)
+    database = sqlite3.connect(store)
+    version = database.execute("SELECT version FROM format").fetchone()[0]
+    if version == older_store.VERSION:
+        print(f"skipped: what an upgrade costs, since the store stays one of version {version}")
+    else:
+        rows = database.execute("SELECT kind, owner, value FROM sha512s ORDER BY kind, owner").fetchall()
+        expect("the rows of sha512s are those of the files", rows, [(0, file, it) for file, it in enumerate(digests, 1)])
+        expect("an upgrade takes at most twice the time of sha512sum", first - second <= 2 * summed, True)
+    database.close()
+
+
+def whole(folder, mebibytes):
+    with Server(1, folder) as server:
+        client = Client(server)
+        small_and_large(client)
+        first = server.peak()
+        small_and_large(client)
+        second = server.peak()
+        item = segmented(client, mebibytes)
+        print(f"peak memory: {first:.0f} MiB after the deposits and reads, {second:.0f} MiB after as many again, "
+              f"{server.peak():.0f} MiB at the end")
+        client.connection.close()
+        status, said = server.ends()
+        assert (status, said) == (0, ""), (status, said)
+    began = time.perf_counter()
+    with Server(1, folder) as server:
+        size = server.store.stat().st_size / MIB
+        print(f"open of a store of {size:.0f} MiB: {time.perf_counter() - began:.2f} s, {server.peak():.0f} MiB")
+    exported_and_audited(folder, server.store, item, mebibytes)
+    plain(folder)
+
+
+def main():
+    options = argparse.ArgumentParser(description=__doc__, formatter_class=argparse.RawTextHelpFormatter)
+    options.add_argument("--segmented", type=int, default=512, metavar="MIB")
+    options.add_argument("--before", type=pathlib.Path, metavar="PROGRAM")
+    options.add_argument("--digests", action="store_true")
+    given = options.parse_args()
+    with tempfile.TemporaryDirectory() as folder:
+        if not given.digests:
+            whole(folder, given.segmented)
+    with tempfile.TemporaryDirectory() as folder:
+        cost_of_sha512(given.before)
+        cost_of_upgrade(pathlib.Path(folder, "older"), 512)
+    return 1 if wrong else 0
 
 
 if __name__ == "__main__":
-    sys.exit(main(sys.argv[1:]))
+    sys.exit(main())

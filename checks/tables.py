@@ -46,6 +46,7 @@ def read_queries(contents):
         elif line and not line.startswith("#"):
             for name, content in contents.items():
                 line = line.replace("{%s}" % name, hashlib.sha256(content).hexdigest().upper())
+                line = line.replace("{%s sha512}" % name, hashlib.sha512(content).hexdigest().upper())
             shown[-1][1].append(line)
     return shown, whole
 

@@ -1,7 +1,7 @@
 #!/bin/sh
 # The file of a store, read by the system's sqlite3 once `swordd serve` has written it: the queries of checks/tables.txt,
 # each of which has to show what is written there of a deposit, its metadata, a file of two blocks and an upload with a
-# segment. It needs curl, sqlite3, sha256sum and python3, and the program built (checks/built says where), and takes some
+# segment. It needs curl, sqlite3, sha256sum, sha512sum and python3, and the program built (checks/built says where), and takes some
 # seconds. The status is 1 where anything is otherwise. checks/tables.py does the same by python3 alone.
 checks=$(cd "$(dirname "$0")" && pwd) || exit 2
 program=$("$checks/built" swordd) || exit 2
@@ -48,8 +48,9 @@ contents() {
     od -An -v -tx1 "$2" | tr -d ' \n' | cmp -s - "$folder/hex" || wrong "the content of $2"
 }
 
+# digest COMMAND FILE: what sha256sum or sha512sum tells, in upper case.
 digest() {
-    sha256sum "$1" | cut -c1-64 | tr a-f A-F
+    "$1" "$2" | cut -d ' ' -f 1 | tr a-f A-F
 }
 
 printf abc >"$folder/a.txt"
@@ -66,7 +67,9 @@ ask 204 --data-binary "@$folder/segment" -H 'Content-Type:' \
     -H 'Content-Disposition: segment; segment_number=1' "$base/staging/1"
 wait $server || wrong "the server ended otherwise: $(cat "$folder/said")"
 
-sed "s/{a.txt}/$(digest "$folder/a.txt")/; s/{large}/$(digest "$folder/large")/" "$checks/tables.txt" >"$folder/tables"
+sed "s/{a.txt}/$(digest sha256sum "$folder/a.txt")/; s/{large}/$(digest sha256sum "$folder/large")/
+s/{a.txt sha512}/$(digest sha512sum "$folder/a.txt")/; s/{large sha512}/$(digest sha512sum "$folder/large")/" \
+    "$checks/tables.txt" >"$folder/tables"
 query=
 while IFS= read -r line; do
     case $line in

@@ -135,7 +135,8 @@ fn put_posted<T: Statements>(
         size: change.content.as_slice().len() as u64,
         digests,
     };
-    put_file(tx, &new_row(change, numbers, new, extent)?, change.content)
+    let row = new_row(change, numbers, new, extent)?;
+    put_file(tx, &row, &digests.sha512, change.content)
 }
 
 // An upload that is whole, with the digests of its bytes.
@@ -197,7 +198,8 @@ fn put_assembled<T: Statements>(
         size: upload.row.size,
         digests: upload.digests,
     };
-    assemble(tx, &upload.row, &new_row(change, numbers, new, extent)?)
+    let row = new_row(change, numbers, new, extent)?;
+    assemble(tx, &upload.row, &row, &upload.digests.sha512)
 }
 
 // One of the new files of an object, in their order.

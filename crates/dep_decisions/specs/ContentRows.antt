@@ -1,10 +1,10 @@
 -- The rules on the fields of a content, by its purpose.
-use Rattle.std.specs.Prelude.{true, [], ◌∷◌, is_some, Option, Some, None, option_map, bytes_eq, if◌then◌else◌}
+use Rattle.std.specs.Prelude.{true, [], ◌∷◌, Option, Some, None, option_map, bytes_eq, if◌then◌else◌}
 use Rattle.dep_types.specs.Maps.{first_of}
 use Rattle.dep_types.specs.Names.{binary, metadata_format}
 use Rattle.dep_types.specs.declared.refusal.Refusal.{Refusal}
 use Rattle.dep_types.specs.declared.refusal.Refusal.TheVariants.{BadRequest, ContentTypeNotAcceptable, MetadataFormatNotAcceptable, PackagingFormatNotAcceptable}
-use Rattle.dep_fixity.specs.Fixity.{digests_of}
+use Rattle.dep_fixity.specs.Fixity.{digests_of, promises}
 use Rattle.dep_fixity.specs.declared.field.DigestList.{DigestList}
 use Rattle.dep_fixity.specs.declared.hasher.Digests.{Digests}
 use Rattle.dep_fields.specs.declared.field.Field.{Field}
@@ -46,9 +46,9 @@ fields_by op purpose = first_of
     (encoding_rule op ∷ kind_rule op ∷ in_progress_rule op ∷ format_by op purpose ∷ type_by op purpose
     ∷ [])
 
--- the digests of the content, where one is promised
+-- the digests of the content, where some digest is promised
 abbrev pub digests_if_promised : Operation → Field DigestList → Option Digests
 digests_if_promised op (Value list) =
-    if is_some list.sha256 then Some (digests_of op.content) else None
+    if promises list then Some (digests_of op.content) else None
 digests_if_promised op Bad = None
 digests_if_promised op Absent = None

@@ -71,8 +71,9 @@ deposited_object s (AnObject n) = n
 deposited_object s (AFileSet n) = n
 deposited_object s resource = s.next.object
 
--- the file is the upload that the entry points at, joined by number, with the size that was told
--- and each digest that was promised, and the upload is gone
+-- the file is the upload that the entry points at, joined by number, with the size that was told,
+-- the SHA-256 that was promised at its opening and each digest that the entry promises, and the
+-- upload is gone
 pub record IsDepositedFrom (s t : State) (r : Reference) (file : File) : Type 0 where
   pub upload : ℕ
   pub target : r.target ≡ Pointing upload

@@ -202,7 +202,8 @@ is_binary packaging = option_map_or (bytes_eq binary) packaging true
 abbrev pub has_length : Option ℕ → state.Upload → Bool
 has_length length u = option_map_or (λ n. n == u.size) length true
 
--- the bytes have the digests that were promised at the opening and in the entry
+-- the bytes have the SHA-256 that was promised at the opening, and each digest that the entry
+-- promises
 abbrev pub has_digests : DigestList → state.Upload → Bool
 has_digests list u =
     is_kept u.sha256 (digests_of (assembled u)).sha256 && keeps list (digests_of (assembled u))

@@ -202,12 +202,12 @@ fn first_semicolon(text: &[u8]) -> Option<usize>
     text.iter().position(|b| *b == b';')
 }
 
-/// The digests of the content, where one is promised: else they aren't computed.
+/// The digests of the content, where some digest is promised: else they aren't computed.
 pub fn digests_if_promised(operation: &Operation<'_>) -> Option<Digests>
     ensures { result ≡ digests_if_promised operation.now operation.now.fields.digest }
 {
     match &operation.fields.digest {
-        Field::Value(list) if list.sha256.is_some() => {
+        Field::Value(list) if list.promises() => {
             Some(content_digests(operation.content.as_slice()))
         }
         _ => None,

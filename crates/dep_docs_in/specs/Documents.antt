@@ -17,7 +17,7 @@ use Rattle.dep_types.specs.Numbers.{number_in}
 use Rattle.dep_types.specs.declared.config.Config.{Config}
 use Rattle.dep_params.specs.Grammar.{DispositionValue, names_of}
 use Rattle.dep_params.specs.Told.{file_name_of, is_each_once, disposition_of}
-use Rattle.dep_fixity.specs.Fixity.{digest_field}
+use Rattle.dep_fixity.specs.Fixity.{digest_field, none_promised}
 use Rattle.dep_fixity.specs.declared.field.DigestList.{DigestList}
 use Rattle.dep_docs_in.specs.declared.reference.Reference.{Reference}
 use Rattle.dep_docs_in.specs.declared.reference.Pointed.{Pointed}
@@ -125,9 +125,6 @@ length_of d = optional (λ n. as_number n >>= as_u64) (get (codes "contentLength
 
 unfoldable pub packaging_of : Data → Option (Option (List ℕ))
 packaging_of d = optional as_str (get (codes "packaging") d)
-
-abbrev pub none_promised : DigestList
-none_promised = record { sha256 = None }
 
 unfoldable pub digest_of : Data → Option DigestList
 digest_of d =

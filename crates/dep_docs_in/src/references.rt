@@ -206,7 +206,7 @@ fn digest_of(entry: &Value) -> Result<DigestList, DocFault>
     ensures { Gives result (digest_of (view entry.now)) }
 {
     let Some(value) = entry.get("digest") else {
-        return Ok(DigestList { sha256: None });
+        return Ok(DigestList::none());
     };
     digest_in(value)
 }

@@ -51,13 +51,17 @@ service_offers root =
     ∷ (codes "acceptPackaging", only binary)
     ∷ []
 
+-- the digests of a content that a request may promise
+abbrev pub digests_data : Data
+digests_data = text_list (codes "SHA-256" ∷ codes "SHA-512" ∷ [])
+
 -- what it is called, and its limits
 unfoldable pub service_limits : Config → List (List ℕ × Data)
 service_limits config =
     (codes "byReferenceDeposit", boolean true)
     ∷ (codes "dc:title", text config.title)
     ∷ (codes "dcterms:abstract", text config.abstract_text)
-    ∷ (codes "digest", only (codes "SHA-256"))
+    ∷ (codes "digest", digests_data)
     ∷ (codes "maxAssembledSize", whole_number config.max_assembled)
     ∷ (codes "maxSegments", whole_number config.max_segments)
     ∷ (codes "maxUploadSize", whole_number config.max_upload)

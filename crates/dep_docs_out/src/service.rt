@@ -1,7 +1,7 @@
 //! The service document.
-ghost use Rattle.std.specs.Prelude.{◌≡◌, IfOk, OnOk};
+ghost use Rattle.std.specs.Prelude.{◌≡◌, IfOk, OnOk, codes};
 ghost use Rattle.dep_docs_out.specs.Documents as spec;
-ghost use Rattle.dep_docs_out.specs.Json.{AddsMembers};
+ghost use Rattle.dep_docs_out.specs.Json.{AddsMember, AddsMembers};
 
 use crate::document::{CONTEXT, Document};
 use crate::urls::url;
@@ -55,10 +55,22 @@ fn add_limits(document: &mut Document, config: &Config) -> Result<(), AllocError
     document.flag("byReferenceDeposit", true)?;
     document.text("dc:title", config.title.as_str())?;
     document.text("dcterms:abstract", config.abstract_text.as_str())?;
-    document.only("digest", "SHA-256")?;
+    add_digests(document)?;
     document.whole_number("maxAssembledSize", config.max_assembled)?;
     document.whole_number("maxSegments", config.max_segments)?;
     document.whole_number("maxUploadSize", config.max_upload)
+}
+
+// The digests of a content that a request may promise, by their names in a Digest field (RFC 5843).
+fn add_digests(document: &mut Document) -> Result<(), AllocError>
+    ensures { OnOk result
+        (AddsMember document.old document.new (codes "digest") spec.digests_data) }
+{
+    document.name("digest")?;
+    document.begin_list()?;
+    document.text_item("SHA-256")?;
+    document.text_item("SHA-512")?;
+    document.end_list()
 }
 
 // Where it takes it.

@@ -1,11 +1,12 @@
 -- What a head tells may be kept.
-use Rattle.std.proofs.Common.{◌≡◌, ◌≤◌, nat_lt, ℕ, List, Bool, true, false, length, Option, Some, None, option_and_then, IsTrue, IfSome, refl, ap, subst, arith, inl, inr, codes, if◌then◌else◌}
+use Rattle.std.proofs.Common.{◌≡◌, ◌≤◌, nat_lt, ℕ, List, Bool, true, false, Option, Some, None, option_and_then, IsTrue, refl, ap, subst, arith, inl, inr, codes, if◌then◌else◌}
 use Rattle.std.proofs.lemmas.Bool.Decides.{nat_tests}
 use Rattle.dep_types.specs.Names.{if_passes, is_media}
 use Rattle.dep_params.specs.Grammar.{value_of}
 use Rattle.dep_params.proofs.Runs.{chosen}
+use Rattle.dep_fixity.specs.Fixity.{none_promised}
 use Rattle.dep_fixity.specs.declared.field.DigestList.{DigestList}
-use Rattle.dep_fixity.proofs.Lengths.{field-long}
+use Rattle.dep_fixity.proofs.Lengths.{IsLong, field-long}
 use Rattle.dep_fields.specs.Fit.{AreFit, IfValue, IsFitKind}
 use Rattle.dep_fields.specs.Kinds.{IsKind, number, opening_by, promised}
 use Rattle.dep_fields.specs.Told.{fields_of, kind_read}
@@ -30,10 +31,10 @@ positive_by n (Some m) h = elim (chosen (nat_lt 0 m) _ _ (Some n) h) [
   | inr none ↦ cc (none.1)
 ]
 
-promised_long : (text : Option (List ℕ)) (list : DigestList) → promised text ≡ Some list → IfSome list.sha256 (λ digest. length digest ≡ 32)
+promised_long : (text : Option (List ℕ)) (list : DigestList) → promised text ≡ Some list → IsLong list
 promised_long None list h =
-    let same : record { sha256 = None } ≡ list = cc h in
-    subst (λ (l : DigestList). IfSome l.sha256 (λ digest. length digest ≡ 32)) same tt
+    let same : none_promised ≡ list = cc h in
+    subst IsLong same (tt, tt)
 promised_long (Some text) list h = field-long text list h
 
 opened : (size count segment_size : Option ℕ) (digest : Option DigestList) (o : Opening) → opening_by size count segment_size digest ≡ Some o
@@ -54,7 +55,8 @@ fit_kind text Metadata is = tt
 fit_kind text References is = tt
 fit_kind text (Opens o) is =
     let found = opened _ _ _ _ o is.kind_is.opening_is in
-    (positive_by o.count (number (value_of (codes "segment_count") is.reading)) found.0, promised_long (value_of (codes "digest") is.reading) o.digest found.1)
+    let long = promised_long (value_of (codes "digest") is.reading) o.digest found.1 in
+    (positive_by o.count (number (value_of (codes "segment_count") is.reading)) found.0, long.0, long.1)
 fit_kind text (Segment n) is = tt
 
 read_kind : (text : List ℕ) (o : Option Kind) → kind_read text ≡ o → IfValue (or_bad o) IsFitKind

@@ -9,7 +9,9 @@ use Rattle.dep_fields.specs.declared.kind.Kind.TheVariants.{File, Opening as Ope
 use Rattle.dep_fields.specs.declared.kind.Opening.{Opening}
 
 abbrev pub IsFitOpening : Opening → Type 0
-IsFitOpening o = (1 ≤ o.count) × IfSome o.digest.sha256 (λ digest. length digest ≡ 32)
+IsFitOpening o = (1 ≤ o.count)
+    × IfSome o.digest.sha256 (λ digest. length digest ≡ 32)
+    × IfSome o.digest.sha512 (λ digest. length digest ≡ 64)
 
 -- a file has a good name, and an opening a segment and whole digests
 abbrev pub IsFitKind : Kind → Type 0

@@ -7,7 +7,7 @@ use Rattle.dep_octets.specs.declared.numbers.Number.{Number}
 use Rattle.dep_octets.specs.declared.numbers.Number.TheVariants.{NotDigits, Above, Value}
 use Rattle.dep_params.specs.Grammar.{IsDisposition, DispositionValue, names_of, value_of}
 use Rattle.dep_params.specs.Names.{IsFileName}
-use Rattle.dep_fixity.specs.Fixity.{digest_field}
+use Rattle.dep_fixity.specs.Fixity.{digest_field, none_promised}
 use Rattle.dep_fixity.specs.declared.field.DigestList.{DigestList}
 use Rattle.dep_fields.specs.declared.kind.Opening.{Opening}
 use Rattle.dep_fields.specs.declared.kind.Kind.{Kind}
@@ -45,7 +45,7 @@ positive text = option_and_then (λ n. if nat_lt 0 n then Some n else None) (num
 
 -- what a parameter promises, which is nothing where it isn't there
 abbrev pub promised : Option (List ℕ) → Option DigestList
-promised None = Some (record { sha256 = None })
+promised None = Some none_promised
 promised (Some text) = digest_field text
 
 -- an attachment with these flags

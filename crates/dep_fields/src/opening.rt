@@ -48,7 +48,7 @@ fn promised(text: Option<&[u8]>) -> Option<DigestList>
     ensures { result ≡ spec.promised (option_copied text.entry) }
 {
     let Some(text) = text else {
-        return Some(DigestList { sha256: None });
+        return Some(DigestList::none());
     };
     match read_digest_field(text) {
         Ok(digest) => Some(digest),

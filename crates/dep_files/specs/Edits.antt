@@ -1,21 +1,12 @@
--- What is made of the files of an object, and of the rows of blocks.
-use Rattle.std.specs.Prelude.{ℕ, not, List, [], ◌∷◌, filter}
+-- What is made of the files of an object.
+use Rattle.std.specs.Prelude.{ℕ}
 use Rattle.std.specs.FinMap as map
 use Rattle.dep_types.specs.State.{State, Object, File}
 use Rattle.dep_row_maps.specs.TablesAre.{with_object}
-use Rattle.sqlite_value.specs.Order.{Row}
-use Rattle.dep_tables.specs.Rows.{is_block_of}
-use Rattle.dep_tables.specs.declared.owner.BlockOwner.TheVariants as owner
 
 -- the part that a content has that came whole
 abbrev pub only_part : ℕ
 only_part = 1
-
--- the contents of these files are deleted, one after another
-abbrev pub without_contents : List ℕ → List Row → List Row
-without_contents [] rows = rows
-without_contents (f ∷ files) rows =
-    without_contents files (filter (λ r. not (is_block_of (owner.File f) r)) rows)
 
 -- the object with a file, without one, and without any
 abbrev pub with_file : State → (n : ℕ) → Object → (f : ℕ) → File → State

@@ -2,41 +2,47 @@
 
 ghost use Rattle.std.specs.Prelude.{◌≡◌, ◌<◌, ◌^◌, ℕ, All, Some, None, OnOk, IfErr, map};
 ghost use Rattle.std.specs.FinMap as finmap;
+ghost use Rattle.sha2.specs.Sha512 as sha2;
 ghost use Rattle.dep_types.specs.State.{Object, File, file_at};
 ghost use Rattle.dep_types.specs.Rows.{file_row};
 ghost use Rattle.dep_types.specs.Sound.{IsSound};
 ghost use Rattle.sqlite_trees.specs.Tree.{put_row};
-ghost use Rattle.dep_tables.specs.Rows.{IsStorableFile, stored_file};
+ghost use Rattle.dep_statements.specs.Rows.{put_next};
+ghost use Rattle.dep_tables.specs.Rows.{IsStorableFile, sha512_values, stored_file};
 ghost use Rattle.dep_tables.specs.Tables.{tables_of};
 ghost use Rattle.dep_tables.specs.Clauses.{RefusesNumbers, StaysWithin};
 ghost use Rattle.dep_row_maps.specs.Stored.{blocks_of, put_blocks};
 ghost use Rattle.dep_row_maps.specs.TablesAre.{TablesAre};
 ghost use Rattle.dep_row_maps.specs.Clauses.{Becomes, FromMaps, KeepsOurs, FailsUncommitted, FailsReadingUncommitted};
+ghost use Rattle.dep_row_maps.specs.Laws.{without_contents};
 ghost use Rattle.dep_row_maps.specs.Causes.{FailsByOne, FailsByStatement, FailsSince};
-ghost use Rattle.dep_files.specs.Edits.{only_part, with_file, without_file, without_files, without_contents};
+ghost use Rattle.dep_files.specs.Edits.{only_part, with_file, without_file, without_files};
 
 use crate::blocks::put_blocks;
 use crate::content::Content;
-use dep_tables::{BlockOwner, Statements, delete_blocks, files_of, insert_file};
+use dep_tables::{
+    BlockOwner, Statements, delete_blocks, delete_sha512, files_of, insert_file, insert_sha512,
+};
 use dep_types::{FileRow, StoreFault};
 use std::alloc::Global;
 
 /// The part that a content has that came whole.
 const ONLY_PART: u64 = 1;
 
-/// Adds a file to an object that is there: its row and its content, each byte of which is written
-/// once, as one part of number 1. It is a fault of the store where the number of the file is taken,
-/// and where a number is 2^63 or more.
+/// Adds a file to an object that is there: its row, the SHA-512 of its content (FIPS 180-4), and the
+/// content, each byte of which is written once, as one part of number 1. It is a fault of the store
+/// where the number of the file is taken, and where a number is 2^63 or more.
 pub fn put_file<T: Statements, C: Content>(
     tx: &mut T,
     row: &FileRow,
+    sha512: &[u8; 64],
     content: &C,
 ) -> Result<(), StoreFault>
     ensures map { FromMaps (T.state tx.old) (T.state tx.new)
         (λ s. (o : Object) (file : File)
         → finmap.get s.objects row.now.object ≡ Some o
         → row.now ≡ file_row row.now.object row.now.file file
-        → C.bytes content.now ≡ file.content
+        → C.bytes content.now ≡ file.content → sha512.now ≡ sha2.sha512 file.content
         → OnOk result (TablesAre (tables_of (T.state tx.new))
         (with_file s row.now.object o row.now.file file))) }
     ensures rows { Becomes (T.state tx.old) (T.state tx.new) result
@@ -44,6 +50,7 @@ pub fn put_file<T: Statements, C: Content>(
           files = put_row (stored_file row.now) t.files;
           blocks = put_blocks (BlockOwner.File row.now.file) only_part 0
               (blocks_of (C.bytes content.now)) t.blocks;
+          sha512s = put_next (sha512_values (BlockOwner.File row.now.file) sha512.now) t.sha512s;
         }) }
     ensures free { FromMaps (T.state tx.old) (T.state tx.new)
         (λ s. OnOk result ((n : ℕ) → file_at s n row.now.file ≡ None)) }
@@ -54,11 +61,12 @@ pub fn put_file<T: Statements, C: Content>(
     ensures stays { StaysWithin T.lenders T.state tx.old tx.new result }
 {
     put_blocks(tx, BlockOwner::File(row.file), ONLY_PART, content)?;
+    insert_sha512(tx, BlockOwner::File(row.file), sha512)?;
     insert_file(tx, row)
 }
 
-/// Deletes a file with its content, if there is one of this number. A number of 2^63 or more is a
-/// fault of the store.
+/// Deletes a file with its content and its SHA-512, if there is one of this number. A number of 2^63
+/// or more is a fault of the store.
 pub fn delete_file<T: Statements>(tx: &mut T, file: u64) -> Result<(), StoreFault>
     ensures map { FromMaps (T.state tx.old) (T.state tx.new)
         (λ s. (n : ℕ) (o : Object) (it : File)
@@ -74,12 +82,13 @@ pub fn delete_file<T: Statements>(tx: &mut T, file: u64) -> Result<(), StoreFaul
     ensures stays { StaysWithin T.lenders T.state tx.old tx.new result }
 {
     delete_blocks(tx, BlockOwner::File(file))?;
+    delete_sha512(tx, BlockOwner::File(file))?;
     dep_tables::delete_file(tx, file)
 }
 
 fn delete_contents<T: Statements>(tx: &mut T, rows: &[FileRow]) -> Result<(), StoreFault>
     ensures ok { Becomes (T.state tx.old) (T.state tx.new) result
-        (λ t. record t { blocks = without_contents (map (λ row. row.file) rows.now) t.blocks }) }
+        (without_contents (map (λ row. row.file) rows.now)) }
     ensures cause { FailsByOne T.state tx.old tx.new result
         (All (λ row. row.file < 2 ^ 63) rows.now) FailsByStatement }
     ensures err { FailsUncommitted (T.state tx.old) (T.state tx.new) result }
@@ -87,12 +96,13 @@ fn delete_contents<T: Statements>(tx: &mut T, rows: &[FileRow]) -> Result<(), St
 {
     'rows: for row in rows {
         delete_blocks(tx, BlockOwner::File(row.file))?;
+        delete_sha512(tx, BlockOwner::File(row.file))?;
     }
     Ok(())
 }
 
-/// Deletes all files of an object with their contents. It holds the rows of the files. A number of
-/// 2^63 or more is a fault of the store.
+/// Deletes all files of an object with their contents and their SHA-512s. It holds the rows of the
+/// files. A number of 2^63 or more is a fault of the store.
 pub fn delete_files<T: Statements>(tx: &mut T, alloc: Global, object: u64) -> Result<(), StoreFault>
     ensures map { FromMaps (T.state tx.old) (T.state tx.new)
         (λ s. (o : Object) → finmap.get s.objects object ≡ Some o

@@ -1,7 +1,7 @@
 -- A digest that is read has its length.
-use Rattle.std.proofs.Common.{◌≡◌, ◌∙◌, ◌*◌, ◌==◌, ℕ, List, [], ◌∷◌, Bool, true, false, length, map, Option, Some, None, option_map, Result, Ok, Err, refl, sym, ap, subst, arith, inl, inr, ◌⊎◌, cond, codes, IfSome, is_some}
+use Rattle.std.proofs.Common.{◌≡◌, ◌∙◌, ◌*◌, ◌==◌, ℕ, List, [], ◌∷◌, Bool, true, false, length, map, Option, Some, None, Result, Ok, Err, refl, sym, ap, subst, arith, inl, inr, ◌⊎◌, cond, codes, IfSome, is_some}
 use Rattle.std.proofs.lemmas.Bool.Decides.{nat_tests}
-use Rattle.std.specs.List.{list_all}
+use Rattle.std.specs.List.{list_all, filter_map}
 use Rattle.std.specs.Option.{option_or}
 use Rattle.std.specs.Result.{result_ok}
 use Rattle.base64.specs.Engines.{standard}
@@ -10,7 +10,7 @@ use Rattle.hex.specs.Hex.{decode_sized}
 use Rattle.hex.specs.declared.error.FromHexError.{FromHexError}
 use Rattle.hex.proofs.HexLemmas.{decode_sized-ok, decode_sized-twice, decode_of-ok}
 use Rattle.dep_octets.specs.Octets.{members}
-use Rattle.dep_fixity.specs.Fixity.{digest_field, is_just, just_so_many, name_and_value, octets_of, octets_of_base64, octets_of_hex, one_digest, spelled_under}
+use Rattle.dep_fixity.specs.Fixity.{digest_field, digest_under, is_just, just_so_many, name_and_value, octets_of, octets_of_base64, octets_of_hex, one_digest, paired, value_under}
 use Rattle.dep_fixity.specs.declared.field.DigestList.{DigestList}
 
 chosen : {A : Type 0} (b : Bool) (x y z : A) → cond b x y ≡ z → ((b ≡ true) × (x ≡ z)) ⊎ ((b ≡ false) × (y ≡ z))
@@ -59,15 +59,26 @@ one-long n (text ∷ texts) digest h = first-long n text digest (map (octets_of 
 
 abbrev pub IsLong : DigestList → Type 0
 IsLong promised = IfSome promised.sha256 (λ digest. length digest ≡ 32)
+    × IfSome promised.sha512 (λ digest. length digest ≡ 64)
 
-listed : (o : Option (Option (List ℕ))) (promised : DigestList) → ((digest : List ℕ) → o ≡ Some (Some digest) → length digest ≡ 32)
-    → option_map (λ (digest : Option (List ℕ)). let list : DigestList = record { sha256 = digest } in list) o ≡ Some promised → IsLong promised
-listed None promised f h = cc h
-listed (Some None) promised f h = let same : record { sha256 = None } ≡ promised = cc h in subst IsLong same tt
-listed (Some (Some digest)) promised f h = let same : record { sha256 = Some digest } ≡ promised = cc h in subst IsLong same (f digest refl)
-
-pub field-long : (text : List ℕ) (promised : DigestList) → digest_field text ≡ Some promised → IsLong promised
-field-long text promised h = elim (chosen (list_all (λ member. is_some (name_and_value member)) (members text)) _ _ (Some promised) h) [
-  | inl all ↦ listed (one_digest (spelled_under 32 (codes "SHA-256") (members text))) promised (λ digest is. one-long 32 _ digest is) all.1
+under-long : (n : ℕ) (name : List ℕ) (list : List (List ℕ)) (promise : Option (List ℕ)) → digest_under n name list ≡ Some promise
+    → IfSome promise (λ digest. length digest ≡ n)
+under-long n name list None h = tt
+under-long n name list (Some digest) h = elim (chosen (list_all (λ member. is_some (name_and_value member)) list) _ _ (Some (Some digest)) h) [
+  | inl all ↦ one-long n (filter_map (value_under name) list) digest all.1
   | inr none ↦ cc (none.1)
 ]
+
+both : (short long : Option (Option (List ℕ))) (promised : DigestList) → paired short long ≡ Some promised
+    → (short ≡ Some promised.sha256) × (long ≡ Some promised.sha512)
+both None long promised h = cc h
+both (Some a) None promised h = cc h
+both (Some a) (Some b) promised h =
+    let same : record { sha256 = a; sha512 = b } ≡ promised = cc h in
+    (ap (λ (list : DigestList). Some list.sha256) same, ap (λ (list : DigestList). Some list.sha512) same)
+
+pub field-long : (text : List ℕ) (promised : DigestList) → digest_field text ≡ Some promised → IsLong promised
+field-long text promised h =
+    let list = members text in
+    let read = both (digest_under 32 (codes "SHA-256") list) (digest_under 64 (codes "SHA-512") list) promised h in
+    (under-long 32 (codes "SHA-256") list promised.sha256 read.0, under-long 64 (codes "SHA-512") list promised.sha512 read.1)

@@ -1,5 +1,5 @@
 -- What a member adds to the promises of those before it.
-use Rattle.std.proofs.Common.{◌≡◌, ◌∙◌, ◌&&◌, refl, ap, List, [], ◌∷◌, ◌++◌, true, false, ℕ, Bool, Option, Some, None, inl, inr, codes, bytes_eq, is_some, cond}
+use Rattle.std.proofs.Common.{◌≡◌, ◌∙◌, ◌&&◌, refl, ap, List, [], ◌∷◌, ◌++◌, true, false, ℕ, Bool, Option, Some, None, inl, inr, bytes_eq, is_some, cond}
 use Rattle.std.proofs.lemmas.Bool.{cases_Bool}
 use Rattle.std.proofs.lemmas.List.{map-append}
 use Rattle.std.proofs.lemmas.List.Elements.{filter_map-append}
@@ -7,7 +7,7 @@ use Rattle.std.proofs.lemmas.List.Folds.{list_all-append}
 use Rattle.std.proofs.lemmas.Slice.Eq.{bytes_eq-Decides}
 use Rattle.std.specs.List.{list_all, filter_map}
 use Rattle.std.specs.Str.{str_eq_ignore_ascii_case}
-use Rattle.dep_fixity.specs.Fixity.{is_just, one_digest, joined, promise_of, octets_of, value_under, name_and_value, spelled_under}
+use Rattle.dep_fixity.specs.Fixity.{is_just, one_digest, joined, digest_under, octets_of, value_under, name_and_value, spelled_under}
 
 -- the digest that is there, where all the rest spell it
 when_all : (digest : List ℕ) (all : Bool) (before : Option (List ℕ))
@@ -87,22 +87,22 @@ pub spelled_under-other : (n : ℕ) (name : List ℕ) (done : List (List ℕ)) (
 spelled_under-other n name done member rest h =
     rw (filter_map-append (value_under name) done (member ∷ rest), h, map-append (octets_of n) (filter_map (value_under name) done) (filter_map (value_under name) rest)) refl
 
-pub promise_of-unnamed : (done : List (List ℕ)) (member : List ℕ) (rest : List (List ℕ)) → name_and_value member ≡ None
-    → promise_of (done ++ member ∷ rest) ≡ None
-promise_of-unnamed done member rest h =
+pub digest_under-unnamed : (n : ℕ) (name : List ℕ) (done : List (List ℕ)) (member : List ℕ) (rest : List (List ℕ)) → name_and_value member ≡ None
+    → digest_under n name (done ++ member ∷ rest) ≡ None
+digest_under-unnamed n name done member rest h =
     let named = λ (m : List ℕ). is_some (name_and_value m) in
     let not_named : named member ≡ false = rw h refl in
     let not_all : list_all named (done ++ member ∷ rest) ≡ false =
     rw (list_all-append named done (member ∷ rest), not_named) (and_false (list_all named done)) in
     rw not_all refl
 
-pub promise_of-bad : (done : List (List ℕ)) (member : List ℕ) (rest : List (List ℕ)) (before : Option (List ℕ)) (value : List ℕ)
-    → one_digest (spelled_under 32 (codes "SHA-256") done) ≡ Some before → value_under (codes "SHA-256") member ≡ Some value
-    → joined before (octets_of 32 value) ≡ None → promise_of (done ++ member ∷ rest) ≡ None
-promise_of-bad done member rest before value h is j =
-    let bad : one_digest (spelled_under 32 (codes "SHA-256") (done ++ member ∷ rest)) ≡ None =
-    ap one_digest (spelled_under-next 32 (codes "SHA-256") done member rest value is)
-    ∙ one_digest-bad (spelled_under 32 (codes "SHA-256") done) (spelled_under 32 (codes "SHA-256") rest) before (octets_of 32 value) h j in
+pub digest_under-bad : (n : ℕ) (name : List ℕ) (done : List (List ℕ)) (member : List ℕ) (rest : List (List ℕ)) (before : Option (List ℕ)) (value : List ℕ)
+    → one_digest (spelled_under n name done) ≡ Some before → value_under name member ≡ Some value
+    → joined before (octets_of n value) ≡ None → digest_under n name (done ++ member ∷ rest) ≡ None
+digest_under-bad n name done member rest before value h is j =
+    let bad : one_digest (spelled_under n name (done ++ member ∷ rest)) ≡ None =
+    ap one_digest (spelled_under-next n name done member rest value is)
+    ∙ one_digest-bad (spelled_under n name done) (spelled_under n name rest) before (octets_of n value) h j in
     elim (cases_Bool (list_all (λ m. is_some (name_and_value m)) (done ++ member ∷ rest))) [
       | inl all ↦ rw (all, bad) refl
       | inr not_all ↦ rw not_all refl

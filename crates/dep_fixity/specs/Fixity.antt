@@ -1,5 +1,5 @@
 -- Digests that a Digest field promises, and the digests of a message (RFC 3230, RFC 5843).
-use Rattle.std.specs.Prelude.{ℕ, ◌+◌, ◌==◌, Bool, true, false, List, [], ◌∷◌, length, take, drop, map, codes, bytes_eq, Option, Some, None, is_some, option_map, option_and_then, if◌then◌else◌}
+use Rattle.std.specs.Prelude.{ℕ, ◌+◌, ◌==◌, ◌&&◌, ◌||◌, Bool, true, false, List, [], ◌∷◌, length, take, drop, map, codes, bytes_eq, Option, Some, None, is_some, option_map, option_and_then, if◌then◌else◌}
 use Rattle.std.specs.List.{list_all, filter_map, position}
 use Rattle.std.specs.Option.{option_or}
 use Rattle.std.specs.Result.{result_ok}
@@ -8,7 +8,8 @@ use Rattle.base64.specs.Engines.{standard}
 use Rattle.base64.specs.GeneralPurpose.{decoded_of}
 use Rattle.hex.specs.Hex.{decode_sized}
 use Rattle.sha2.specs.Sha256.{sha256}
-use Rattle.sha2.specs.Hashers.{Holds256}
+use Rattle.sha2.specs.Sha512.{sha512}
+use Rattle.sha2.specs.Hashers.{Holds256, Holds512}
 use Rattle.dep_octets.specs.Octets.{members}
 use Rattle.dep_fixity.specs.declared.hasher.Digests.{Digests}
 use Rattle.dep_fixity.specs.declared.hasher.Hasher.{Hasher}
@@ -54,17 +55,34 @@ one_digest (Some digest ∷ more) = if list_all (is_just digest) more then Some 
 abbrev pub spelled_under : ℕ → List ℕ → List (List ℕ) → List (Option (List ℕ))
 spelled_under n name list = map (octets_of n) (filter_map (value_under name) list)
 
--- what members promise, each of which has an `=`
+-- the digest that the members of this name spell, of n octets, where each member has an `=`
+abbrev pub digest_under : ℕ → List ℕ → List (List ℕ) → Option (Option (List ℕ))
+digest_under n name list =
+    if list_all (λ member. is_some (name_and_value member)) list
+    then one_digest (spelled_under n name list)
+    else None
+
+-- the promise of both digests, where both can be read
+abbrev pub paired : Option (Option (List ℕ)) → Option (Option (List ℕ)) → Option DigestList
+paired short long =
+    option_and_then (λ a. option_map (λ b. record { sha256 = a; sha512 = b }) long) short
+
+-- what members promise
 abbrev pub promise_of : List (List ℕ) → Option DigestList
 promise_of list =
-    if list_all (λ member. is_some (name_and_value member)) list
-    then option_map (λ digest. record { sha256 = digest })
-    (one_digest (spelled_under 32 (codes "SHA-256") list))
-    else None
+    paired (digest_under 32 (codes "SHA-256") list) (digest_under 64 (codes "SHA-512") list)
 
 -- what the value of a Digest field promises, if it can be read
 abbrev pub digest_field : List ℕ → Option DigestList
 digest_field text = promise_of (members text)
+
+-- the promise of nothing
+abbrev pub none_promised : DigestList
+none_promised = record { sha256 = None; sha512 = None }
+
+-- whether some digest is promised
+abbrev pub promises : DigestList → Bool
+promises promised = is_some promised.sha256 || is_some promised.sha512
 
 -- a digest, unless another one was promised before
 abbrev pub joined : Option (List ℕ) → Option (List ℕ) → Option (List ℕ)
@@ -79,12 +97,14 @@ is_kept (Some promised) actual = bytes_eq promised actual
 
 -- whether each digest that is promised is the actual one
 abbrev pub keeps : DigestList → Digests → Bool
-keeps promised actual = is_kept promised.sha256 actual.sha256
+keeps promised actual =
+    is_kept promised.sha256 actual.sha256 && is_kept promised.sha512 actual.sha512
 
 -- the digests of a message
 abbrev pub digests_of : List ℕ → Digests
-digests_of message = record { sha256 = sha256 message }
+digests_of message = record { sha256 = sha256 message; sha512 = sha512 message }
 
 -- the pieces that the hasher was given make this message
 pub record Holds (hasher : Hasher) (message : List ℕ) : Type 0 where
   pub sha256 : Holds256 hasher.sha256 message
+  pub sha512 : Holds512 hasher.sha512 message

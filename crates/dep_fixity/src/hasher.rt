@@ -1,17 +1,20 @@
 //! Digests of contents.
-use sha2::{Digest, Sha256};
+use sha2::{Digest, Sha256, Sha512};
 
 /// The digests of one message, an algorithm each.
 #[derive(Clone, Copy, Debug, PartialEq, Eq)]
 pub struct Digests {
     /// Its SHA-256 (FIPS 180-4).
     pub sha256: [u8; 32],
+    /// Its SHA-512 (FIPS 180-4).
+    pub sha512: [u8; 64],
 }
 
 /// Computes the digests of a message that comes in pieces.
 #[derive(Drop)]
 pub struct Hasher {
     sha256: Sha256,
+    sha512: Sha512,
 }
 
 impl Hasher {
@@ -24,6 +27,7 @@ impl Hasher {
     {
         Hasher {
             sha256: Sha256::new(),
+            sha512: Sha512::new(),
         }
     }
 
@@ -32,6 +36,7 @@ impl Hasher {
         ensures { (message : List ℕ) → Holds self.old message → Holds self.new (message ++ piece.now) }
     {
         self.sha256.update(piece);
+        self.sha512.update(piece);
     }
 
     /// The digests of the pieces so far, joined in their order.
@@ -40,6 +45,7 @@ impl Hasher {
     {
         Digests {
             sha256: self.sha256.finalize(),
+            sha512: self.sha512.finalize(),
         }
     }
 }

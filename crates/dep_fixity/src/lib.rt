@@ -8,4 +8,4 @@ mod spelling;
 
 pub use field::{DigestFault, DigestList, check, read_digest_field};
 pub use hasher::{Digests, Hasher};
-pub use spelling::{to_base64, to_hex};
+pub use spelling::{to_base64, to_hex, to_hex512};

@@ -7,7 +7,7 @@ ghost use Rattle.dep_fixity.specs.Fixity.{octets_of, octets_of_hex, octets_of_ba
 
 use base64::engine::general_purpose::STANDARD;
 
-/// The digest in hexadecimal digits, in lower case, as a manifest of RFC 8493, section 2.1.3 has it.
+/// A SHA-256 in hexadecimal digits, in lower case, as a manifest of RFC 8493, section 2.1.3 has it.
 pub fn to_hex(digest: &[u8; 32]) -> [u8; 64]
     ensures { result ≡ encode_lower digest.now }
 {
@@ -16,7 +16,16 @@ pub fn to_hex(digest: &[u8; 32]) -> [u8; 64]
     text
 }
 
-/// The digest in base64 with padding (RFC 4648, section 4), as RFC 5843 has it in a Digest field.
+/// A SHA-512 in hexadecimal digits, in lower case, as a manifest of RFC 8493, section 2.1.3 has it.
+pub fn to_hex512(digest: &[u8; 64]) -> [u8; 128]
+    ensures { result ≡ encode_lower digest.now }
+{
+    let mut text = [0u8; 128];
+    let _ = hex::encode_to_slice(digest.as_slice(), &mut text);
+    text
+}
+
+/// A SHA-256 in base64 with padding (RFC 4648, section 4), as RFC 5843 has it in a Digest field.
 pub fn to_base64(digest: &[u8; 32]) -> [u8; 44]
     ensures { result ≡ encode_of standard digest.now }
 {
@@ -25,10 +34,10 @@ pub fn to_base64(digest: &[u8; 32]) -> [u8; 44]
     text
 }
 
-// The digest that a text spells, in hexadecimal digits or in base64.
+// The digest of N octets that a text spells, in hexadecimal digits or in base64.
 #[tactic(auto, unfolding(crate::specs::Fixity::octets_of))]
-pub(crate) fn read_sha256(text: &[u8]) -> Option<[u8; 32]>
-    ensures { result ≡ octets_of 32 text.now }
+pub(crate) fn read_digest<const N: usize>(text: &[u8]) -> Option<[u8; N]>
+    ensures { result ≡ octets_of N text.now }
 {
     match from_hex(text) {
         Some(digest) => Some(digest),
@@ -36,25 +45,22 @@ pub(crate) fn read_sha256(text: &[u8]) -> Option<[u8; 32]>
     }
 }
 
-fn from_hex(text: &[u8]) -> Option<[u8; 32]>
-    ensures { result ≡ octets_of_hex 32 text.now }
+fn from_hex<const N: usize>(text: &[u8]) -> Option<[u8; N]>
+    ensures { result ≡ octets_of_hex N text.now }
 {
-    let mut digest = [0u8; 32];
+    let mut digest = [0u8; N];
     match hex::decode_to_slice(text, &mut digest) {
         Ok(()) => Some(digest),
         Err(_) => None,
     }
 }
 
-fn from_base64(text: &[u8]) -> Option<[u8; 32]>
-    ensures { result ≡ octets_of_base64 32 text.now }
+fn from_base64<const N: usize>(text: &[u8]) -> Option<[u8; N]>
+    ensures { result ≡ octets_of_base64 N text.now }
 {
-    if text.len() != 44 {
-        return None;
+    let mut digest = [0u8; N];
+    match STANDARD.decode_slice(text, &mut digest) {
+        Ok(count) if count == N => Some(digest),
+        _ => None,
     }
-    let mut digest = [0u8; 32];
-    let Ok(32) = STANDARD.decode_slice(text, &mut digest) else {
-        return None;
-    };
-    Some(digest)
 }

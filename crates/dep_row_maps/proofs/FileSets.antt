@@ -1,7 +1,9 @@
 -- All files of an object dropped, and a file replaced.
-use Rattle.std.proofs.Common.{◌≡◌, ◌≢◌, ◌⊎◌, inl, inr, ℕ, ℤ, pos, Bool, true, false, cond, List, [], ◌∷◌, Option, Some, None, refl, sym, ap, ◌∙◌, Ordering, Less, Equal, Greater, is_eq, nat_cmp}
+use Rattle.std.proofs.Common.{◌≡◌, ◌≢◌, ◌⊎◌, inl, inr, ℕ, ℤ, pos, Bool, true, false, not, cond, List, [], ◌∷◌, ◌++◌, Some, None, is_some, filter, refl, sym, ap, ◌∙◌, Ordering, Less, Equal, Greater, is_eq, nat_cmp}
 use Rattle.std.specs.Prelude.{find}
-use Rattle.std.proofs.lemmas.Cmp.{nat_cmp_total}
+use Rattle.std.specs.Ordering.{eq_by_cmp}
+use Rattle.std.specs.List.{list_any}
+use Rattle.std.proofs.lemmas.Cmp.{nat_cmp_total, tied_itself}
 use Rattle.std.specs.FinMap as finmap
 use Rattle.sqlite_trees.specs.Tree.{without_rowid, has_rowid}
 use Rattle.sqlite_trees.proofs.TreeLemmas.{IsShaped-filter}
@@ -9,61 +11,125 @@ use Rattle.sqlite_trees.specs.declared.store.Shape.TheVariants as shape
 use Rattle.sqlite_value.specs.Order.{Row}
 use Rattle.dep_types.specs.Maps.{Numbered}
 use Rattle.dep_types.specs.State.{Object, File}
-use Rattle.dep_row_maps.specs.TablesAre.{FilesAre, AreFilesParts, metadata_at, files_at, joined}
-use Rattle.dep_row_maps.specs.Laws.{FilesDropped, FileReplaced}
-use Rattle.dep_row_maps.proofs.Files.{files-drop, files-put, files-without, one_object, remove-absent, same_number}
-use Rattle.dep_row_maps.proofs.Lens.{get_here, get_there}
-use Rattle.dep_row_maps.proofs.Whole.{files_changed, files_now, files_else, files_there, texts_moved, no_upload, other_file, none_of}
-use Rattle.dep_row_maps.specs.TablesAre.{Parts}
+use Rattle.dep_tables.specs.Rows.{is_block_of, shown_block, is_sha512_of}
+use Rattle.dep_tables.specs.declared.owner.BlockOwner.{BlockOwner}
 use Rattle.dep_tables.specs.declared.owner.BlockOwner.TheVariants as owner
+use Rattle.dep_row_maps.specs.Owned.{OwnedAre}
+use Rattle.dep_row_maps.specs.Stored.{block_rows, shown_sha512, sha512_rows, without_rows}
+use Rattle.dep_row_maps.specs.TablesAre.{FilesAre, AreFilesOwn, HasContent, HasSha512, metadata_at, files_at}
+use Rattle.dep_row_maps.specs.Laws.{FilesDropped, FileMissed, FileReplaced}
+use Rattle.dep_row_maps.proofs.Blocks.{one_owner, same_owner, block_rows-empty, blocks-delete}
+use Rattle.dep_row_maps.proofs.Files.{files-drop, files-put, files-without, one_object, remove-absent, same_number}
+use Rattle.dep_row_maps.proofs.FilesOwn.{own-put, own-dropped, none_of, files_there, files_now, files_else, other_file, no_upload}
+use Rattle.dep_row_maps.proofs.Lens.{tied_not}
+use Rattle.dep_row_maps.proofs.Owners.{owners-delete, with_at}
+use Rattle.dep_row_maps.proofs.Sha512s.{sha512s-delete, with_values, values_replaced}
+use Rattle.dep_row_maps.proofs.Whole.{files_changed, texts_moved}
 
-none_there : (q : ℕ) → finmap.get (finmap.empty {X = File} {R = nat_cmp}) q ≡ None
-none_there q = finmap.get-empty nat_cmp q
+-- ---- all files of an object go
 
--- the parts of the files once an object has none
-dropped_parts : (objects : Numbered Object) (n : ℕ) (o : Object) → finmap.get objects n ≡ Some o → ((m f : ℕ) (a b : File) → finmap.get (files_at objects n) f ≡ Some a → finmap.get (files_at objects m) f ≡ Some b → n ≡ m)
-    → (was now : Parts) → ((f : ℕ) (file : File) → finmap.get o.files f ≡ Some file → now (owner.File f) ≡ finmap.empty) → ((f : ℕ) → finmap.get o.files f ≡ None → now (owner.File f) ≡ was (owner.File f))
-    → AreFilesParts objects was → AreFilesParts (finmap.insert objects n (record o { files = finmap.empty })) now
-dropped_parts objects n o there one was now gone kept h = record {
-  of_files = λ m g x at. found m g x at (same_number m n) (finmap.get o.files g) refl;
-  of_none = λ g none. missing g none (finmap.get o.files g) refl;
-}
+-- a number is one of these
+abbrev is_among : List ℕ → ℕ → Bool
+is_among fs f = list_any (eq_by_cmp nat_cmp f) fs
+
+tied : (f : ℕ) → eq_by_cmp nat_cmp f f ≡ true
+tied f = ap is_eq (tied_itself nat_cmp_total f)
+
+-- these files have nothing, and each other owner what it had
+pub record AreEmptied {X : Type 0} (nothing : X) (fs : List ℕ) (was now : BlockOwner → X) : Type 0 where
+  pub gone : (f : ℕ) → is_among fs f ≡ true → now (owner.File f) ≡ nothing
+  pub kept : (f : ℕ) → is_among fs f ≡ false → now (owner.File f) ≡ was (owner.File f)
+  pub uploads : (u : ℕ) → now (owner.Upload u) ≡ was (owner.Upload u)
+
+-- the rows of one more file are deleted
+pub without_last : (is_its : BlockOwner → Row → Bool) (fs : List ℕ) (f : ℕ) (rows : List Row) → without_rows is_its (fs ++ f ∷ []) rows ≡ filter (λ r. not (is_its (owner.File f) r)) (without_rows is_its fs rows)
+without_last is_its [] f rows = refl
+without_last is_its (x ∷ fs) f rows = without_last is_its fs f (filter (λ r. not (is_its (owner.File x) r)) rows)
+
+module _ {X : Type 0} (nothing : X) (see : Row → Row) (is_its : BlockOwner → Row → Bool) (one : (a b : BlockOwner) (r : Row) → is_its a r ≡ true → is_its b r ≡ true → a ≡ b) (shows : X → List Row) (empty : shows nothing ≡ []) where
+  rows_gone : (fs : List ℕ) (rows : List Row) (was : BlockOwner → X) → OwnedAre see is_its rows (λ o. shows (was o)) → (now : BlockOwner → X) × OwnedAre see is_its (without_rows is_its fs rows) (λ o. shows (now o)) × AreEmptied nothing fs was now
+  rows_gone [] rows was are = (was, are, record { gone = λ f among. absurd (cc); kept = λ f apart. refl; uploads = λ u. refl })
+  rows_gone (x ∷ fs) rows was are =
+      let mid = with_at same_owner was (owner.File x) nothing in
+      let left = owners-delete see is_its one same_owner rows (λ o. shows (was o)) (λ o. shows (mid.0 o)) are (owner.File x) (ap shows mid.1 ∙ empty) (λ o apart. ap shows (mid.2 o apart)) in
+      let rest = rows_gone fs (filter (λ r. not (is_its (owner.File x) r)) rows) mid.0 left in
+      let others : (f : ℕ) → f ≢ x → mid.0 (owner.File f) ≡ was (owner.File f) = λ f apart. mid.2 (owner.File f) (other_file f x apart) in (
+        rest.0,
+        rest.1,
+        record {
+          gone = λ f among. gone f among (same_number f x) (is_among fs f) refl mid.0 rest.0 mid.1 rest.2;
+          kept = λ f apart. kept f apart (same_number f x) mid.0 rest.0 others rest.2;
+          uploads = λ u. rest.2.uploads u ∙ mid.2 (owner.Upload u) (no_upload u x);
+        },
+      )
+    where
+      gone : (f : ℕ) → is_among (x ∷ fs) f ≡ true → (f ≡ x) ⊎ (f ≢ x) → (b : Bool) → is_among fs f ≡ b → (mid now : BlockOwner → X) → mid (owner.File x) ≡ nothing → AreEmptied nothing fs mid now → now (owner.File f) ≡ nothing
+      gone f among d true is mid now none rest = rest.gone f is
+      gone f among (inl same) false is mid now none rest = rest.kept f is ∙ ap (λ k. mid (owner.File k)) same ∙ none
+      gone f among (inr apart) false is mid now none rest = absurd (let no = tied_not f x apart in cc)
+
+      kept : (f : ℕ) → is_among (x ∷ fs) f ≡ false → (f ≡ x) ⊎ (f ≢ x) → (mid now : BlockOwner → X) → ((k : ℕ) → k ≢ x → mid (owner.File k) ≡ was (owner.File k)) → AreEmptied nothing fs mid now → now (owner.File f) ≡ was (owner.File f)
+      kept f out (inl same) mid now others rest = absurd (let yes = ap (eq_by_cmp nat_cmp f) (sym same) ∙ tied f in cc)
+      kept f out (inr apart) mid now others rest = let no = tied_not f x apart in let out_of : is_among fs f ≡ false = cc in rest.kept f out_of ∙ others f apart
+
+-- what the files of an object have is gone
+own_gone : {X : Type 0} (Has : File → X → Type 0) (nothing : X) (objects : Numbered Object) (n : ℕ) (o : Object) → finmap.get objects n ≡ Some o → (was now : BlockOwner → X)
+    → ((m f : ℕ) (a b : File) → finmap.get (files_at objects n) f ≡ Some a → finmap.get (files_at objects m) f ≡ Some b → n ≡ m) → AreEmptied nothing (finmap.keys o.files) was now
+    → AreFilesOwn Has nothing objects was → AreFilesOwn Has nothing (finmap.insert objects n (record o { files = finmap.empty })) now
+own_gone Has nothing objects n o there was now one emptied = own-dropped Has nothing objects n o there was now one (λ f file at. emptied.gone f (among f ∙ ap is_some at)) (λ f none. emptied.kept f (among f ∙ ap is_some none))
   where
-    new : Numbered Object
-    new = finmap.insert objects n (record o { files = finmap.empty })
-
-    found : (m g : ℕ) (x : File) → finmap.get (files_at new m) g ≡ Some x → (m ≡ n) ⊎ (m ≢ n) → (b : Option File) → finmap.get o.files g ≡ b → joined (now (owner.File g)) ≡ x.content
-    found m g x at (inl is) b e = absurd (let none = ap (λ (fs : Numbered File). finmap.get fs g) (ap (files_at new) is ∙ files_now objects n o finmap.empty) ∙ none_there g in cc)
-    found m g x at (inr other) None e = ap joined (kept g e) ∙ h.of_files m g x (ap (λ ys. finmap.get ys g) (sym (files_else objects n o finmap.empty m other)) ∙ at)
-    found m g x at (inr other) (Some y) e =
-        absurd (other (sym (one m g y x (ap (λ ys. finmap.get ys g) (files_there objects n o there) ∙ e) (ap (λ ys. finmap.get ys g) (sym (files_else objects n o finmap.empty m other)) ∙ at))))
-
-    was_none : (g : ℕ) → ((m : ℕ) → finmap.get (files_at new m) g ≡ None) → finmap.get o.files g ≡ None → (m : ℕ) → (m ≡ n) ⊎ (m ≢ n) → finmap.get (files_at objects m) g ≡ None
-    was_none g none e m (inl is) = ap (λ ys. finmap.get ys g) (ap (files_at objects) is ∙ files_there objects n o there) ∙ e
-    was_none g none e m (inr other) = ap (λ ys. finmap.get ys g) (sym (files_else objects n o finmap.empty m other)) ∙ none m
-
-    missing : (g : ℕ) → ((m : ℕ) → finmap.get (files_at new m) g ≡ None) → (b : Option File) → finmap.get o.files g ≡ b → now (owner.File g) ≡ finmap.empty
-    missing g none (Some y) e = gone g y e
-    missing g none None e = kept g e ∙ h.of_none g (λ m. was_none g none e m (same_number m n))
+    among : (f : ℕ) → is_among (finmap.keys o.files) f ≡ is_some (finmap.get o.files f)
+    among f = sym (finmap.contains_key-keys o.files f)
 
 pub files_dropped : FilesDropped
-files_dropped t s h up n o there blocks parts are gone kept uploads =
+files_dropped t s h up n o there =
     let new = finmap.insert s.objects n (record o { files = finmap.empty }) in
     let same = files_changed s n o finmap.empty there in
-    record {
-      state = h.state;
-      objects = h.objects ∙ sym same.0;
-      metadata = texts_moved t.metadata (metadata_at s.objects) _ same.1 h.metadata;
-      files = files-drop t.files (files_at s.objects) (files_at new) h.files up n (files_now s.objects n o finmap.empty) (files_else s.objects n o finmap.empty);
-      uploads = h.uploads;
-      segments = h.segments;
-      timed_out = h.timed_out;
-      format = h.format;
-      parts = parts;
-      blocks = are;
-      files_parts = dropped_parts s.objects n o there (λ m f a b. one_object t.files (files_at s.objects) (files_at s.objects) h.files up n m f a b) h.parts parts gone kept h.files_parts;
-      uploads_parts = λ u. uploads u ∙ h.uploads_parts u;
-    }
+    let parts = rows_gone finmap.empty shown_block is_block_of one_owner block_rows block_rows-empty (finmap.keys o.files) t.blocks h.common.parts h.common.blocks in
+    let values = rows_gone None shown_sha512 is_sha512_of one_owner sha512_rows refl (finmap.keys o.files) t.sha512s h.values h.sha512s in
+    let one = λ (m f : ℕ) (a b : File). one_object t.files (files_at s.objects) (files_at s.objects) h.common.files up n m f a b in
+    with_values _ _ (record {
+      state = h.common.state;
+      objects = h.common.objects ∙ sym same.0;
+      metadata = texts_moved t.metadata (metadata_at s.objects) _ same.1 h.common.metadata;
+      files = files-drop t.files (files_at s.objects) (files_at new) h.common.files up n (files_now s.objects n o finmap.empty) (files_else s.objects n o finmap.empty);
+      uploads = h.common.uploads;
+      segments = h.common.segments;
+      timed_out = h.common.timed_out;
+      format = h.common.format;
+      parts = parts.0;
+      blocks = parts.1;
+      files_parts = own_gone HasContent finmap.empty s.objects n o there h.common.parts parts.0 one parts.2 h.common.files_parts;
+      uploads_parts = λ u. parts.2.uploads u ∙ h.common.uploads_parts u;
+    }) (record {
+      values = values.0;
+      are = values.1;
+      files = own_gone HasSha512 None s.objects n o there h.values values.0 one values.2 h.files_sha512s;
+      uploads = λ u. values.2.uploads u ∙ h.uploads_sha512s u;
+    })
+
+-- ---- a file that is nowhere
+
+pub file_missed : FileMissed
+file_missed t s h up f nowhere = with_values _ _ (record {
+  state = h.common.state;
+  objects = h.common.objects;
+  metadata = h.common.metadata;
+  files = files-without t.files (files_at s.objects) (files_at s.objects) h.common.files up f (λ m. sym (remove-absent (files_at s.objects m) f (nowhere m)));
+  uploads = h.common.uploads;
+  segments = h.common.segments;
+  timed_out = h.common.timed_out;
+  format = h.common.format;
+  parts = h.common.parts;
+  blocks = blocks-delete t.blocks h.common.parts h.common.parts h.common.blocks (owner.File f) (h.common.files_parts.of_none f nowhere) (λ q apart. refl);
+  files_parts = h.common.files_parts;
+  uploads_parts = h.common.uploads_parts;
+}) (record {
+  values = h.values;
+  are = sha512s-delete t.sha512s h.values h.values h.sha512s (owner.File f) (h.files_sha512s.of_none f nowhere) (λ q apart. refl);
+  files = h.files_sha512s;
+  uploads = h.uploads_sha512s;
+})
 
 -- ---- a file is replaced
 
@@ -84,61 +150,27 @@ inserted_over m k x = finmap.same_map nat_cmp_total finmap.nat_cmp-IsAntisymmetr
     go q Equal = refl
     go q Greater = refl
 
--- the parts of the files once one is another
-replaced_parts : (objects : Numbered Object) (n : ℕ) (o : Object) → finmap.get objects n ≡ Some o → (f : ℕ) (file : File) → ((m : ℕ) → m ≢ n → finmap.get (files_at objects m) f ≡ None)
-    → (was now : Parts) → joined (now (owner.File f)) ≡ file.content → ((g : ℕ) → g ≢ f → now (owner.File g) ≡ was (owner.File g)) → AreFilesParts objects was
-    → AreFilesParts (finmap.insert objects n (record o { files = finmap.insert o.files f file })) now
-replaced_parts objects n o there f file free was now content others h = record {
-  of_files = λ m g x at. found m g x at (same_number m n) (same_number g f);
-  of_none = λ g none. missing g none (same_number g f);
-}
-  where
-    fs : Numbered File
-    fs = finmap.insert o.files f file
-
-    new : Numbered Object
-    new = finmap.insert objects n (record o { files = fs })
-
-    at_n : (m : ℕ) → m ≡ n → files_at new m ≡ fs
-    at_n m is = ap (files_at new) is ∙ files_now objects n o fs
-
-    same_there : (m g : ℕ) → (m ≡ n) ⊎ (m ≢ n) → g ≢ f → finmap.get (files_at objects m) g ≡ finmap.get (files_at new m) g
-    same_there m g (inl is) apart = ap (λ ys. finmap.get ys g) (ap (files_at objects) is ∙ files_there objects n o there) ∙ sym (get_there o.files f file g apart) ∙ ap (λ ys. finmap.get ys g) (sym (at_n m is))
-    same_there m g (inr other) apart = ap (λ ys. finmap.get ys g) (sym (files_else objects n o fs m other))
-
-    found : (m g : ℕ) (x : File) → finmap.get (files_at new m) g ≡ Some x → (m ≡ n) ⊎ (m ≢ n) → (g ≡ f) ⊎ (g ≢ f) → joined (now (owner.File g)) ≡ x.content
-    found m g x at d (inr apart) = ap joined (others g apart) ∙ h.of_files m g x (same_there m g d apart ∙ at)
-    found m g x at (inl is) (inl same) =
-        let both : Some x ≡ Some file = sym at ∙ ap (λ ys. finmap.get ys g) (at_n m is) ∙ ap (finmap.get fs) same ∙ get_here o.files f file in
-        let it : x ≡ file = cc in
-        ap (λ k. joined (now (owner.File k))) same ∙ content ∙ ap (λ (y : File). y.content) (sym it)
-    found m g x at (inr other) (inl same) = absurd (let none = ap (λ ys. finmap.get ys g) (files_else objects n o fs m other) ∙ ap (finmap.get (files_at objects m)) same ∙ free m other in cc)
-
-    missing : (g : ℕ) → ((m : ℕ) → finmap.get (files_at new m) g ≡ None) → (g ≡ f) ⊎ (g ≢ f) → now (owner.File g) ≡ finmap.empty
-    missing g none (inl same) = absurd (let some = ap (λ ys. finmap.get ys g) (at_n n refl) ∙ ap (finmap.get fs) same ∙ get_here o.files f file in let nothing = none n in cc)
-    missing g none (inr apart) = others g apart ∙ h.of_none g (λ m. same_there m g (same_number m n) apart ∙ none m)
-
 pub file_replaced : FileReplaced
-file_replaced t s h up n o there f was file at blocks parts are content others =
+file_replaced t s h up values_up n o there f was file at blocks parts are content others =
     let fs = finmap.insert o.files f file in
     let new = finmap.insert s.objects n (record o { files = fs }) in
     let same = files_changed s n o fs there in
     let at_n : finmap.get (files_at s.objects n) f ≡ Some was = ap (λ ys. finmap.get ys f) (files_there s.objects n o there) ∙ at in
-    let free : (m : ℕ) → m ≢ n → finmap.get (files_at s.objects m) f ≡ None = λ m apart. none_of (finmap.get (files_at s.objects m) f) (λ x is. apart (one_object t.files (files_at s.objects) (files_at s.objects) h.files up m n f x was is at_n)) in
-    let mid : FilesAre (without_rowid (pos f) t.files) (λ m. finmap.remove (files_at s.objects m) f) = files-without t.files (files_at s.objects) (λ m. finmap.remove (files_at s.objects m) f) h.files up f (λ m. refl) in
-    record {
-      state = h.state;
-      objects = h.objects ∙ sym same.0;
-      metadata = texts_moved t.metadata (metadata_at s.objects) _ same.1 h.metadata;
+    let free : (m : ℕ) → m ≢ n → finmap.get (files_at s.objects m) f ≡ None = λ m apart. none_of (finmap.get (files_at s.objects m) f) (λ x is. apart (one_object t.files (files_at s.objects) (files_at s.objects) h.common.files up m n f x was is at_n)) in
+    let mid : FilesAre (without_rowid (pos f) t.files) (λ m. finmap.remove (files_at s.objects m) f) = files-without t.files (files_at s.objects) (λ m. finmap.remove (files_at s.objects m) f) h.common.files up f (λ m. refl) in
+    with_values _ _ (record {
+      state = h.common.state;
+      objects = h.common.objects ∙ sym same.0;
+      metadata = texts_moved t.metadata (metadata_at s.objects) _ same.1 h.common.metadata;
       files = files-put (without_rowid (pos f) t.files) (λ m. finmap.remove (files_at s.objects m) f) (files_at new) mid (IsShaped-filter shape.Table _ t.files up) n f file (no_row (pos f) t.files)
           (files_now s.objects n o fs ∙ sym (inserted_over o.files f file) ∙ ap (λ ys. finmap.insert (finmap.remove ys f) f file) (sym (files_there s.objects n o there)))
           (λ m apart. files_else s.objects n o fs m apart ∙ sym (remove-absent (files_at s.objects m) f (free m apart)));
-      uploads = h.uploads;
-      segments = h.segments;
-      timed_out = h.timed_out;
-      format = h.format;
+      uploads = h.common.uploads;
+      segments = h.common.segments;
+      timed_out = h.common.timed_out;
+      format = h.common.format;
       parts = parts;
       blocks = are;
-      files_parts = replaced_parts s.objects n o there f file free h.parts parts content (λ g apart. others (owner.File g) (other_file g f apart)) h.files_parts;
-      uploads_parts = λ u. others (owner.Upload u) (no_upload u f) ∙ h.uploads_parts u;
-    }
+      files_parts = own-put HasContent finmap.empty s.objects n o there h.common.parts parts f file free content (λ g apart. others (owner.File g) (other_file g f apart)) h.common.files_parts;
+      uploads_parts = λ u. others (owner.Upload u) (no_upload u f) ∙ h.common.uploads_parts u;
+    }) (values_replaced t s h n o there f values_up file free)

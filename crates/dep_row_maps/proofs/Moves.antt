@@ -11,7 +11,7 @@ use Rattle.sqlite_value.specs.Order.{Row}
 use Rattle.dep_types.specs.Maps.{Numbered}
 use Rattle.dep_types.specs.Uploads.{has_segment, segment_numbers}
 use Rattle.dep_row_maps.specs.Stored.{upload_stored, move_parts}
-use Rattle.dep_row_maps.specs.TablesAre.{BlocksAre, metadata_at, files_at, segments_at, joined}
+use Rattle.dep_row_maps.specs.TablesAre.{BlocksAre, HasContent, metadata_at, files_at, segments_at, joined}
 use Rattle.dep_row_maps.specs.Laws.{FileAssembledByParts}
 use Rattle.dep_row_maps.proofs.Owners.{with_at}
 use Rattle.dep_row_maps.proofs.Rows.{without_remove}
@@ -21,7 +21,9 @@ use Rattle.dep_row_maps.proofs.Segments.{segments-delete}
 use Rattle.dep_row_maps.proofs.Contents.{part_moved}
 use Rattle.dep_row_maps.proofs.Pieces.{assembled-joined}
 use Rattle.dep_row_maps.proofs.Lens.{get_here, get_there, get_gone, get_left}
-use Rattle.dep_row_maps.proofs.Whole.{files_changed, files_now, files_else, files_there, texts_moved, no_upload, no_file, other_file, other_upload, none_of, added_parts, segments_there, segments_gone, segments_left, left_parts}
+use Rattle.dep_row_maps.proofs.FilesOwn.{own-put, none_of, files_now, files_else, files_there, no_upload, no_file, other_file, other_upload}
+use Rattle.dep_row_maps.proofs.Sha512s.{with_values, values_put}
+use Rattle.dep_row_maps.proofs.Whole.{files_changed, texts_moved, segments_there, segments_gone, segments_left, left_parts}
 use Rattle.dep_row_maps.specs.TablesAre.{Parts}
 use Rattle.dep_tables.specs.declared.owner.BlockOwner.{BlockOwner}
 use Rattle.dep_tables.specs.declared.owner.BlockOwner.TheVariants as owner
@@ -90,33 +92,33 @@ value_of None h = absurd (cc)
 value_of (Some y) h = (y, refl)
 
 pub file_assembled_by_parts : FileAssembledByParts
-file_assembled_by_parts t s h up n o there f file free u it at bounds complete content =
+file_assembled_by_parts t s h up values_up n o there f file free u it at bounds complete content =
     let fs = finmap.insert o.files f file in
     let new = finmap.insert s.objects n (record o { files = fs }) in
     let same = files_changed s n o fs there in
-    let nowhere = λ (m : ℕ). free_file t.files (files_at s.objects) (files_at s.objects) h.files up m f free in
-    let had : h.parts (owner.Upload u) ≡ it.segments = h.uploads_parts u ∙ segments_there s.uploads u it at in
-    let none : h.parts (owner.File f) ≡ finmap.empty = h.files_parts.of_none f nowhere in
-    let done = all_moved (owner.Upload u) (owner.File f) (no_upload u f) it.count 1 (1 + it.count) refl t.blocks h.parts h.blocks
+    let nowhere = λ (m : ℕ). free_file t.files (files_at s.objects) (files_at s.objects) h.common.files up m f free in
+    let had : h.common.parts (owner.Upload u) ≡ it.segments = h.common.uploads_parts u ∙ segments_there s.uploads u it at in
+    let none : h.common.parts (owner.File f) ≡ finmap.empty = h.common.files_parts.of_none f nowhere in
+    let done = all_moved (owner.Upload u) (owner.File f) (no_upload u f) it.count 1 (1 + it.count) refl t.blocks h.common.parts h.common.blocks
     (λ k low high. let y = value_of (finmap.get it.segments k) (test_has (has_segment it) (segment_numbers it) k complete (range_has it.count 1 k low high)) in (y.0, ap (λ m. finmap.get m k) had ∙ y.1))
     (λ k low high. ap (λ m. finmap.get m k) none ∙ finmap.get-empty nat_cmp k) in
     let gone : done.0 (owner.Upload u) ≡ finmap.empty = finmap.same_map nat_cmp_total finmap.nat_cmp-IsAntisymmetric _ _ (λ k. outside (done.0 (owner.Upload u)) k (place k) (λ low high. (done.2.inside k low high).0) (λ p. (beyond done.0 done.2 k p).0 ∙ ap (λ m. finmap.get m k) had)) in
-    let got : done.0 (owner.File f) ≡ h.parts (owner.Upload u) = finmap.same_map nat_cmp_total finmap.nat_cmp-IsAntisymmetric _ _ (λ k. taken k (place k) (done.0 (owner.File f)) (λ low high. (done.2.inside k low high).1) (λ p. (beyond done.0 done.2 k p).1 ∙ ap (λ m. finmap.get m k) none ∙ finmap.get-empty nat_cmp k) had) in
+    let got : done.0 (owner.File f) ≡ h.common.parts (owner.Upload u) = finmap.same_map nat_cmp_total finmap.nat_cmp-IsAntisymmetric _ _ (λ k. taken k (place k) (done.0 (owner.File f)) (λ low high. (done.2.inside k low high).1) (λ p. (beyond done.0 done.2 k p).1 ∙ ap (λ m. finmap.get m k) none ∙ finmap.get-empty nat_cmp k) had) in
     let joins : joined (done.0 (owner.File f)) ≡ file.content = ap joined (got ∙ had) ∙ assembled-joined it bounds ∙ sym content in
-    record {
-      state = h.state;
-      objects = h.objects ∙ sym same.0;
-      metadata = texts_moved t.metadata (metadata_at s.objects) _ same.1 h.metadata;
-      files = files-put t.files (files_at s.objects) (files_at new) h.files up n f file free (files_now s.objects n o fs ∙ ap (λ ys. finmap.insert ys f file) (sym (files_there s.objects n o there))) (files_else s.objects n o fs);
-      uploads = ap (without_rowid (pos u)) h.uploads ∙ without_remove upload_stored (λ k x. refl) u s.uploads;
-      segments = segments-delete t.segments (segments_at s.uploads) (segments_at (finmap.remove s.uploads u)) h.segments u (segments_gone s.uploads u) (segments_left s.uploads u);
-      timed_out = h.timed_out;
-      format = h.format;
+    with_values _ _ (record {
+      state = h.common.state;
+      objects = h.common.objects ∙ sym same.0;
+      metadata = texts_moved t.metadata (metadata_at s.objects) _ same.1 h.common.metadata;
+      files = files-put t.files (files_at s.objects) (files_at new) h.common.files up n f file free (files_now s.objects n o fs ∙ ap (λ ys. finmap.insert ys f file) (sym (files_there s.objects n o there))) (files_else s.objects n o fs);
+      uploads = ap (without_rowid (pos u)) h.common.uploads ∙ without_remove upload_stored (λ k x. refl) u s.uploads;
+      segments = segments-delete t.segments (segments_at s.uploads) (segments_at (finmap.remove s.uploads u)) h.common.segments u (segments_gone s.uploads u) (segments_left s.uploads u);
+      timed_out = h.common.timed_out;
+      format = h.common.format;
       parts = done.0;
       blocks = done.1;
-      files_parts = added_parts s.objects n o there f file nowhere h.parts done.0 joins (λ g apart. done.2.others (owner.File g) (no_file g u) (other_file g f apart)) h.files_parts;
-      uploads_parts = left_parts s.uploads u h.parts done.0 gone (λ q apart. done.2.others (owner.Upload q) (other_upload q u apart) (no_upload q f)) h.uploads_parts;
-    }
+      files_parts = own-put HasContent finmap.empty s.objects n o there h.common.parts done.0 f file (λ m apart. nowhere m) joins (λ g apart. done.2.others (owner.File g) (no_file g u) (other_file g f apart)) h.common.files_parts;
+      uploads_parts = left_parts s.uploads u h.common.parts done.0 gone (λ q apart. done.2.others (owner.Upload q) (other_upload q u apart) (no_upload q f)) h.common.uploads_parts;
+    }) (values_put t s h n o there f values_up file nowhere)
   where
     place : (k : ℕ) → ((1 ≤ k) × (k < 1 + it.count)) ⊎ ((k < 1) ⊎ (1 + it.count ≤ k))
     place k = elim (cases_lt k 1) [ inl low ↦ inr (inl low) | inr high ↦ elim (cases_lt k (1 + it.count)) [ inl within ↦ inl (high, within) | inr above ↦ inr (inr above) ] ]
@@ -131,12 +133,12 @@ file_assembled_by_parts t s h up n o there f file free u it at bounds complete c
     outside m k (inl p) f1 f2 = f1 p.0 p.1 ∙ sym (finmap.get-empty nat_cmp k)
     outside m k (inr p) f1 f2 = f2 p ∙ never k p ∙ sym (finmap.get-empty nat_cmp k)
 
-    taken : (k : ℕ) → ((1 ≤ k) × (k < 1 + it.count)) ⊎ ((k < 1) ⊎ (1 + it.count ≤ k)) → (m : Numbered (List ℕ)) → (1 ≤ k → k < 1 + it.count → finmap.get m k ≡ finmap.get (h.parts (owner.Upload u)) k)
-        → ((k < 1) ⊎ (1 + it.count ≤ k) → finmap.get m k ≡ None) → h.parts (owner.Upload u) ≡ it.segments → finmap.get m k ≡ finmap.get (h.parts (owner.Upload u)) k
+    taken : (k : ℕ) → ((1 ≤ k) × (k < 1 + it.count)) ⊎ ((k < 1) ⊎ (1 + it.count ≤ k)) → (m : Numbered (List ℕ)) → (1 ≤ k → k < 1 + it.count → finmap.get m k ≡ finmap.get (h.common.parts (owner.Upload u)) k)
+        → ((k < 1) ⊎ (1 + it.count ≤ k) → finmap.get m k ≡ None) → h.common.parts (owner.Upload u) ≡ it.segments → finmap.get m k ≡ finmap.get (h.common.parts (owner.Upload u)) k
     taken k (inl p) m f1 f2 had = f1 p.0 p.1
     taken k (inr p) m f1 f2 had = f2 p ∙ sym (never k p) ∙ ap (λ x. finmap.get x k) (sym had)
 
-    beyond : (now : Parts) → AreMoved (owner.Upload u) (owner.File f) 1 (1 + it.count) h.parts now → (k : ℕ) → (k < 1) ⊎ (1 + it.count ≤ k)
-        → (finmap.get (now (owner.Upload u)) k ≡ finmap.get (h.parts (owner.Upload u)) k) × (finmap.get (now (owner.File f)) k ≡ finmap.get (h.parts (owner.File f)) k)
+    beyond : (now : Parts) → AreMoved (owner.Upload u) (owner.File f) 1 (1 + it.count) h.common.parts now → (k : ℕ) → (k < 1) ⊎ (1 + it.count ≤ k)
+        → (finmap.get (now (owner.Upload u)) k ≡ finmap.get (h.common.parts (owner.Upload u)) k) × (finmap.get (now (owner.File f)) k ≡ finmap.get (h.common.parts (owner.File f)) k)
     beyond now moved k (inl low) = moved.below k low
     beyond now moved k (inr high) = moved.above k high

@@ -6,7 +6,7 @@ use Rattle.sqlite.specs.State.{HasCleanDisk, Survives}
 use Rattle.dep_types.specs.declared.store_fault.StoreFault.{StoreFault}
 use Rattle.dep_types.specs.declared.store_fault.StoreFault.TheVariants.{Memory}
 use Rattle.dep_tables.specs.Clauses.{AtMostOne, FailsToRead, FailsToReadNumbers, FailsToRun, JustOne}
-use Rattle.dep_tables.specs.Rows.{IsBytesRow, IsFileRow, IsMetadataRow, IsNumberRow, IsObjectRow, IsSegmentRow, IsStateRow, IsUploadRow}
+use Rattle.dep_tables.specs.Rows.{IsBytesRow, IsFileRow, IsMetadataRow, IsNumberRow, IsObjectRow, IsSegmentRow, IsSha512Row, IsStateRow, IsUploadRow, IsLeftRow}
 use Rattle.dep_tables.specs.Texts as text
 
 -- a statement fails so, after others that committed nothing and forgot no fault
@@ -63,6 +63,10 @@ pub data FailsByStatement (at new : db.State) (fault : StoreFault) : Type 0 wher
       → FailsByStatement at new fault
   part_moved : (params : Row) → FailsToRun text.move_part_text params at new fault
       → FailsByStatement at new fault
+  sha512_added : (params : Row) → FailsToRun text.insert_sha512_text params at new fault
+      → FailsByStatement at new fault
+  sha512_deleted : (params : Row) → FailsToRun text.delete_sha512_text params at new fault
+      → FailsByStatement at new fault
   state_read : (params : Row)
       → FailsToReadNumbers (JustOne IsStateRow) text.read_state_text params at new fault
       → FailsByStatement at new fault
@@ -84,6 +88,9 @@ pub data FailsByStatement (at new : db.State) (fault : StoreFault) : Type 0 wher
   upload_next : (params : Row)
       → FailsToReadNumbers (AtMostOne IsNumberRow) text.next_upload_text params at new fault
       → FailsByStatement at new fault
+  upload_left : (params : Row)
+      → FailsToReadNumbers (AtMostOne IsLeftRow) text.left_before_text params at new fault
+      → FailsByStatement at new fault
   segments_read : (params : Row)
       → FailsToRead (All IsSegmentRow) text.segments_of_text params at new fault
       → FailsByStatement at new fault
@@ -92,6 +99,9 @@ pub data FailsByStatement (at new : db.State) (fault : StoreFault) : Type 0 wher
       → FailsByStatement at new fault
   block_read : (params : Row)
       → FailsToRead (AtMostOne IsBytesRow) text.read_block_text params at new fault
+      → FailsByStatement at new fault
+  sha512_found : (params : Row)
+      → FailsToReadNumbers (AtMostOne IsSha512Row) text.find_sha512_text params at new fault
       → FailsByStatement at new fault
 
 -- The same of a call that makes a list of what it read: where that holds something, memory can be

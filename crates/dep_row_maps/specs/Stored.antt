@@ -1,12 +1,14 @@
 -- The rows that each table has of the state.
-use Rattle.std.specs.Prelude.{ℕ, ◌+◌, zero, suc, Bool, if◌then◌else◌, List, [], ◌∷◌, ◌++◌, length, take, drop, fold, unwrap_or, map as each}
+use Rattle.std.specs.Prelude.{ℕ, ◌+◌, zero, suc, Bool, not, if◌then◌else◌, Option, List, [], ◌∷◌, ◌++◌, length, take, drop, filter, fold, unwrap_or, map as each}
+use Rattle.std.specs.Option.{option_to_list}
 use Rattle.std.specs.FinMap as map
 use Rattle.sqlite_value.specs.Order.{Row, column, bytes}
 use Rattle.dep_types.specs.Maps.{Numbered}
 use Rattle.dep_types.specs.State.{State, Object, File, Upload, Texts}
 use Rattle.dep_types.specs.Rows.{object_row, file_row, upload_row}
 use Rattle.dep_statements.specs.Rows.{has_number, put_next}
-use Rattle.dep_tables.specs.Rows.{stored_state, stored_object, stored_file, stored_upload, metadata_values, segment_values, block_values, is_part_of, moved_to}
+use Rattle.dep_tables.specs.Rows.{stored_state, stored_object, stored_file, stored_upload, metadata_values, segment_values, block_values, is_part_of, moved_to, value_in}
+use Rattle.dep_tables.specs.declared.owner.BlockOwner.TheVariants as owner
 use Rattle.dep_tables.specs.declared.state.StateRow.{StateRow}
 use Rattle.dep_tables.specs.declared.metadata.MetadataRow.{MetadataRow}
 use Rattle.dep_tables.specs.declared.segments.SegmentRow.{SegmentRow}
@@ -134,3 +136,20 @@ move_part o to part = each (λ r. if is_part_of o part r then moved_to to r else
 abbrev pub move_parts : (o to : BlockOwner) → List ℕ → List Row → List Row
 move_parts o to [] rows = rows
 move_parts o to (part ∷ parts) rows = move_parts o to parts (move_part o to part rows)
+
+-- ---- sha512s
+
+-- a value as it is shown, and those of an owner, which has one or none
+abbrev pub shown_sha512 : Row → Row
+shown_sha512 stored = value_in stored ∷ []
+
+abbrev pub sha512_rows : Option (List ℕ) → List Row
+sha512_rows value = each (λ v. Blob v ∷ []) (option_to_list value)
+
+-- ---- what files have
+
+-- the rows of these files are deleted, file by file
+abbrev pub without_rows : (BlockOwner → Row → Bool) → List ℕ → List Row → List Row
+without_rows is_its [] rows = rows
+without_rows is_its (f ∷ files) rows =
+    without_rows is_its files (filter (λ r. not (is_its (owner.File f) r)) rows)

@@ -1,5 +1,5 @@
 -- What is known after the rules on a content.
-use Rattle.std.proofs.Common.{◌≡◌, ◌∙◌, ℕ, ◌<◌, ◌+◌, true, false, List, [], ◌∷◌, ◌++◌, take, length, get_or, Option, Some, None, is_some, option_map, if◌then◌else◌, refl, sym, ap}
+use Rattle.std.proofs.Common.{◌≡◌, ◌∙◌, ℕ, ◌<◌, ◌+◌, Bool, true, false, List, [], ◌∷◌, ◌++◌, take, length, get_or, Option, Some, None, option_map, if◌then◌else◌, refl, sym, ap}
 use Rattle.std.proofs.lemmas.List.{take_more}
 use Rattle.std.proofs.lemmas.List.Elements.{filter_map-append}
 use Rattle.std.specs.Prelude.{IfSome}
@@ -7,7 +7,7 @@ use Rattle.std.specs.List.{cons_option}
 use Rattle.dep_types.specs.Maps.{first_of}
 use Rattle.dep_types.specs.declared.config.Config.{Config}
 use Rattle.dep_types.specs.declared.refusal.Refusal.{Refusal}
-use Rattle.dep_fixity.specs.Fixity.{digests_of}
+use Rattle.dep_fixity.specs.Fixity.{digests_of, promises}
 use Rattle.dep_fixity.specs.declared.field.DigestList.{DigestList}
 use Rattle.dep_fields.specs.declared.field.Field.{Field}
 use Rattle.dep_fields.specs.declared.field.Field.TheVariants.{Absent, Bad, Value}
@@ -29,15 +29,15 @@ use Rattle.dep_rulings.specs.declared.order.Checked.TheVariants.{Refused, Passed
 use Rattle.dep_rulings.specs.declared.view.View.{View}
 use Rattle.dep_rulings.proofs.Staged.{no_kind}
 
-of_content : (op : Operation) (o : Option (List ℕ)) → IfSome (if is_some o then Some (digests_of op.content) else None) (λ d. d ≡ digests_of op.content)
-of_content op None = tt
-of_content op (Some digest) = refl
+of_content : (op : Operation) (needed : Bool) → IfSome (if needed then Some (digests_of op.content) else None) (λ d. d ≡ digests_of op.content)
+of_content op true = refl
+of_content op false = tt
 
 -- the digests that are promised are those of the content
 pub promised_are : (op : Operation) (f : Field DigestList) → IfSome (digests_if_promised op f) (λ d. d ≡ digests_of op.content)
 promised_are op Absent = tt
 promised_are op Bad = tt
-promised_are op (Value list) = of_content op list.sha256
+promised_are op (Value list) = of_content op (promises list)
 
 read_for_is : (config : Config) (op : Operation) (o : Option Kind) → references_for config op (option_map purpose_of o) ≡ references_by config op o
 unfolding references_for

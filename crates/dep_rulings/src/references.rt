@@ -25,7 +25,7 @@ pub(crate) enum UploadRule {
     IsWhole,
     /// It has the length that the entry tells.
     HasLength,
-    /// It has the digests that were promised at its opening, and those that the entry promises.
+    /// It has the SHA-256 that was promised at its opening, and the digests that the entry promises.
     HasDigests,
 }
 
@@ -246,7 +246,7 @@ fn digest_row(reference: &Reference, state: &UploadState) -> Option<Refusal>
     }
 }
 
-// Whether the digest is the one that was promised at the opening, if one was.
+// Whether the SHA-256 is the one that was promised at the opening, if one was.
 fn is_promised(row: &UploadRow, sha256: [u8; 32]) -> bool
     ensures { result ≡ is_kept row.now.sha256 sha256 }
 {

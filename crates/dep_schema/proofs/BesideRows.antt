@@ -1,6 +1,6 @@
 -- The first rows, where our tables stand beside those of others.
-use Rattle.std.proofs.Common.{◌≡◌, IsTrue, ℕ, ◌+◌, pos, List, [], ◌∷◌, ◌++◌, if◌then◌else◌, length, slice_get, Option, None, Some, unwrap_or, option_map, option_and_then, Ok, Err, OnOk, Result, codes, refl, sym, ap, subst, ◌∙◌, arith, append_assoc}
-use Rattle.std.specs.List.{AllByRecursion, position_from}
+use Rattle.std.proofs.Common.{◌≡◌, IsTrue, ℕ, ◌+◌, pos, List, [], ◌∷◌, ◌++◌, if◌then◌else◌, length, slice_get, Option, None, Some, unwrap_or, option_map, option_and_then, Ok, Err, OnOk, Result, codes, refl, sym, ap, subst, ◌∙◌, arith}
+use Rattle.std.specs.List.{AllByRecursion}
 use Rattle.sqlite_tied.specs.Compute.{everything}
 use Rattle.sqlite.specs.Schema.{Schema}
 use Rattle.sqlite.specs.Table.{Table}
@@ -17,7 +17,7 @@ use Rattle.sqlite.specs.Term.{Term, lit}
 use Rattle.sqlite.specs.Effect.{Database}
 use Rattle.sqlite.specs.State.{State, ExecutesInside}
 use Rattle.sqlite.proofs.Callers.{IsPlain, command_of}
-use Rattle.sqlite_schema.specs.Names.{table_named, same_name}
+use Rattle.sqlite_schema.specs.Names.{table_named}
 use Rattle.sqlite_ast.specs.declared.Statement.{Statement}
 use Rattle.sqlite_ast.specs.declared.Statement.TheVariants as written
 use Rattle.sqlite_ast.specs.declared.Conflict.TheVariants as conflict
@@ -30,18 +30,20 @@ use Rattle.sqlite_rules.specs.Edit.{with_rowid, put_all}
 use Rattle.sqlite_rules.proofs.ListLemmas.{all_from, all_has}
 use Rattle.sqlite_trees.specs.Tree.{put_row, rowid}
 use Rattle.sqlite_catalog.specs.Listing.{IsSound}
-use Rattle.sqlite_catalog.specs.Change.{created, next_tree}
-use Rattle.sqlite_catalog.proofs.StepLemmas.{no_table, table_below}
+use Rattle.sqlite_catalog.specs.Change.{created, next_tree, KeepsRows}
+use Rattle.sqlite_catalog.proofs.StepLemmas.{table_below}
 use Rattle.dep_statements.specs.Adding.{HasCounters, AddsAll, Puts}
 use Rattle.dep_statements.specs.Rows.{IsOrdered}
-use Rattle.dep_statements.proofs.Adding.{AllMade, made_all, free_all, placed_after, got_after, next_created}
+use Rattle.dep_statements.proofs.Adding.{AllMade, made_all, free_all, trees_for}
 use Rattle.dep_statements.proofs.Values.{cast_int, cast_null}
 use Rattle.dep_statements.proofs.Statements.{inserted}
 use Rattle.dep_tables.proofs.Results.{ok_then}
-use Rattle.dep_tables.specs.Schema.{our_schema, our_tables, format_table, state_table, objects_table, metadata_table, files_table, uploads_table, segments_table, timed_out_table, blocks_table}
+use Rattle.dep_tables.specs.Schema.{our_schema, our_tables, format_table, state_table, files_index, uploads_index}
 use Rattle.dep_schema.specs.Texts.{add_format_text, add_state_text}
 use Rattle.dep_tables.specs.Rows.{stored_format, stored_state}
-use Rattle.dep_schema.specs.Beside.{AreFree, with_ours}
+use Rattle.dep_schema.specs.Beside.{AreFree, with_ours, AddsIndexes}
+use Rattle.dep_schema.proofs.Placed.{ours, with_format, with_state, with_objects, with_metadata, with_files, with_uploads, with_segments, with_timed_out, with_blocks, tables_are, state_tree, objects_tree, metadata_tree, files_tree, uploads_tree, segments_tree, timed_out_tree, blocks_tree, sha512s_tree}
+use Rattle.dep_schema.proofs.Placed.{format_named, format_listed, state_named, state_listed, indexed_schema, indexed_rows, free_indexes}
 use Rattle.dep_tables.specs.Tables.{Tables, tables_of, tables_from}
 use Rattle.dep_tables.specs.Versions.{our_version}
 use Rattle.dep_schema.specs.Standing.{Sees, no_schema, first_state, first_tables, IsBeside, GainsOurs}
@@ -68,7 +70,7 @@ abbrev Inserts : ℕ → List Term → ℕ → Checked Compiled → Type 0
 Inserts n terms width r = (command_of r ≡ Insert n (Values terms width)) × IsPlain r
 
 abbrev format_terms : List Term
-format_terms = lit (Int (pos 1)) ∷ lit Null ∷ lit (Int (pos 1)) ∷ []
+format_terms = lit (Int (pos 1)) ∷ lit Null ∷ lit (Int (pos 2)) ∷ []
 
 abbrev state_terms : List Term
 state_terms = lit (Int (pos 1)) ∷ lit Null ∷ lit (Int (pos 0)) ∷ lit (Int (pos 1)) ∷ lit (Int (pos 1)) ∷ lit (Int (pos 1)) ∷ lit (Int (pos 1)) ∷ []
@@ -104,105 +106,20 @@ module _ (schema : Schema) (n k : ℕ) where
   state_is : table_named schema (codes "state") ≡ Some n → slice_get schema.tables n ≡ Some (record state_table { tree = k }) → Inserts n state_terms 7 (understood schema add_state_text)
   state_is named at = subst (Inserts n state_terms 7) (sym state_by) (subst (λ o. Inserts n state_terms 7 (inserting_by schema o (slice_get schema.tables) add_state_text)) (sym named) (state_there at))
 
--- ---- where our tables stand
+module _ (schema : Schema) (free : AreFree schema) (old new : State) (count : ℕ) (here : old.now.schema ≡ with_ours schema) where
+  pub puts_format : ExecutesInside 0 add_format_text [] old new (Ok count) → Puts (next_tree schema) (stored_format our_version) old.now new.now
+  puts_format h =
+      let is = format_is (with_ours schema) (length schema.tables + 0) (next_tree schema) (format_named schema free.tables) (format_listed schema free.tables) in
+      let wrote = inserted (with_ours schema) add_format_text [] old new here is.1 count h (length schema.tables + 0) _ _ _ _ _ _ _ (format_listed schema free.tables) format_terms 3 is.0 in
+      let put = ap (put_all (old.now.trees (next_tree schema))) (λ i. with_rowid Chosen (old.now.trees (next_tree schema)) (cast_int (pos 1) i ∷ cast_null i ∷ cast_int (pos 2) i ∷ []) ∷ []) in
+      record { schema = wrote.schema_is ∙ sym here; rows = wrote.applies.rows ∙ put; others = subst (λ (s : Schema). AllByRecursion (λ t. (t.tree ≡ next_tree schema → ⊥) → new.now.trees t.tree ≡ old.now.trees t.tree) s.tables) (sym here) wrote.applies.tables; sound = wrote.sound }
 
-module _ (schema : Schema) where
-  abbrev with_format : Schema
-  with_format = created schema format_table
-
-  abbrev with_state : Schema
-  with_state = created with_format state_table
-
-  abbrev with_objects : Schema
-  with_objects = created with_state objects_table
-
-  abbrev with_metadata : Schema
-  with_metadata = created with_objects metadata_table
-
-  abbrev with_files : Schema
-  with_files = created with_metadata files_table
-
-  abbrev with_uploads : Schema
-  with_uploads = created with_files uploads_table
-
-  abbrev with_segments : Schema
-  with_segments = created with_uploads segments_table
-
-  abbrev with_timed_out : Schema
-  with_timed_out = created with_segments timed_out_table
-
-  abbrev ours : List Table
-  ours =
-      record format_table { tree = next_tree schema }
-      ∷ record state_table { tree = next_tree with_format }
-      ∷ record objects_table { tree = next_tree with_state }
-      ∷ record metadata_table { tree = next_tree with_objects }
-      ∷ record files_table { tree = next_tree with_metadata }
-      ∷ record uploads_table { tree = next_tree with_files }
-      ∷ record segments_table { tree = next_tree with_uploads }
-      ∷ record timed_out_table { tree = next_tree with_segments }
-      ∷ record blocks_table { tree = next_tree with_timed_out } ∷ []
-
-  tables_are : (with_ours schema).tables ≡ schema.tables ++ ours
-  tables_are = simp append_assoc
-
-  state_tree : next_tree with_format ≡ next_tree schema + 1
-  state_tree = next_created schema format_table
-
-  objects_tree : next_tree with_state ≡ next_tree schema + 2
-  objects_tree = omega (arith, next_created with_format state_table, state_tree)
-
-  metadata_tree : next_tree with_objects ≡ next_tree schema + 3
-  metadata_tree = omega (arith, next_created with_state objects_table, objects_tree)
-
-  files_tree : next_tree with_metadata ≡ next_tree schema + 5
-  files_tree = omega (arith, next_created with_objects metadata_table, metadata_tree)
-
-  uploads_tree : next_tree with_files ≡ next_tree schema + 6
-  uploads_tree = omega (arith, next_created with_metadata files_table, files_tree)
-
-  segments_tree : next_tree with_uploads ≡ next_tree schema + 7
-  segments_tree = omega (arith, next_created with_files uploads_table, uploads_tree)
-
-  timed_out_tree : next_tree with_segments ≡ next_tree schema + 9
-  timed_out_tree = omega (arith, next_created with_uploads segments_table, segments_tree)
-
-  blocks_tree : next_tree with_timed_out ≡ next_tree schema + 10
-  blocks_tree = omega (arith, next_created with_segments timed_out_table, timed_out_tree)
-
-  module _ (free : AreFree schema) where
-    format_named : table_named (with_ours schema) (codes "format") ≡ Some (length schema.tables + 0)
-    unfolding same_name
-    format_named =
-        ap (position_from (λ t. same_name t.name (codes "format")) 0) tables_are ∙ placed_after (λ t. same_name t.name (codes "format")) 0 schema.tables ours (no_table schema (codes "format") free.0)
-        ∙ ap Some (omega arith)
-
-    state_named : table_named (with_ours schema) (codes "state") ≡ Some (length schema.tables + 1)
-    unfolding same_name
-    state_named =
-        ap (position_from (λ t. same_name t.name (codes "state")) 0) tables_are ∙ placed_after (λ t. same_name t.name (codes "state")) 0 schema.tables ours (no_table schema (codes "state") free.1.0)
-        ∙ ap Some (omega arith)
-
-    format_listed : slice_get (with_ours schema).tables (length schema.tables + 0) ≡ Some (record format_table { tree = next_tree schema })
-    format_listed = ap (λ xs. slice_get xs (length schema.tables + 0)) tables_are ∙ got_after schema.tables ours 0
-
-    state_listed : slice_get (with_ours schema).tables (length schema.tables + 1) ≡ Some (record state_table { tree = next_tree with_format })
-    state_listed = ap (λ xs. slice_get xs (length schema.tables + 1)) tables_are ∙ got_after schema.tables ours 1
-
-    module _ (old new : State) (count : ℕ) (here : old.now.schema ≡ with_ours schema) where
-      pub puts_format : ExecutesInside 0 add_format_text [] old new (Ok count) → Puts (next_tree schema) (stored_format our_version) old.now new.now
-      puts_format h =
-          let is = format_is (with_ours schema) (length schema.tables + 0) (next_tree schema) format_named format_listed in
-          let wrote = inserted (with_ours schema) add_format_text [] old new here is.1 count h (length schema.tables + 0) _ _ _ _ _ _ _ format_listed format_terms 3 is.0 in
-          let put = ap (put_all (old.now.trees (next_tree schema))) (λ i. with_rowid Chosen (old.now.trees (next_tree schema)) (cast_int (pos 1) i ∷ cast_null i ∷ cast_int (pos 1) i ∷ []) ∷ []) in
-          record { schema = wrote.schema_is ∙ sym here; rows = wrote.applies.rows ∙ put; others = subst (λ (s : Schema). AllByRecursion (λ t. (t.tree ≡ next_tree schema → ⊥) → new.now.trees t.tree ≡ old.now.trees t.tree) s.tables) (sym here) wrote.applies.tables; sound = wrote.sound }
-
-      pub puts_state : ExecutesInside 0 add_state_text [] old new (Ok count) → Puts (next_tree with_format) (stored_state first_state) old.now new.now
-      puts_state h =
-          let is = state_is (with_ours schema) (length schema.tables + 1) (next_tree with_format) state_named state_listed in
-          let wrote = inserted (with_ours schema) add_state_text [] old new here is.1 count h (length schema.tables + 1) _ _ _ _ _ _ _ state_listed state_terms 7 is.0 in
-          let put = ap (put_all (old.now.trees (next_tree with_format))) (λ i. with_rowid Chosen (old.now.trees (next_tree with_format)) (cast_int (pos 1) i ∷ cast_null i ∷ cast_int (pos 0) i ∷ cast_int (pos 1) i ∷ cast_int (pos 1) i ∷ cast_int (pos 1) i ∷ cast_int (pos 1) i ∷ []) ∷ []) in
-          record { schema = wrote.schema_is ∙ sym here; rows = wrote.applies.rows ∙ put; others = subst (λ (s : Schema). AllByRecursion (λ t. (t.tree ≡ next_tree with_format → ⊥) → new.now.trees t.tree ≡ old.now.trees t.tree) s.tables) (sym here) wrote.applies.tables; sound = wrote.sound }
+  pub puts_state : ExecutesInside 0 add_state_text [] old new (Ok count) → Puts (next_tree (with_format schema)) (stored_state first_state) old.now new.now
+  puts_state h =
+      let is = state_is (with_ours schema) (length schema.tables + 1) (next_tree (with_format schema)) (state_named schema free.tables) (state_listed schema free.tables) in
+      let wrote = inserted (with_ours schema) add_state_text [] old new here is.1 count h (length schema.tables + 1) _ _ _ _ _ _ _ (state_listed schema free.tables) state_terms 7 is.0 in
+      let put = ap (put_all (old.now.trees (next_tree (with_format schema)))) (λ i. with_rowid Chosen (old.now.trees (next_tree (with_format schema))) (cast_int (pos 1) i ∷ cast_null i ∷ cast_int (pos 0) i ∷ cast_int (pos 1) i ∷ cast_int (pos 1) i ∷ cast_int (pos 1) i ∷ cast_int (pos 1) i ∷ []) ∷ []) in
+      record { schema = wrote.schema_is ∙ sym here; rows = wrote.applies.rows ∙ put; others = subst (λ (s : Schema). AllByRecursion (λ t. (t.tree ≡ next_tree (with_format schema) → ⊥) → new.now.trees t.tree ≡ old.now.trees t.tree) s.tables) (sym here) wrote.applies.tables; sound = wrote.sound }
 
 -- ---- all of it
 
@@ -210,58 +127,97 @@ all_apart : {X : Type 0} (P : X → Type 0) (xs ys : List X) → AllByRecursion 
 all_apart P [] ys all = (tt, all)
 all_apart P (x ∷ xs) ys all = let rest = all_apart P xs ys all.1 in ((all.0, rest.0), rest.1)
 
-module _ (old mid next new : Database) (added : AddsAll our_tables old mid) (has : HasCounters old.schema) (format_put : Puts (next_tree old.schema) (stored_format our_version) mid next)
-    (state_put : Puts (next_tree (created old.schema format_table)) (stored_state first_state) next new) where
+plainly_made : (old mid : Database) → HasCounters old.schema → AddsAll our_tables old mid → AllMade our_tables old mid
+plainly_made old mid has added = made_all our_tables old mid (refl, (refl, (refl, (refl, (refl, (refl, (refl, (refl, (refl, (refl, tt)))))))))) has added
+
+module _ (old mid named next new : Database) (added : AddsAll our_tables old mid) (both : AddsIndexes mid named) (has : HasCounters old.schema)
+    (format_put : Puts (next_tree old.schema) (stored_format our_version) named next) (state_put : Puts (next_tree (created old.schema format_table)) (stored_state first_state) next new) where
   abbrev schema : Schema
   schema = old.schema
 
   made : AllMade our_tables old mid
-  made = made_all our_tables old mid (refl, (refl, (refl, (refl, (refl, (refl, (refl, (refl, (refl, tt))))))))) has added
+  made = plainly_made old mid has added
 
   abbrev KeepsBut : ℕ → Trees → Trees → List Table → Type 0
   KeepsBut n a b tables = AllByRecursion (λ t. (t.tree ≡ n → ⊥) → b t.tree ≡ a t.tree) tables
 
-  listed_mid : mid.schema.tables ≡ schema.tables ++ ours schema
-  listed_mid = ap (λ (s : Schema). s.tables) made.schema ∙ tables_are schema
+  named_schema : named.schema ≡ with_ours schema
+  named_schema = indexed_schema schema (free_all our_tables old mid added).0 mid named made.schema both
+
+  -- the tables are still empty once their indexes are made
+  indexes_kept : KeepsRows schema.tables mid.trees named.trees × KeepsRows (ours schema) mid.trees named.trees
+  indexes_kept = all_apart _ schema.tables (ours schema) (subst (λ ts. KeepsRows ts mid.trees named.trees) (tables_are schema) (indexed_rows schema (free_all our_tables old mid added).0 mid named made.schema both))
+
+  empty_at : AllByRecursion (λ n. named.trees n ≡ []) (trees_for our_tables schema)
+  empty_at =
+      let kept = indexes_kept.1 in
+      let none = made.empty in (
+        kept.0 ∙ none.0,
+        (
+          kept.1.0 ∙ none.1.0,
+          (
+            kept.1.1.0 ∙ none.1.1.0,
+            (
+              kept.1.1.1.0 ∙ none.1.1.1.0,
+              (
+                kept.1.1.1.1.0 ∙ none.1.1.1.1.0,
+                (
+                  kept.1.1.1.1.1.0 ∙ none.1.1.1.1.1.0,
+                  (
+                    kept.1.1.1.1.1.1.0 ∙ none.1.1.1.1.1.1.0,
+                    (kept.1.1.1.1.1.1.1.0 ∙ none.1.1.1.1.1.1.1.0, (kept.1.1.1.1.1.1.1.1.0 ∙ none.1.1.1.1.1.1.1.1.0, (kept.1.1.1.1.1.1.1.1.1.0 ∙ none.1.1.1.1.1.1.1.1.1.0, tt))),
+                  ),
+                ),
+              ),
+            ),
+          ),
+        ),
+      )
+
+  listed_named : named.schema.tables ≡ schema.tables ++ ours schema
+  listed_named = ap (λ (s : Schema). s.tables) named_schema ∙ tables_are schema
 
   listed_next : next.schema.tables ≡ schema.tables ++ ours schema
-  listed_next = ap (λ (s : Schema). s.tables) format_put.schema ∙ listed_mid
+  listed_next = ap (λ (s : Schema). s.tables) format_put.schema ∙ listed_named
 
-  first_kept : KeepsBut (next_tree schema) mid.trees next.trees schema.tables × KeepsBut (next_tree schema) mid.trees next.trees (ours schema)
-  first_kept = all_apart _ schema.tables (ours schema) (subst (KeepsBut (next_tree schema) mid.trees next.trees) listed_mid format_put.others)
+  first_kept : KeepsBut (next_tree schema) named.trees next.trees schema.tables × KeepsBut (next_tree schema) named.trees next.trees (ours schema)
+  first_kept = all_apart _ schema.tables (ours schema) (subst (KeepsBut (next_tree schema) named.trees next.trees) listed_named format_put.others)
 
   second_kept : KeepsBut (next_tree (with_format schema)) next.trees new.trees schema.tables × KeepsBut (next_tree (with_format schema)) next.trees new.trees (ours schema)
   second_kept = all_apart _ schema.tables (ours schema) (subst (KeepsBut (next_tree (with_format schema)) next.trees new.trees) listed_next state_put.others)
 
   schema_is : new.schema ≡ with_ours schema
-  schema_is = state_put.schema ∙ format_put.schema ∙ made.schema
+  schema_is = state_put.schema ∙ format_put.schema ∙ named_schema
 
   format_rows : new.trees (next_tree schema) ≡ stored_format our_version ∷ []
-  format_rows = second_kept.1.0 (λ e. omega (arith, e, state_tree schema)) ∙ format_put.rows ∙ ap (put_row (stored_format our_version)) made.empty.0
+  format_rows = second_kept.1.0 (λ e. omega (arith, e, state_tree schema)) ∙ format_put.rows ∙ ap (put_row (stored_format our_version)) empty_at.0
 
   state_rows : new.trees (next_tree (with_format schema)) ≡ stored_state first_state ∷ []
-  state_rows = state_put.rows ∙ ap (put_row (stored_state first_state)) (first_kept.1.1.0 (λ e. omega (arith, e, state_tree schema)) ∙ made.empty.1.0)
+  state_rows = state_put.rows ∙ ap (put_row (stored_state first_state)) (first_kept.1.1.0 (λ e. omega (arith, e, state_tree schema)) ∙ empty_at.1.0)
 
   objects_rows : new.trees (next_tree (with_state schema)) ≡ []
-  objects_rows = second_kept.1.1.1.0 (λ e. omega (arith, e, state_tree schema, objects_tree schema)) ∙ first_kept.1.1.1.0 (λ e. omega (arith, e, objects_tree schema)) ∙ made.empty.1.1.0
+  objects_rows = second_kept.1.1.1.0 (λ e. omega (arith, e, state_tree schema, objects_tree schema)) ∙ first_kept.1.1.1.0 (λ e. omega (arith, e, objects_tree schema)) ∙ empty_at.1.1.0
 
   metadata_rows : new.trees (next_tree (with_objects schema)) ≡ []
-  metadata_rows = second_kept.1.1.1.1.0 (λ e. omega (arith, e, state_tree schema, metadata_tree schema)) ∙ first_kept.1.1.1.1.0 (λ e. omega (arith, e, metadata_tree schema)) ∙ made.empty.1.1.1.0
+  metadata_rows = second_kept.1.1.1.1.0 (λ e. omega (arith, e, state_tree schema, metadata_tree schema)) ∙ first_kept.1.1.1.1.0 (λ e. omega (arith, e, metadata_tree schema)) ∙ empty_at.1.1.1.0
 
   files_rows : new.trees (next_tree (with_metadata schema)) ≡ []
-  files_rows = second_kept.1.1.1.1.1.0 (λ e. omega (arith, e, state_tree schema, files_tree schema)) ∙ first_kept.1.1.1.1.1.0 (λ e. omega (arith, e, files_tree schema)) ∙ made.empty.1.1.1.1.0
+  files_rows = second_kept.1.1.1.1.1.0 (λ e. omega (arith, e, state_tree schema, files_tree schema)) ∙ first_kept.1.1.1.1.1.0 (λ e. omega (arith, e, files_tree schema)) ∙ empty_at.1.1.1.1.0
 
   uploads_rows : new.trees (next_tree (with_files schema)) ≡ []
-  uploads_rows = second_kept.1.1.1.1.1.1.0 (λ e. omega (arith, e, state_tree schema, uploads_tree schema)) ∙ first_kept.1.1.1.1.1.1.0 (λ e. omega (arith, e, uploads_tree schema)) ∙ made.empty.1.1.1.1.1.0
+  uploads_rows = second_kept.1.1.1.1.1.1.0 (λ e. omega (arith, e, state_tree schema, uploads_tree schema)) ∙ first_kept.1.1.1.1.1.1.0 (λ e. omega (arith, e, uploads_tree schema)) ∙ empty_at.1.1.1.1.1.0
 
   segments_rows : new.trees (next_tree (with_uploads schema)) ≡ []
-  segments_rows = second_kept.1.1.1.1.1.1.1.0 (λ e. omega (arith, e, state_tree schema, segments_tree schema)) ∙ first_kept.1.1.1.1.1.1.1.0 (λ e. omega (arith, e, segments_tree schema)) ∙ made.empty.1.1.1.1.1.1.0
+  segments_rows = second_kept.1.1.1.1.1.1.1.0 (λ e. omega (arith, e, state_tree schema, segments_tree schema)) ∙ first_kept.1.1.1.1.1.1.1.0 (λ e. omega (arith, e, segments_tree schema)) ∙ empty_at.1.1.1.1.1.1.0
 
   timed_out_rows : new.trees (next_tree (with_segments schema)) ≡ []
-  timed_out_rows = second_kept.1.1.1.1.1.1.1.1.0 (λ e. omega (arith, e, state_tree schema, timed_out_tree schema)) ∙ first_kept.1.1.1.1.1.1.1.1.0 (λ e. omega (arith, e, timed_out_tree schema)) ∙ made.empty.1.1.1.1.1.1.1.0
+  timed_out_rows = second_kept.1.1.1.1.1.1.1.1.0 (λ e. omega (arith, e, state_tree schema, timed_out_tree schema)) ∙ first_kept.1.1.1.1.1.1.1.1.0 (λ e. omega (arith, e, timed_out_tree schema)) ∙ empty_at.1.1.1.1.1.1.1.0
 
   blocks_rows : new.trees (next_tree (with_timed_out schema)) ≡ []
-  blocks_rows = second_kept.1.1.1.1.1.1.1.1.1.0 (λ e. omega (arith, e, state_tree schema, blocks_tree schema)) ∙ first_kept.1.1.1.1.1.1.1.1.1.0 (λ e. omega (arith, e, blocks_tree schema)) ∙ made.empty.1.1.1.1.1.1.1.1.0
+  blocks_rows = second_kept.1.1.1.1.1.1.1.1.1.0 (λ e. omega (arith, e, state_tree schema, blocks_tree schema)) ∙ first_kept.1.1.1.1.1.1.1.1.1.0 (λ e. omega (arith, e, blocks_tree schema)) ∙ empty_at.1.1.1.1.1.1.1.1.0
+
+  sha512s_rows : new.trees (next_tree (with_blocks schema)) ≡ []
+  sha512s_rows = second_kept.1.1.1.1.1.1.1.1.1.1.0 (λ e. omega (arith, e, state_tree schema, sha512s_tree schema)) ∙ first_kept.1.1.1.1.1.1.1.1.1.1.0 (λ e. omega (arith, e, sha512s_tree schema)) ∙ empty_at.1.1.1.1.1.1.1.1.1.0
 
   rows_are : tables_from (next_tree schema) new.trees ≡ first_tables
   rows_are = λ i. record {
@@ -274,12 +230,13 @@ module _ (old mid next new : Database) (added : AddsAll our_tables old mid) (has
     segments = (ap new.trees (sym (segments_tree schema)) ∙ segments_rows) i;
     timed_out = (ap new.trees (sym (timed_out_tree schema)) ∙ timed_out_rows) i;
     blocks = (ap new.trees (sym (blocks_tree schema)) ∙ blocks_rows) i;
+    sha512s = (ap new.trees (sym (sha512s_tree schema)) ∙ sha512s_rows) i;
   }
 
   each_kept : (t : Table) → Has schema.tables t → new.trees t.tree ≡ old.trees t.tree
   each_kept t here =
       let low = table_below schema t here in
-      all_has _ schema.tables t second_kept.0 here (λ e. omega (arith, e, low, state_tree schema)) ∙ all_has _ schema.tables t first_kept.0 here (λ e. omega (arith, e, low)) ∙ all_has _ schema.tables t made.others here
+      all_has _ schema.tables t second_kept.0 here (λ e. omega (arith, e, low, state_tree schema)) ∙ all_has _ schema.tables t first_kept.0 here (λ e. omega (arith, e, low)) ∙ all_has _ schema.tables t indexes_kept.0 here ∙ all_has _ schema.tables t made.others here
 
   pub stands_beside : (new.schema ≡ with_ours old.schema) × IsBeside old new.trees
   stands_beside = (schema_is, record { sound = subst (λ s. IsSound s new.trees) schema_is state_put.sound; rows = rows_are; others = all_from _ schema.tables each_kept })
@@ -288,18 +245,20 @@ gains_if : {A E : Type 0} (r : Result A E) (old new : Database) → AreFree old.
 gains_if (Ok x) old new free after = record { free = free; made = after }
 gains_if (Err e) old new free after = tt
 
-pub gains : {A E : Type 0} (r : Result A E) (old mid new : Database) → AddsAll our_tables old mid
-    → ((others : Schema) → AreFree others → mid.schema ≡ with_ours others
-    → OnOk r ((next : Database) × Puts (next_tree others) (stored_format our_version) mid next × Puts (next_tree (created others format_table)) (stored_state first_state) next new))
+pub gains : {A E : Type 0} (r : Result A E) (old mid named new : Database) → AddsAll our_tables old mid → AddsIndexes mid named
+    → ((others : Schema) → AreFree others → named.schema ≡ with_ours others
+    → OnOk r ((next : Database) × Puts (next_tree others) (stored_format our_version) named next × Puts (next_tree (created others format_table)) (stored_state first_state) next new))
     → OnOk r (GainsOurs old new)
-gains r old mid new added rows =
-    let free = (free_all our_tables old mid added).0 in
+gains r old mid named new added both rows =
+    let all = free_all our_tables old mid added in
+    let indexes = free_indexes mid named both in
+    let free : AreFree old.schema = record { tables = all.0; files_index = all.1 files_index.name indexes.0; uploads_index = all.1 uploads_index.name indexes.1 } in
     gains_if r old new free (λ has.
-    ok_then r (rows old.schema free (made_all our_tables old mid (refl, (refl, (refl, (refl, (refl, (refl, (refl, (refl, (refl, tt))))))))) has added).schema) (λ put. stands_beside old mid put.0 new added has put.1 put.2))
+    ok_then r (rows old.schema free (indexed_schema old.schema all.0 mid named (plainly_made old mid has added).schema both)) (λ put. stands_beside old mid named put.0 new added both has put.1 put.2))
 
 -- ---- in an empty database
 
-empty_ours : with_ours no_schema ≡ our_schema
+pub empty_ours : with_ours no_schema ≡ our_schema
 unfolding everything
 empty_ours = refl
 
@@ -315,7 +274,7 @@ sees_first old new empty gained =
         schema = after.0 ∙ schema;
         trees = record {
           sound = subst (λ s. IsSound s new.now.trees) schema after.1.sound;
-          ordered = (one _ _ (ap (λ (t : Tables). t.format) rows) refl, (one _ _ (ap (λ (t : Tables). t.state) rows) refl, (none _ (ap (λ (t : Tables). t.objects) rows), (none _ (ap (λ (t : Tables). t.metadata) rows), (none _ (ap (λ (t : Tables). t.files) rows), (none _ (ap (λ (t : Tables). t.uploads) rows), (none _ (ap (λ (t : Tables). t.segments) rows), (none _ (ap (λ (t : Tables). t.timed_out) rows), (none _ (ap (λ (t : Tables). t.blocks) rows), tt)))))))));
+          ordered = (one _ _ (ap (λ (t : Tables). t.format) rows) refl, (one _ _ (ap (λ (t : Tables). t.state) rows) refl, (none _ (ap (λ (t : Tables). t.objects) rows), (none _ (ap (λ (t : Tables). t.metadata) rows), (none _ (ap (λ (t : Tables). t.files) rows), (none _ (ap (λ (t : Tables). t.uploads) rows), (none _ (ap (λ (t : Tables). t.segments) rows), (none _ (ap (λ (t : Tables). t.timed_out) rows), (none _ (ap (λ (t : Tables). t.blocks) rows), (none _ (ap (λ (t : Tables). t.sha512s) rows), tt))))))))));
         };
       };
       rows = rows;

@@ -25,8 +25,8 @@ use Rattle.dep_tables.proofs.Chains.{Stays, clean_before, stays_then, stays_ok}
 use Rattle.dep_tables.specs.Clauses.{StaysWithin, FailsToRun}
 use Rattle.dep_types.specs.declared.store_fault.StoreFault.{StoreFault}
 use Rattle.dep_schema.specs.OpenFaults.{FailsToCreate}
-use Rattle.dep_tables.specs.Schema.{our_tables, format_table, state_table, objects_table, metadata_table, files_table, uploads_table, segments_table, timed_out_table, blocks_table}
-use Rattle.dep_schema.specs.Texts.{create_texts, create_format_text, create_state_text, create_objects_text, create_metadata_text, create_files_text, create_uploads_text, create_segments_text, create_timed_out_text, create_blocks_text}
+use Rattle.dep_tables.specs.Schema.{our_tables, format_table, state_table, objects_table, metadata_table, files_table, uploads_table, segments_table, timed_out_table, blocks_table, sha512s_table}
+use Rattle.dep_schema.specs.Texts.{create_texts, create_format_text, create_state_text, create_objects_text, create_metadata_text, create_files_text, create_uploads_text, create_segments_text, create_timed_out_text, create_blocks_text, create_sha512s_text}
 
 -- what a schema has of a name: an object that is kept as it is, a table, a view, an index
 pub record Taken : Type 0 where
@@ -82,7 +82,7 @@ adds_table text table is old new count h =
     record {
       free = added.free;
       keeps = added.keeps;
-      made = λ has. let made = added.made has in record { schema = made.schema; empty = made.empty; others = made.others };
+      made = λ has. let made = added.made has in record { schema = made.schema; empty = made.empty; others = made.others; sound = made.sound };
     }
   where
     making : (c : Compiled) → understood old.now.schema text ≡ Ok c → IsMaking text old
@@ -128,6 +128,14 @@ blocks_made : MakesTable create_blocks_text blocks_table
 unfolding understood everything
 blocks_made = record { name = codes "blocks"; by = λ schema. refl; makes = (refl, (refl, refl), refl); defined = refl; uncounted = refl }
 
+sha512s_made : MakesTable create_sha512s_text sha512s_table
+unfolding understood everything
+sha512s_made = record { name = codes "sha512s"; by = λ schema. refl; makes = (refl, (refl, refl), refl); defined = refl; uncounted = refl }
+
+-- the text of the tenth table makes it, wherever nothing is in its way
+pub adds_sha512s : (old new : State) (count : ℕ) → ExecutesInside 0 create_sha512s_text [] old new (Ok count) → Adds sha512s_table old.now new.now
+adds_sha512s old new count h = adds_table create_sha512s_text sha512s_table sha512s_made old new count h
+
 -- ---- all of them, one after another
 
 abbrev Making : Type 0
@@ -136,13 +144,13 @@ Making = List ℕ × Table
 abbrev all_makings : List Making
 all_makings =
     (create_format_text, format_table) ∷ (create_state_text, state_table) ∷ (create_objects_text, objects_table) ∷ (create_metadata_text, metadata_table) ∷ (create_files_text, files_table)
-    ∷ (create_uploads_text, uploads_table) ∷ (create_segments_text, segments_table) ∷ (create_timed_out_text, timed_out_table) ∷ (create_blocks_text, blocks_table) ∷ []
+    ∷ (create_uploads_text, uploads_table) ∷ (create_segments_text, segments_table) ∷ (create_timed_out_text, timed_out_table) ∷ (create_blocks_text, blocks_table) ∷ (create_sha512s_text, sha512s_table) ∷ []
 
 abbrev MakeEach : List Making → Type 0
 MakeEach = AllByRecursion (λ (m : Making). MakesTable m.0 m.1)
 
 each_makes : MakeEach all_makings
-each_makes = (format_made, (state_made, (objects_made, (metadata_made, (files_made, (uploads_made, (segments_made, (timed_out_made, (blocks_made, tt)))))))))
+each_makes = (format_made, (state_made, (objects_made, (metadata_made, (files_made, (uploads_made, (segments_made, (timed_out_made, (blocks_made, (sha512s_made, tt))))))))))
 
 makes_at : (makings : List Making) → MakeEach makings → (n : ℕ) (text : List ℕ) (table : Table) → n < length makings
     → MakesTable (get_or (map (λ (m : Making). m.0) makings) n text) (get_or (map (λ (m : Making). m.1) makings) n table)
@@ -178,7 +186,7 @@ module _ {T L : Type 0} (lenders : T → L) (state : T → State) (texts : List 
 
   module _ (n : ℕ) (old new : T) where
     -- one more, by its text
-    pub one_made : (mid : T) (text : Bor (List ℕ)) → n < 9 → AreMadeTo lenders state texts n old mid → {A E : Type 0} {x : A} → StaysWithin {A = A} {E = E} lenders state mid new (Ok x)
+    pub one_made : (mid : T) (text : Bor (List ℕ)) → n < 10 → AreMadeTo lenders state texts n old mid → {A E : Type 0} {x : A} → StaysWithin {A = A} {E = E} lenders state mid new (Ok x)
         → (HasCleanDisk (state new) → IsTrue (state mid).in_transaction → (count : ℕ) × ExecutesInside 0 (get_or texts n text).now [] (state mid) (state new) (Ok count))
         → AreMadeTo lenders state texts (n + 1) old new
     one_made mid text below made stays runs =
@@ -198,7 +206,7 @@ module _ {T L : Type 0} (lenders : T → L) (state : T → State) (texts : List 
         }
 
     -- the next one is not, since its text failed
-    pub one_failed : (mid : T) (text : Bor (List ℕ)) (fault : StoreFault) → n < 9 → AreMadeTo lenders state texts n old mid → HasCleanDisk (state mid) → IsTrue (state old).in_transaction
+    pub one_failed : (mid : T) (text : Bor (List ℕ)) (fault : StoreFault) → n < 10 → AreMadeTo lenders state texts n old mid → HasCleanDisk (state mid) → IsTrue (state old).in_transaction
         → FailsToRun (get_or texts n text).now [] (state mid) (state new) fault → FailsToCreate state old new fault
     one_failed mid text fault below made clean inside failed =
         let count = simp length-map at (ap length made.texts_are) in
@@ -209,6 +217,6 @@ module _ {T L : Type 0} (lenders : T → L) (state : T → State) (texts : List 
           by = (n, below, made.adds clean inside, subst (λ t. FailsToRun t [] (state mid) (state new) fault) is failed);
         }
 
-    -- no text is behind the ninth
-    pub all_made : n ≤ 9 → 9 ≤ n → AreMadeTo lenders state texts n old new → AreMadeTo lenders state texts 9 old new
-    all_made within ended made = let is : n ≡ 9 = omega arith in subst (λ k. AreMadeTo lenders state texts k old new) is made
+    -- no text is behind the tenth
+    pub all_made : n ≤ 10 → 10 ≤ n → AreMadeTo lenders state texts n old new → AreMadeTo lenders state texts 10 old new
+    all_made within ended made = let is : n ≡ 10 = omega arith in subst (λ k. AreMadeTo lenders state texts k old new) is made

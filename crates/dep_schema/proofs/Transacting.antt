@@ -7,34 +7,35 @@ use Rattle.sqlite.specs.State as db
 use Rattle.sqlite.specs.Held.{Held, state}
 use Rattle.sqlite.specs.Steps.{FailsToCommit}
 use Rattle.sqlite.specs.Tree.{Trees}
+use Rattle.sqlite.specs.Schema.{Schema}
 use Rattle.sqlite.specs.declared.error.Error.{Error}
 use Rattle.sqlite.specs.declared.transaction.Transaction.{Transaction}
 use Rattle.sqlite_trees.specs.declared.store.Store.{Ghosts}
 use Rattle.dep_types.specs.State.{State}
-use Rattle.dep_tables.specs.Tables.{Tables, tables_in, tables_of, AreOurs, HasOurTables, IsOurs}
+use Rattle.dep_tables.specs.Tables.{Tables, tables_in, tables_of, AreOf, HasTablesOf, HasOurTables, IsOf}
 use Rattle.dep_tables.specs.Clauses.{CommitsNothing, StaysInside}
-use Rattle.dep_schema.specs.Standing.{Holds, Stands, EndsTransaction}
+use Rattle.dep_schema.specs.Standing.{Holds, HoldsOf, Stands, StandsOf, EndsTransaction}
 use Rattle.dep_schema.specs.declared.lending.Lent.{Lent}
 use Rattle.dep_schema.proofs.Asking.{LentStays}
 use Rattle.dep_schema.proofs.Transactions.{begins_open, stands_left}
 use Rattle.dep_schema.specs.States.{TablesStandFor, StandsFor, Leaves}
-use Rattle.dep_schema.specs.Transactions.{Transacts, OnlyTells, OverStates, IsBackAt}
+use Rattle.dep_schema.specs.Transactions.{TransactsTo, Transacts, OnlyTells, OverStates, IsBackAt}
 
 -- what a crash leaves while nothing is left to be settled
 abbrev pub IsSettled : db.State → Type 0
 IsSettled d = (trees : Trees) → d.may_leave trees → trees ≡ d.committed.trees
 
 -- the last commit has what the tables do
-held_as_was : (d : db.State) (t : Tables) → Stands d t → (trees : Trees) → trees ≡ d.committed.trees → Holds trees t
-held_as_was d t stands trees e =
+held_as_was : {its : Schema} (d : db.State) (t : Tables) → StandsOf its d t → (trees : Trees) → trees ≡ d.committed.trees → HoldsOf its trees t
+held_as_was {its} d t stands trees e =
     let same : trees ≡ d.now.trees = e ∙ ap (λ (b : Database). b.trees) (sym stands.committed) in
-    record { ours = subst AreOurs (sym same) stands.ours.trees; rows = ap tables_in same ∙ stands.rows }
+    record { ours = subst (AreOf its) (sym same) stands.ours.trees; rows = ap tables_in same ∙ stands.rows }
 
-pub left_as_was : (d : db.State) (t : Tables) → IsSettled d → Stands d t → (trees : Trees) → d.may_leave trees → Holds trees t
+pub left_as_was : {its : Schema} (d : db.State) (t : Tables) → IsSettled d → StandsOf its d t → (trees : Trees) → d.may_leave trees → HoldsOf its trees t
 left_as_was d t settled stands trees h = held_as_was d t stands trees (settled trees h)
 
 -- nothing was committed since
-pub left_still : (old new : db.State) (t : Tables) → IsSettled old → Stands old t → Survives old new (λ _. ⊥) → HasCleanDisk new → (trees : Trees) → new.may_leave trees → Holds trees t
+pub left_still : {its : Schema} (old new : db.State) (t : Tables) → IsSettled old → StandsOf its old t → Survives old new (λ _. ⊥) → HasCleanDisk new → (trees : Trees) → new.may_leave trees → HoldsOf its trees t
 left_still old new t settled stands survives clean trees h = elim (survives.crash clean trees h) [
   | inl earlier ↦ left_as_was old t settled stands trees earlier
   | inr none ↦ absurd none
@@ -42,11 +43,11 @@ left_still old new t settled stands survives clean trees h = elim (survives.cras
 
 pub leaves_as_was : (d : db.State) (s : State) → IsSettled d → StandsFor d s → Leaves d (λ left. left ≡ s)
 leaves_as_was d s settled stands trees h =
-    (s, record { tables = stands.tables; holds = left_as_was d stands.tables settled stands.stands trees h; means = stands.means }, refl)
+    (s, inl (stands.tables, left_as_was d stands.tables settled stands.stands trees h, stands.means), refl)
 
 pub leaves_still : (old new : db.State) (s : State) → IsSettled old → StandsFor old s → Survives old new (λ _. ⊥) → HasCleanDisk new → Leaves new (λ left. left ≡ s)
 leaves_still old new s settled stands survives clean trees h =
-    (s, record { tables = stands.tables; holds = left_still old new stands.tables settled stands.stands survives clean trees h; means = stands.means }, refl)
+    (s, inl (stands.tables, left_still old new stands.tables settled stands.stands survives clean trees h, stands.means), refl)
 
 -- a commit that fails in a transaction has ended it as it began
 undone_by_commit : (inside new : db.State) (e : Error) → IsTrue inside.in_transaction → FailsToCommit inside new e → IsRolledBack inside new
@@ -58,9 +59,9 @@ nothing_told (Ok answer) P failed = cc failed
 nothing_told (Err e) P failed = tt
 
 -- what an Ok inside has made of the tables
-abbrev pub IsMade : {S A : Type 0} (g : Ghosts S) (old inside : Held S) → (Tables → A → Tables → Type 0) → A → Type 0
-IsMade g old inside Makes answer =
-    HasCleanDisk (state g inside) → IsOurs (state g old) → IsOurs (state g inside) × Makes (tables_of (state g old)) answer (tables_of (state g inside))
+abbrev pub IsMade : (one two : Schema) {S A : Type 0} (g : Ghosts S) (old inside : Held S) → (Tables → A → Tables → Type 0) → A → Type 0
+IsMade one two g old inside Makes answer =
+    HasCleanDisk (state g inside) → IsOf one (state g old) → IsOf two (state g inside) × Makes (tables_of (state g old)) answer (tables_of (state g inside))
 
 module _ {S : Type 0} (g : Ghosts S) (old inside new : Held S) where
   -- what is known of its beginning and of the work inside
@@ -82,8 +83,8 @@ module _ {S : Type 0} (g : Ghosts S) (old inside new : Held S) where
       begins_open g old inside new (record { kept = it.kept; survives = survives; ends = ends }) (it.shut is_open) is_open
 
   -- it was given back
-  back_at : (P : Trees → Type 0) → Works → Survives (state g inside) (state g new) P → (HasCleanDisk (state g new) → IsRolledBack (state g inside) (state g new))
-      → IsTrue (state g new).is_open → (t : Tables) → Stands (state g old) t → Stands (state g new) t
+  back_at : {its : Schema} (P : Trees → Type 0) → Works → Survives (state g inside) (state g new) P → (HasCleanDisk (state g new) → IsRolledBack (state g inside) (state g new))
+      → IsTrue (state g new).is_open → (t : Tables) → StandsOf its (state g old) t → StandsOf its (state g new) t
   back_at P it survives undone is_open t stands =
       let clean = it.shut is_open in
       let ended = undone clean in
@@ -92,7 +93,7 @@ module _ {S : Type 0} (g : Ghosts S) (old inside new : Held S) where
       stands_left (state g old) (state g new) t stands is_open ended.autocommit (back.0 ∙ kept) (back.1 ∙ kept)
 
   -- a crash before its commit
-  left_before : Works → (t : Tables) → Stands (state g old) t → HasCleanDisk (state g inside) → (trees : Trees) → (state g inside).may_leave trees → Holds trees t
+  left_before : {its : Schema} → Works → (t : Tables) → StandsOf its (state g old) t → HasCleanDisk (state g inside) → (trees : Trees) → (state g inside).may_leave trees → HoldsOf its trees t
   left_before it t stands clean trees earlier = elim (it.survives.crash clean trees earlier) [
     | inl first ↦ left_as_was (state g old) t (it.settled stands.is_open) stands trees first
     | inr none ↦ absurd none
@@ -127,12 +128,12 @@ module _ {S : Type 0} (g : Ghosts S) (old inside new : Held S) where
   began_open it commits survives last same = subst (λ (h : Held S). HasCleanDisk (state g h) → IsTrue (state g old).is_open) same
       (λ clean. was_open it survives (λ clean. inl (commits clean)) (commits clean).0.is_open)
 
-  module _ {A : Type 0} (Makes : Tables → A → Tables → Type 0) where
+  module _ {one two : Schema} {A : Type 0} (Makes : Tables → A → Tables → Type 0) where
     -- the work failed, and the transaction was dropped
     pub gave_up : {E : Type 0} (result : Result A E) → IsErr result → Works → (HasCleanDisk (state g new) → IsRolledBack (state g inside) (state g new)) → Survives (state g inside) (state g new) (λ _. ⊥)
-        → (last : Held S) → new ≡ last → Transacts (state g old) (state g last) result Makes
+        → (last : Held S) → new ≡ last → TransactsTo one two (state g old) (state g last) result Makes
     gave_up {E} (Ok answer) failed it undone survives last same = nothing_told {E = E} (Ok answer) _ failed
-    gave_up (Err fault) failed it undone survives last same = subst (λ (h : Held S). Transacts (state g old) (state g h) (Err fault) Makes) same (record {
+    gave_up (Err fault) failed it undone survives last same = subst (λ (h : Held S). TransactsTo one two (state g old) (state g h) (Err fault) Makes) same (record {
       ok = λ clean t stands. tt;
       err = back_at (λ _. ⊥) it survives undone;
       honest = was_honest (λ _. ⊥) it survives;
@@ -144,27 +145,27 @@ module _ {S : Type 0} (g : Ghosts S) (old inside new : Held S) where
     })
 
     module _ (answer : A) where
-      made_of : IsMade g old inside Makes answer → HasCleanDisk (state g inside) → (t : Tables) → Stands (state g old) t → IsOurs (state g inside) × Makes t answer (tables_of (state g inside))
+      made_of : IsMade one two g old inside Makes answer → HasCleanDisk (state g inside) → (t : Tables) → StandsOf one (state g old) t → IsOf two (state g inside) × Makes t answer (tables_of (state g inside))
       made_of made clean t stands =
           let it = made clean stands.ours in
           (it.0, subst (λ (was : Tables). Makes was answer (tables_of (state g inside))) stands.rows it.1)
 
-      left_after : Works → IsMade g old inside Makes answer → Survives (state g inside) (state g new) (λ trees. trees ≡ (state g inside).now.trees) → HasCleanDisk (state g new)
-          → (t : Tables) → Stands (state g old) t → (trees : Trees) → (state g new).may_leave trees
-          → Holds trees t ⊎ ((told : A) × (after : Tables) × Holds trees after × Makes t told after)
+      left_after : Works → IsMade one two g old inside Makes answer → Survives (state g inside) (state g new) (λ trees. trees ≡ (state g inside).now.trees) → HasCleanDisk (state g new)
+          → (t : Tables) → StandsOf one (state g old) t → (trees : Trees) → (state g new).may_leave trees
+          → HoldsOf one trees t ⊎ ((told : A) × (after : Tables) × HoldsOf two trees after × Makes t told after)
       left_after it made survives clean t stands trees h =
           let then = clean_inside (λ trees. trees ≡ (state g inside).now.trees) survives clean in
           elim (survives.crash clean trees h) [
             | inl earlier ↦ inl (left_before it t stands then trees earlier)
             | inr same ↦
                 let now = made_of made then t stands in
-                inr (answer, tables_of (state g inside), record { ours = subst AreOurs (sym same) now.0.trees; rows = ap tables_in same }, now.1)
+                inr (answer, tables_of (state g inside), record { ours = subst (AreOf two) (sym same) now.0.trees; rows = ap tables_in same }, now.1)
           ]
 
       -- it was committed
-      pub committed : {E : Type 0} → Works → IsMade g old inside Makes answer → (HasCleanDisk (state g new) → Commits (state g inside) (state g new)) → Survives (state g inside) (state g new) (λ trees. trees ≡ (state g inside).now.trees)
-          → (last : Held S) → new ≡ last → Transacts {E = E} (state g old) (state g last) (Ok answer) Makes
-      committed {E} it made commits survives last same = subst (λ (h : Held S). Transacts {E = E} (state g old) (state g h) (Ok answer) Makes) same (record {
+      pub committed : {E : Type 0} → Works → IsMade one two g old inside Makes answer → (HasCleanDisk (state g new) → Commits (state g inside) (state g new)) → Survives (state g inside) (state g new) (λ trees. trees ≡ (state g inside).now.trees)
+          → (last : Held S) → new ≡ last → TransactsTo one two {E = E} (state g old) (state g last) (Ok answer) Makes
+      committed {E} it made commits survives last same = subst (λ (h : Held S). TransactsTo one two {E = E} (state g old) (state g h) (Ok answer) Makes) same (record {
         ok = λ clean t stands.
             let now = made_of made (clean_inside (λ trees. trees ≡ (state g inside).now.trees) survives clean) t stands in (
               tables_of (state g inside),
@@ -177,20 +178,20 @@ module _ {S : Type 0} (g : Ghosts S) (old inside new : Held S) where
         stop = left_after it made survives;
       })
         where
-          stands_committed : Shows (state g inside) (state g new) (state g inside).now (state g inside).now false → IsOurs (state g inside) → Stands (state g new) (tables_of (state g inside))
+          stands_committed : Shows (state g inside) (state g new) (state g inside).now (state g inside).now false → IsOf two (state g inside) → StandsOf two (state g new) (tables_of (state g inside))
           stands_committed shows ours = record {
             is_open = shows.is_open;
             settled = shows.mode;
             committed = shows.now_is ∙ sym shows.committed_is;
-            ours = subst HasOurTables (sym shows.now_is) ours;
+            ours = subst (HasTablesOf two) (sym shows.now_is) ours;
             rows = ap (λ (d : Database). tables_in d.trees) shows.now_is;
           }
 
       -- its commit failed
-      pub uncommitted : {E : Type 0} (fault : E) (error : Error) → Works → IsMade g old inside Makes answer → (HasCleanDisk (state g inside) → IsTrue (state g inside).in_transaction)
+      pub uncommitted : {E : Type 0} (fault : E) (error : Error) → Works → IsMade one two g old inside Makes answer → (HasCleanDisk (state g inside) → IsTrue (state g inside).in_transaction)
           → (HasCleanDisk (state g new) → FailsToCommit (state g inside) (state g new) error) → Survives (state g inside) (state g new) (λ trees. trees ≡ (state g inside).now.trees)
-          → (last : Held S) → new ≡ last → Transacts (state g old) (state g last) (Err fault) Makes
-      uncommitted fault error it made goes_on fails survives last same = subst (λ (h : Held S). Transacts (state g old) (state g h) (Err fault) Makes) same (record {
+          → (last : Held S) → new ≡ last → TransactsTo one two (state g old) (state g last) (Err fault) Makes
+      uncommitted fault error it made goes_on fails survives last same = subst (λ (h : Held S). TransactsTo one two (state g old) (state g h) (Err fault) Makes) same (record {
         ok = λ clean t stands. tt;
         err = back_at (λ trees. trees ≡ (state g inside).now.trees) it survives undone;
         honest = was_honest (λ trees. trees ≡ (state g inside).now.trees) it survives;
@@ -251,10 +252,10 @@ module _ {A E : Type 0} (old new : db.State) (result : Result A E) (Makes : Tabl
   pub stop_over_states : Transacts old new result Makes → IsOverStates → HasCleanDisk new → (s : State) → StandsFor old s
       → Leaves new (λ left. (left ≡ s) ⊎ (left ≡ next s))
   stop_over_states it over clean s stands trees h = elim (it.stop clean stands.tables stands.stands trees h) [
-    | inl earlier ↦ (s, record { tables = stands.tables; holds = earlier; means = stands.means }, inl refl)
+    | inl earlier ↦ (s, inl (stands.tables, earlier, stands.means), inl refl)
     | inr (answer, after, holds, makes) ↦ (
       next s,
-      record { tables = after; holds = holds; means = (over stands.tables answer after makes s stands.means).1 },
+      inl (after, holds, (over stands.tables answer after makes s stands.means).1),
       inr refl,
     )
   ]
@@ -372,7 +373,7 @@ module _ {A E : Type 0} (old new : db.State) (result : Result A E) (told : Table
 
   pub stop_tells_state : Transacts old new result (OnlyTells told) → HasCleanDisk new → (s : State) → StandsFor old s → Leaves new (λ left. left ≡ s)
   stop_tells_state it clean s stands trees h =
-      (s, record { tables = stands.tables; holds = left_tells it clean stands.tables stands.stands trees h; means = stands.means }, refl)
+      (s, inl (stands.tables, left_tells it clean stands.tables stands.stands trees h, stands.means), refl)
 
 -- ---- one part of what an Ok says
 

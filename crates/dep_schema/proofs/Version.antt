@@ -21,7 +21,7 @@ use Rattle.dep_statements.specs.Query.{one_table, plainly, no_limit, passes}
 use Rattle.dep_statements.proofs.Answered.{shown_of, in_any_order}
 use Rattle.dep_statements.proofs.Asked.{store_only, shown_unchanged, unread, unread_as, understood_asks}
 use Rattle.dep_statements.proofs.Statements.{selected}
-use Rattle.dep_tables.specs.Schema.{our_schema}
+use Rattle.dep_tables.specs.Schema.{our_schema, older_schema}
 use Rattle.dep_schema.specs.Texts.{find_format_text}
 use Rattle.sqlite.specs.Tree.{Trees}
 use Rattle.sqlite.specs.Effect.{Database}
@@ -29,10 +29,10 @@ use Rattle.sqlite.specs.Schema.{Schema}
 use Rattle.dep_statements.specs.Adding.{HasCounters}
 use Rattle.dep_schema.specs.Beside.{LacksFormat}
 use Rattle.dep_schema.proofs.Missing.{find_missing}
-use Rattle.dep_tables.specs.Tables.{tables_of, IsOurs}
-use Rattle.dep_tables.specs.Versions.{our_version, HasVersion}
-use Rattle.dep_schema.specs.Standing.{no_schema, Sees, Holds, IsBeside, GainsOurs, StandsBeside, CommitsBySchema, first_tables}
-use Rattle.dep_schema.specs.OpenFaults.{open_fault_for, AreOurVersion}
+use Rattle.dep_tables.specs.Tables.{tables_of, IsKnownSchema, IsKnown}
+use Rattle.dep_tables.specs.Versions.{our_version, older_version, HasVersion}
+use Rattle.dep_schema.specs.Standing.{no_schema, HasKnownVersion, Sees, Holds, IsBeside, GainsOurs, StandsBeside, CommitsBySchema, first_tables}
+use Rattle.dep_schema.specs.OpenFaults.{open_fault_for, AreVersion, AreKnownVersion}
 use Rattle.dep_types.specs.declared.store_fault.StoreFault.{StoreFault}
 use Rattle.dep_types.specs.declared.store_fault.StoreFault.TheVariants.{Store, Memory}
 use Rattle.dep_schema.specs.declared.opening.OpenFault.{OpenFault}
@@ -47,13 +47,23 @@ asked = plainly (one_table 0 [] shows [] no_limit)
 abbrev pub names : List (List ℕ)
 names = codes "id" ∷ codes "version" ∷ []
 
-pub find_is : (command_of (understood our_schema find_format_text) ≡ Select asked names) × (reads_listing our_schema find_format_text ≡ false)
-unfolding understood everything
-find_is = (refl, refl)
+-- the query for the version is one query of the first table
+pub record Finds (its : Schema) : Type 0 where
+  pub is : command_of (understood its find_format_text) ≡ Select asked names
+  pub unlisted : reads_listing its find_format_text ≡ false
+  pub plain : IsPlain (understood its find_format_text)
 
-pub find_plain : IsPlain (understood our_schema find_format_text)
+finds_ours : Finds our_schema
 unfolding understood everything
-find_plain = (refl, refl)
+finds_ours = record { is = refl; unlisted = refl; plain = (refl, refl) }
+
+finds_older : Finds older_schema
+unfolding understood everything
+finds_older = record { is = refl; unlisted = refl; plain = (refl, refl) }
+
+pub finds_in : (its : Schema) → IsKnownSchema its → Finds its
+finds_in its (inl is) = subst Finds (sym is) finds_ours
+finds_in its (inr is) = subst Finds (sym is) finds_older
 
 find_none : (s : State) → LacksFormat s.now.schema → understood s.now.schema find_format_text ≡ Err NoSuchTable
 find_none s lacks = find_missing s.now.schema lacks.table lacks.view
@@ -69,33 +79,43 @@ all_pass params (r ∷ rows) = ap (λ xs. r ∷ xs) (all_pass params rows)
 abbrev pub told : List Row → List Row
 told rows = map (λ r. column r 0 ∷ column r 2 ∷ []) rows
 
-finds_rows : (old new : State) (rows : List Row) → IsOurs old → Shown find_format_text [] old new rows → IsPermutation (told (tables_of old).format) rows
-finds_rows old new rows ours h =
-    let picked = selected our_schema find_format_text [] old new ours.schema find_plain 0 [] shows [] no_limit names find_is.0 find_is.1 refl rows h in
+finds_rows : (old new : State) (rows : List Row) → IsKnown old → Shown find_format_text [] old new rows → IsPermutation (told (tables_of old).format) rows
+finds_rows old new rows (its, known, ours) h =
+    let finds = finds_in its known in
+    let picked = selected its find_format_text [] old new ours.schema finds.plain 0 [] shows [] no_limit names finds.is finds.unlisted refl rows h in
     subst (λ xs. IsPermutation (map (shown_of [] shows) xs) rows) (all_pass [] (old.now.trees 0)) (in_any_order 0 [] shows [] [] (filter (passes [] []) (old.now.trees 0)) rows picked)
 
-known_told : (format rows : List Row) → IsPermutation (told format) rows → AreOurVersion rows → told format ≡ (Int (pos 1) ∷ Int (pos 1) ∷ []) ∷ []
-known_told format rows same known =
+known_told : (version : ℕ) (format rows : List Row) → IsPermutation (told format) rows → AreVersion (pos version) rows → told format ≡ (Int (pos 1) ∷ Int (pos version) ∷ []) ∷ []
+known_told version format rows same known =
     let one = one_permutation known.0 (told format) (IsPermutation-sym (told format) (known.0 ∷ []) (subst (IsPermutation (told format)) known.1 same)) in
     go format one
   where
-    go : (all : List Row) → told all ≡ known.0 ∷ [] → told all ≡ (Int (pos 1) ∷ Int (pos 1) ∷ []) ∷ []
+    go : (all : List Row) → told all ≡ known.0 ∷ [] → told all ≡ (Int (pos 1) ∷ Int (pos version) ∷ []) ∷ []
     go [] e = absurd (cc)
     go (r ∷ []) e =
         let is : column r 0 ∷ column r 2 ∷ [] ≡ known.0 = cc in
         let first : column r 0 ≡ Int (pos 1) = ap (λ x. column x 0) is ∙ known.2 in
-        let second : column r 2 ≡ Int (pos 1) = ap (λ x. column x 1) is ∙ known.3 in
+        let second : column r 2 ≡ Int (pos version) = ap (λ x. column x 1) is ∙ known.3 in
         λ i. (first i ∷ second i ∷ []) ∷ []
     go (r ∷ x ∷ more) e = absurd (cc)
 
-told_known : (format rows : List Row) → IsPermutation (told format) rows → told format ≡ (Int (pos 1) ∷ Int (pos 1) ∷ []) ∷ [] → AreOurVersion rows
-told_known format rows same is = (Int (pos 1) ∷ Int (pos 1) ∷ [], one_permutation (Int (pos 1) ∷ Int (pos 1) ∷ []) rows (subst (λ xs. IsPermutation xs rows) is same), refl, refl)
+told_known : (version : ℕ) (format rows : List Row) → IsPermutation (told format) rows → told format ≡ (Int (pos 1) ∷ Int (pos version) ∷ []) ∷ [] → AreVersion (pos version) rows
+told_known version format rows same is = (Int (pos 1) ∷ Int (pos version) ∷ [], one_permutation (Int (pos 1) ∷ Int (pos version) ∷ []) rows (subst (λ xs. IsPermutation xs rows) is same), refl, refl)
 
-pub found_version : (old new : State) (rows : List Row) → IsOurs old → Shown find_format_text [] old new rows → AreOurVersion rows ↔ HasVersion our_version (tables_of old)
-found_version old new rows ours h = (known_told (tables_of old).format rows (finds_rows old new rows ours h), told_known (tables_of old).format rows (finds_rows old new rows ours h))
+pub found_version : (version : ℕ) (old new : State) (rows : List Row) → IsKnown old → Shown find_format_text [] old new rows → AreVersion (pos version) rows ↔ HasVersion version (tables_of old)
+found_version version old new rows known h = (known_told version (tables_of old).format rows (finds_rows old new rows known h), told_known version (tables_of old).format rows (finds_rows old new rows known h))
 
-pub find_stays : (old new : State) (rows : List Row) → IsOurs old → Shown find_format_text [] old new rows → IsUnchanged old new
-find_stays old new rows ours h = shown_unchanged find_format_text [] old new (subst (λ s. IsPlain (understood s find_format_text)) (sym ours.schema) find_plain) rows h
+pub find_stays : (old new : State) (rows : List Row) → IsKnown old → Shown find_format_text [] old new rows → IsUnchanged old new
+find_stays old new rows (its, known, ours) h = shown_unchanged find_format_text [] old new (subst (λ s. IsPlain (understood s find_format_text)) (sym ours.schema) (finds_in its known).plain) rows h
+
+-- neither of the two versions that are known is shown
+pub none_known : (rows : List Row) → (AreVersion (pos our_version) rows → ⊥) → (AreVersion (pos older_version) rows → ⊥) → AreKnownVersion rows → ⊥
+none_known rows no_ours no_older (version, inl is, shown) = no_ours (subst (λ v. AreVersion (pos v) rows) is shown)
+none_known rows no_ours no_older (version, inr is, shown) = no_older (subst (λ v. AreVersion (pos v) rows) is shown)
+
+-- so the tables don't have one
+pub none_had : (old new : State) (rows : List Row) → IsKnown old → Shown find_format_text [] old new rows → (AreKnownVersion rows → ⊥) → HasKnownVersion (tables_of old) → ⊥
+none_had old new rows known h none (version, is, has) = none (version, is, (found_version version old new rows known h).1 has)
 
 pub none_shown : (old new : State) (rows : List Row) → LacksFormat old.now.schema → Shown find_format_text [] old new rows → ⊥
 none_shown old new rows lacks h = unread find_format_text [] old new NoSuchTable (find_none old lacks) rows h
@@ -103,9 +123,10 @@ none_shown old new rows lacks h = unread find_format_text [] old new NoSuchTable
 none_asked : (old new : State) (e : Error) → LacksFormat old.now.schema → FailsToQuery find_format_text [] old new e ⊎ IsTooLate find_format_text [] old new e → (e ≡ SqlInputError NoSuchTable) ⊎ ((cause : StoreError) × (e ≡ store_error cause))
 none_asked old new e lacks h = unread_as find_format_text [] old new NoSuchTable (find_none old lacks) e h
 
-pub ours_asked : (old new : State) (e : Error) (fault : CompileError) → IsOurs old → FailsToQuery find_format_text [] old new e ⊎ IsTooLate find_format_text [] old new e → e ≡ SqlInputError fault → ⊥
-ours_asked old new e fault ours h said =
-    understood_asks find_format_text [] old new asked names (ap (λ s. command_of (understood s find_format_text)) ours.schema ∙ find_is.0) (subst (λ s. IsPlain (understood s find_format_text)) (sym ours.schema) find_plain) e fault h said
+pub ours_asked : (old new : State) (e : Error) (fault : CompileError) → IsKnown old → FailsToQuery find_format_text [] old new e ⊎ IsTooLate find_format_text [] old new e → e ≡ SqlInputError fault → ⊥
+ours_asked old new e fault (its, known, ours) h said =
+    let finds = finds_in its known in
+    understood_asks find_format_text [] old new asked names (ap (λ s. command_of (understood s find_format_text)) ours.schema ∙ finds.is) (subst (λ s. IsPlain (understood s find_format_text)) (sym ours.schema) finds.plain) e fault h said
 
 pub missing_only : (old new : State) (e : Error) (fault : CompileError) → LacksFormat old.now.schema → FailsToQuery find_format_text [] old new e ⊎ IsTooLate find_format_text [] old new e → e ≡ SqlInputError fault → fault ≡ NoSuchTable
 missing_only old new e fault lacks h is = elim (none_asked old new e lacks h) [
@@ -129,7 +150,7 @@ told_as (Ok x) fault e is said = absurd is
 told_as (Err x) fault e is said = let same : x ≡ e = cc in sym is ∙ same
 
 -- what is committed at the end
-commits_open : (old last : State) → (old.now.schema ≡ no_schema → Sees last first_tables) → (IsOurs old → last.now ≡ old.now) → (LacksFormat old.now.schema → GainsOurs old.now last.now) → (db : Trees) → db ≡ last.now.trees → CommitsBySchema old db
+commits_open : (old last : State) → (old.now.schema ≡ no_schema → Sees last first_tables) → (IsKnown old → last.now ≡ old.now) → (LacksFormat old.now.schema → GainsOurs old.now last.now) → (db : Trees) → db ≡ last.now.trees → CommitsBySchema old db
 commits_open old last made there gains db is = record {
   found = λ ours. is ∙ ap (λ (d : Database). d.trees) (there ours);
   new = λ empty. let sees = made empty in subst (λ trees. Holds trees first_tables) (sym is) (record { ours = sees.ours.trees; rows = sees.rows });
@@ -139,7 +160,7 @@ commits_open old last made there gains db is = record {
 
 -- a crash leaves what was there, or what is committed
 pub survives_open : (old last new : State) → Survives old last (λ _. ⊥) → Survives last new (λ db. db ≡ last.now.trees)
-    → (HasCleanDisk last → old.now.schema ≡ no_schema → Sees last first_tables) → (HasCleanDisk last → IsOurs old → last.now ≡ old.now) → (HasCleanDisk last → LacksFormat old.now.schema → GainsOurs old.now last.now) → Survives old new (CommitsBySchema old)
+    → (HasCleanDisk last → old.now.schema ≡ no_schema → Sees last first_tables) → (HasCleanDisk last → IsKnown old → last.now ≡ old.now) → (HasCleanDisk last → LacksFormat old.now.schema → GainsOurs old.now last.now) → Survives old new (CommitsBySchema old)
 survives_open old last new begun ended made there gains =
     survives_then old last new (λ _. ⊥) (λ db. db ≡ last.now.trees) (CommitsBySchema old) (λ _ db none. absurd none) (λ clean db is.
     let sure : HasCleanDisk last = omega (arith, clean, ended.clean) in

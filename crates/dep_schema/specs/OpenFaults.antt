@@ -1,5 +1,5 @@
 -- Why a database is not opened: by what the query for its version shows, or by a statement that fails.
-use Rattle.std.specs.Prelude.{◌≡◌, ◌≢◌, ◌⊎◌, ◌<◌, ℕ, pos, List, [], ◌∷◌, Bool, true, false, Result, Ok, Err, IsSome, take, length, slice_index_or}
+use Rattle.std.specs.Prelude.{◌≡◌, ◌≢◌, ◌⊎◌, ◌<◌, ℕ, ℤ, pos, List, [], ◌∷◌, true, Option, None, Result, Ok, Err, IsSome, take, length, slice_index_or}
 use Rattle.sqlite.specs.Order.{Row, column}
 use Rattle.sqlite.specs.declared.types.Value.TheVariants.{Int}
 use Rattle.sqlite.specs.declared.error.Error.{Error}
@@ -18,8 +18,10 @@ use Rattle.dep_tables.specs.Clauses.{CommitsNothing, FailsToRun}
 use Rattle.dep_tables.specs.Faults.{fault_for}
 use Rattle.dep_tables.specs.Schema.{our_tables}
 use Rattle.dep_tables.specs.Tables.{tables_of}
-use Rattle.dep_tables.specs.Versions.{our_version, HasVersion}
-use Rattle.dep_schema.specs.Texts.{create_texts, find_format_text, add_format_text, add_state_text}
+use Rattle.dep_tables.specs.Versions.{our_version, IsKnownVersion}
+use Rattle.dep_schema.specs.Beside.{AddsIndexes}
+use Rattle.dep_schema.specs.Standing.{HasKnownVersion}
+use Rattle.dep_schema.specs.Texts.{create_texts, index_files_text, index_uploads_text, find_format_text, add_format_text, add_state_text}
 use Rattle.dep_schema.specs.declared.opening.OpenFault.{OpenFault}
 use Rattle.dep_schema.specs.declared.opening.OpenFault.TheVariants as open_fault
 
@@ -38,20 +40,25 @@ TellsError e fault = fault ≡ open_fault_for (fault_for e)
 
 -- what an error of the query for the version comes to: there is no `format`, or it has no such columns;
 -- and else SQLite failed
-abbrev pub told_by : Error → Result Bool OpenFault
-told_by (SqlInputError NoSuchTable) = Ok false
+abbrev pub told_by : Error → Result (Option ℕ) OpenFault
+told_by (SqlInputError NoSuchTable) = Ok None
 told_by (SqlInputError _) = Err open_fault.UnknownVersion
 told_by e = Err (open_fault_for (fault_for e))
 
--- what the query for the version shows of our version: just one row, of id 1 and version 1
-abbrev pub AreOurVersion : List Row → Type 0
-AreOurVersion rows = (found : Row) × (rows ≡ found ∷ [])
-    × (column found 0 ≡ Int (pos 1)) × (column found 1 ≡ Int (pos 1))
+-- what the query for the version shows of a version: just one row, of id 1 and this version
+abbrev pub AreVersion : ℤ → List Row → Type 0
+AreVersion version rows = (found : Row) × (rows ≡ found ∷ [])
+    × (column found 0 ≡ Int (pos 1)) × (column found 1 ≡ Int version)
+
+-- the version is one that is known
+abbrev pub AreKnownVersion : List Row → Type 0
+AreKnownVersion rows = (version : ℕ) × IsKnownVersion version × AreVersion (pos version) rows
 
 module _ (old new : State) where
-  -- the query for the version shows ours
-  abbrev pub ShowsOurs : Type 0
-  ShowsOurs = (rows : List Row) × Shown find_format_text [] old new rows × AreOurVersion rows
+  -- the query for the version shows this one
+  abbrev pub ShowsVersion : ℕ → Type 0
+  ShowsVersion version =
+      (rows : List Row) × Shown find_format_text [] old new rows × AreVersion (pos version) rows
 
   -- it fails with this error
   abbrev pub FailsToTell : Error → Type 0
@@ -64,7 +71,7 @@ module _ (old new : State) where
   -- it shows something else, or can't be asked of the `format` that is there
   abbrev pub ShowsOther : Type 0
   ShowsOther =
-      ((rows : List Row) × Shown find_format_text [] old new rows × (AreOurVersion rows → ⊥))
+      ((rows : List Row) × Shown find_format_text [] old new rows × (AreKnownVersion rows → ⊥))
       ⊎ ((why : CompileError) × FailsToTell (SqlInputError why) × (why ≢ NoSuchTable))
 
   -- it fails otherwise than by its text
@@ -83,10 +90,11 @@ module _ (old new : State) where
       ((cause : StoreError) × HasCause old new ⊥ cause × TellsError (store_error cause) fault)
       ⊎ ((fault ≡ open_fault.Store) × IsSome old.step_limit)
 
-  -- why a database with our schema is not opened: its version is another, and else SQLite gave out
-  abbrev pub RefusesOurs : OpenFault → Type 0
-  RefusesOurs fault =
-      ((fault ≡ open_fault.UnknownVersion) × (HasVersion our_version (tables_of old) → ⊥))
+  -- why a database with the schema of one of our versions is not opened: its version is none that is known,
+  -- and else SQLite gave out
+  abbrev pub RefusesKnown : OpenFault → Type 0
+  RefusesKnown fault =
+      ((fault ≡ open_fault.UnknownVersion) × (HasKnownVersion (tables_of old) → ⊥))
       ⊎ GivesOut fault
 
 module _ {T : Type 0} (state : T → State) (old new : T) where
@@ -95,6 +103,14 @@ module _ {T : Type 0} (state : T → State) (old new : T) where
   FailsToCreate = FailsSince state (λ at now fault. (made : ℕ) × (made < length create_texts)
       × AddsAll (take made our_tables) (state old).now at.now
       × FailsToRun (slice_index_or create_texts made []) [] at now fault) old new
+
+  -- the index of the files could not be made, or behind it that of the uploads
+  abbrev pub FailsToIndex : StoreFault → Type 0
+  FailsToIndex fault =
+      FailsToRun index_files_text [] (state old) (state new) fault
+      ⊎ FailsSince state (λ at now fault.
+      ((count : ℕ) × ExecutesInside 0 index_files_text [] (state old) at (Ok count))
+      × FailsToRun index_uploads_text [] at now fault) old new fault
 
   -- the row of the version could not be added, or behind it that of the state
   abbrev pub FailsToAddRows : StoreFault → Type 0
@@ -110,7 +126,10 @@ module _ {T : Type 0} (state : T → State) (old new : T) where
   FailsToMake fault =
       FailsToCreate state old new fault
       ⊎ ((made : T) × AddsAll our_tables (state old).now (state made).now
-      × CommitsNothing (state old) (state made) × FailsToAddRows state made new fault)
+      × CommitsNothing (state old) (state made)
+      × (FailsToIndex state made new fault
+      ⊎ ((found : T) × AddsIndexes (state made).now (state found).now
+      × CommitsNothing (state made) (state found) × FailsToAddRows state found new fault)))
 
 -- ---- over a connection, from the beginning of the transaction on
 
@@ -136,8 +155,9 @@ module _ {S : Type 0} (g : Ghosts S) (old new : Held S) where
       ⊎ ((last : Held S) × (e : Error) × CommitsNothing (state g old) (state g last)
       × Fails (state g last) (state g new) ⊥ e × TellsError e fault)
 
-module _ {S : Type 0} (g : Ghosts S) (old : Held S) where
-  -- why tables may be found or made: our version is shown, or there is no `format`
-  abbrev pub ShowsOursOrNone : Type 0
-  ShowsOursOrNone = (asked : Held S)
-      × (ShowsOurs (state g old) (state g asked) ⊎ ShowsNone (state g old) (state g asked))
+module _ {S : Type 0} (g : Ghosts S) (old : Held S) (version : ℕ) where
+  -- why there are tables of this version: it is shown, or there is no `format` and it is ours
+  abbrev pub ShowsOrMakes : Type 0
+  ShowsOrMakes = (asked : Held S)
+      × (ShowsVersion (state g old) (state g asked) version
+      ⊎ (ShowsNone (state g old) (state g asked) × (version ≡ our_version)))

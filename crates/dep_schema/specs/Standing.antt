@@ -1,5 +1,5 @@
 -- What an open, a transaction and a crash leave of the tables.
-use Rattle.std.specs.Prelude.{◌≡◌, ◌⊎◌, true, false, IsTrue, Result, OnOk, [], ◌∷◌}
+use Rattle.std.specs.Prelude.{◌≡◌, ◌⊎◌, ℕ, true, false, IsTrue, Result, OnOk, [], ◌∷◌}
 use Rattle.std.specs.Borrow.{MutBor}
 use Rattle.sqlite.specs.Schema.{Schema}
 use Rattle.sqlite.specs.Tree.{Trees}
@@ -14,15 +14,23 @@ use Rattle.sqlite_catalog.specs.Change.{next_tree, KeepsRows}
 use Rattle.dep_statements.specs.Adding.{HasCounters}
 use Rattle.dep_tables.specs.declared.state.StateRow.{StateRow}
 use Rattle.dep_tables.specs.Rows.{stored_format, stored_state}
-use Rattle.dep_tables.specs.Tables.{Tables, tables_from, tables_in, tables_of, AreOurs, IsOurs}
+use Rattle.dep_tables.specs.Tables.{Tables, tables_from, tables_in, tables_of, AreOf, IsOf, IsKnownSchema, IsKnown}
 use Rattle.dep_tables.specs.Clauses.{StaysInside, StaysWithin}
-use Rattle.dep_tables.specs.Versions.{our_version, HasVersion}
+use Rattle.dep_tables.specs.Versions.{our_version, IsKnownVersion, HasVersion}
+use Rattle.dep_tables.specs.Schema.{our_schema, older_schema}
 use Rattle.dep_schema.specs.Beside.{LacksFormat, AreFree, with_ours}
 
 -- what a crash may leave, and the next `open` find
-pub record Holds (trees : Trees) (tables : Tables) : Type 0 where
-  pub ours : AreOurs trees
+pub record HoldsOf (its : Schema) (trees : Trees) (tables : Tables) : Type 0 where
+  pub ours : AreOf its trees
   pub rows : tables_in trees ≡ tables
+
+abbrev pub Holds : Trees → Tables → Type 0
+Holds = HoldsOf our_schema
+
+-- the same of version 1
+abbrev pub HoldsOlder : Trees → Tables → Type 0
+HoldsOlder = HoldsOf older_schema
 
 -- the schema of a database with no table at all
 abbrev pub no_schema : Schema
@@ -32,18 +40,28 @@ no_schema = record { tables = []; indexes = []; views = [] }
 abbrev pub HoldsNone : Trees → Type 0
 HoldsNone = IsSound no_schema
 
--- the connection sees our schema and these tables
-pub record Sees (s : State) (tables : Tables) : Type 0 where
-  pub ours : IsOurs s
+-- the connection sees this schema and these tables
+pub record SeesOf (its : Schema) (s : State) (tables : Tables) : Type 0 where
+  pub ours : IsOf its s
   pub rows : tables_of s ≡ tables
 
+abbrev pub Sees : State → Tables → Type 0
+Sees = SeesOf our_schema
+
 -- between transactions, with the store open and these tables
-pub record Stands (s : State) (tables : Tables) : Type 0 where
+pub record StandsOf (its : Schema) (s : State) (tables : Tables) : Type 0 where
   pub is_open : IsTrue s.is_open
   pub settled : s.in_transaction ≡ false
   pub committed : s.now ≡ s.committed
-  pub ours : IsOurs s
+  pub ours : IsOf its s
   pub rows : tables_of s ≡ tables
+
+abbrev pub Stands : State → Tables → Type 0
+Stands = StandsOf our_schema
+
+-- the same of version 1
+abbrev pub StandsOlder : State → Tables → Type 0
+StandsOlder = StandsOf older_schema
 
 abbrev pub first_state : StateRow
 first_state = record { clock = 0; next = record { object = 1; file = 1; upload = 1; change = 1 } }
@@ -60,6 +78,7 @@ first_tables = record {
   segments = [];
   timed_out = [];
   blocks = [];
+  sha512s = [];
 }
 
 -- what a database becomes in which our first tables are made
@@ -81,23 +100,29 @@ pub record StandsBeside (old new : State) : Type 0 where
   pub schema : new.now.schema ≡ with_ours old.now.schema
   pub trees : IsBeside old.now new.now.trees
 
--- a database with no table at all, one with no table `format`, or one with our tables and our version
+-- the tables tell a version that is known
+abbrev pub HasKnownVersion : Tables → Type 0
+HasKnownVersion tables = (version : ℕ) × IsKnownVersion version × HasVersion version tables
+
+-- a database with no table at all, one with no table `format`, or one with the tables of one of our versions and a
+-- version that is known
 abbrev pub IsOpenable : State → Type 0
 IsOpenable s =
     (s.now.schema ≡ no_schema)
-    ⊎ (LacksFormat s.now.schema ⊎ (IsOurs s × HasVersion our_version (tables_of s)))
+    ⊎ (LacksFormat s.now.schema ⊎ (IsKnown s × HasKnownVersion (tables_of s)))
 
--- what is committed by the schema that is there: what is there where it is ours, the tables of a new store where
+-- what is committed by the schema that is there: what is there where it is one of ours, the tables of a new store where
 -- there is none, and the same beside the tables of others where our names are free
 pub record CommitsBySchema (s : State) (trees : Trees) : Type 0 where
-  pub found : IsOurs s → trees ≡ s.now.trees
+  pub found : IsKnown s → trees ≡ s.now.trees
   pub new : s.now.schema ≡ no_schema → Holds trees first_tables
   pub free : LacksFormat s.now.schema → AreFree s.now.schema
   pub beside : LacksFormat s.now.schema → HasCounters s.now.schema → IsBeside s.now trees
 
 -- what `open` may commit, by what it finds in an open store
 pub record CommitsOpen (s : State) (trees : Trees) : Type 0 where
-  pub found : IsTrue s.is_open → (tables : Tables) → Holds s.now.trees tables → Holds trees tables
+  pub found : IsTrue s.is_open → (its : Schema) → IsKnownSchema its → (tables : Tables)
+      → HoldsOf its s.now.trees tables → HoldsOf its trees tables
   pub new : IsTrue s.is_open → HoldsNone s.now.trees → Holds trees first_tables
   pub free : LacksFormat s.now.schema → AreFree s.now.schema
   pub beside : LacksFormat s.now.schema → HasCounters s.now.schema → IsBeside s.now trees
@@ -106,10 +131,10 @@ pub record CommitsOpen (s : State) (trees : Trees) : Type 0 where
 abbrev pub IsBack : State → State → Type 0
 IsBack old new = (new.now ≡ old.committed) × (new.committed ≡ old.committed)
 
--- there is some table, and where the tables are ours they don't have our version
+-- there is some table, and where the tables are of one of our versions they have no version that is known
 abbrev pub HasOtherVersion : State → Type 0
 HasOtherVersion s = (s.now.schema ≡ no_schema → ⊥)
-    × (IsOurs s → HasVersion our_version (tables_of s) → ⊥)
+    × (IsKnown s → HasKnownVersion (tables_of s) → ⊥)
 
 -- inside a transaction, an Ok does this to the database that the connection sees
 abbrev pub Turns : {A E : Type 0} → State → State → Result A E → (Database → Database → Type 0) → Type 0

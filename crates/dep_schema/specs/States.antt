@@ -1,11 +1,12 @@
 -- What the database of a store stands for, and what a crash leaves of it.
+use Rattle.std.specs.Prelude.{◌⊎◌}
 use Rattle.sqlite.specs.State as db
 use Rattle.sqlite.specs.Tree.{Trees}
 use Rattle.dep_types.specs.State.{State}
 use Rattle.dep_types.specs.Sound.{IsSound}
 use Rattle.dep_tables.specs.Tables.{Tables}
-use Rattle.dep_row_maps.specs.TablesAre.{TablesAre}
-use Rattle.dep_schema.specs.Standing.{Holds, Stands}
+use Rattle.dep_row_maps.specs.TablesAre.{TablesAre, OlderTablesAre}
+use Rattle.dep_schema.specs.Standing.{Holds, HoldsOlder, Stands, StandsOlder}
 
 -- the rows are those of a sound state
 pub record TablesStandFor (tables : Tables) (s : State) : Type 0 where
@@ -18,11 +19,22 @@ pub record StandsFor (d : db.State) (s : State) : Type 0 where
   pub stands : Stands d tables
   pub means : TablesStandFor tables s
 
--- what a crash left stands for the state
-pub record IsLeftAs (trees : Trees) (s : State) : Type 0 where
+-- the rows of version 1 are those of a sound state
+pub record OlderTablesStandFor (tables : Tables) (s : State) : Type 0 where
+  pub are : OlderTablesAre tables s
+  pub sound : IsSound s
+
+-- the same of a store, whose tables are of version 1 still
+pub record OlderStandsFor (d : db.State) (s : State) : Type 0 where
   pub tables : Tables
-  pub holds : Holds trees tables
-  pub means : TablesStandFor tables s
+  pub stands : StandsOlder d tables
+  pub means : OlderTablesStandFor tables s
+
+-- what a crash left stands for the state, in version 2 or in version 1
+abbrev pub IsLeftAs : Trees → State → Type 0
+IsLeftAs trees s =
+    ((t : Tables) × Holds trees t × TablesStandFor t s)
+    ⊎ ((t : Tables) × HoldsOlder trees t × OlderTablesStandFor t s)
 
 -- whatever a crash leaves now stands for one of these states
 abbrev pub Leaves : db.State → (State → Type 0) → Type 0

@@ -28,14 +28,24 @@ create_timed_out_text = codes "CREATE TABLE timed_out (upload INTEGER PRIMARY KE
 abbrev pub create_blocks_text : List ℕ
 create_blocks_text = codes "CREATE TABLE blocks (kind INTEGER NOT NULL, owner INTEGER NOT NULL, part INTEGER NOT NULL, place INTEGER NOT NULL, bytes BLOB NOT NULL, PRIMARY KEY (kind, owner, part, place)) STRICT"
 
+abbrev pub create_sha512s_text : List ℕ
+create_sha512s_text = codes "CREATE TABLE sha512s (kind INTEGER NOT NULL, owner INTEGER NOT NULL, value BLOB NOT NULL, PRIMARY KEY (kind, owner)) STRICT"
+
 -- the texts that make the tables, in the order of their trees
 abbrev pub create_texts : List (List ℕ)
 create_texts =
     create_format_text ∷ create_state_text ∷ create_objects_text ∷ create_metadata_text ∷ create_files_text
-    ∷ create_uploads_text ∷ create_segments_text ∷ create_timed_out_text ∷ create_blocks_text ∷ []
+    ∷ create_uploads_text ∷ create_segments_text ∷ create_timed_out_text ∷ create_blocks_text
+    ∷ create_sha512s_text ∷ []
+
+abbrev pub index_files_text : List ℕ
+index_files_text = codes "CREATE INDEX files_of_object ON files (object, file)"
+
+abbrev pub index_uploads_text : List ℕ
+index_uploads_text = codes "CREATE INDEX uploads_by_last ON uploads (last, upload)"
 
 abbrev pub add_format_text : List ℕ
-add_format_text = codes "INSERT INTO format (id, version) VALUES (1, 1)"
+add_format_text = codes "INSERT INTO format (id, version) VALUES (1, 2)"
 
 abbrev pub add_state_text : List ℕ
 add_state_text = codes "INSERT INTO state (id, clock, next_object, next_file, next_upload, next_change) VALUES (1, 0, 1, 1, 1, 1)"

@@ -3,12 +3,15 @@
 #![tactic(auto)]
 
 mod crashes;
+mod indexing;
 mod lending;
 mod making;
 mod opening;
 mod performing;
+mod upgrading;
 
 pub use crashes::{began_open, settled};
 pub use lending::Lent;
 pub use opening::{OpenFault, Schema, open};
 pub use performing::perform_request;
+pub use upgrading::upgrade;

@@ -15,11 +15,12 @@ ghost use Rattle.dep_schema.specs.Texts.{add_format_text, add_state_text};
 ghost use Rattle.dep_tables.specs.Versions.{our_version};
 ghost use Rattle.dep_schema.specs.Standing.{Turns, Sees, GainsOurs, no_schema, first_tables, first_state};
 
+use crate::indexing::create_indexes;
 use dep_tables::Statements;
 use dep_types::StoreFault;
 
 /// The texts that make the tables, in the order of their trees.
-const TABLES: [&str; 9] = [
+const TABLES: [&str; 10] = [
     // The version of the tables.
     "CREATE TABLE format (id INTEGER PRIMARY KEY, version INTEGER NOT NULL) STRICT",
     // The clock and the counters.
@@ -38,9 +39,11 @@ const TABLES: [&str; 9] = [
     "CREATE TABLE timed_out (upload INTEGER PRIMARY KEY) STRICT",
     // The bytes of contents, in blocks.
     "CREATE TABLE blocks (kind INTEGER NOT NULL, owner INTEGER NOT NULL, part INTEGER NOT NULL, place INTEGER NOT NULL, bytes BLOB NOT NULL, PRIMARY KEY (kind, owner, part, place)) STRICT",
+    // The SHA-512 of each file, and those that uploads promised.
+    "CREATE TABLE sha512s (kind INTEGER NOT NULL, owner INTEGER NOT NULL, value BLOB NOT NULL, PRIMARY KEY (kind, owner)) STRICT",
 ];
 
-/// Version 1.
+/// Version 2.
 fn add_format<T: Statements>(tx: &mut T) -> Result<(), StoreFault>
     ensures beside { HasCleanDisk (T.state tx.new)
         → IsTrue (T.state tx.old).in_transaction
@@ -55,7 +58,7 @@ fn add_format<T: Statements>(tx: &mut T) -> Result<(), StoreFault>
         → IfErr result (FailsToRun add_format_text [] (T.state tx.old) (T.state tx.new)) }
     ensures stays { StaysWithin T.lenders T.state tx.old tx.new result }
 {
-    tx.run("INSERT INTO format (id, version) VALUES (1, 1)", &[])
+    tx.run("INSERT INTO format (id, version) VALUES (1, 2)", &[])
 }
 
 /// The clock at 0, and each counter at 1.
@@ -107,7 +110,7 @@ fn add_rows<T: Statements>(tx: &mut T) -> Result<(), StoreFault>
     add_state(tx)
 }
 
-/// The tables of a new store, where their names are free.
+/// The tables of a new store and their indexes, where their names are free.
 pub(crate) fn make_tables<T: Statements>(tx: &mut T) -> Result<(), StoreFault>
     ensures ok { HasCleanDisk (T.state tx.new)
         → IsTrue (T.state tx.old).in_transaction
@@ -119,5 +122,6 @@ pub(crate) fn make_tables<T: Statements>(tx: &mut T) -> Result<(), StoreFault>
     ensures stays { StaysWithin T.lenders T.state tx.old tx.new result }
 {
     create_tables(tx)?;
+    create_indexes(tx)?;
     add_rows(tx)
 }

@@ -1,16 +1,17 @@
 //! Opening a database of the store.
 
-ghost use Rattle.std.specs.Prelude.{◌≡◌, ◌≢◌, ◌⊎◌, false, ◌↔◌, pos, IsTrue, IfOk, IfErr, OnOk, OnErr, MatchResult, MatchBool, Err};
+ghost use Rattle.std.specs.Prelude.{◌≡◌, ◌≢◌, ◌⊎◌, ℕ, false, ◌↔◌, pos, Some, None, IsTrue, IfSome, IfOk, IfErr, OnOk, OnErr, MatchOption, MatchResult, Err};
 ghost use Rattle.sqlite.specs.declared.types.Value.TheVariants.{Int};
 ghost use Rattle.sqlite.specs.Order.{column};
 ghost use Rattle.sqlite.specs.State.{HasCleanDisk, IsUnchanged, Survives};
 ghost use Rattle.sqlite.specs.Held.{state};
-ghost use Rattle.dep_tables.specs.Tables.{Tables, tables_of, IsOurs};
-ghost use Rattle.dep_tables.specs.Versions.{our_version, HasVersion};
-ghost use Rattle.dep_schema.specs.Standing.{no_schema, Holds, HoldsNone, Sees, Stands, IsOpenable, CommitsBySchema, CommitsOpen, IsBack, HasOtherVersion, GainsOurs, StandsBeside, StaysOn, first_tables};
+ghost use Rattle.dep_tables.specs.Tables.{Tables, tables_of, IsOf, IsKnownSchema, IsKnown};
+ghost use Rattle.dep_tables.specs.Versions.{our_version, IsKnownVersion, HasVersion};
+ghost use Rattle.sqlite.specs.Schema.{Schema as Listed};
+ghost use Rattle.dep_schema.specs.Standing.{no_schema, HasKnownVersion, HoldsOf, HoldsNone, Sees, Stands, StandsOf, IsOpenable, CommitsBySchema, CommitsOpen, IsBack, HasOtherVersion, GainsOurs, StandsBeside, StaysOn, first_tables};
 ghost use Rattle.dep_statements.specs.Adding.{HasCounters};
 ghost use Rattle.dep_schema.specs.Beside.{LacksFormat, AreFree};
-ghost use Rattle.dep_schema.specs.OpenFaults.{open_fault_number, told_by, AreOurVersion, ShowsOurs, ShowsNone, FailsToFind, ShowsOursOrNone, FailsToFindOrMake, begun, FailsToOpen, RefusesOurs};
+ghost use Rattle.dep_schema.specs.OpenFaults.{open_fault_number, told_by, AreVersion, ShowsVersion, ShowsNone, FailsToFind, ShowsOrMakes, FailsToFindOrMake, begun, FailsToOpen, RefusesKnown};
 
 use crate::lending::Lent;
 use crate::making::make_tables;
@@ -74,69 +75,87 @@ impl std::error::Error for OpenFault {}
 /// A connection over the tables of the store.
 #[derive(Drop)]
 pub struct Schema<S: Alter> {
-    /// The connection to the database, which has our tables.
+    /// The connection to the database, which has the tables of one of our versions.
     pub connection: Connection<S>,
+    found: u64,
 }
 
-/// Whether the row is of id 1 and version 1.
-fn is_known(row: &Row) -> bool
-    ensures { IsTrue result ↔ ((column row.now 0 ≡ Int (pos 1)) × (column row.now 1 ≡ Int (pos 1))) }
+impl<S: Alter> Schema<S> {
+    /// The version that was found: 1 or 2, and 2 where the tables were made.
+    pub fn version(&self) -> u64
+        ensures { result ≡ self.now.found }
+    {
+        self.found
+    }
+}
+
+/// Whether the row is of id 1 and this version.
+fn is_known(row: &Row, version: i64) -> bool
+    ensures { IsTrue result ↔ ((column row.now 0 ≡ Int (pos 1)) × (column row.now 1 ≡ Int version)) }
 {
-    matches!(row.get_ref(0), Ok(ValueRef::Int(1))) && matches!(row.get_ref(1), Ok(ValueRef::Int(1)))
+    matches!(row.get_ref(0), Ok(ValueRef::Int(1)))
+        && match row.get_ref(1) {
+            Ok(ValueRef::Int(found)) => found == version,
+            _ => false,
+        }
 }
 
-/// Whether it is the one row of id 1 and version 1.
-fn are_known(rows: &[Row]) -> bool
-    ensures { IsTrue result ↔ AreOurVersion rows.now }
+/// Whether it is the one row of id 1 and this version.
+fn are_known(rows: &[Row], version: i64) -> bool
+    ensures { IsTrue result ↔ AreVersion version rows.now }
 {
     match rows {
-        [row] => is_known(row),
+        [row] => is_known(row, version),
         _ => false,
     }
 }
 
 /// What an error of the query for the version comes to: that no table `format` is there, or a fault.
-fn told_by(error: Error) -> Result<bool, OpenFault>
+fn told_by(error: Error) -> Result<Option<u64>, OpenFault>
     ensures { result ≡ told_by error }
 {
     match error {
-        Error::SqlInputError(CompileError::NoSuchTable) => Ok(false),
+        Error::SqlInputError(CompileError::NoSuchTable) => Ok(None),
         Error::SqlInputError(_) => Err(OpenFault::UnknownVersion),
         other => Err(OpenFault::from(fault_of(other))),
     }
 }
 
-/// Whether there is a table `format`, which then has to tell version 1.
-fn find_format<S: Alter>(tx: &mut Transaction<'_, S>) -> Result<bool, OpenFault>
+/// The version that the table `format` tells, if there is one. It has to tell version 1 or 2.
+fn find_format<S: Alter>(tx: &mut Transaction<'_, S>) -> Result<Option<u64>, OpenFault>
     ensures empty { HasCleanDisk (state S.Store tx.new.conn.now)
         → (state S.Store tx.old.conn.now).now.schema ≡ no_schema
-        → MatchResult result (λ found. found ≡ false) (λ fault. fault ≢ OpenFault.UnknownVersion) }
-    ensures ours { HasCleanDisk (state S.Store tx.new.conn.now) → IsOurs (state S.Store tx.old.conn.now)
+        → MatchResult result (λ found. found ≡ None) (λ fault. fault ≢ OpenFault.UnknownVersion) }
+    ensures ours { HasCleanDisk (state S.Store tx.new.conn.now) → IsKnown (state S.Store tx.old.conn.now)
         → MatchResult result
-        (λ found. IsTrue found × HasVersion our_version (tables_of (state S.Store tx.old.conn.now)))
+        (λ found. (version : ℕ) × (found ≡ Some version)
+        × HasVersion version (tables_of (state S.Store tx.old.conn.now)))
         (λ fault. fault ≡ OpenFault.UnknownVersion
-        → HasVersion our_version (tables_of (state S.Store tx.old.conn.now)) → ⊥) }
+        → HasKnownVersion (tables_of (state S.Store tx.old.conn.now)) → ⊥) }
+    ensures known { IfOk result (λ found. IfSome found IsKnownVersion) }
     ensures lacking { HasCleanDisk (state S.Store tx.new.conn.now)
         → LacksFormat (state S.Store tx.old.conn.now).now.schema
-        → MatchResult result (λ found. found ≡ false) (λ fault. fault ≢ OpenFault.UnknownVersion) }
+        → MatchResult result (λ found. found ≡ None) (λ fault. fault ≢ OpenFault.UnknownVersion) }
     ensures same { HasCleanDisk (state S.Store tx.new.conn.now)
-        → IsOurs (state S.Store tx.old.conn.now)
+        → IsKnown (state S.Store tx.old.conn.now)
         ⊎ ((state S.Store tx.old.conn.now).now.schema ≡ no_schema)
         → OnOk result (IsUnchanged (state S.Store tx.old.conn.now) (state S.Store tx.new.conn.now)) }
     ensures left { HasCleanDisk (state S.Store tx.new.conn.now)
         → LacksFormat (state S.Store tx.old.conn.now).now.schema
         → OnOk result (IsUnchanged (state S.Store tx.old.conn.now) (state S.Store tx.new.conn.now)) }
     ensures told { HasCleanDisk (state S.Store tx.new.conn.now) → MatchResult result
-        (λ found. MatchBool found
-        (ShowsOurs (state S.Store tx.old.conn.now) (state S.Store tx.new.conn.now))
-        (ShowsNone (state S.Store tx.old.conn.now) (state S.Store tx.new.conn.now)))
+        (λ found. MatchOption found
+        (ShowsNone (state S.Store tx.old.conn.now) (state S.Store tx.new.conn.now))
+        (ShowsVersion (state S.Store tx.old.conn.now) (state S.Store tx.new.conn.now)))
         (FailsToFind (state S.Store tx.old.conn.now) (state S.Store tx.new.conn.now)) }
     ensures stays { StaysOn S.Store tx.old.conn tx.new.conn result }
 {
     match tx.query_all("SELECT id, version FROM format", &[]) {
         Ok(rows) => {
-            if are_known(rows.as_slice()) {
-                Ok(true)
+            if are_known(rows.as_slice(), 2) {
+                Ok(Some(2))
+            } else if are_known(rows.as_slice(), 1) {
+                Ok(Some(1))
             } else {
                 Err(OpenFault::UnknownVersion)
             }
@@ -145,14 +164,14 @@ fn find_format<S: Alter>(tx: &mut Transaction<'_, S>) -> Result<bool, OpenFault>
     }
 }
 
-/// Makes the tables where there are none.
-fn find_or_make<S: Alter>(tx: &mut Transaction<'_, S>) -> Result<(), OpenFault>
+/// Makes the tables where there are none. It answers the version.
+fn find_or_make<S: Alter>(tx: &mut Transaction<'_, S>) -> Result<u64, OpenFault>
     ensures empty { HasCleanDisk (state S.Store tx.new.conn.now)
         → IsTrue (state S.Store tx.old.conn.now).in_transaction
         → (state S.Store tx.old.conn.now).now.schema ≡ no_schema
         → OnOk result (Sees (state S.Store tx.new.conn.now) first_tables) }
-    ensures ours { HasCleanDisk (state S.Store tx.new.conn.now) → IsOurs (state S.Store tx.old.conn.now)
-        → OnOk result (HasVersion our_version (tables_of (state S.Store tx.old.conn.now))
+    ensures ours { HasCleanDisk (state S.Store tx.new.conn.now) → IsKnown (state S.Store tx.old.conn.now)
+        → IfOk result (λ version. HasVersion version (tables_of (state S.Store tx.old.conn.now))
         × ((state S.Store tx.new.conn.now).now ≡ (state S.Store tx.old.conn.now).now)) }
     ensures version { HasCleanDisk (state S.Store tx.new.conn.now)
         → result ≡ Err OpenFault.UnknownVersion
@@ -167,27 +186,36 @@ fn find_or_make<S: Alter>(tx: &mut Transaction<'_, S>) -> Result<(), OpenFault>
         → LacksFormat (state S.Store tx.old.conn.now).now.schema → ⊥ }
     ensures told { HasCleanDisk (state S.Store tx.new.conn.now)
         → IsTrue (state S.Store tx.old.conn.now).in_transaction
-        → MatchResult result (λ _. ShowsOursOrNone S.Store tx.old.conn.now)
+        → MatchResult result (ShowsOrMakes S.Store tx.old.conn.now)
         (FailsToFindOrMake S.Store tx.old.conn.now tx.new.conn.now) }
+    ensures made { HasCleanDisk (state S.Store tx.new.conn.now)
+        → LacksFormat (state S.Store tx.old.conn.now).now.schema
+        → IfOk result (λ version. version ≡ our_version) }
+    ensures known { IfOk result IsKnownVersion }
     ensures stays { StaysOn S.Store tx.old.conn tx.new.conn result }
 {
-    if find_format(tx)? {
-        return Ok(());
+    if let Some(version) = find_format(tx)? {
+        return Ok(version);
     }
     match make_tables(&mut Lent { tx }) {
-        Ok(()) => Ok(()),
+        Ok(()) => Ok(2),
         Err(fault) => Err(OpenFault::from(fault)),
     }
 }
 
-fn prepare<S: Alter>(connection: &mut Connection<S>) -> Result<(), OpenFault>
+fn prepare<S: Alter>(connection: &mut Connection<S>) -> Result<u64, OpenFault>
     requires settled { (state S.Store connection.old).in_transaction ≡ false }
     ensures fresh { HasCleanDisk (state S.Store connection.new)
         → (state S.Store connection.old).now.schema ≡ no_schema
         → OnOk result (Stands (state S.Store connection.new) first_tables) }
-    ensures found { HasCleanDisk (state S.Store connection.new) → IsOurs (state S.Store connection.old)
-        → OnOk result (HasVersion our_version (tables_of (state S.Store connection.old))
-        × Stands (state S.Store connection.new) (tables_of (state S.Store connection.old))) }
+    ensures found { HasCleanDisk (state S.Store connection.new) → (its : Listed)
+        → IsKnownSchema its → IsOf its (state S.Store connection.old)
+        → IfOk result (λ version. HasVersion version (tables_of (state S.Store connection.old))
+        × StandsOf its (state S.Store connection.new) (tables_of (state S.Store connection.old))) }
+    ensures made { HasCleanDisk (state S.Store connection.new)
+        → LacksFormat (state S.Store connection.old).now.schema
+        → IfOk result (λ version. version ≡ our_version) }
+    ensures known { IfOk result IsKnownVersion }
     ensures version { HasCleanDisk (state S.Store connection.new)
         → result ≡ Err OpenFault.UnknownVersion
         → HasOtherVersion (state S.Store connection.old) }
@@ -195,12 +223,12 @@ fn prepare<S: Alter>(connection: &mut Connection<S>) -> Result<(), OpenFault>
         → result ≡ Err OpenFault.UnknownVersion
         → LacksFormat (state S.Store connection.old).now.schema → ⊥ }
     ensures told { HasCleanDisk (state S.Store connection.new)
-        → MatchResult result (λ _. ShowsOursOrNone S.Store (begun connection.old))
+        → MatchResult result (ShowsOrMakes S.Store (begun connection.old))
         (FailsToOpen S.Store connection.old connection.new) }
     ensures ours { HasCleanDisk (state S.Store connection.new)
-        → IsOurs (state S.Store connection.old)
+        → IsKnown (state S.Store connection.old)
         → IfErr result
-        (RefusesOurs (state S.Store connection.old) (state S.Store connection.new)) }
+        (RefusesKnown (state S.Store connection.old) (state S.Store connection.new)) }
     ensures free { HasCleanDisk (state S.Store connection.new)
         → LacksFormat (state S.Store connection.old).now.schema
         → OnOk result (AreFree (state S.Store connection.old).now.schema) }
@@ -220,14 +248,14 @@ fn prepare<S: Alter>(connection: &mut Connection<S>) -> Result<(), OpenFault>
         (CommitsBySchema (state S.Store connection.old)) }
 {
     let mut tx = connection.transaction();
-    find_or_make(&mut tx)?;
+    let version = find_or_make(&mut tx)?;
     match tx.commit() {
-        Ok(()) => Ok(()),
+        Ok(()) => Ok(version),
         Err(error) => Err(OpenFault::from(fault_of(error))),
     }
 }
 
-/// Makes the tables where there is none, in one transaction, and takes a database that has them with version 1.
+/// Makes the tables where there is none, in one transaction, and takes a database that has those of version 2 or 1.
 /// A database without a table `format` is taken as empty; where another of the names is taken there, that is a fault of the store.
 /// After a fault the connection is handed back, and while its store is open it has what it had.
 pub fn open<S: Alter>(
@@ -236,10 +264,15 @@ pub fn open<S: Alter>(
     requires settled { (state S.Store connection).in_transaction ≡ false }
     ensures fresh { IfOk result (λ schema. HasCleanDisk (state S.Store schema.connection)
         → HoldsNone (state S.Store connection).now.trees
-        → Stands (state S.Store schema.connection) first_tables) }
+        → Stands (state S.Store schema.connection) first_tables × (schema.found ≡ our_version)) }
     ensures found { IfOk result (λ schema. HasCleanDisk (state S.Store schema.connection)
-        → (tables : Tables) → Holds (state S.Store connection).now.trees tables
-        → HasVersion our_version tables × Stands (state S.Store schema.connection) tables) }
+        → (its : Listed) → IsKnownSchema its
+        → (tables : Tables) → HoldsOf its (state S.Store connection).now.trees tables
+        → HasVersion schema.found tables × StandsOf its (state S.Store schema.connection) tables) }
+    // A database without a table `format`, such as an empty one, has version 2 then.
+    ensures made { IfOk result (λ schema. HasCleanDisk (state S.Store schema.connection)
+        → LacksFormat (state S.Store connection).now.schema → schema.found ≡ our_version) }
+    ensures known { IfOk result (λ schema. IsKnownVersion schema.found) }
     ensures free { IfOk result (λ schema. HasCleanDisk (state S.Store schema.connection)
         → LacksFormat (state S.Store connection).now.schema
         → AreFree (state S.Store connection).now.schema) }
@@ -249,15 +282,15 @@ pub fn open<S: Alter>(
         → StandsBeside (state S.Store connection) (state S.Store schema.connection)) }
     ensures version { IfErr result (λ e. HasCleanDisk (state S.Store e.1)
         → e.0 ≡ OpenFault.UnknownVersion → IsOpenable (state S.Store connection) → ⊥) }
-    // A fault has a cause, and an Ok has one: a database is opened only by our version or for want of `format`.
+    // A fault has a cause, and an Ok has one: a database is opened only by a version that is known or for want of `format`.
     ensures told { MatchResult result
         (λ schema. HasCleanDisk (state S.Store schema.connection)
-        → ShowsOursOrNone S.Store (begun connection))
+        → ShowsOrMakes S.Store (begun connection) schema.found)
         (λ e. HasCleanDisk (state S.Store e.1) → FailsToOpen S.Store connection e.1 e.0) }
-    // Our tables with another version are refused by that fault, unless SQLite gave out.
+    // The tables of one of our versions with none that is known are refused by that fault, unless SQLite gave out.
     ensures ours { IfErr result (λ e. HasCleanDisk (state S.Store e.1)
-        → IsOurs (state S.Store connection)
-        → RefusesOurs (state S.Store connection) (state S.Store e.1) e.0) }
+        → IsKnown (state S.Store connection)
+        → RefusesKnown (state S.Store connection) (state S.Store e.1) e.0) }
     ensures left { IfErr result (λ e. HasCleanDisk (state S.Store e.1)
         → IsTrue (state S.Store e.1).is_open → IsBack (state S.Store connection) (state S.Store e.1)) }
     // No open opens a store that was shut.
@@ -276,7 +309,7 @@ pub fn open<S: Alter>(
 {
     let _schema = connection.schema();
     match prepare(&mut connection) {
-        Ok(()) => Ok(Schema { connection }),
+        Ok(found) => Ok(Schema { connection, found }),
         Err(fault) => Err((fault, connection)),
     }
 }

@@ -6,11 +6,11 @@ use Rattle.dep_types.specs.State.{State, Upload, clock_at}
 use Rattle.dep_types.specs.declared.config.Config.{Config}
 use Rattle.dep_types.specs.declared.store_fault.StoreFault.{StoreFault}
 use Rattle.dep_row_maps.specs.Causes.{FailsByStatement}
-use Rattle.dep_row_maps.specs.Causes.FailsByStatement.{state_read, state_written, timed_out_added, upload_next, upload_found, upload_deleted, segments_deleted, segments_read, blocks_deleted, block_read}
+use Rattle.dep_row_maps.specs.Causes.FailsByStatement.{state_read, state_written, timed_out_added, upload_left, upload_deleted, segments_deleted, segments_read, blocks_deleted, block_read}
 use Rattle.dep_staging.specs.Causes.{FailsToDrop, FailsToExpire, FailsToExpireAll, FailsToTick, FailsToHash}
 use Rattle.dep_staging.specs.Causes.FailsToDrop.{blocks, segments, row}
 use Rattle.dep_staging.specs.Causes.FailsToExpire.{drop, number}
-use Rattle.dep_staging.specs.Causes.FailsToExpireAll.{next, found, ended}
+use Rattle.dep_staging.specs.Causes.FailsToExpireAll.{looked, ended}
 use Rattle.dep_staging.specs.Causes.FailsToTick.{read, written, expired}
 use Rattle.dep_staging.specs.Causes.FailsToHash.{segments as rows, block}
 
@@ -25,8 +25,7 @@ module _ (at now : db.State) (fault : StoreFault) where
   expire_among u (number failed) = timed_out_added _ failed
 
   pub expire_all_among : (config : Config) (clock : ℕ) (uploads : Numbered Upload) → FailsToExpireAll config clock uploads at now fault → FailsByStatement at now fault
-  expire_all_among config clock uploads (next u failed) = upload_next _ failed
-  expire_all_among config clock uploads (found u failed) = upload_found _ failed
+  expire_all_among config clock uploads (looked failed) = upload_left _ failed
   expire_all_among config clock uploads (ended u idle failed) = expire_among u failed
 
   pub tick_among : (config : Config) (s : State) (moment : ℕ) → FailsToTick config s moment at now fault → FailsByStatement at now fault

@@ -1,15 +1,12 @@
--- Uploads that time out one after another, by ascending number.
-use Rattle.std.proofs.Common.{◌≡◌, ◌≢◌, ◌⊎◌, inl, inr, ℕ, ◌<◌, ◌≤◌, max, min, IsTrue, Bool, true, false, not, ◌||◌, ◌&&◌, cond, Option, Some, None, is_some, refl, sym, ap, subst, ◌∙◌, nat_cmp, is_eq, arith}
-use Rattle.std.specs.Prelude.{if◌then◌else◌, nat_le}
+-- Uploads that time out one after another.
+use Rattle.std.proofs.Common.{◌≡◌, ◌≢◌, ◌⊎◌, inl, inr, ℕ, ◌+◌, ◌-◌, ◌<◌, ◌≤◌, ◌^◌, max, min, IsTrue, Bool, true, false, not, ◌||◌, cond, Option, Some, None, is_some, refl, sym, ap, subst, ◌∙◌, nat_cmp, is_eq, arith}
+use Rattle.std.specs.Prelude.{nat_lt}
 use Rattle.std.specs.Option.{option_map_or}
 use Rattle.std.specs.Ordering.{eq_by_cmp}
 use Rattle.std.specs.FinMap as finmap
 use Rattle.std.specs.FinSet as set
 use Rattle.std.proofs.lemmas.Cmp.{nat_cmp_total, tied_itself}
-use Rattle.std.proofs.lemmas.Bool.{cases_lt}
 use Rattle.std.proofs.lemmas.Bool.Decides.{nat_tests}
-use Rattle.sqlite.specs.State as db
-use Rattle.dep_types.specs.declared.store_fault.StoreFault.{StoreFault}
 use Rattle.dep_types.specs.Maps.{Numbered, Numbers}
 use Rattle.dep_types.specs.State.{State, Upload, is_idle, expires, expired, unexpired, clock_at, tick}
 use Rattle.dep_types.specs.declared.counters.Counters.{Counters}
@@ -20,190 +17,180 @@ use Rattle.dep_types.proofs.TickLemmas.{get-unexpired, contains-expired}
 use Rattle.dep_tables.specs.Rows.{IsStorableState}
 use Rattle.dep_tables.specs.Tables.{Tables}
 use Rattle.dep_tables.specs.declared.state.StateRow.{StateRow}
+use Rattle.dep_tables.specs.declared.uploads.LeftUpload.{LeftUpload}
+use Rattle.dep_tables.specs.Edits.{IsLeftBefore}
 use Rattle.dep_row_maps.specs.Stored.{state_row}
 use Rattle.dep_row_maps.specs.TablesAre.{TablesAre}
+use Rattle.dep_row_maps.specs.Left.{was_left_before, TellsLeft}
+use Rattle.dep_row_maps.proofs.Left.{left_before_read}
 use Rattle.dep_row_maps.proofs.Files.{same_number}
 use Rattle.dep_row_maps.proofs.Lens.{tied_not, get_gone, get_left}
-use Rattle.dep_staging.specs.Causes.{FailsToExpireAll, HasStorableNumbers}
-use Rattle.dep_staging.specs.Causes.FailsToExpireAll.{next as next_fails, found as found_fails, ended as ended_fails}
-use Rattle.dep_staging.specs.Expiring.{timed_out, expired_at, expired_all}
-use Rattle.dep_staging.proofs.Next.{IsNextOf}
+use Rattle.dep_staging.specs.Causes.{HasStorableNumbers}
+use Rattle.dep_staging.specs.Expiring.{timed_out, expired_all}
+use Rattle.dep_staging.proofs.Entries.{no_more_than}
 
-at_most : (a b : ℕ) → a ≤ b → nat_le a b ≡ true
-at_most a b h = grind (arith, nat_tests)
+-- ---- to be idle is to be left before a moment
 
-beyond : (a b : ℕ) → b < a → nat_le a b ≡ false
-beyond a b h = grind (arith, nat_tests)
+same_moment : (most clock last : ℕ) → nat_lt most (clock - last) ≡ nat_lt last (clock - most)
+same_moment most clock last = grind (arith, nat_tests)
 
--- the number is that of an upload that expires
-abbrev goes : Config → ℕ → State → ℕ → Bool
-goes config clock s q = is_some (cond (expires config clock s.uploads q) (finmap.get s.uploads q) None)
+-- an upload expires where it was last written to before that moment
+pub expires_is : (config : Config) (clock : ℕ) (us : Numbered Upload) (u : ℕ) → expires config clock us u ≡ was_left_before (clock - config.staging_max_idle) us u
+expires_is config clock us u = go (finmap.get us u)
+  where
+    go : (o : Option Upload) → option_map_or (is_idle config clock) o false ≡ option_map_or (λ (it : Upload). nat_lt it.last (clock - config.staging_max_idle)) o false
+    go None = refl
+    go (Some it) = same_moment config.staging_max_idle clock it.last
 
-never : (b : Bool) (x : Option Upload) → x ≡ None → is_some (cond b x None) ≡ false
-never true x e = ap is_some e
+-- ---- one of them ends
+
+never : (b : Bool) (x : Option Upload) → x ≡ None → cond b x None ≡ None
+never true x e = e
 never false x e = refl
 
-stays : (b : Bool) (x : Option Upload) → x ≡ None → cond b x None ≡ None
-stays true x e = e
-stays false x e = refl
-
--- uploads up to this number are as the tick leaves them, and above it as they were
-pub record IsExpiredTo (config : Config) (clock last : ℕ) (s : State) (t : Tables) : Type 0 where
-  pub uploads : Numbered Upload
-  pub numbers : Numbers
-  pub are : TablesAre t (record s { uploads = uploads; timed_out = numbers })
-  pub below : (q : ℕ) → q ≤ last → finmap.get uploads q ≡ finmap.get (unexpired config clock s.uploads) q
-  pub above : (q : ℕ) → last < q → finmap.get uploads q ≡ finmap.get s.uploads q
-  pub told : (q : ℕ) → set.contains numbers q ≡ (set.contains s.timed_out q || (nat_le q last && goes config clock s q))
-
-either_false : (a b : Bool) → b ≡ false → a ≡ (a || b)
-either_false true b e = refl
-either_false false b e = sym e
-
-both_false : (a b : Bool) → b ≡ false → (a && b) ≡ false
-both_false true b e = e
-both_false false b e = refl
-
-pub none_expired : (config : Config) (clock : ℕ) (s : State) (t : Tables) → TablesAre t s → finmap.get s.uploads 0 ≡ None → IsExpiredTo config clock 0 s t
-none_expired config clock s t h zero_free = record {
-  uploads = s.uploads;
-  numbers = s.timed_out;
-  are = h;
-  below = λ q low. let zero_is : q ≡ 0 = omega (arith, low) in free q (ap (finmap.get s.uploads) zero_is ∙ zero_free);
-  above = λ q more. refl;
-  told = λ q. either_false (set.contains s.timed_out q) (nat_le q 0 && goes config clock s q) (out q (same_number q 0));
-}
+held : (config : Config) (clock : ℕ) (us : Numbered Upload) (u : ℕ) → expires config clock us u ≡ true → is_some (finmap.get us u) ≡ true
+held config clock us u idle = go (finmap.get us u) idle
   where
-    free : (q : ℕ) → finmap.get s.uploads q ≡ None → finmap.get s.uploads q ≡ finmap.get (unexpired config clock s.uploads) q
-    free q none = none ∙ sym (get-unexpired config clock s.uploads q ∙ stays (not (expires config clock s.uploads q)) (finmap.get s.uploads q) none)
+    go : (o : Option Upload) → option_map_or (is_idle config clock) o false ≡ true → is_some o ≡ true
+    go None h = absurd (cc)
+    go (Some it) h = refl
 
-    out : (q : ℕ) → (q ≡ 0) ⊎ (q ≢ 0) → (nat_le q 0 && goes config clock s q) ≡ false
-    out q (inl is) = both_false (nat_le q 0) (goes config clock s q) (never (expires config clock s.uploads q) (finmap.get s.uploads q) (ap (finmap.get s.uploads) is ∙ zero_free))
-    out q (inr apart) = ap (λ b. b && goes config clock s q) (beyond q 0 (omega (arith, apart)))
+module _ (config : Config) (clock : ℕ) (us : Numbered Upload) (u : ℕ) (idle : expires config clock us u ≡ true) where
+  abbrev rest : Numbered Upload
+  rest = finmap.remove us u
 
--- ---- one upload more
+  same_test : (q : ℕ) → q ≢ u → expires config clock rest q ≡ expires config clock us q
+  same_test q apart = ap (λ x. option_map_or (is_idle config clock) x false) (get_left us u q apart)
 
-module _ (config : Config) (clock last k : ℕ) (s : State) (t : Tables) (z : IsExpiredTo config clock last s t) (next : IsNextOf z.uploads last k) where
-  between : (q : ℕ) → last < q → q < k → finmap.get s.uploads q ≡ None
-  between q a b = sym (z.above q a) ∙ next.between q a b
-
-  same_test : expires config clock z.uploads k ≡ expires config clock s.uploads k
-  same_test = ap (λ x. option_map_or (is_idle config clock) x false) (z.above k next.after)
-
-  there : finmap.get s.uploads k ≡ Some next.value
-  there = sym (z.above k next.after) ∙ next.held
-
-  -- numbers other than k are told alike
-  other_told : (q : ℕ) → q ≢ k → (nat_le q last && goes config clock s q) ≡ (nat_le q k && goes config clock s q)
-  other_told q apart = go (cases_lt last q) (cases_lt q k)
+  unexpired_less : unexpired config clock rest ≡ unexpired config clock us
+  unexpired_less = finmap.same_map nat_cmp_total finmap.nat_cmp-IsAntisymmetric _ _ (λ q. go q (same_number q u))
     where
-      go : (last < q) ⊎ (q ≤ last) → (q < k) ⊎ (k ≤ q) → (nat_le q last && goes config clock s q) ≡ (nat_le q k && goes config clock s q)
-      go (inr low) d = ap (λ b. b && goes config clock s q) (at_most q last low ∙ sym (at_most q k (omega (arith, low, next.after))))
-      go (inl a) (inl b) =
-          let none = never (expires config clock s.uploads q) (finmap.get s.uploads q) (between q a b) in
-          both_false (nat_le q last) (goes config clock s q) none ∙ sym (both_false (nat_le q k) (goes config clock s q) none)
-      go (inl a) (inr b) = ap (λ c. c && goes config clock s q) (beyond q last a ∙ sym (beyond q k (omega (arith, b, apart))))
+      go : (q : ℕ) → (q ≡ u) ⊎ (q ≢ u) → finmap.get (unexpired config clock rest) q ≡ finmap.get (unexpired config clock us) q
+      go q (inl is) =
+          let here : finmap.get rest q ≡ None = ap (finmap.get rest) is ∙ get_gone us u in
+          get-unexpired config clock rest q ∙ never (not (expires config clock rest q)) (finmap.get rest q) here
+          ∙ sym (get-unexpired config clock us q ∙ ap (λ b. cond (not b) (finmap.get us q) None) (ap (expires config clock us) is ∙ idle))
+      go q (inr apart) =
+          get-unexpired config clock rest q ∙ ap (λ b. cond (not b) (finmap.get rest q) None) (same_test q apart) ∙ ap (λ x. cond (not (expires config clock us q)) x None) (get_left us u q apart)
+          ∙ sym (get-unexpired config clock us q)
 
-  -- below k, the ones that were there are as the tick leaves them
-  low_kept : (q : ℕ) → q ≤ k → q ≢ k → finmap.get z.uploads q ≡ finmap.get (unexpired config clock s.uploads) q
-  low_kept q low apart = go (cases_lt last q)
+  abbrev numbers_with : Numbers → Numbered Upload → Numbers
+  numbers_with t m = set.union t (set.from_list (finmap.keys (expired config clock m)))
+
+  told : (t : Numbers) (m : Numbered Upload) (q : ℕ) → set.contains (numbers_with t m) q ≡ (set.contains t q || is_some (cond (expires config clock m q) (finmap.get m q) None))
+  told t m q = set.contains-union nat_cmp_total t _ q ∙ ap (λ b. set.contains t q || b) (contains-expired config clock m q)
+
+  or_true : (a b : Bool) → b ≡ true → (a || b) ≡ true
+  or_true true b e = refl
+  or_true false b e = e
+
+  numbers_more : (t : Numbers) → numbers_with (set.insert t u) rest ≡ numbers_with t us
+  numbers_more t = set.same_set nat_cmp_total set.nat_cmp-IsAntisymmetric _ _ (λ q. told (set.insert t u) rest q ∙ go q (same_number q u) ∙ sym (told t us q))
     where
-      go : (last < q) ⊎ (q ≤ last) → finmap.get z.uploads q ≡ finmap.get (unexpired config clock s.uploads) q
-      go (inr under) = z.below q under
-      go (inl a) =
-          let none = between q a (omega (arith, low, apart)) in
-          z.above q a ∙ none ∙ sym (get-unexpired config clock s.uploads q ∙ stays (not (expires config clock s.uploads q)) (finmap.get s.uploads q) none)
+      go : (q : ℕ) → (q ≡ u) ⊎ (q ≢ u)
+          → (set.contains (set.insert t u) q || is_some (cond (expires config clock rest q) (finmap.get rest q) None)) ≡ (set.contains t q || is_some (cond (expires config clock us q) (finmap.get us q) None))
+      go q (inl is) =
+          let in_it : set.contains (set.insert t u) q ≡ true = set.contains-insert nat_cmp_total t u q ∙ ap (λ b. b || set.contains t q) (ap (eq_by_cmp nat_cmp q) (sym is) ∙ ap is_eq (tied_itself nat_cmp_total q)) in
+          let gone : is_some (cond (expires config clock us q) (finmap.get us q) None) ≡ true =
+          ap (λ b. is_some (cond b (finmap.get us q) None)) (ap (expires config clock us) is ∙ idle) ∙ held config clock us q (ap (expires config clock us) is ∙ idle) in
+          ap (λ b. b || is_some (cond (expires config clock rest q) (finmap.get rest q) None)) in_it ∙ sym (or_true (set.contains t q) _ gone)
+      go q (inr apart) =
+          ap (λ b. b || is_some (cond (expires config clock rest q) (finmap.get rest q) None)) (set.contains-insert nat_cmp_total t u q ∙ ap (λ b. b || set.contains t q) (tied_not q u apart))
+          ∙ ap (λ b. set.contains t q || is_some (cond b (finmap.get rest q) None)) (same_test q apart) ∙ ap (λ x. set.contains t q || is_some (cond (expires config clock us q) x None)) (get_left us u q apart)
 
-  one_gone : (now : Tables) → expires config clock s.uploads k ≡ true → TablesAre now (timed_out k (record s { uploads = z.uploads; timed_out = z.numbers })) → IsExpiredTo config clock k s now
-  one_gone now idle are = record {
-    uploads = finmap.remove z.uploads k;
-    numbers = set.insert z.numbers k;
-    are = are;
-    below = λ q low. lower q low (same_number q k);
-    above = λ q more. get_left z.uploads k q (λ e. omega (arith, more, e)) ∙ z.above q (omega (arith, more, next.after));
-    told = λ q. set.contains-insert nat_cmp_total z.numbers k q ∙ tells q (same_number q k);
-  }
+  -- what expires of the rest did so before
+  expires_rest : (q : ℕ) → IsTrue (expires config clock rest q) → IsTrue (expires config clock us q)
+  expires_rest q h = go (same_number q u)
     where
-      lower : (q : ℕ) → q ≤ k → (q ≡ k) ⊎ (q ≢ k) → finmap.get (finmap.remove z.uploads k) q ≡ finmap.get (unexpired config clock s.uploads) q
-      lower q low (inl is) =
-          ap (finmap.get (finmap.remove z.uploads k)) is ∙ get_gone z.uploads k ∙ sym (get-unexpired config clock s.uploads k ∙ ap (λ b. cond (not b) (finmap.get s.uploads k) None) idle)
-          ∙ ap (finmap.get (unexpired config clock s.uploads)) (sym is)
-      lower q low (inr apart) = get_left z.uploads k q apart ∙ low_kept q low apart
+      go : (q ≡ u) ⊎ (q ≢ u) → IsTrue (expires config clock us q)
+      go (inl is) = ap (expires config clock us) is ∙ idle
+      go (inr apart) = sym (same_test q apart) ∙ h
 
-      gone_here : (nat_le k k && goes config clock s k) ≡ true
-      gone_here = ap (λ b. b && goes config clock s k) (at_most k k (omega arith)) ∙ ap (λ b. is_some (cond b (finmap.get s.uploads k) None)) idle ∙ ap is_some there
-
-      or_true : (a b : Bool) → b ≡ true → true ≡ (a || b)
-      or_true true b e = refl
-      or_true false b e = sym e
-
-      tells : (q : ℕ) → (q ≡ k) ⊎ (q ≢ k) → (eq_by_cmp nat_cmp q k || set.contains z.numbers q) ≡ (set.contains s.timed_out q || (nat_le q k && goes config clock s q))
-      tells q (inl is) =
-          ap (λ b. b || set.contains z.numbers q) (ap (eq_by_cmp nat_cmp q) (sym is) ∙ ap is_eq (tied_itself nat_cmp_total q))
-          ∙ or_true (set.contains s.timed_out q) (nat_le q k && goes config clock s q) (ap (λ n. nat_le n k && goes config clock s n) is ∙ gone_here)
-      tells q (inr apart) =
-          ap (λ b. b || set.contains z.numbers q) (tied_not q k apart) ∙ z.told q ∙ ap (λ b. set.contains s.timed_out q || b) (other_told q apart)
-
-  one_left : (now : Tables) → expires config clock s.uploads k ≡ false → TablesAre now (record s { uploads = z.uploads; timed_out = z.numbers }) → IsExpiredTo config clock k s now
-  one_left now busy are = record {
-    uploads = z.uploads;
-    numbers = z.numbers;
-    are = are;
-    below = λ q low. lower q low (same_number q k);
-    above = λ q more. z.above q (omega (arith, more, next.after));
-    told = λ q. z.told q ∙ ap (λ b. set.contains s.timed_out q || b) (tells q (same_number q k));
-  }
+  one_less : finmap.len rest + 1 ≤ finmap.len us
+  one_less = go (finmap.len us) refl (finmap.len-remove nat_cmp_total us u ∙ ap (λ b. cond b (finmap.len us - 1) (finmap.len us)) (held config clock us u idle))
     where
-      lower : (q : ℕ) → q ≤ k → (q ≡ k) ⊎ (q ≢ k) → finmap.get z.uploads q ≡ finmap.get (unexpired config clock s.uploads) q
-      lower q low (inl is) =
-          ap (finmap.get z.uploads) is ∙ z.above k next.after ∙ sym (get-unexpired config clock s.uploads k ∙ ap (λ b. cond (not b) (finmap.get s.uploads k) None) busy)
-          ∙ ap (finmap.get (unexpired config clock s.uploads)) (sym is)
-      lower q low (inr apart) = low_kept q low apart
+      go : (n : ℕ) → finmap.len us ≡ n → finmap.len rest ≡ finmap.len us - 1 → finmap.len rest + 1 ≤ finmap.len us
+      go n is less = some (finmap.get us u) refl (held config clock us u idle)
+        where
+          some : (o : Option Upload) → finmap.get us u ≡ o → is_some o ≡ true → finmap.len rest + 1 ≤ finmap.len us
+          some None e h = absurd (cc)
+          some (Some it) e h = filled (same_number (finmap.len us) 0)
+            where
+              filled : (finmap.len us ≡ 0) ⊎ (finmap.len us ≢ 0) → finmap.len rest + 1 ≤ finmap.len us
+              filled (inl none) = absurd (let gone : finmap.get us u ≡ None = ap (λ (m : Numbered Upload). finmap.get m u) (finmap.empty_of_len us none) ∙ finmap.get-empty nat_cmp u in let both = sym e ∙ gone in cc)
+              filled (inr is) = omega (arith, less, is)
 
-      stays_here : goes config clock s k ≡ false
-      stays_here = ap (λ b. is_some (cond b (finmap.get s.uploads k) None)) busy
+-- where one that is idle ends, the tick has the same to do
+ended_one : (config : Config) (clock u : ℕ) (s : State) → expires config clock s.uploads u ≡ true → expired_all config clock (timed_out u s) ≡ expired_all config clock s
+ended_one config clock u s idle =
+    (λ i. record s { uploads = unexpired_less config clock s.uploads u idle i; timed_out = numbers_more config clock s.uploads u idle s.timed_out i })
 
-      tells : (q : ℕ) → (q ≡ k) ⊎ (q ≢ k) → (nat_le q last && goes config clock s q) ≡ (nat_le q k && goes config clock s q)
-      tells q (inl is) =
-          let none = ap (goes config clock s) is ∙ stays_here in
-          both_false (nat_le q last) (goes config clock s q) none ∙ sym (both_false (nat_le q k) (goes config clock s q) none)
-      tells q (inr apart) = other_told q apart
+-- and where none is, nothing
+pub all_left : (config : Config) (clock : ℕ) (us : Numbered Upload) → ((q : ℕ) → expires config clock us q ≡ false) → unexpired config clock us ≡ us
+all_left config clock us none = finmap.same_map nat_cmp_total finmap.nat_cmp-IsAntisymmetric _ _ (λ q. get-unexpired config clock us q ∙ ap (λ b. cond (not b) (finmap.get us q) None) (none q))
 
-  pub one_more : (now : Tables) → TablesAre now (expired_at config clock k (record s { uploads = z.uploads; timed_out = z.numbers })) → IsExpiredTo config clock k s now
-  one_more now are = go (expires config clock s.uploads k) refl
-    where
-      was : State
-      was = record s { uploads = z.uploads; timed_out = z.numbers }
+or_nothing : (b : Bool) → (b || false) ≡ b
+or_nothing true = refl
+or_nothing false = refl
 
-      go : (b : Bool) → expires config clock s.uploads k ≡ b → IsExpiredTo config clock k s now
-      go true is = one_gone now is (subst (λ b. TablesAre now (if b then timed_out k was else was)) (same_test ∙ is) are)
-      go false is = one_left now is (subst (λ b. TablesAre now (if b then timed_out k was else was)) (same_test ∙ is) are)
+pub none_more : (config : Config) (clock : ℕ) (us : Numbered Upload) (t : Numbers) → ((q : ℕ) → expires config clock us q ≡ false) → set.union t (set.from_list (finmap.keys (expired config clock us))) ≡ t
+none_more config clock us t none = set.same_set nat_cmp_total set.nat_cmp-IsAntisymmetric _ _ (λ q.
+    set.contains-union nat_cmp_total t _ q ∙ ap (λ b. set.contains t q || b) (contains-expired config clock us q ∙ ap (λ b. is_some (cond b (finmap.get us q) None)) (none q)) ∙ or_nothing (set.contains t q))
 
--- ---- none is left above
+ended_all : (config : Config) (clock : ℕ) (s : State) → ((q : ℕ) → expires config clock s.uploads q ≡ false) → expired_all config clock s ≡ s
+ended_all config clock s none = (λ i. record s { uploads = all_left config clock s.uploads none i; timed_out = none_more config clock s.uploads s.timed_out none i })
 
-pub all_expired : (config : Config) (clock last : ℕ) (s : State) (t : Tables) → (z : IsExpiredTo config clock last s t) → ((q : ℕ) → last < q → finmap.get z.uploads q ≡ None) → TablesAre t (expired_all config clock s)
-all_expired config clock last s t z none = subst (λ (us : Numbered Upload). TablesAre t (record s { uploads = us; timed_out = set.union s.timed_out (set.from_list (finmap.keys (expired config clock s.uploads))) })) uploads_are
-    (subst (λ (ns : Numbers). TablesAre t (record s { uploads = z.uploads; timed_out = ns })) numbers_are z.are)
+-- ---- one after another
+
+-- so many ended, and with those that are left the tick has the same to do
+pub record IsExpiring (config : Config) (clock passed : ℕ) (s : State) (t : Tables) : Type 0 where
+  pub left : State
+  pub are : TablesAre t left
+  pub same : expired_all config clock left ≡ expired_all config clock s
+  pub idle : (u : ℕ) → IsTrue (expires config clock left.uploads u) → IsTrue (expires config clock s.uploads u)
+  pub count : passed + finmap.len left.uploads ≤ finmap.len s.uploads
+
+pub none_expired : (config : Config) (clock : ℕ) (s : State) (t : Tables) → TablesAre t s → IsExpiring config clock 0 s t
+none_expired config clock s t are = record { left = s; are = are; same = refl; idle = λ u h. h; count = omega arith }
+
+module _ (config : Config) (clock passed : ℕ) (s : State) (t : Tables) (z : IsExpiring config clock passed s t) (found : Option LeftUpload) (read : IsLeftBefore (clock - config.staging_max_idle) t found) where
+  abbrev tells : TellsLeft (clock - config.staging_max_idle) z.left.uploads found
+  tells = left_before_read t z.left z.are (clock - config.staging_max_idle) found read
+
+  -- the one that is found is idle
+  pub found_idle : (l : LeftUpload) → found ≡ Some l → IsTrue (expires config clock z.left.uploads l.upload)
+  found_idle l is = expires_is config clock z.left.uploads l.upload ∙ subst (TellsLeft (clock - config.staging_max_idle) z.left.uploads) is tells
+
+  pub one_more : (l : LeftUpload) → found ≡ Some l → (now : Tables) → TablesAre now (timed_out l.upload z.left) → IsExpiring config clock (passed + 1) s now
+  one_more l is now are =
+      let idle = found_idle l is in
+      record {
+        left = timed_out l.upload z.left;
+        are = are;
+        same = ended_one config clock l.upload z.left idle ∙ z.same;
+        idle = λ u h. z.idle u (expires_rest config clock z.left.uploads l.upload idle u h);
+        count = omega (arith, z.count, one_less config clock z.left.uploads l.upload idle);
+      }
+
+  pub all_expired : found ≡ None → TablesAre t (expired_all config clock s)
+  all_expired is =
+      let none = λ (q : ℕ). expires_is config clock z.left.uploads q ∙ subst (TellsLeft (clock - config.staging_max_idle) z.left.uploads) is tells q in
+      subst (TablesAre t) (sym (ended_all config clock z.left none) ∙ z.same) z.are
+
+-- ---- there are no more of them than numbers
+
+pub few_uploads : (us : Numbered Upload) → HasStorableNumbers us → finmap.len us ≤ 2 ^ 63
+few_uploads us storable =
+    let short = no_more_than 0 (2 ^ 63) (finmap.entries us) (finmap.entries_sorted us) (λ q it found. (omega arith, storable q it (finmap.get-entries us q ∙ found))) (omega arith) in
+    omega (arith, short, finmap.len-entries us)
+
+-- one that expires has a number
+pub idle_storable : (config : Config) (clock u : ℕ) (us : Numbered Upload) → HasStorableNumbers us → IsTrue (expires config clock us u) → u < 2 ^ 63
+idle_storable config clock u us storable idle = go (finmap.get us u) refl (held config clock us u idle)
   where
-    none_was : (q : ℕ) → last < q → finmap.get s.uploads q ≡ None
-    none_was q a = sym (z.above q a) ∙ none q a
-
-    uploads_are : z.uploads ≡ unexpired config clock s.uploads
-    uploads_are = finmap.same_map nat_cmp_total finmap.nat_cmp-IsAntisymmetric _ _ (λ q. go q (cases_lt last q))
-      where
-        go : (q : ℕ) → (last < q) ⊎ (q ≤ last) → finmap.get z.uploads q ≡ finmap.get (unexpired config clock s.uploads) q
-        go q (inr low) = z.below q low
-        go q (inl a) = none q a ∙ sym (get-unexpired config clock s.uploads q ∙ stays (not (expires config clock s.uploads q)) (finmap.get s.uploads q) (none_was q a))
-
-    numbers_are : z.numbers ≡ set.union s.timed_out (set.from_list (finmap.keys (expired config clock s.uploads)))
-    numbers_are = set.same_set nat_cmp_total finmap.nat_cmp-IsAntisymmetric _ _ (λ q.
-        z.told q ∙ ap (λ b. set.contains s.timed_out q || b) (go q (cases_lt last q)) ∙ sym (set.contains-union nat_cmp_total s.timed_out _ q ∙ ap (λ b. set.contains s.timed_out q || b) (contains-expired config clock s.uploads q)))
-      where
-        go : (q : ℕ) → (last < q) ⊎ (q ≤ last) → (nat_le q last && goes config clock s q) ≡ goes config clock s q
-        go q (inr low) = ap (λ b. b && goes config clock s q) (at_most q last low)
-        go q (inl a) =
-            let gone = never (expires config clock s.uploads q) (finmap.get s.uploads q) (none_was q a) in
-            both_false (nat_le q last) (goes config clock s q) gone ∙ sym gone
+    go : (o : Option Upload) → finmap.get us u ≡ o → is_some o ≡ true → u < 2 ^ 63
+    go None e h = absurd (cc)
+    go (Some it) e h = storable u it e
 
 -- with the clock written, that is the tick
 pub tick_is : (config : Config) (s : State) (moment clock : ℕ) (next : Counters) → clock ≡ clock_at s moment → next ≡ s.next → expired_all config clock (record s { clock = clock; next = next }) ≡ tick config s moment
@@ -228,38 +215,5 @@ storable_tick config s moment sound = record {
   change = sound.change_bound;
 }
 
--- no upload of a sound state has the number 0
-pub no_upload_0 : (s : State) → IsSound s → finmap.get s.uploads 0 ≡ None
-no_upload_0 s sound = go (finmap.get s.uploads 0) refl
-  where
-    go : (x : Option Upload) → finmap.get s.uploads 0 ≡ x → x ≡ None
-    go None e = refl
-    go (Some it) e = absurd (omega (arith, (sound.uploads 0 it e).number_given.least))
-
 pub storable_uploads : (s : State) → IsSound s → HasStorableNumbers s.uploads
 storable_uploads s sound u it there = omega (arith, (sound.uploads u it there).number_given.below, sound.upload_bound)
-
--- one that expires later was there to expire
-pub expires_still : (config : Config) (clock last : ℕ) (s : State) (t : Tables) → (z : IsExpiredTo config clock last s t) → (u : ℕ) → IsTrue (expires config clock z.uploads u) → IsTrue (expires config clock s.uploads u)
-expires_still config clock last s t z u idle = place (cases_lt last u)
-  where
-    alike : finmap.get z.uploads u ≡ finmap.get s.uploads u → IsTrue (expires config clock s.uploads u)
-    alike same = subst (λ x. IsTrue (option_map_or (is_idle config clock) x false)) same idle
-
-    go : (b : Bool) → expires config clock s.uploads u ≡ b → finmap.get z.uploads u ≡ cond (not b) (finmap.get s.uploads u) None → IsTrue (expires config clock s.uploads u)
-    go true is e = is
-    go false is e = alike e
-
-    place : (last < u) ⊎ (u ≤ last) → IsTrue (expires config clock s.uploads u)
-    place (inl above) = alike (z.above u above)
-    place (inr low) = go (expires config clock s.uploads u) refl (z.below u low ∙ get-unexpired config clock s.uploads u)
-
--- the statements that end those are among the statements that end these
-pub expire_fails : (config : Config) (clock last : ℕ) (s : State) (t : Tables) → (z : IsExpiredTo config clock last s t) → (at now : db.State) (fault : StoreFault)
-    → FailsToExpireAll config clock z.uploads at now fault → FailsToExpireAll config clock s.uploads at now fault
-expire_fails config clock last s t z at now fault (next_fails u failed) = next_fails u failed
-expire_fails config clock last s t z at now fault (found_fails u failed) = found_fails u failed
-expire_fails config clock last s t z at now fault (ended_fails u idle failed) = ended_fails u (expires_still config clock last s t z u idle) failed
-
-pub next_there : (config : Config) (clock last k : ℕ) (s : State) (t : Tables) → (z : IsExpiredTo config clock last s t) → IsNextOf z.uploads last k → (it : Upload) × (finmap.get s.uploads k ≡ Some it)
-next_there config clock last k s t z next = (next.value, sym (z.above k next.after) ∙ next.held)

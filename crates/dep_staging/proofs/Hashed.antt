@@ -1,5 +1,5 @@
 -- The bytes of segments, block by block.
-use Rattle.std.proofs.Common.{◌≡◌, ◌⊎◌, inl, inr, ℕ, zero, suc, ◌+◌, ◌<◌, ◌≤◌, ◌^◌, T, List, [], ◌∷◌, ◌++◌, length, get_or, take, cond, filter, map, Option, Some, None, refl, sym, ap, subst, ◌∙◌, nat_cmp, is_eq, append-nil, append_assoc, arith}
+use Rattle.std.proofs.Common.{◌≡◌, ℕ, zero, suc, ◌+◌, ◌<◌, ◌^◌, T, List, [], ◌∷◌, ◌++◌, length, get_or, take, cond, filter, map, Option, Some, None, refl, sym, ap, subst, ◌∙◌, nat_cmp, is_eq, append-nil, append_assoc, arith}
 use Rattle.std.specs.Prelude.{option_map, slice_get}
 use Rattle.std.specs.Int.{div_ceil}
 use Rattle.std.specs.Option.{option_to_list}
@@ -7,7 +7,6 @@ use Rattle.std.specs.List.{flat_map}
 use Rattle.std.specs.FinMap as finmap
 use Rattle.std.specs.FinMap.Entries as entries
 use Rattle.std.proofs.lemmas.Cmp.{nat_cmp_total, tied_itself}
-use Rattle.std.proofs.lemmas.Bool.{cases_lt}
 use Rattle.sqlite.specs.declared.types.Value.TheVariants.{Blob}
 use Rattle.dep_types.specs.State.{State}
 use Rattle.dep_tables.specs.Rows.{bytes_in, is_block, IsStorableKey}
@@ -20,7 +19,7 @@ use Rattle.dep_row_maps.proofs.Picked.{block_at}
 use Rattle.dep_files.proofs.Cuts.{block_count}
 use Rattle.dep_staging.specs.Causes.{AreStorableKeys, HasStorableSegments}
 use Rattle.dep_staging.specs.Hashing.{IsSegmentOf}
-use Rattle.dep_staging.proofs.Next.{both, passed, none_below}
+use Rattle.dep_staging.proofs.Entries.{both, passed, above_at}
 
 -- ---- a block
 
@@ -36,9 +35,9 @@ got (b ∷ bs) (suc i) x e = got bs i x e
 pub block_is : (t : Tables) (s : State) (row : SegmentRow) (bytes items : List ℕ) (place : ℕ) → TablesAre t s → IsSegmentOf s row bytes
     → map bytes_in (filter (is_block (block_key (owner.Upload row.upload) row.number place)) t.blocks) ≡ Blob items ∷ [] → items ≡ get_or (blocks_of bytes) place []
 block_is t s row bytes items place h z read =
-    let there = ap (λ m. finmap.get m row.number) (h.uploads_parts row.upload) ∙ z.received in
+    let there = ap (λ m. finmap.get m row.number) (h.common.uploads_parts row.upload) ∙ z.received in
     got (blocks_of bytes) place items (picked items (slice_get (blocks_of bytes) place)
-    (sym read ∙ block_at t.blocks h.parts h.blocks (owner.Upload row.upload) row.number bytes there place))
+    (sym read ∙ block_at t.blocks h.common.parts h.common.blocks (owner.Upload row.upload) row.number bytes there place))
 
 none_within : (bs : List (List ℕ)) (i : ℕ) → i < length bs → [] ≡ option_to_list (option_map Blob (slice_get bs i)) → ⊥
 none_within [] i within e = omega (arith, within)
@@ -49,21 +48,14 @@ none_within (b ∷ bs) (suc i) within e = none_within bs i (omega (arith, within
 pub block_there : (t : Tables) (s : State) (row : SegmentRow) (bytes : List ℕ) (place : ℕ) → TablesAre t s → IsSegmentOf s row bytes → place < length (blocks_of bytes)
     → map bytes_in (filter (is_block (block_key (owner.Upload row.upload) row.number place)) t.blocks) ≡ [] → ⊥
 block_there t s row bytes place h z within read =
-    let there = ap (λ m. finmap.get m row.number) (h.uploads_parts row.upload) ∙ z.received in
-    none_within (blocks_of bytes) place within (sym read ∙ block_at t.blocks h.parts h.blocks (owner.Upload row.upload) row.number bytes there place)
+    let there = ap (λ m. finmap.get m row.number) (h.common.uploads_parts row.upload) ∙ z.received in
+    none_within (blocks_of bytes) place within (sym read ∙ block_at t.blocks h.common.parts h.common.blocks (owner.Upload row.upload) row.number bytes there place)
 
 -- so many blocks has the segment
 pub counted : (s : State) (row : SegmentRow) (bytes : List ℕ) → IsSegmentOf s row bytes → div_ceil row.size 65536 ≡ length (blocks_of bytes)
 counted s row bytes z = ap (λ n. div_ceil n 65536) z.sized ∙ block_count bytes
 
 -- ---- a segment
-
-above_at : (k : ℕ) (es : List (ℕ × List ℕ)) → T (entries.below_all nat_cmp k es) → (e : ℕ × List ℕ) → entries.find nat_cmp e.0 es ≡ Some e.1 → k < e.0
-above_at k es rising e found = go (cases_lt k e.0)
-  where
-    go : (k < e.0) ⊎ (e.0 ≤ k) → k < e.0
-    go (inl a) = a
-    go (inr low) = absurd (let none = none_below k e.0 es rising low in cc)
 
 abbrev pub of_entry : ℕ → ℕ × List ℕ → SegmentRow
 of_entry u e = segment_row u e.0 (length e.1)
@@ -88,7 +80,7 @@ entry_at u (x ∷ es) sorted zero none within = record {
 entry_at u (x ∷ es) sorted (suc i) none within =
     let parts = both (entries.below_all nat_cmp x.0 es) (entries.is_sorted nat_cmp es) sorted in
     let rest = entry_at u es parts.1 i none (omega (arith, within)) in
-    let order : x.0 < rest.number = above_at x.0 es parts.0 (rest.number, rest.bytes) rest.found in
+    let order : x.0 < rest.number = above_at x.0 rest.number rest.bytes es parts.0 rest.found in
     let next : suc i + 1 ≡ suc (i + 1) = omega arith in
     record {
       number = rest.number;

@@ -1,6 +1,6 @@
 pub mod UploadCalls
 pub mod Loaded
-pub mod Next
+pub mod Entries
 pub mod Expired
 pub mod Chains
 pub mod Moved

@@ -1,12 +1,10 @@
 -- What is read at the number of an upload.
-use Rattle.std.proofs.Common.{◌≡◌, ℕ, ◌-◌, Bool, true, false, List, length, map, Option, Some, None, refl, sym, ap, subst, ◌∙◌}
-use Rattle.std.specs.Prelude.{option_map, if◌then◌else◌, nat_lt}
-use Rattle.std.specs.Option.{option_map_or}
+use Rattle.std.proofs.Common.{◌≡◌, ℕ, Bool, true, false, List, length, map, Option, Some, None, refl, sym, ap, subst, ◌∙◌}
+use Rattle.std.specs.Prelude.{option_map, if◌then◌else◌}
 use Rattle.std.specs.FinMap as finmap
 use Rattle.std.specs.FinSet as set
-use Rattle.dep_types.specs.State.{State, Upload, expires, is_idle}
+use Rattle.dep_types.specs.State.{State, Upload}
 use Rattle.dep_types.specs.Rows.{upload_row}
-use Rattle.dep_types.specs.declared.config.Config.{Config}
 use Rattle.dep_types.specs.declared.rows.UploadRow.{UploadRow}
 use Rattle.dep_tables.specs.Tables.{Tables}
 use Rattle.dep_tables.specs.Edits.{IsUploadRowAt, AreSegmentRowsOf}
@@ -50,12 +48,3 @@ found_gone t s u row found h is read gone =
     go : (b : Bool) → set.contains s.timed_out u ≡ b → finmap.get s.uploads u ≡ None → IsFound s u (gone_upload s u)
     go true e none = subst (λ b. IsFound s u (if b then TimedOut else Unknown)) (sym e) (none, ap (λ b. if b then TimedOut else Unknown) e)
     go false e none = subst (λ b. IsFound s u (if b then TimedOut else Unknown)) (sym e) (none, ap (λ b. if b then TimedOut else Unknown) e)
-
--- whether it is idle, by its row
-pub idle_is : (t : Tables) (s : State) (config : Config) (clock u : ℕ) (found : Option UploadRow) → TablesAre t s → IsUploadRowAt u t found
-    → option_map_or (λ (row : UploadRow). nat_lt config.staging_max_idle (clock - row.last)) found false ≡ expires config clock s.uploads u
-idle_is t s config clock u found h read = ap (λ x. option_map_or (λ (row : UploadRow). nat_lt config.staging_max_idle (clock - row.last)) x false) (upload_read t s h u found read) ∙ go (finmap.get s.uploads u)
-  where
-    go : (x : Option Upload) → option_map_or (λ (row : UploadRow). nat_lt config.staging_max_idle (clock - row.last)) (option_map (upload_row u) x) false ≡ option_map_or (is_idle config clock) x false
-    go None = refl
-    go (Some it) = refl

@@ -1,5 +1,5 @@
 -- Why a call of several statements fails: one of its statements does.
-use Rattle.std.specs.Prelude.{◌≡◌, ℕ, ◌<◌, ◌^◌, pos, List, [], ◌∷◌, Some, All, IsTrue}
+use Rattle.std.specs.Prelude.{◌≡◌, ℕ, ◌<◌, ◌^◌, ◌-◌, pos, List, [], ◌∷◌, Some, All, IsTrue}
 use Rattle.std.specs.FinMap as map
 use Rattle.sqlite.specs.State as db
 use Rattle.sqlite.specs.declared.types.Value.TheVariants.{Int}
@@ -8,8 +8,8 @@ use Rattle.dep_types.specs.State.{State, Upload, clock_at, expires, tick}
 use Rattle.dep_types.specs.declared.config.Config.{Config}
 use Rattle.dep_types.specs.declared.store_fault.StoreFault.{StoreFault}
 use Rattle.dep_tables.specs.Clauses.{AtMostOne, FailsToRead, FailsToReadNumbers, FailsToRun, JustOne}
-use Rattle.dep_tables.specs.Rows.{IsBytesRow, IsNumberRow, IsSegmentRow, IsStateRow, IsUploadRow, key_values, owner_values, state_values}
-use Rattle.dep_tables.specs.Texts.{delete_blocks_text, delete_segments_text, delete_upload_text, find_upload_text, insert_timed_out_text, next_upload_text, read_block_text, read_state_text, segments_of_text, write_state_text}
+use Rattle.dep_tables.specs.Rows.{IsBytesRow, IsLeftRow, IsSegmentRow, IsStateRow, key_values, owner_values, state_values}
+use Rattle.dep_tables.specs.Texts.{delete_blocks_text, delete_segments_text, delete_upload_text, insert_timed_out_text, left_before_text, read_block_text, read_state_text, segments_of_text, write_state_text}
 use Rattle.dep_tables.specs.declared.owner.BlockOwner.TheVariants as owner
 use Rattle.dep_tables.specs.declared.segments.SegmentRow.{SegmentRow}
 use Rattle.dep_row_maps.specs.Stored.{block_key, state_row}
@@ -46,11 +46,8 @@ pub data FailsToExpire (u : ℕ) (at new : db.State) (fault : StoreFault) : Type
 -- one of those that end every upload which was left idle
 pub data FailsToExpireAll (config : Config) (clock : ℕ) (uploads : Numbered Upload)
     (at new : db.State) (fault : StoreFault) : Type 0 where
-  next : (u : ℕ)
-      → FailsToReadNumbers (AtMostOne IsNumberRow) next_upload_text (Int (pos u) ∷ []) at new fault
-      → FailsToExpireAll config clock uploads at new fault
-  found : (u : ℕ)
-      → FailsToReadNumbers (AtMostOne IsUploadRow) find_upload_text (Int (pos u) ∷ []) at new fault
+  looked : FailsToReadNumbers (AtMostOne IsLeftRow) left_before_text
+      (Int (pos (clock - config.staging_max_idle)) ∷ []) at new fault
       → FailsToExpireAll config clock uploads at new fault
   ended : (u : ℕ) → IsTrue (expires config clock uploads u) → FailsToExpire u at new fault
       → FailsToExpireAll config clock uploads at new fault

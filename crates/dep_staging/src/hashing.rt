@@ -1,12 +1,11 @@
-//! The SHA-256 of what the segments of an upload make, taken one block at a time.
+//! The digests of what the segments of an upload make, taken one block at a time.
 
 ghost use Rattle.std.specs.Prelude.{◌≡◌, ◌<◌, ◌++◌, ℕ, List, [], length, Some, OnOk, IfErr, IsTrue, slice_index_or};
 ghost use Rattle.std.specs.FinMap as finmap;
-ghost use Rattle.sha2.specs.Sha256.{sha256};
-ghost use Rattle.sha2.specs.Hashers.{Holds256};
 ghost use Rattle.sqlite.specs.State.{HasCleanDisk};
 ghost use Rattle.dep_types.specs.State.{State, Upload};
 ghost use Rattle.dep_types.specs.Uploads.{assembled};
+ghost use Rattle.dep_fixity.specs.Fixity.{Holds, digests_of};
 ghost use Rattle.dep_tables.specs.Tables.{tables_of, IsOurs};
 ghost use Rattle.dep_tables.specs.Clauses.{ReadsOnly, FailsReading, StaysWithin};
 ghost use Rattle.dep_tables.specs.Rows.{IsStorableKey};
@@ -20,11 +19,11 @@ ghost use Rattle.dep_staging.specs.Causes.{AreStorableKeys, FailsToHash, HasStor
 ghost use Rattle.dep_staging.specs.Hashing.{IsSegmentOf, received_bytes};
 
 use dep_files::BLOCK_SIZE;
+use dep_fixity::{Digests, Hasher};
 use dep_tables::{
     BlockKey, BlockOwner, BlockPlace, SegmentRow, Statements, read_block, segments_of,
 };
 use dep_types::StoreFault;
-use sha2::{Digest, Sha256};
 use std::alloc::Global;
 
 fn segment_block<T: Statements>(
@@ -61,13 +60,13 @@ fn segment_block<T: Statements>(
 fn hash_segment<T: Statements>(
     tx: &mut T,
     segment: &SegmentRow,
-    hasher: &mut Sha256,
+    hasher: &mut Hasher,
 ) -> Result<(), StoreFault>
     ensures map { HasCleanDisk (T.state tx.new) → IsOurs (T.state tx.old)
         → IsTrue (T.state tx.old).is_open
         → (s : State) → TablesAre (tables_of (T.state tx.old)) s
-        → (bytes message : List ℕ) → IsSegmentOf s segment.now bytes → Holds256 hasher.old message
-        → OnOk result (Holds256 hasher.new (message ++ bytes)) }
+        → (bytes message : List ℕ) → IsSegmentOf s segment.now bytes → Holds hasher.old message
+        → OnOk result (Holds hasher.new (message ++ bytes)) }
     ensures same { IsTrue (T.state tx.old).is_open
         → ReadsOnly (T.state tx.old) (T.state tx.new) result }
     ensures cause { HasCleanDisk (T.state tx.new)
@@ -86,20 +85,20 @@ fn hash_segment<T: Statements>(
     Ok(())
 }
 
-/// The SHA-256 of what was received of an upload, in the order of its segments' numbers (FIPS 180-4):
-/// that of the assembled bytes where all are there, and that of no bytes where there is no upload. It
-/// holds one block at a time, and the rows of the segments. A number of 2^63 or more is a fault of
-/// the store.
+/// The SHA-256 and the SHA-512 (FIPS 180-4) of what was received of an upload, in the order of its
+/// segments' numbers: those of the assembled bytes where all are there, and those of no bytes where
+/// there is no upload. It reads each block once for both, and holds one at a time, and the rows of
+/// the segments. A number of 2^63 or more is a fault of the store.
 pub fn hash_upload<T: Statements>(
     tx: &mut T,
     alloc: Global,
     upload: u64,
-) -> Result<[u8; 32], StoreFault>
+) -> Result<Digests, StoreFault>
     ensures map { Tells (T.state tx.old) (T.state tx.new) result
-        (λ s digest. digest ≡ sha256 (received_bytes s upload)) }
+        (λ s digests. digests ≡ digests_of (received_bytes s upload)) }
     ensures assembled { Tells (T.state tx.old) (T.state tx.new) result
-        (λ s digest. (it : Upload) → finmap.get s.uploads upload ≡ Some it → HasSegmentsWithin it
-        → digest ≡ sha256 (assembled it)) }
+        (λ s digests. (it : Upload) → finmap.get s.uploads upload ≡ Some it → HasSegmentsWithin it
+        → digests ≡ digests_of (assembled it)) }
     ensures same { ReadsOnly (T.state tx.old) (T.state tx.new) result }
     ensures cause { HasCleanDisk (T.state tx.new)
         → IsOurs (T.state tx.old)
@@ -110,9 +109,9 @@ pub fn hash_upload<T: Statements>(
     ensures stays { StaysWithin T.lenders T.state tx.old tx.new result }
 {
     let rows = segments_of(tx, alloc, upload)?;
-    let mut hasher = Sha256::new();
+    let mut hasher = Hasher::new();
     'rows: for row in rows.as_slice() {
         hash_segment(tx, row, &mut hasher)?;
     }
-    Ok(hasher.finalize())
+    Ok(hasher.finish())
 }

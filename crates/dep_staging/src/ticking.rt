@@ -1,7 +1,6 @@
 //! The clock, and the uploads that it ends.
 
-ghost use Rattle.std.specs.Prelude.{◌≡◌, ◌<◌, ◌^◌, None, OnOk, IfOk, IfErr, nat_lt, ◌-◌, false};
-ghost use Rattle.std.specs.Option.{option_map_or};
+ghost use Rattle.std.specs.Prelude.{◌≡◌, ◌<◌, ◌^◌, None, OnOk, IfOk, IfErr};
 ghost use Rattle.std.specs.FinMap as finmap;
 ghost use Rattle.dep_types.specs.Sound.{IsSound};
 ghost use Rattle.dep_types.specs.State as machine;
@@ -12,26 +11,13 @@ ghost use Rattle.dep_tables.specs.Texts.{write_state_text};
 ghost use Rattle.dep_row_maps.specs.Stored.{state_row};
 ghost use Rattle.dep_row_maps.specs.TablesAre.{TablesAre, with_counters};
 ghost use Rattle.dep_row_maps.specs.Clauses.{FromMaps, KeepsOurs, FailsUncommitted, FailsReadingUncommitted};
-ghost use Rattle.dep_staging.specs.Expiring.{timed_out, expired_at, expired_all};
+ghost use Rattle.dep_staging.specs.Expiring.{timed_out, expired_all};
 ghost use Rattle.dep_row_maps.specs.Causes.{FailsByOne, FailsSince};
 ghost use Rattle.dep_staging.specs.Causes.{FailsToExpire, FailsToExpireAll, FailsToTick, HasStorableNumbers};
 
 use crate::uploads::drop_upload;
-use dep_tables::{
-    StateRow, Statements, find_upload, insert_timed_out, next_upload, read_state, write_state,
-};
-use dep_types::{Config, GREATEST_MOMENT, StoreFault, UploadRow};
-
-/// Whether the upload was left alone for longer than is allowed.
-fn is_idle(config: &Config, clock: u64, found: &Option<UploadRow>) -> bool
-    ensures { result
-        ≡ option_map_or (λ row. nat_lt config.now.staging_max_idle (clock - row.last)) found.now false }
-{
-    match found {
-        Some(row) => config.staging_max_idle < clock.saturating_sub(row.last),
-        None => false,
-    }
-}
+use dep_tables::{StateRow, Statements, insert_timed_out, left_before, read_state, write_state};
+use dep_types::{Config, GREATEST_MOMENT, StoreFault};
 
 fn expire<T: Statements>(tx: &mut T, upload: u64) -> Result<(), StoreFault>
     ensures map { FromMaps (T.state tx.old) (T.state tx.new)
@@ -46,50 +32,25 @@ fn expire<T: Statements>(tx: &mut T, upload: u64) -> Result<(), StoreFault>
     insert_timed_out(tx, upload)
 }
 
-fn expire_if_idle<T: Statements>(
-    tx: &mut T,
-    config: &Config,
-    clock: u64,
-    upload: u64,
-) -> Result<(), StoreFault>
-    ensures map { FromMaps (T.state tx.old) (T.state tx.new)
-        (λ s. OnOk result (TablesAre (tables_of (T.state tx.new))
-        (expired_at config.now clock upload s))) }
-    ensures ours { KeepsOurs (T.state tx.old) (T.state tx.new) result }
-    ensures cause { FromMaps (T.state tx.old) (T.state tx.new)
-        (λ s. upload < 2 ^ 63
-        → IfErr result (FailsSince T.state (FailsToExpireAll config.now clock s.uploads)
-        tx.old tx.new)) }
-    ensures err { FailsReadingUncommitted (T.state tx.old) (T.state tx.new) result }
-    ensures stays { StaysWithin T.lenders T.state tx.old tx.new result }
-{
-    let found = find_upload(tx, upload)?;
-    if is_idle(config, clock, &found) {
-        expire(tx, upload)
-    } else {
-        Ok(())
-    }
-}
-
+/// Ends the upload that was left the longest, as long as one was left for longer than is allowed.
 fn expire_idle<T: Statements>(tx: &mut T, config: &Config, clock: u64) -> Result<(), StoreFault>
     ensures map { FromMaps (T.state tx.old) (T.state tx.new)
-        (λ s. finmap.get s.uploads 0 ≡ None
-        → OnOk result (TablesAre (tables_of (T.state tx.new)) (expired_all config.now clock s))) }
+        (λ s. OnOk result (TablesAre (tables_of (T.state tx.new))
+        (expired_all config.now clock s))) }
     ensures ours { KeepsOurs (T.state tx.old) (T.state tx.new) result }
     ensures cause { FromMaps (T.state tx.old) (T.state tx.new)
-        (λ s. finmap.get s.uploads 0 ≡ None → HasStorableNumbers s.uploads
+        (λ s. clock < 2 ^ 63 → HasStorableNumbers s.uploads
         → IfErr result (FailsSince T.state (FailsToExpireAll config.now clock s.uploads)
         tx.old tx.new)) }
     ensures err { FailsReadingUncommitted (T.state tx.old) (T.state tx.new) result }
     ensures stays { StaysWithin T.lenders T.state tx.old tx.new result }
 {
-    let mut last = 0;
+    let moment = clock.saturating_sub(config.staging_max_idle);
     'uploads: for passed in 0..u64::MAX {
-        let Some(upload) = next_upload(tx, last)? else {
+        let Some(left) = left_before(tx, moment)? else {
             return Ok(());
         };
-        expire_if_idle(tx, config, clock, upload)?;
-        last = upload;
+        expire(tx, left.upload)?;
     }
     Err(StoreFault::Store)
 }

@@ -23,7 +23,7 @@ use Rattle.dep_statements.specs.Adding.{HasCounters, AreFreeFor, created_all, Ad
 
 -- ---- names
 
-placed_before : {X : Type 0} (p : X → Bool) (k : ℕ) (xs ys : List X) → is_some (position_from p k (xs ++ ys)) ≡ false → is_some (position_from p k xs) ≡ false
+pub placed_before : {X : Type 0} (p : X → Bool) (k : ℕ) (xs ys : List X) → is_some (position_from p k (xs ++ ys)) ≡ false → is_some (position_from p k xs) ≡ false
 placed_before p k [] ys h = refl
 placed_before p k (x ∷ xs) ys h = go (p x) h (placed_before p (k + 1) xs ys)
   where
@@ -61,7 +61,7 @@ got_kept [] ys n h = absurd (cc)
 got_kept (x ∷ xs) ys zero h = refl
 got_kept (x ∷ xs) ys (suc n) h = got_kept xs ys n h
 
-none_of : (a b c : Bool) → (a || b || c) ≡ false → (a ≡ false) × (b ≡ false) × (c ≡ false)
+pub none_of : (a b c : Bool) → (a || b || c) ≡ false → (a ≡ false) × (b ≡ false) × (c ≡ false)
 none_of true b c h = absurd (cc)
 none_of false true c h = absurd (cc)
 none_of false false c h = (refl, refl, h)
@@ -120,7 +120,7 @@ next_created schema table =
 
 -- ---- one table
 
-understood_of : (sql : List ℕ) (params : Row) (old new : State) (count : ℕ) → ExecutesInside 0 sql params old new (Ok count) → (c : Compiled) × (understood old.now.schema sql ≡ Ok c)
+pub understood_of : (sql : List ℕ) (params : Row) (old new : State) (count : ℕ) → ExecutesInside 0 sql params old new (Ok count) → (c : Compiled) × (understood old.now.schema sql ≡ Ok c)
 unfolding ExecutesIn
 understood_of sql params old new count h = (h.0.0, h.0.1.is)
 
@@ -150,6 +150,7 @@ module _ (sql : List ℕ) (table : Table) (old new : State) (count : ℕ) (defin
               schema = ap (λ (d : Database). d.schema) now ∙ after;
               empty = ap (λ (d : Database). d.trees (next_tree old.now.schema)) now ∙ made.empty;
               others = subst (λ (d : Database). KeepsRows old.now.schema.tables old.now.trees d.trees) (sym now) made.others;
+              sound = w.sound;
             };
       }
     where

@@ -14,6 +14,7 @@ pub mod Frames
 pub mod Tests
 pub mod Looking
 pub mod Adding
+pub mod Indexed
 pub mod Unique
 pub mod Written
 pub mod Selected

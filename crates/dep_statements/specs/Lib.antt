@@ -2,3 +2,4 @@ pub mod Tables
 pub mod Query
 pub mod Rows
 pub mod Adding
+pub mod Indexes

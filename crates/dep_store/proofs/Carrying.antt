@@ -15,6 +15,7 @@ use Rattle.dep_tables.specs.Tables.{Tables, tables_in, tables_of, HasOurTables, 
 use Rattle.dep_row_maps.specs.TablesAre.{TablesAre}
 use Rattle.dep_row_maps.specs.Clauses.{FromMaps}
 use Rattle.dep_streams.specs.Reading.{IsKept}
+use Rattle.dep_tables.specs.Schema.{our_schema}
 use Rattle.dep_schema.specs.Standing.{Stands}
 use Rattle.dep_schema.proofs.Transactions.{stands_left}
 use Rattle.dep_schema.specs.States.{StandsFor}
@@ -38,7 +39,7 @@ pub ticks : {S : Type 0} (g : Ghosts S) (old inside : Held S) (config : Config) 
     → FromMaps (state g (record old { in_transaction = true })) (state g inside)
     (λ s. map.get s.uploads 0 ≡ None → (clock ≡ (tick config s moment).clock) × TablesAre (tables_of (state g inside)) (tick config s moment))
     → (HasCleanDisk (state g inside) → IsTrue true → IsOurs (state g (record old { in_transaction = true })) → IsOurs (state g inside))
-    → IsMade g old inside (OverStates (λ s n. n ≡ (tick config s moment).clock) (λ s. tick config s moment)) shown
+    → IsMade our_schema our_schema g old inside (OverStates (λ s n. n ≡ (tick config s moment).clock) (λ s. tick config s moment)) shown
 ticks g old inside config moment clock shown is told ours clean are_ours = (
   ours clean refl are_ours,
   λ s means.
@@ -51,7 +52,7 @@ ticks g old inside config moment clock shown is told ours clean are_ours = (
 pub tells : {S A : Type 0} (g : Ghosts S) (old inside : Held S) (told : Tables → A → Type 0) (answer : A)
     → (HasCleanDisk (state g inside) → IsOurs (state g (record old { in_transaction = true })) → told (tables_of (state g (record old { in_transaction = true }))) answer)
     → (HasCleanDisk (state g inside) → IsOurs (state g (record old { in_transaction = true })) → IsUnchanged (state g (record old { in_transaction = true })) (state g inside))
-    → IsMade g old inside (OnlyTells told) answer
+    → IsMade our_schema our_schema g old inside (OnlyTells told) answer
 tells g old inside told answer read same clean are_ours =
     let still = (same clean are_ours).0.now_is in (
       subst HasOurTables (sym still) are_ours,

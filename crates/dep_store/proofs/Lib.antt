@@ -1,6 +1,5 @@
 pub mod Sources
 pub mod Carrying
-pub mod Opened
 pub mod Audited
 pub mod Remembered
 pub mod WalkLemmas

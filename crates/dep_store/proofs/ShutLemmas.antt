@@ -4,9 +4,10 @@ use Rattle.sqlite.specs.State as db
 use Rattle.sqlite.specs.State.{HasCleanDisk, Survives}
 use Rattle.dep_types.specs.State.{State}
 use Rattle.dep_tables.specs.Tables.{Tables}
-use Rattle.dep_schema.specs.Standing.{Stands}
+use Rattle.sqlite.specs.Schema.{Schema}
+use Rattle.dep_schema.specs.Standing.{StandsOf}
 use Rattle.dep_schema.specs.States.{StandsFor}
-use Rattle.dep_schema.specs.Transactions.{Transacts, IsBackAt}
+use Rattle.dep_schema.specs.Transactions.{TransactsTo, IsBackAt}
 use Rattle.dep_schema.proofs.Transactions.{stands_left}
 use Rattle.dep_schema.proofs.Transacting.{IsSettled, left_still}
 use Rattle.dep_store.specs.Shut.{LeavesNoMore, FailsIfShut}
@@ -32,7 +33,7 @@ pub was_open_then : {A E : Type 0} (old new : db.State) (r : Result A E) → (Ha
 was_open_then old new r was = record { opened = λ clean. on_any r _ (was clean); left = λ clean shut trees h. absurd (shut (was clean)) }
 
 -- all was given back, and the store is open
-pub tables_back : (old new : db.State) (t : Tables) → IsBackAt old new → IsTrue new.is_open → Stands old t → Stands new t
+pub tables_back : {its : Schema} (old new : db.State) (t : Tables) → IsBackAt old new → IsTrue new.is_open → StandsOf its old t → StandsOf its new t
 tables_back old new t back is_open stands =
     let it = back is_open in
     stands_left old new t stands is_open it.3 (it.1 ∙ stands.committed) it.2
@@ -42,8 +43,8 @@ state_back old new s back is_open stands =
     record { tables = stands.tables; stands = tables_back old new stands.tables back is_open stands.stands; means = stands.means }
 
 -- it failed, and all was given back
-pub fails_back : {A E : Type 0} (old new : db.State) (r : Result A E) (Makes : Tables → A → Tables → Type 0) → IsErr r → (IsTrue old.is_open → IsSettled old)
-    → IsBackAt old new → Survives old new (λ _. ⊥) → Transacts old new r Makes
+pub fails_back : {its : Schema} {A E : Type 0} (old new : db.State) (r : Result A E) (Makes : Tables → A → Tables → Type 0) → IsErr r → (IsTrue old.is_open → IsSettled old)
+    → IsBackAt old new → Survives old new (λ _. ⊥) → TransactsTo its its old new r Makes
 fails_back old new (Ok answer) Makes failed settled back survives = cc failed
 fails_back old new (Err e) Makes failed settled back survives = record {
   ok = λ clean t stands. tt;

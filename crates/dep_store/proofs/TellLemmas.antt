@@ -217,7 +217,7 @@ begun_fails t written begun fault (Err e) err = begun
 -- what a stop leaves of a state whose tables stay
 pub leaves_held : (d : State) {tables : Tables} (s : archive.State) → TablesStandFor tables s
     → ((trees : Trees) → d.may_leave trees → Holds trees tables) → Leaves d (λ left. left ≡ s)
-leaves_held d {tables = tables} s means holds trees may = (s, record { tables = tables; holds = holds trees may; means = means }, refl)
+leaves_held d {tables = tables} s means holds trees may = (s, inl (tables, holds trees may, means), refl)
 
 -- tables that stay stand for the state still
 pub stands_still : {old new : State} (s : archive.State) (h : StandsFor old s) → Stands new h.tables → StandsFor new s

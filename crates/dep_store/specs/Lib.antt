@@ -1,7 +1,6 @@
 pub mod Auditing
 pub mod Remembering
 pub mod Shut
-pub mod Opening
 pub mod Archive
 pub mod Exports
 pub mod Audits

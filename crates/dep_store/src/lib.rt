@@ -8,7 +8,6 @@ mod audit_fault;
 mod auditing;
 mod exporting;
 mod lines;
-mod opening;
 mod reading;
 mod remembering;
 mod showing;

@@ -1,21 +1,19 @@
 //! What a store remembers of the archive, so that a request for the service document asks no tables.
 
-ghost use Rattle.std.specs.Prelude.{◌≡◌, ◌-◌, ◌≤◌, ℕ, nat_lt, None, Some, false, IsTrue, IfOk, OnOk, ◌↔◌};
-ghost use Rattle.std.specs.Option.{option_map_or};
-ghost use Rattle.std.specs.FinMap as finmap;
+ghost use Rattle.std.specs.Prelude.{◌≡◌, ◌≤◌, ℕ, Some, false, IsTrue, IfOk, OnOk, ◌↔◌};
 ghost use Rattle.sqlite.specs.State.{HasCleanDisk, Survives};
 ghost use Rattle.sqlite.specs.Held.{state};
 ghost use Rattle.dep_types.specs.State.{State};
 ghost use Rattle.dep_types.specs.Sound.{IsSound};
-ghost use Rattle.dep_tables.specs.Clauses.{ReadsOnly, StaysWithin};
+ghost use Rattle.dep_tables.specs.Clauses.{StaysWithin};
 ghost use Rattle.dep_row_maps.specs.Clauses.{FromMaps};
 ghost use Rattle.dep_store.specs.Remembering.{Recalls, IsRecalled, is_left};
 ghost use Rattle.dep_schema.specs.Transactions.{IsBackAt};
 
 use dep_objects::counters;
 use dep_schema::Lent;
-use dep_tables::{Statements, fault_of, find_upload, next_upload};
-use dep_types::{Config, Counters, StoreFault, UploadRow};
+use dep_tables::{Statements, fault_of, left_before};
+use dep_types::{Config, Counters, StoreFault};
 use sqlite::{Alter, Connection};
 
 /// The clock and the counters, at which no upload is idle.
@@ -37,51 +35,16 @@ impl Remembered {
     }
 }
 
-fn was_left(max_idle: u64, clock: u64, found: &Option<UploadRow>) -> bool
-    ensures { result
-        ≡ option_map_or (λ row. nat_lt max_idle (clock - row.last)) found.now false }
-{
-    match found {
-        Some(row) => max_idle < clock.saturating_sub(row.last),
-        None => false,
-    }
-}
-
-/// Whether the upload is there and was left alone for longer than this.
-fn is_idle<T: Statements>(
-    tx: &mut T,
-    max_idle: u64,
-    clock: u64,
-    upload: u64,
-) -> Result<bool, StoreFault>
-    ensures map { FromMaps (T.state tx.old) (T.state tx.new)
-        (λ s. IfOk result (λ idle. idle ≡ is_left max_idle clock s.uploads upload)) }
-    ensures same { ReadsOnly (T.state tx.old) (T.state tx.new) result }
-    ensures stays { StaysWithin T.lenders T.state tx.old tx.new result }
-{
-    let found = find_upload(tx, upload)?;
-    Ok(was_left(max_idle, clock, &found))
-}
-
 /// Whether some upload was left alone for longer than this.
 fn has_idle<T: Statements>(tx: &mut T, max_idle: u64, clock: u64) -> Result<bool, StoreFault>
     ensures map { FromMaps (T.state tx.old) (T.state tx.new)
-        (λ s. finmap.get s.uploads 0 ≡ None
-        → IfOk result (λ idle. idle ≡ false
+        (λ s. IfOk result (λ idle. idle ≡ false
         → (u : ℕ) → is_left max_idle clock s.uploads u ≡ false)) }
     ensures stays { StaysWithin T.lenders T.state tx.old tx.new result }
 {
-    let mut last = 0;
-    'uploads: for _ in 0..u64::MAX {
-        let Some(upload) = next_upload(tx, last)? else {
-            return Ok(false);
-        };
-        if is_idle(tx, max_idle, clock, upload)? {
-            return Ok(true);
-        }
-        last = upload;
-    }
-    Err(StoreFault::Store)
+    let moment = clock.saturating_sub(max_idle);
+    let left = left_before(tx, moment)?;
+    Ok(left.is_some())
 }
 
 /// What may be remembered, where a tick at this moment changes nothing.

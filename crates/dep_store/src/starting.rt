@@ -4,8 +4,9 @@ ghost use Rattle.sqlite.specs.Held.{state};
 ghost use Rattle.sqlite.specs.State.{HasCleanDisk};
 ghost use Rattle.dep_types.specs.State.{State, empty_state};
 ghost use Rattle.dep_types.specs.Config.{IsChecked};
-ghost use Rattle.dep_schema.specs.Standing.{HoldsNone, IsOpenable, IsBack};
+ghost use Rattle.dep_schema.specs.Standing.{HoldsNone, IsOpenable};
 ghost use Rattle.dep_schema.specs.States.{IsLeftAs, StandsFor};
+ghost use Rattle.dep_upgrading.specs.Migrating.{Keeps};
 ghost use Rattle.dep_store.specs.Starting.{OpeningLeaves};
 ghost use Rattle.dep_server.specs.Records.{Record, Run, first_world};
 ghost use Rattle.dep_server.specs.Standing.{StandsAfter, IsClean, IsHonest};
@@ -14,6 +15,7 @@ ghost use Rattle.dep_store.specs.Archive.{condition_of};
 use crate::store::Store;
 use dep_schema::OpenFault;
 use dep_server::{Hub, HubFault};
+use dep_streams::Watch;
 use dep_types::Config;
 use sqlite::{Alter, Connection};
 use std::alloc::Global;
@@ -41,11 +43,12 @@ impl fmt::Display for StartFault {
 impl Error for StartFault {}
 
 /// Opens the database as a store, and makes a hub over it, without connections. A refusal hands
-/// the connection back.
-pub fn open_hub<S: Alter>(
+/// the connection back. The watch is told of what is read where version 1 becomes version 2.
+pub fn open_hub<S: Alter, W: Watch>(
     alloc: Global,
     config: Config,
     connection: Connection<S>,
+    watch: &mut W,
 ) -> Result<Hub<Store<S>>, (StartFault, Connection<S>)>
     requires settled { (state S.Store connection).in_transaction ≡ false }
     ensures fresh { IfOk result (λ hub. IsHonest (condition_of S.Store) hub
@@ -60,10 +63,10 @@ pub fn open_hub<S: Alter>(
     ensures config { IfOk result (λ hub. hub.config ≡ config) }
     ensures checked { IfOk result (λ _. IsChecked config) }
     ensures next { IfOk result (λ hub. hub.next ≡ 0) }
-    // A database that is not opened is handed back as it was committed.
+    // A database that is not opened is handed back as it was, in the version that it had.
     ensures left { IfErr result (λ e. (fault : OpenFault) → e.0 ≡ StartFault.Open fault
         → IsTrue (state S.Store e.1).is_open
-        → IsBack (state S.Store connection) (state S.Store e.1)) }
+        → Keeps (state S.Store connection) (state S.Store e.1)) }
     // What a store left is opened, and never told as of a version that is not known.
     ensures known { IfErr result (λ e. HasCleanDisk (state S.Store e.1)
         → e.0 ≡ StartFault.Open OpenFault.UnknownVersion → IsOpenable (state S.Store connection)
@@ -88,7 +91,7 @@ pub fn open_hub<S: Alter>(
         (λ hub. OpeningLeaves config (state S.Store connection) (state S.Store hub.store))
         (λ e. OpeningLeaves config (state S.Store connection) (state S.Store e.1)) }
 {
-    match Store::open(alloc, connection) {
+    match Store::open(alloc, connection, watch) {
         Ok(store) => match Hub::new(alloc, config, store) {
             Ok(hub) => Ok(hub),
             Err((fault, store)) => Err((StartFault::Hub(fault), store.close())),

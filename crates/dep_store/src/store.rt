@@ -15,15 +15,15 @@ ghost use Rattle.dep_types.specs.Streams.{IsStreamed};
 ghost use Rattle.sqlite.specs.Tree.{Trees};
 ghost use Rattle.dep_tables.specs.Tables.{Tables};
 ghost use Rattle.dep_tables.specs.Edits.{IsObjectAfter};
-ghost use Rattle.dep_schema.specs.Standing.{Holds, HoldsNone, IsOpenable, IsBack, Stands};
+ghost use Rattle.dep_tables.specs.Versions.{our_version, older_version, HasVersion};
+ghost use Rattle.dep_schema.specs.Standing.{Holds, HoldsOlder, HoldsNone, IsOpenable, Stands};
 ghost use Rattle.dep_store.specs.Auditing.{IsObjectAudited};
 ghost use Rattle.dep_schema.specs.States.{StandsFor, IsLeftAs, Leaves};
 ghost use Rattle.dep_schema.specs.Performing.{Performs};
-ghost use Rattle.dep_store.specs.Opening.{OpenLeaves};
+ghost use Rattle.dep_upgrading.specs.Migrating.{IsUpgraded, Keeps, OpenLeaves, Stood};
 ghost use Rattle.dep_store.specs.Shut.{LeavesNoMore};
 
 use crate::auditing::audit_object;
-use crate::opening::open_tables;
 use crate::reading::{find_next, view_object};
 use crate::remembering::{Remembered, check_open};
 use crate::showing::serve;
@@ -34,6 +34,7 @@ use dep_moment::Moment;
 use dep_schema::OpenFault;
 use dep_streams::{Audit, Watch, stream_content};
 use dep_types::{Config, ObjectView, Outlet, StoreFault, StreamFault};
+use dep_upgrading::open_tables;
 use sqlite::{Alter, Connection};
 use std::alloc::Global;
 use std::marker::Model;
@@ -61,32 +62,44 @@ impl<S: Alter> Model for Store<S> {
 }
 
 impl<S: Alter> Store<S> {
-    /// Opens a database that has no table yet, whose tables are then made, or one that has the tables
-    /// of the store. After a fault the connection is handed back.
-    pub fn open(
+    /// Opens a database: one that has no table `format` yet, whose tables are then made, one that has the tables of
+    /// version 2, or one of version 1, which becomes one of version 2, in one transaction. For that each file's bytes are
+    /// read once, as they stand, and the watch is told of each block. After a fault the connection is handed back.
+    pub fn open<W: Watch>(
         alloc: Global,
         connection: Connection<S>,
+        watch: &mut W,
     ) -> Result<Store<S>, (OpenFault, Connection<S>)>
         requires settled { (state S.Store connection).in_transaction ≡ false }
         ensures fresh { IfOk result (λ store. HasCleanDisk (state S.Store store)
             → HoldsNone (state S.Store connection).now.trees
             → StandsFor (state S.Store store) empty_state) }
+        // What a store left, in either version, stands for the same state.
         ensures found { IfOk result (λ store. HasCleanDisk (state S.Store store)
             → (s : State) → IsLeftAs (state S.Store connection).now.trees s
             → StandsFor (state S.Store store) s) }
         ensures refused { IfErr result (λ e. HasCleanDisk (state S.Store e.1)
             → e.0 ≡ OpenFault.UnknownVersion → IsOpenable (state S.Store connection) → ⊥) }
-        // So it is of tables that stand for no state.
+        // So it is of tables that stand for no state: those of version 2 stay, and those of version 1 get the SHA-512 of
+        // each file's bytes as they stand.
         ensures tables { IfOk result (λ store. HasCleanDisk (state S.Store store)
-            → (t : Tables) → Holds (state S.Store connection).now.trees t
+            → (t : Tables) → Holds (state S.Store connection).now.trees t → HasVersion our_version t
             → Stands (state S.Store store) t) }
+        ensures older { IfOk result (λ store. HasCleanDisk (state S.Store store)
+            → (t : Tables) → HoldsOlder (state S.Store connection).now.trees t
+            → HasVersion older_version t
+            → (after : Tables) × Stands (state S.Store store) after × IsUpgraded t after) }
         // What a store left is never of a version that is not known.
         ensures known { IfErr result (λ e. HasCleanDisk (state S.Store e.1)
             → IsTrue (state S.Store connection).is_open
             → (s : State) → IsLeftAs (state S.Store connection).now.trees s
             → e.0 ≡ OpenFault.UnknownVersion → ⊥) }
+        // A fault that leaves the store open leaves the database as it was, in the version that it had.
         ensures left { IfErr result (λ e. IsTrue (state S.Store e.1).is_open
-            → IsBack (state S.Store connection) (state S.Store e.1)) }
+            → Keeps (state S.Store connection) (state S.Store e.1)) }
+        ensures stood { IfErr result (λ e. IsTrue (state S.Store e.1).is_open
+            → (s : State) → IsLeftAs (state S.Store connection).now.trees s
+            → Stood (state S.Store e.1) s) }
         ensures mode { MatchResult result
             (λ store. (state S.Store store).in_transaction ≡ false)
             (λ e. (state S.Store e.1).in_transaction ≡ false) }
@@ -100,7 +113,7 @@ impl<S: Alter> Store<S> {
             (λ store. OpenLeaves (state S.Store connection) (state S.Store store))
             (λ e. OpenLeaves (state S.Store connection) (state S.Store e.1)) }
     {
-        match open_tables(connection) {
+        match open_tables(alloc, connection, watch) {
             Ok(connection) => Ok(Store {
                 alloc,
                 connection,

@@ -9,3 +9,7 @@ pub mod RowsSent
 pub mod FaultsTold
 pub mod OrderedBlocks
 pub mod Streams
+pub mod KnownTables
+pub mod Walks
+pub mod Valued
+pub mod Upgraded

@@ -55,7 +55,7 @@ module _ (sql : List ℕ) (params : Row) (old : State) (stored : List Row) (star
   sends size sent (Err Store) h = (between sent h.0, h.1)
   sends size sent (Err Memory) h = (between sent h.0, h.1)
 
-abbrev values : List Term
+abbrev pub values : List Term
 values = col 1 3 ∷ col 1 4 ∷ col 1 5 ∷ []
 
 pub owner_is : Asks our_schema blocks_of_text 10 of_owner values order no_limit

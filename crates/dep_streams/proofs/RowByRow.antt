@@ -1,9 +1,9 @@
 -- Rows that are read one at a time, by a query that only shows, whose bytes are hashed.
-use Rattle.std.proofs.Common.{◌≡◌, ◌⊎◌, ◌++◌, ◌+◌, ℕ, length, length-append, ap, ◌∙◌, List, [], ◌∷◌, Option, Some, None, Result, Ok, Err, IfOk, IfErr, OnOk, OnErr, inl, subst, sym}
+use Rattle.std.proofs.Common.{◌≡◌, ◌⊎◌, ◌++◌, ◌+◌, ℕ, length, length-append, ap, ◌∙◌, List, [], ◌∷◌, Option, Some, None, Result, Ok, Err, IfOk, IfErr, OnOk, OnErr, false, inl, subst, sym}
 use Rattle.std.specs.Borrow.{Bor}
-use Rattle.sha2.specs.Hashers.{Holds256}
-use Rattle.sha2.specs.Sha256.{sha256}
-use Rattle.sha2.specs.declared.Sha256.{Sha256}
+use Rattle.dep_fixity.specs.Fixity.{Holds, digests_of}
+use Rattle.dep_fixity.specs.declared.hasher.Digests.{Digests}
+use Rattle.dep_fixity.specs.declared.hasher.Hasher.{Hasher}
 use Rattle.sqlite.specs.Order.{Row, column}
 use Rattle.sqlite.specs.State.{State, HasCleanDisk, Survives, CommitsShowing, FailsToQuery, IsUnchanged, IsRolledBack}
 use Rattle.sqlite.specs.Held.{Held, state}
@@ -27,16 +27,17 @@ use Rattle.dep_streams.specs.Fixity.{HashesShown}
 use Rattle.dep_streams.proofs.ShownFrom.{shown_from}
 
 -- the hasher holds the rows that were given so far
-abbrev pub Hashed : {S : Type 0} → Ghosts S → List ℕ → Row → State → Held S → ℕ → Sha256 → Type 0
+abbrev pub Hashed : {S : Type 0} → Ghosts S → List ℕ → Row → State → Held S → ℕ → Hasher → Type 0
 Hashed g sql params first now count hasher =
-    (given : List Row) × HasGiven g sql params now given × IsUnchanged first (state g now) × Holds256 hasher (joined given) × (length given ≡ count)
+    (given : List Row) × HasGiven g sql params now given × IsUnchanged first (state g now) × Holds hasher (joined given) × (length given ≡ count)
 
 -- what the hashing of a query's rows leaves, by what it answers
-pub record EndsHashing (sql : List ℕ) (params : Row) (first new : State) (result : Result (List ℕ) StoreFault) : Type 0 where
+pub record EndsHashing (sql : List ℕ) (params : Row) (first new : State) (result : Result Digests StoreFault) : Type 0 where
   pub hashes : HasCleanDisk new → IsPlain (understood first.now.schema sql) → IfOk result (HashesShown sql params first)
   pub cause : HasCleanDisk new → IsPlain (understood first.now.schema sql) → IfErr result (FailsToGive sql params None first new)
   pub same : HasCleanDisk new → IsPlain (understood first.now.schema sql) → OnOk result (IsUnchanged first new)
   pub err : HasCleanDisk new → IsPlain (understood first.now.schema sql) → OnErr result (IsUnchanged first new ⊎ IsRolledBack first new)
+  pub mode : first.in_transaction ≡ false → new.in_transaction ≡ false
   pub clean : HasCleanDisk new → HasCleanDisk first
   pub survives : IsPlain (understood first.now.schema sql) → Survives first new (λ _. ⊥)
 
@@ -52,6 +53,7 @@ not_begun {X = X} g sql params old new result error fault left is of =
       cause = λ late plain. query_failed (error, inl (failed late), of);
       same = λ late plain. tt;
       err = λ late plain. refused_left sql params (state g old) (state g new) error plain (failed late);
+      mode = it.mode;
       clean = clean_was (state g old) (state g new) (CommitsShowing sql params (state g old)) it.survives;
       survives = λ plain. commits_nothing sql params (state g old) (state g new) plain it.survives;
     }
@@ -67,23 +69,23 @@ module _ {S : Type 0} (g : Ghosts S) (old new : Rows S g) (result : Result (Opti
   survived : (first : State) → Survives first (state g old.conn.now) (λ _. ⊥) → Survives first (state g new.conn.now) (λ _. ⊥)
   survived = survives_on g old new result moved
 
-  module _ (sql : List ℕ) (params : Row) (first : State) (count : ℕ) (hasher : Sha256) (was : Hashed g sql params first old.conn.now count hasher) (late : HasCleanDisk (state g new.conn.now)) where
-    pub hashed_all : result ≡ Ok None → IsPlain (understood first.now.schema sql) → (digest : List ℕ)
-        → ((message : List ℕ) → Holds256 hasher message → digest ≡ sha256 message) → HashesShown sql params first digest
-    hashed_all is plain digest made =
+  module _ (sql : List ℕ) (params : Row) (first : State) (count : ℕ) (hasher : Hasher) (was : Hashed g sql params first old.conn.now count hasher) (late : HasCleanDisk (state g new.conn.now)) where
+    pub hashed_all : result ≡ Ok None → IsPlain (understood first.now.schema sql) → (digests : Digests)
+        → ((message : List ℕ) → Holds hasher message → digests ≡ digests_of message) → HashesShown sql params first digests
+    hashed_all is plain digests made =
         let shown = (rw is at (moved.ok late)) sql params was.0 was.1 in record {
           rows = was.0;
           shown = shown_from sql params first (state g old.conn.now) (state g new.conn.now) was.0 was.2 plain shown;
-          is = made (joined was.0) was.3;
+          are = made (joined was.0) was.3;
         }
 
-    pub hashed_more : (row : Bor Row) (after : Sha256) → result ≡ Ok (Some row)
-        → ((message : List ℕ) → Holds256 hasher message → Holds256 after (message ++ blob_of row.now)) → Hashed g sql params first new.conn.now (count + 1) after
+    pub hashed_more : (row : Bor Row) (after : Hasher) → result ≡ Ok (Some row)
+        → ((message : List ℕ) → Holds hasher message → Holds after (message ++ blob_of row.now)) → Hashed g sql params first new.conn.now (count + 1) after
     hashed_more row after is more = (
       was.0 ++ row.now ∷ [],
       (rw is at (moved.ok late)) sql params was.0 was.1,
       unchanged first (Some row) is late was.2,
-      subst (Holds256 after) (sym (joined_push was.0 row.now)) (more (joined was.0) was.3),
+      subst (Holds after) (sym (joined_push was.0 row.now)) (more (joined was.0) was.3),
       length-append was.0 (row.now ∷ []) ∙ ap (λ n. n + 1) was.4,
     )
 
@@ -103,18 +105,20 @@ module _ {S : Type 0} (g : Ghosts S) (old new : Rows S g) (result : Result (Opti
         unread was.0 row.now (begins_from sql params first (state g new.conn.now) (was.0 ++ row.now ∷ []) (unchanged first (Some row) is late was.2)
         (given_begin g sql params new.conn.now (was.0 ++ row.now ∷ []) ((rw is at (moved.ok late)) sql params was.0 was.1))) (inl none.0) none.1
 
-  module _ (sql : List ℕ) (params : Row) (first : State) (count : ℕ) (hasher : Sha256)
+  module _ (sql : List ℕ) (params : Row) (first : State) (count : ℕ) (hasher : Hasher)
       (before : IsPlain (understood first.now.schema sql) → Survives first (state g old.conn.now) (λ _. ⊥))
       (was : HasCleanDisk (state g old.conn.now) → IsPlain (understood first.now.schema sql) → Hashed g sql params first old.conn.now count hasher)
+      (outside_before : first.in_transaction ≡ false → old.conn.now.in_transaction ≡ false)
       (clean : HasCleanDisk (state g old.conn.now) → HasCleanDisk first) where
     -- all rows were hashed
-    pub ends_whole : result ≡ Ok None → (digest : List ℕ) → ((message : List ℕ) → Holds256 hasher message → digest ≡ sha256 message)
-        → EndsHashing sql params first (state g new.conn.now) (Ok digest)
-    ends_whole is digest made = record {
-      hashes = λ late plain. hashed_all sql params first count hasher (was (earlier late) plain) late is plain digest made;
+    pub ends_whole : result ≡ Ok None → (digests : Digests) → ((message : List ℕ) → Holds hasher message → digests ≡ digests_of message)
+        → EndsHashing sql params first (state g new.conn.now) (Ok digests)
+    ends_whole is digests made = record {
+      hashes = λ late plain. hashed_all sql params first count hasher (was (earlier late) plain) late is plain digests made;
       cause = λ late plain. tt;
       same = λ late plain. unchanged first None is late (was (earlier late) plain).2;
       err = λ late plain. tt;
+      mode = λ outside. moved.mode (outside_before outside);
       clean = λ late. clean (earlier late);
       survives = λ plain. survived first (before plain);
     }
@@ -127,6 +131,7 @@ module _ {S : Type 0} (g : Ghosts S) (old new : Rows S g) (result : Result (Opti
       cause = λ late plain. why_failed sql params first count hasher (was (earlier late) plain) late error is fault of plain (before plain);
       same = λ late plain. tt;
       err = λ late plain. failed_on sql params first count hasher (was (earlier late) plain) late error is plain;
+      mode = λ outside. moved.mode (outside_before outside);
       clean = λ late. clean (earlier late);
       survives = λ plain. survived first (before plain);
     }
@@ -139,6 +144,7 @@ module _ {S : Type 0} (g : Ghosts S) (old new : Rows S g) (result : Result (Opti
       cause = λ late plain. why_refused sql params first count hasher (was (earlier late) plain) late row is fault none;
       same = λ late plain. tt;
       err = λ late plain. inl (unchanged first (Some row) is late (was (earlier late) plain).2);
+      mode = λ outside. moved.mode (outside_before outside);
       clean = λ late. clean (earlier late);
       survives = λ plain. survived first (before plain);
     }

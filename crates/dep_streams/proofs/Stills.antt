@@ -1,8 +1,10 @@
 -- Calls of which each leaves the tables as they are.
-use Rattle.std.proofs.Common.{◌≡◌, ◌⊎◌, IsTrue, sym, ap, subst}
-use Rattle.sqlite.specs.State.{State, IsUnchanged, IsRolledBack}
+use Rattle.std.proofs.Common.{◌≡◌, ◌⊎◌, inl, refl, IsTrue, sym, ap, subst}
+use Rattle.sqlite.specs.State.{State, IsUnchanged, IsRolledBack, Survives}
 use Rattle.sqlite.proofs.Callers.{unchanged_then}
-use Rattle.dep_tables.specs.Tables.{tables_in, tables_of, IsOurs, HasOurTables}
+use Rattle.sqlite.proofs.StateLemmas.{survives_then}
+use Rattle.dep_tables.specs.Schema.{our_schema}
+use Rattle.dep_tables.specs.Tables.{tables_in, tables_of, HasTablesOf, IsOurs, HasOurTables, IsKnown}
 use Rattle.dep_streams.proofs.Streams.{kept_same, kept_then, kept_failed}
 use Rattle.dep_streams.specs.Reading.{IsKept}
 
@@ -31,3 +33,18 @@ pub failed_still : (a b c : State) → IsStill a b → (IsTrue c.is_open → IsU
 failed_still a b c still failed is_open =
     let kept = kept_failed b c (failed is_open) in
     kept_then a b c (still.unchanged (still.was_open (kept is_open).0.0)) kept is_open
+
+-- ---- the tables of any version
+
+pub ours_known : (s : State) → IsOurs s → IsKnown s
+ours_known s ours = (our_schema, inl refl, ours)
+
+pub known_same : (a b : State) → IsUnchanged a b → IsKnown a → IsKnown b
+known_same a b same (its, known, ours) = (its, known, subst (HasTablesOf its) (sym same.0.now_is) ours)
+
+pub known_still : (a b : State) → IsStill a b → IsKnown a → IsKnown b
+known_still a b still (its, known, ours) = (its, known, subst (HasTablesOf its) (sym still.now_is) ours)
+
+-- two calls that commit nothing
+pub survives_both : (a b c : State) → Survives a b (λ _. ⊥) → Survives b c (λ _. ⊥) → Survives a c (λ _. ⊥)
+survives_both a b c first second = survives_then a b c _ _ (λ _. ⊥) (λ _ db none. none) (λ _ db none. none) first second

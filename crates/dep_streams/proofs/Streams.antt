@@ -56,7 +56,7 @@ placed_joined : (part k : ℕ) (bs : List (List ℕ)) → sent.joined (placed (b
 placed_joined part k [] = refl
 placed_joined part k (b ∷ bs) = ap (λ l. b ++ l) (placed_joined part (k + 1) bs)
 
-parts_joined : (m : Numbered (List ℕ)) → sent.joined (block_rows m) ≡ joined m
+pub parts_joined : (m : Numbered (List ℕ)) → sent.joined (block_rows m) ≡ joined m
 parts_joined m = go (finmap.entries m)
   where
     go : (es : List (ℕ × List ℕ)) → sent.joined (flat_map (λ e. part_rows e.0 e.1) es) ≡ flat_map (λ e. e.1) es
@@ -66,8 +66,8 @@ parts_joined m = go (finmap.entries m)
 
 begun : (t : Tables) (s : State) (n f : ℕ) (file : File) (bytes : List ℕ) → TablesAre t s → file_at s n f ≡ Some file → (b : BeginsBlocks (filter (is_block_of (owner.File f)) t.blocks) bytes) → file.content ≡ bytes ++ b.rest
 begun t s n f file bytes h has b =
-    sym (h.files_parts.of_files n f file (file_is s n f ∙ has)) ∙ sym (parts_joined (h.parts (owner.File f)))
-    ∙ ap sent.joined (sym (blocks-sorted t.blocks h.parts h.blocks (owner.File f) b.all b.ordered.same b.ordered.sorted)) ∙ b.whole
+    sym (h.common.files_parts.of_files n f file (file_is s n f ∙ has)) ∙ sym (parts_joined (h.common.parts (owner.File f)))
+    ∙ ap sent.joined (sym (blocks-sorted t.blocks h.common.parts h.common.blocks (owner.File f) b.all b.ordered.same b.ordered.sorted)) ∙ b.whole
 
 -- ---- the size of a file
 
@@ -92,7 +92,7 @@ size_told t s f found h up read = go found (row_at t.files f) refl read
         let same : size ≡ length file.content = cc in (file, refl, same)
 
     go : (found : Option FileSize) (there : Option Row) → row_at t.files f ≡ there → option_map size_values found ≡ option_map shown_size there → SizeTold s f found
-    go None None is e = λ n. sym (file_is s n f) ∙ free_file t.files (files_at s.objects) (files_at s.objects) h.files up n f is
+    go None None is e = λ n. sym (file_is s n f) ∙ free_file t.files (files_at s.objects) (files_at s.objects) h.common.files up n f is
     go None (Some row) is e = absurd (cc)
     go (Some z) None is e = absurd (cc)
     go (Some z) (Some row) is e =

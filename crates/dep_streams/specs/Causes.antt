@@ -1,4 +1,4 @@
--- Why the blocks of an owner, and the content of a file, were not all read.
+-- Why the blocks of an owner, and the content of a file, were not all read; why files were not checked or hashed.
 use Rattle.std.specs.List.{Contains}
 use Rattle.std.specs.Prelude.{◌≡◌, ◌≢◌, ◌⊎◌, ℕ, ◌<◌, ◌≤◌, ◌-◌, ◌^◌, pos, List, [], ◌∷◌, ◌++◌, length, Option, None, Some, IsSomeAnd, option_map}
 use Rattle.sqlite.specs.declared.types.Value.TheVariants.{Int}
@@ -11,16 +11,18 @@ use Rattle.dep_types.specs.State as types
 use Rattle.dep_types.specs.Streams.{IsPartOfContent}
 use Rattle.dep_row_maps.specs.TablesAre.{TablesAre}
 use Rattle.dep_tables.specs.Clauses.{AtMostOne, FailsToAsk, FailsToReadNumbers}
-use Rattle.dep_tables.specs.Rows.{IsBytesValue, IsStorableOwner, owner_values}
+use Rattle.dep_tables.specs.Rows.{IsBytesValue, IsNumberRow, IsSha512Row, IsStorableOwner, owner_values}
 use Rattle.dep_tables.specs.Tables.{tables_of}
-use Rattle.dep_tables.specs.Texts.{blocks_of_text}
+use Rattle.dep_tables.specs.Texts.{blocks_of_text, find_sha512_text}
 use Rattle.dep_tables.specs.declared.owner.BlockOwner.{BlockOwner}
 use Rattle.dep_tables.specs.declared.owner.BlockOwner.TheVariants as owner
 use Rattle.dep_types.specs.declared.rows.FileRow.{FileRow}
-use Rattle.dep_manifest.specs.Damaged.{number_unless_kept}
-use Rattle.dep_streams.specs.Fixity.{IsDigestOf}
+use Rattle.dep_tables.specs.declared.sha512s.FileSha512.{FileSha512}
+use Rattle.dep_streams.specs.Fixity.{HasFixity, IsKeptSha512, number_if_damaged}
+use Rattle.dep_streams.specs.Sha512s.{next_file_text, IsFileAfter, IsReached, IsValueAfter}
 use Rattle.dep_streams.specs.Sent.{joined}
 use Rattle.dep_streams.specs.Sizes.{IsSizeRow, find_size_text, size_values, shown_size}
+use Rattle.dep_streams.specs.declared.auditing.FileFixity.{FileFixity}
 use Rattle.dep_streams.specs.declared.sizes.FileSize.{FileSize}
 
 -- Why just so many bytes were not read of the blocks that a query shows; with no number, all of them.
@@ -69,15 +71,47 @@ pub data FailsToLoad (file : ℕ) (old new : State) (fault : StoreFault) : Type 
       → (sent : List ℕ) × IsPartOfContent s file sent) → fault ≡ Memory
       → FailsToLoad file old new fault
 
+-- why the SHA-512 that is kept of an owner was not told
+pub data FailsToFindSha512 (o : BlockOwner) (old new : State) (fault : StoreFault) : Type 0 where
+  no_owner : ¬ (IsStorableOwner o) → fault ≡ Store → FailsToFindSha512 o old new fault
+  not_told : FailsToReadNumbers (AtMostOne IsSha512Row) find_sha512_text (owner_values o) old new fault
+      → FailsToFindSha512 o old new fault
+
+-- why the digests of a file were not told
+pub data FailsToFindFixity (file : ℕ) (old new : State) (fault : StoreFault) : Type 0 where
+  no_sha512 : FailsToFindSha512 (owner.File file) old new fault → FailsToFindFixity file old new fault
+  no_blocks : (kept : Option (List ℕ)) → IsKeptSha512 (tables_of old) (owner.File file) kept
+      → FailsToGiveBlocks (owner.File file) None old new fault → FailsToFindFixity file old new fault
+
 -- why a file was not checked; where it is damaged, for want of memory to note it
-abbrev pub FailsToCheck : FileRow → State → State → StoreFault → Type 0
-FailsToCheck file old new fault =
-    FailsToGiveBlocks (owner.File file.file) None old new fault
-    ⊎ ((digest : List ℕ) × IsDigestOf (tables_of old) (owner.File file.file) digest
-    × (number_unless_kept file digest ≢ []) × (fault ≡ Memory))
+pub data FailsToCheck (file : FileRow) (old new : State) (fault : StoreFault) : Type 0 where
+  not_found : FailsToFindFixity file.file old new fault → FailsToCheck file old new fault
+  not_noted : (found : FileFixity) → HasFixity (tables_of old) file.file found
+      → number_if_damaged file found ≢ [] → fault ≡ Memory → FailsToCheck file old new fault
 
 -- one of these files was not checked, where the tables were as at first
 abbrev pub FailsToAudit : {T : Type 0} → (T → State) → List FileRow → T → T → StoreFault → Type 0
 FailsToAudit {T} state files old new fault =
     (file : FileRow) × Contains files file × (at : T) × ((state at).now ≡ (state old).now)
     × FailsToCheck file (state at) (state new) fault
+
+-- why the next file behind a number was not told
+pub data FailsToFindFile (after : ℕ) (old new : State) (fault : StoreFault) : Type 0 where
+  no_number : ¬ (after < 2 ^ 63) → fault ≡ Store → FailsToFindFile after old new fault
+  not_told : FailsToReadNumbers (AtMostOne IsNumberRow) next_file_text (Int (pos after) ∷ []) old new
+      fault → FailsToFindFile after old new fault
+
+-- why its value was not computed
+pub data FailsToHashNext (after : ℕ) (old new : State) (fault : StoreFault) : Type 0 where
+  no_file : FailsToFindFile after old new fault → FailsToHashNext after old new fault
+  no_blocks : (file : ℕ) → IsFileAfter (tables_of old) after (Some file)
+      → FailsToGiveBlocks (owner.File file) None old new fault → FailsToHashNext after old new fault
+
+-- The value of the file behind one of the numbers was not computed, where the tables were as at first; or there was no
+-- memory to keep it.
+abbrev pub FailsToHashFiles : {T : Type 0} → (T → State) → T → T → StoreFault → Type 0
+FailsToHashFiles {T} state old new fault =
+    (after : ℕ) × IsReached (tables_of (state old)) after
+    × (((at : T) × ((state at).now ≡ (state old).now) × FailsToHashNext after (state at) (state new) fault)
+    ⊎ ((value : FileSha512) × IsValueAfter (tables_of (state old)) after (Some value)
+    × (fault ≡ Memory)))

@@ -5,11 +5,13 @@ ghost use Rattle.sqlite.specs.State.{HasCleanDisk, Survives, IsUnchanged, IsRoll
 ghost use Rattle.sqlite.specs.Held.{state};
 ghost use Rattle.dep_tables.specs.Tables.{tables_of, IsOurs};
 ghost use Rattle.dep_streams.specs.Reading.{IsKept};
-ghost use Rattle.dep_streams.specs.Fixity.{IsAudited, KeepsDamaged};
-ghost use Rattle.dep_streams.specs.Causes.{FailsToCheck, FailsToAudit};
+ghost use Rattle.dep_streams.specs.Fixity.{HasFixity, IsAudited, KeepsDamaged};
+ghost use Rattle.dep_streams.specs.Causes.{FailsToFindFixity, FailsToCheck, FailsToAudit};
 
 use crate::hashing::hash_blocks;
+use crate::sha512s::find_sha512;
 use crate::watch::Watch;
+use dep_fixity::Digests;
 use dep_manifest::note_damaged;
 use dep_tables::BlockOwner;
 use dep_types::{FileRow, StoreFault};
@@ -21,11 +23,56 @@ use std::alloc::{AllocError, Global};
 pub struct Audit {
     /// How many files were checked.
     pub checked: u64,
-    /// The numbers of those whose bytes have another SHA-256 than their row keeps, in the order of the rows.
+    /// The numbers of those whose bytes have another SHA-256 than their row keeps, or another SHA-512 than the tables
+    /// keep of them, and of those of which they keep none: in the order of the rows.
     pub damaged: Vec<u64>,
 }
 
-// Notes the number of the file where its bytes have another digest.
+/// What is compared of a file, beside the SHA-256 that its row keeps.
+#[derive(Clone, Copy)]
+struct FileFixity {
+    /// The SHA-512 that the tables keep of it, if they keep one.
+    kept_sha512: Option<[u8; 64]>,
+    /// The digests of its bytes.
+    digests: Digests,
+}
+
+fn find_fixity<S: Alter, W: Watch>(
+    connection: &mut Connection<S>,
+    file: u64,
+    watch: &mut W,
+) -> Result<FileFixity, StoreFault>
+    ensures ok { HasCleanDisk (state S.Store connection.new) → IsOurs (state S.Store connection.old)
+        → IfOk result (HasFixity (tables_of (state S.Store connection.old)) file) }
+    ensures cause { HasCleanDisk (state S.Store connection.new) → IsOurs (state S.Store connection.old)
+        → IfErr result (FailsToFindFixity file (state S.Store connection.old)
+        (state S.Store connection.new)) }
+    ensures same { HasCleanDisk (state S.Store connection.new) → IsOurs (state S.Store connection.old)
+        → OnOk result (IsUnchanged (state S.Store connection.old) (state S.Store connection.new)) }
+    ensures err { HasCleanDisk (state S.Store connection.new) → IsOurs (state S.Store connection.old)
+        → IsTrue (state S.Store connection.new).is_open
+        → OnErr result (IsUnchanged (state S.Store connection.old) (state S.Store connection.new)
+        ⊎ IsRolledBack (state S.Store connection.old) (state S.Store connection.new)) }
+    ensures clean { HasCleanDisk (state S.Store connection.new)
+        → HasCleanDisk (state S.Store connection.old) }
+    ensures survives { HasCleanDisk (state S.Store connection.new)
+        → IsOurs (state S.Store connection.old)
+        → Survives (state S.Store connection.old) (state S.Store connection.new) (λ _. ⊥) }
+{
+    let kept_sha512 = match find_sha512(connection, BlockOwner::File(file)) {
+        Ok(kept_sha512) => kept_sha512,
+        Err(fault) => return Err(fault),
+    };
+    match hash_blocks(connection, BlockOwner::File(file), watch) {
+        Ok(digests) => Ok(FileFixity {
+            kept_sha512,
+            digests,
+        }),
+        Err(fault) => Err(fault),
+    }
+}
+
+// Notes the number of the file where its bytes have other digests.
 fn keep_damaged<S: Alter, W: Watch>(
     connection: &mut Connection<S>,
     damaged: &mut Vec<u64>,
@@ -46,23 +93,26 @@ fn keep_damaged<S: Alter, W: Watch>(
         ⊎ IsRolledBack (state S.Store connection.old) (state S.Store connection.new)) }
     ensures clean { HasCleanDisk (state S.Store connection.new)
         → HasCleanDisk (state S.Store connection.old) }
-    ensures survives { IsOurs (state S.Store connection.old)
+    ensures survives { HasCleanDisk (state S.Store connection.new)
+        → IsOurs (state S.Store connection.old)
         → Survives (state S.Store connection.old) (state S.Store connection.new) (λ _. ⊥) }
 {
-    let digest = match hash_blocks(connection, BlockOwner::File(row.file), watch) {
-        Ok(digest) => digest,
+    let found = match find_fixity(connection, row.file, watch) {
+        Ok(found) => found,
         Err(fault) => return Err(fault),
     };
-    match note_damaged(damaged, row, &digest) {
+    match note_damaged(damaged, row, found.kept_sha512, &found.digests) {
         Ok(()) => Ok(()),
         Err(AllocError) => Err(StoreFault::Memory),
     }
 }
 
-/// Checks files by the SHA-256 of the bytes that stand in the tables: those of all blocks that name the file, by
-/// part and place, whatever they are. Each block is read once, and one is held at a time. The rows are those that
-/// the tables keep of the files. The watch is told of each block. A number of 2^63 or more is a fault of the store, and so is a block that has no
-/// bytes.
+/// Checks files by the SHA-256 and the SHA-512 of the bytes that stand in the tables: those of all blocks that name the
+/// file, by part and place, whatever they are. The SHA-256 is held against the row's, and the SHA-512 against the one
+/// that the table of them keeps: a file of which it keeps none is damaged. The rows are those that the tables keep of the
+/// files. Each block is read once, for both digests, and one is held at a time: the watch is told of it. A number of
+/// 2^63 or more is a fault of the store, and so is a block that has no bytes, or a SHA-512 that is kept as anything but
+/// 64 bytes.
 pub fn audit_files<S: Alter, W: Watch>(
     connection: &mut Connection<S>,
     alloc: Global,

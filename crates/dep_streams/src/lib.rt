@@ -1,16 +1,19 @@
-//! Contents read block by block over a connection, outside a transaction: sent as they stand in the tables, or hashed again
-//! and held against the SHA-256 that the file's row keeps.
+//! Contents read block by block over a connection, outside a transaction: sent as they stand in the tables, or hashed
+//! again: held against the digests that are kept of the file, or for the SHA-512 that tables of version 1 lack.
 #![tactic(auto)]
 
 mod auditing;
 mod blocks;
 mod fault;
+mod files;
 mod hashing;
 mod loading;
 mod query;
 mod sending;
+mod sha512s;
 mod sizes;
 mod streaming;
+mod upgrading;
 mod watch;
 
 pub use auditing::{Audit, audit_files};
@@ -18,4 +21,5 @@ pub use blocks::stream_blocks;
 pub use fault::BlockFault;
 pub use loading::load_content;
 pub use streaming::stream_content;
+pub use upgrading::hash_files;
 pub use watch::{Unwatched, Watch};

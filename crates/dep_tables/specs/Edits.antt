@@ -5,19 +5,26 @@ use Rattle.std.specs.Option.{option_to_list}
 use Rattle.sqlite.specs.declared.types.Value.{Value}
 use Rattle.sqlite.specs.declared.types.Value.TheVariants.{Int}
 use Rattle.sqlite_trees.specs.Tree.{put_row, without_rowid, rowid}
-use Rattle.dep_statements.specs.Rows.{row_at, replaced, is_after, has_number, put_next, InOrder, IsFirst}
+use Rattle.dep_statements.specs.Rows.{row_at, replaced, is_after, is_below_number, has_number, put_next, InOrder, IsFirst}
 use Rattle.dep_types.specs.declared.rows.ObjectRow.{ObjectRow}
 use Rattle.dep_types.specs.declared.rows.FileRow.{FileRow}
 use Rattle.dep_types.specs.declared.rows.UploadRow.{UploadRow}
 use Rattle.dep_tables.specs.declared.state.StateRow.{StateRow}
 use Rattle.dep_tables.specs.declared.metadata.MetadataRow.{MetadataRow}
 use Rattle.dep_tables.specs.declared.segments.SegmentRow.{SegmentRow}
+use Rattle.dep_tables.specs.declared.uploads.LeftUpload.{LeftUpload}
 use Rattle.dep_tables.specs.declared.owner.BlockOwner.{BlockOwner}
 use Rattle.dep_tables.specs.declared.owner.BlockOwner.TheVariants.{File, Upload}
 use Rattle.dep_tables.specs.declared.owner.BlockKey.{BlockKey}
 use Rattle.dep_tables.specs.declared.owner.BlockPlace.{BlockPlace}
-use Rattle.dep_tables.specs.Rows.{stored_state, state_values, shown_state, stored_object, object_values, shown_object, metadata_values, shown_metadata, has_metadata_key, by_name_and_place, stored_file, file_values, shown_file, stored_upload, upload_values, shown_upload, segment_values, shown_segment, has_segment_key, by_number, stored_number, block_values, bytes_in, shown_place, place_values, is_block, is_block_of, is_part_of, is_later_block, moved_to, by_part_and_place}
+use Rattle.dep_tables.specs.Rows.{stored_format, sha512_values, is_sha512_of, value_in, stored_state, state_values, shown_state, stored_object, object_values, shown_object, metadata_values, shown_metadata, has_metadata_key, by_name_and_place, stored_file, file_values, shown_file, stored_upload, upload_values, shown_upload, segment_values, shown_segment, has_segment_key, by_number, stored_number, block_values, bytes_in, shown_place, place_values, is_block, is_block_of, is_part_of, is_later_block, moved_to, by_part_and_place, left_values, shown_left, by_last_and_upload}
 use Rattle.dep_tables.specs.Tables.{Tables}
+use Rattle.dep_tables.specs.Versions.{our_version}
+
+-- ---- format
+
+abbrev pub with_our_version : Tables → Tables
+with_our_version t = record t { format = replaced (stored_format our_version) t.format }
 
 -- ---- state
 
@@ -109,6 +116,12 @@ abbrev pub IsUploadAfter : ℕ → Tables → Option ℕ → Type 0
 IsUploadAfter after t found =
     option_map (λ n. Int (pos n)) found ≡ option_map rowid (find (is_after after) t.uploads)
 
+-- of those that were last written to before this moment, the one that was left the longest
+abbrev pub IsLeftBefore : ℕ → Tables → Option LeftUpload → Type 0
+IsLeftBefore moment t found =
+    IsFirst by_last_and_upload (map shown_left (filter (is_below_number 6 moment) t.uploads))
+    (map left_values (option_to_list found))
+
 -- ---- segments
 
 abbrev pub with_new_segment_row : SegmentRow → Tables → Tables
@@ -161,3 +174,18 @@ abbrev pub IsBlockAfter : BlockKey → Tables → Option BlockPlace → Type 0
 IsBlockAfter key t found =
     IsFirst by_part_and_place (map shown_place (filter (is_later_block key) t.blocks))
     (map place_values (option_to_list found))
+
+-- ---- sha512s
+
+abbrev pub with_new_sha512 : BlockOwner → List ℕ → Tables → Tables
+with_new_sha512 owner value t =
+    record t { sha512s = put_next (sha512_values owner value) t.sha512s }
+
+abbrev pub without_sha512 : BlockOwner → Tables → Tables
+without_sha512 owner t = record t { sha512s = filter (λ r. not (is_sha512_of owner r)) t.sha512s }
+
+abbrev pub LacksSha512 : BlockOwner → Tables → Type 0
+LacksSha512 owner t = list_any (is_sha512_of owner) t.sha512s ≡ false
+
+abbrev pub IsSha512Of : BlockOwner → Tables → List Value → Type 0
+IsSha512Of owner t found = map value_in (filter (is_sha512_of owner) t.sha512s) ≡ found

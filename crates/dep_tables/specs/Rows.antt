@@ -17,6 +17,7 @@ use Rattle.dep_tables.specs.declared.columns.ColumnKind.TheVariants as kind
 use Rattle.dep_tables.specs.declared.state.StateRow.{StateRow}
 use Rattle.dep_tables.specs.declared.metadata.MetadataRow.{MetadataRow}
 use Rattle.dep_tables.specs.declared.segments.SegmentRow.{SegmentRow}
+use Rattle.dep_tables.specs.declared.uploads.LeftUpload.{LeftUpload}
 use Rattle.dep_tables.specs.declared.owner.BlockOwner.{BlockOwner}
 use Rattle.dep_tables.specs.declared.owner.BlockOwner.TheVariants.{File, Upload}
 use Rattle.dep_tables.specs.declared.owner.BlockKey.{BlockKey}
@@ -32,8 +33,9 @@ IsNumberValue v = (n : ℕ) × (v ≡ Int (pos n))
 abbrev pub IsTextValue : Value → Type 0
 IsTextValue v = (t : List ℕ) × (v ≡ Text t) × IsUtf8 t
 
-abbrev pub IsDigestValue : Value → Type 0
-IsDigestValue v = (b : List ℕ) × (v ≡ Blob b) × (length b ≡ 32)
+-- as many bytes
+abbrev pub IsDigestValue : ℕ → Value → Type 0
+IsDigestValue width v = (b : List ℕ) × (v ≡ Blob b) × (length b ≡ width)
 
 abbrev pub IsNullOr : (Value → Type 0) → Value → Type 0
 IsNullOr is_ours v = (v ≡ Null) ⊎ is_ours v
@@ -52,8 +54,9 @@ IsOfKind kind.Number = IsNumberValue
 IsOfKind kind.Flag = IsFlagValue
 IsOfKind kind.Text = IsTextValue
 IsOfKind kind.TextOrNull = IsNullOr IsTextValue
-IsOfKind kind.Digest = IsDigestValue
-IsOfKind kind.DigestOrNull = IsNullOr IsDigestValue
+IsOfKind kind.Sha256 = IsDigestValue 32
+IsOfKind kind.Sha256OrNull = IsNullOr (IsDigestValue 32)
+IsOfKind kind.Sha512 = IsDigestValue 64
 IsOfKind kind.Bytes = IsBytesValue
 
 -- the row has as many columns, each of its kind
@@ -179,7 +182,7 @@ pub record IsStorableFile (r : FileRow) : Type 0 where
   pub deposited : r.deposited < 2 ^ 63
 
 abbrev pub file_kinds : List ColumnKind
-file_kinds = kind.Number ∷ kind.Number ∷ kind.Text ∷ kind.Text ∷ kind.Number ∷ kind.Number ∷ kind.Number ∷ kind.TextOrNull ∷ kind.Flag ∷ kind.Digest ∷ []
+file_kinds = kind.Number ∷ kind.Number ∷ kind.Text ∷ kind.Text ∷ kind.Number ∷ kind.Number ∷ kind.Number ∷ kind.TextOrNull ∷ kind.Flag ∷ kind.Sha256 ∷ []
 
 abbrev pub IsFileRow : Row → Type 0
 IsFileRow = HasKinds file_kinds
@@ -208,10 +211,28 @@ pub record IsStorableUpload (r : UploadRow) : Type 0 where
   pub last : r.last < 2 ^ 63
 
 abbrev pub upload_kinds : List ColumnKind
-upload_kinds = kind.Number ∷ kind.Number ∷ kind.Number ∷ kind.Number ∷ kind.DigestOrNull ∷ kind.Number ∷ []
+upload_kinds = kind.Number ∷ kind.Number ∷ kind.Number ∷ kind.Number ∷ kind.Sha256OrNull ∷ kind.Number ∷ []
 
 abbrev pub IsUploadRow : Row → Type 0
 IsUploadRow = HasKinds upload_kinds
+
+-- the number of an upload alone, and when it was last written to
+abbrev pub left_values : LeftUpload → Row
+left_values l = Int (pos l.upload) ∷ Int (pos l.last) ∷ []
+
+abbrev pub shown_left : Row → Row
+shown_left stored = column stored 0 ∷ column stored 6 ∷ []
+
+abbrev pub left_kinds : List ColumnKind
+left_kinds = kind.Number ∷ kind.Number ∷ []
+
+abbrev pub IsLeftRow : Row → Type 0
+IsLeftRow = HasKinds left_kinds
+
+-- by the last moment and the number, of rows as they are shown
+abbrev pub by_last_and_upload : Row → Row → Ordering
+by_last_and_upload a b =
+    ordering_then (value_cmp (column a 1) (column b 1)) (value_cmp (column a 0) (column b 0))
 
 -- ---- segments
 
@@ -345,3 +366,22 @@ pub record IsStorableKey (k : BlockKey) : Type 0 where
   pub owner : IsStorableOwner k.owner
   pub part : k.at.part < 2 ^ 63
   pub place : k.at.place < 2 ^ 63
+
+-- ---- sha512s
+
+abbrev pub sha512_values : BlockOwner → List ℕ → Row
+sha512_values o value = Int (pos (kind_of o)) ∷ Int (pos (number_of o)) ∷ Blob value ∷ []
+
+-- the row of this owner
+abbrev pub is_sha512_of : BlockOwner → Row → Bool
+is_sha512_of o stored = has_number 1 (kind_of o) stored && has_number 2 (number_of o) stored
+
+abbrev pub value_in : Row → Value
+value_in stored = column stored 3
+
+-- a SHA-512 alone
+abbrev pub sha512_kinds : List ColumnKind
+sha512_kinds = kind.Sha512 ∷ []
+
+abbrev pub IsSha512Row : Row → Type 0
+IsSha512Row = HasKinds sha512_kinds

@@ -2,8 +2,9 @@
 use Rattle.std.specs.Prelude.{true, false, List, [], ◌∷◌, codes}
 use Rattle.sqlite.specs.Table.{Table}
 use Rattle.sqlite.specs.Schema.{Schema}
+use Rattle.sqlite_schema.specs.declared.schema.Index.{Index}
 use Rattle.sqlite.specs.Kind.TheVariants.{Integer, Text, Blob}
-use Rattle.dep_statements.specs.Tables.{column_of, keyed_table, indexed_table, index_of}
+use Rattle.dep_statements.specs.Tables.{column_of, keyed_table, indexed_table, index_of, plain_index}
 
 abbrev pub format_table : Table
 format_table = keyed_table (codes "format") 0
@@ -77,17 +78,49 @@ blocks_table = indexed_table (codes "blocks") 10 (1 ∷ 2 ∷ 3 ∷ 4 ∷ [])
     ∷ column_of (codes "place") Integer true
     ∷ column_of (codes "bytes") Blob true ∷ [])
 
+-- its key is the kind of the owner and the owner
+abbrev pub sha512s_table : Table
+sha512s_table = indexed_table (codes "sha512s") 12 (1 ∷ 2 ∷ [])
+    (column_of (codes "kind") Integer true
+    ∷ column_of (codes "owner") Integer true
+    ∷ column_of (codes "value") Blob true ∷ [])
+
+-- the tables of version 1
+abbrev pub older_tables : List Table
+older_tables =
+    format_table ∷ state_table ∷ objects_table ∷ metadata_table ∷ files_table ∷ uploads_table
+    ∷ segments_table ∷ timed_out_table ∷ blocks_table ∷ []
+
 -- The numbers of the trees follow the order of creation, so a table of a later version comes last.
 abbrev pub our_tables : List Table
 our_tables =
     format_table ∷ state_table ∷ objects_table ∷ metadata_table ∷ files_table ∷ uploads_table
-    ∷ segments_table ∷ timed_out_table ∷ blocks_table ∷ []
+    ∷ segments_table ∷ timed_out_table ∷ blocks_table ∷ sha512s_table ∷ []
+
+abbrev pub older_schema : Schema
+older_schema = record {
+  tables = older_tables;
+  indexes = index_of (codes "sqlite_autoindex_metadata_1") 4 3 (1 ∷ 2 ∷ 3 ∷ [])
+      ∷ index_of (codes "sqlite_autoindex_segments_1") 8 7 (1 ∷ 2 ∷ [])
+      ∷ index_of (codes "sqlite_autoindex_blocks_1") 11 10 (1 ∷ 2 ∷ 3 ∷ 4 ∷ []) ∷ [];
+  views = [];
+}
+
+-- by which the files of an object are found
+abbrev pub files_index : Index
+files_index = plain_index (codes "files_of_object") 14 5 (2 ∷ 0 ∷ [])
+
+-- by which the upload is found that was left the longest
+abbrev pub uploads_index : Index
+uploads_index = plain_index (codes "uploads_by_last") 15 6 (6 ∷ 0 ∷ [])
 
 abbrev pub our_schema : Schema
 our_schema = record {
   tables = our_tables;
   indexes = index_of (codes "sqlite_autoindex_metadata_1") 4 3 (1 ∷ 2 ∷ 3 ∷ [])
       ∷ index_of (codes "sqlite_autoindex_segments_1") 8 7 (1 ∷ 2 ∷ [])
-      ∷ index_of (codes "sqlite_autoindex_blocks_1") 11 10 (1 ∷ 2 ∷ 3 ∷ 4 ∷ []) ∷ [];
+      ∷ index_of (codes "sqlite_autoindex_blocks_1") 11 10 (1 ∷ 2 ∷ 3 ∷ 4 ∷ [])
+      ∷ index_of (codes "sqlite_autoindex_sha512s_1") 13 12 (1 ∷ 2 ∷ [])
+      ∷ files_index ∷ uploads_index ∷ [];
   views = [];
 }

@@ -1,6 +1,9 @@
 -- The text of each statement.
 use Rattle.std.specs.Prelude.{ℕ, List, codes}
 
+abbrev pub write_version_text : List ℕ
+write_version_text = codes "UPDATE format SET version = 2 WHERE id = 1"
+
 abbrev pub read_state_text : List ℕ
 read_state_text = codes "SELECT clock, next_object, next_file, next_upload, next_change FROM state WHERE id = 1"
 
@@ -61,6 +64,9 @@ find_upload_text = codes "SELECT upload, size, count, segment_size, sha256, last
 abbrev pub next_upload_text : List ℕ
 next_upload_text = codes "SELECT upload FROM uploads WHERE upload > ?1 ORDER BY upload LIMIT 1"
 
+abbrev pub left_before_text : List ℕ
+left_before_text = codes "SELECT upload, last FROM uploads WHERE last < ?1 ORDER BY last, upload LIMIT 1"
+
 abbrev pub insert_segment_text : List ℕ
 insert_segment_text = codes "INSERT INTO segments (upload, number, size) VALUES (?1, ?2, ?3)"
 
@@ -93,3 +99,12 @@ delete_blocks_text = codes "DELETE FROM blocks WHERE kind = ?1 AND owner = ?2"
 
 abbrev pub move_part_text : List ℕ
 move_part_text = codes "UPDATE blocks SET kind = ?4, owner = ?5 WHERE kind = ?1 AND owner = ?2 AND part = ?3"
+
+abbrev pub insert_sha512_text : List ℕ
+insert_sha512_text = codes "INSERT INTO sha512s (kind, owner, value) VALUES (?1, ?2, ?3)"
+
+abbrev pub find_sha512_text : List ℕ
+find_sha512_text = codes "SELECT value FROM sha512s WHERE kind = ?1 AND owner = ?2"
+
+abbrev pub delete_sha512_text : List ℕ
+delete_sha512_text = codes "DELETE FROM sha512s WHERE kind = ?1 AND owner = ?2"

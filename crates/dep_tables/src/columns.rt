@@ -19,9 +19,11 @@ pub enum ColumnKind {
     /// A text of UTF-8, or NULL.
     TextOrNull,
     /// A digest of 32 bytes.
-    Digest,
+    Sha256,
     /// A digest of 32 bytes, or NULL.
-    DigestOrNull,
+    Sha256OrNull,
+    /// A digest of 64 bytes.
+    Sha512,
     /// Bytes, however many.
     Bytes,
 }
@@ -35,8 +37,9 @@ fn is_of_kind(value: ValueRef<'_>, kind: ColumnKind) -> bool
         (ColumnKind::Text | ColumnKind::TextOrNull, ValueRef::Text(text)) => {
             std::str::from_utf8(text).is_ok()
         }
-        (ColumnKind::Digest | ColumnKind::DigestOrNull, ValueRef::Blob(bytes)) => bytes.len() == 32,
-        (ColumnKind::TextOrNull | ColumnKind::DigestOrNull, ValueRef::Null) => true,
+        (ColumnKind::Sha256 | ColumnKind::Sha256OrNull, ValueRef::Blob(bytes)) => bytes.len() == 32,
+        (ColumnKind::Sha512, ValueRef::Blob(bytes)) => bytes.len() == 64,
+        (ColumnKind::TextOrNull | ColumnKind::Sha256OrNull, ValueRef::Null) => true,
         (ColumnKind::Bytes, ValueRef::Blob(_)) => true,
         _ => false,
     }

@@ -9,7 +9,7 @@ ghost use Rattle.dep_tables.specs.Clauses.{AtMostOne, Changes, Shows, Reads, Rea
 ghost use Rattle.dep_tables.specs.Texts.{insert_file_text, delete_file_text, delete_files_text, find_file_text, files_of_text};
 
 use crate::calls::Statements;
-use crate::columns::ColumnKind::{self, Digest, Flag, Number, Text, TextOrNull};
+use crate::columns::ColumnKind::{self, Flag, Number, Sha256, Text, TextOrNull};
 use crate::numbers::{LIMIT, flag_at, flag_number, key_param, number, number_at};
 use crate::reading::{FromRow, ask_all, ask_one};
 use crate::texts::{digest_at, text_at, text_or_null, text_or_null_at, text_value};
@@ -110,7 +110,7 @@ impl FromRow for FileRow {
 
     fn kinds() -> &'static [ColumnKind] {
         &[
-            Number, Number, Text, Text, Number, Number, Number, TextOrNull, Flag, Digest,
+            Number, Number, Text, Text, Number, Number, Number, TextOrNull, Flag, Sha256,
         ]
     }
 

@@ -1,4 +1,4 @@
-//! Whose a block is, and its key.
+//! Whose a block or a SHA-512 is, and the key of a block.
 
 ghost use Rattle.std.specs.Prelude.{◌≡◌, ◌↔◌, ◌<◌, ◌^◌, IsTrue};
 ghost use Rattle.sqlite.specs.Values.{bound};
@@ -7,7 +7,7 @@ ghost use Rattle.dep_tables.specs.Rows.{kind_of, number_of, owner_values, part_v
 use crate::numbers::{LIMIT, number};
 use sqlite::types::ValueRef;
 
-/// Whose a block is: a file's, or a staged upload's.
+/// Whose a block or a SHA-512 is: a file's, or a staged upload's.
 #[derive(Clone, Copy, Debug, PartialEq, Eq)]
 pub enum BlockOwner {
     /// The file of this number.

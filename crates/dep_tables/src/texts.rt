@@ -59,15 +59,15 @@ pub(crate) fn digest_or_null(digest: &Option<[u8; 32]>) -> ValueRef<'_>
     }
 }
 
-/// A digest of 32 bytes. It takes no memory.
-pub(crate) fn digest_at(row: &Row, at: usize) -> Result<[u8; 32], Error>
+/// A digest of N bytes. It takes no memory.
+pub(crate) fn digest_at<const N: usize>(row: &Row, at: usize) -> Result<[u8; N], Error>
     ensures told { IfOk result (λ read. column row.now at ≡ Blob read) }
-    ensures refused { IfErr result (λ _. ¬ (HasAt IsDigestValue row.now at)) }
+    ensures refused { IfErr result (λ _. ¬ (HasAt (IsDigestValue N) row.now at)) }
 {
     let ValueRef::Blob(bytes) = row.get_ref(at)? else {
         return Err(Error::InvalidColumnIndex(at));
     };
-    match <[u8; 32]>::try_from(bytes) {
+    match <[u8; N]>::try_from(bytes) {
         Ok(digest) => Ok(digest),
         Err(_) => Err(Error::InvalidColumnIndex(at)),
     }
@@ -76,7 +76,7 @@ pub(crate) fn digest_at(row: &Row, at: usize) -> Result<[u8; 32], Error>
 /// A digest that `digest_or_null` wrote. It takes no memory.
 pub(crate) fn digest_or_null_at(row: &Row, at: usize) -> Result<Option<[u8; 32]>, Error>
     ensures told { IfOk result (λ read. column row.now at ≡ or_null Blob read) }
-    ensures refused { IfErr result (λ _. ¬ (HasAt (IsNullOr IsDigestValue) row.now at)) }
+    ensures refused { IfErr result (λ _. ¬ (HasAt (IsNullOr (IsDigestValue 32)) row.now at)) }
 {
     match row.get_ref(at)? {
         ValueRef::Null => Ok(None),

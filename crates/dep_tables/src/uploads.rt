@@ -3,19 +3,28 @@
 ghost use Rattle.std.specs.Prelude.{◌≡◌, ◌↔◌, pos, IsTrue, ◌<◌, ◌^◌, ◌∷◌, []};
 ghost use Rattle.sqlite.specs.declared.types.Value.TheVariants.{Int};
 ghost use Rattle.sqlite.specs.Values.{bound};
-ghost use Rattle.dep_tables.specs.Rows.{IsStorableUpload, upload_values, IsNumberRow, IsUploadRow};
-ghost use Rattle.dep_tables.specs.Edits.{with_new_upload_row, with_upload_row, without_upload_row, LacksUploadRow, IsUploadRowAt, IsUploadAfter};
+ghost use Rattle.dep_tables.specs.Rows.{IsStorableUpload, upload_values, IsNumberRow, IsUploadRow, IsLeftRow};
+ghost use Rattle.dep_tables.specs.Edits.{with_new_upload_row, with_upload_row, without_upload_row, LacksUploadRow, IsUploadRowAt, IsUploadAfter, IsLeftBefore};
 ghost use Rattle.dep_tables.specs.Clauses.{AtMostOne, Changes, Shows, Reads, ReadsOnly, FailsWhole, FailsReading, RefusesNumbers, FailsByRunning, FailsByReadingNumbers, StaysWithin};
-ghost use Rattle.dep_tables.specs.Texts.{insert_upload_text, write_upload_text, delete_upload_text, find_upload_text, next_upload_text};
+ghost use Rattle.dep_tables.specs.Texts.{insert_upload_text, write_upload_text, delete_upload_text, find_upload_text, next_upload_text, left_before_text};
 
 use crate::calls::Statements;
-use crate::columns::ColumnKind::{self, DigestOrNull, Number};
+use crate::columns::ColumnKind::{self, Number, Sha256OrNull};
 use crate::numbers::{LIMIT, key_param, number, number_at};
 use crate::reading::{FromRow, ask_one};
 use crate::texts::{digest_or_null, digest_or_null_at};
 use dep_types::{StoreFault, UploadRow};
 use sqlite::types::ValueRef;
 use sqlite::{Error, Row};
+
+/// An upload, and when it was last written to.
+#[derive(Clone, Copy, Debug, PartialEq, Eq)]
+pub struct LeftUpload {
+    /// Its number.
+    pub upload: u64,
+    /// In seconds of Unix time.
+    pub last: u64,
+}
 
 fn is_storable_upload(row: &UploadRow) -> bool
     ensures { IsTrue result ↔ IsStorableUpload row.now }
@@ -107,7 +116,7 @@ impl FromRow for UploadRow {
     ghost copies = { ⊥ };
 
     fn kinds() -> &'static [ColumnKind] {
-        &[Number, Number, Number, Number, DigestOrNull, Number]
+        &[Number, Number, Number, Number, Sha256OrNull, Number]
     }
 
     fn from_row(row: &Row) -> Result<UploadRow, Error> {
@@ -159,5 +168,48 @@ pub fn next_upload<T: Statements>(tx: &mut T, after: u64) -> Result<Option<u64>,
         tx,
         "SELECT upload FROM uploads WHERE upload > ?1 ORDER BY upload LIMIT 1",
         &key_param(after),
+    )
+}
+
+impl FromRow for LeftUpload {
+    ghost use Rattle.dep_tables.specs.Rows.{left_values, left_kinds};
+
+    ghost width = { 2 };
+
+    ghost values = { left_values };
+
+    ghost columns = { left_kinds };
+
+    ghost copies = { ⊥ };
+
+    fn kinds() -> &'static [ColumnKind] {
+        &[Number, Number]
+    }
+
+    fn from_row(row: &Row) -> Result<LeftUpload, Error> {
+        Ok(LeftUpload {
+            upload: number_at(row, 0)?,
+            last: number_at(row, 1)?,
+        })
+    }
+}
+
+/// Of the uploads that were last written to before this moment (in seconds of Unix time), the one that was left the longest, and the least number of several; none where there is none. It is a fault of the store where the row is not one of two numbers, and for a moment of 2^63 or more.
+pub fn left_before<T: Statements>(tx: &mut T, moment: u64) -> Result<Option<LeftUpload>, StoreFault>
+    ensures ok { Reads (T.state tx.old) (T.state tx.new) result (IsLeftBefore moment) }
+    ensures same { ReadsOnly (T.state tx.old) (T.state tx.new) result }
+    ensures numbers { RefusesNumbers (T.state tx.old) (T.state tx.new) result (moment < 2 ^ 63) }
+    ensures cause { FailsByReadingNumbers (T.state tx.old) (T.state tx.new) result
+        (moment < 2 ^ 63) left_before_text (Int (pos moment) ∷ []) (AtMostOne IsLeftRow) }
+    ensures err { FailsReading (T.state tx.old) (T.state tx.new) result }
+    ensures stays { StaysWithin T.lenders T.state tx.old tx.new result }
+{
+    if moment >= LIMIT {
+        return Err(StoreFault::Store);
+    }
+    ask_one(
+        tx,
+        "SELECT upload, last FROM uploads WHERE last < ?1 ORDER BY last, upload LIMIT 1",
+        &key_param(moment),
     )
 }

@@ -14,7 +14,7 @@ use Rattle.dep_row_maps.specs.Stored.{segment_row}
 use Rattle.dep_tables.specs.declared.segments.SegmentRow.{SegmentRow}
 use Rattle.dep_row_maps.proofs.Blocks.{number_order}
 use Rattle.dep_row_maps.proofs.Pieces.{all_found}
-use Rattle.dep_staging.proofs.Next.{both, passed, none_below}
+use Rattle.dep_staging.proofs.Entries.{both, passed, none_below}
 use Rattle.dep_views.specs.Segments.{segment_rows_of}
 
 abbrev Parts : Type 0

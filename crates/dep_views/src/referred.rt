@@ -71,8 +71,8 @@ fn load_digests<T: Statements>(
     if !is_complete(&staged.row, staged.received.as_slice()) {
         return Ok(None);
     }
-    let sha256 = hash_upload(tx, alloc, staged.row.upload)?;
-    Ok(Some(Digests { sha256 }))
+    let digests = hash_upload(tx, alloc, staged.row.upload)?;
+    Ok(Some(digests))
 }
 
 fn load_referred<T: Statements>(

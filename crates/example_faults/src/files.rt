@@ -7,9 +7,12 @@ use std::alloc::Global;
 
 /// The files of an archive in memory: its log and its database.
 pub trait FaultyFiles: Drop {
-    /// New files. So many calls of this one go through: reads, writes, syncs and lengths. Each later one fails, and
-    /// changes nothing.
-    fn made(alloc: Global, file: FaultyFile, calls: u64) -> Self;
+    /// New files: empty ones, or such as these statements of SQL leave them, where there are any.
+    fn made(alloc: Global, statements: &str) -> Result<Self, Trouble>;
+
+    /// A copy of the files. So many calls of this one go through: reads, writes, syncs and lengths. Each later one fails,
+    /// and changes nothing.
+    fn copied(&self, alloc: Global, file: FaultyFile, calls: u64) -> Result<Self, Trouble>;
 
     /// Opens the archive in these files and does the part of the play over it. The files are as that leaves them.
     fn played(self, alloc: Global, play: &mut FaultPlay<'_>) -> Self;

@@ -69,6 +69,11 @@ impl<'a> FaultPlay<'a> {
         }
     }
 
+    /// Where its memory comes from.
+    pub fn alloc(&self) -> Global {
+        self.alloc
+    }
+
     /// The next part is this one.
     pub fn begin(&mut self, part: Part) {
         self.part = part;

@@ -20,33 +20,36 @@ pub fn play_faults<F: FaultyFiles>(
     settings: &Settings,
 ) -> Result<(), Trouble> {
     script.is_whole()?;
+    let files = F::made(alloc, script.statements.as_str())?;
     let mut play = FaultPlay::new(alloc, script, settings);
-    let played = all_faults::<F>(alloc, script, &mut play);
+    let played = all_faults(&files, script, &mut play);
     drop(play);
     played
 }
 
 fn all_faults<F: FaultyFiles>(
-    alloc: Global,
+    files: &F,
     script: &Script,
     play: &mut FaultPlay<'_>,
 ) -> Result<(), Trouble> {
-    if let Err(why) = recorded::<F>(alloc, play) {
-        return Err(if recorded::<F>(alloc, play).is_ok() {
+    if let Err(why) = recorded(files, play) {
+        return Err(if recorded(files, play).is_ok() {
             Trouble::Memory
         } else {
             why
         });
     }
     for (fault, file) in &script.faults {
-        at_each_call::<F>(alloc, play, *fault, *file)?;
+        at_each_call(files, play, *fault, *file)?;
     }
     Ok(())
 }
 
-fn recorded<F: FaultyFiles>(alloc: Global, play: &mut FaultPlay<'_>) -> Result<(), Trouble> {
+fn recorded<F: FaultyFiles>(files: &F, play: &mut FaultPlay<'_>) -> Result<(), Trouble> {
+    let alloc = play.alloc();
+    let copy = files.copied(alloc, FaultyFile::Log, u64::MAX)?;
     play.begin(Part::Record);
-    drop(F::made(alloc, FaultyFile::Log, u64::MAX).played(alloc, play));
+    drop(copy.played(alloc, play));
     is_done(play)
 }
 
@@ -60,21 +63,21 @@ fn is_done(play: &mut FaultPlay<'_>) -> Result<(), Trouble> {
 }
 
 fn at_each_call<F: FaultyFiles>(
-    alloc: Global,
+    files: &F,
     play: &mut FaultPlay<'_>,
     fault: Fault,
     file: FaultyFile,
 ) -> Result<(), Trouble> {
     for calls in 0..u64::MAX {
-        match round::<F>(alloc, play, fault, file, calls) {
+        match round(files, play, fault, file, calls) {
             Ok(true) => {}
             Ok(false) if calls == 0 => return Err(Trouble::Line("no call is made of that file")),
             Ok(false) => return Ok(()),
             Err(why) => {
-                if round::<F>(alloc, play, fault, file, calls).is_ok() {
+                if round(files, play, fault, file, calls).is_ok() {
                     return Err(Trouble::Memory);
                 }
-                return Err(Trouble::Other(format!(in alloc;
+                return Err(Trouble::Other(format!(in play.alloc();
                     "{fault} {file} after {calls} calls: {why}"
                 )?));
             }
@@ -83,24 +86,27 @@ fn at_each_call<F: FaultyFiles>(
     Ok(())
 }
 
-// Plays up to the fault after so many calls, and on from what it left. It tells whether all these calls were made.
+// Plays over a copy of the files up to the fault after so many calls, and on from what it left. It tells whether all these
+// calls were made.
 fn round<F: FaultyFiles>(
-    alloc: Global,
+    files: &F,
     play: &mut FaultPlay<'_>,
     fault: Fault,
     file: FaultyFile,
     calls: u64,
 ) -> Result<bool, Trouble> {
+    let alloc = play.alloc();
+    let copy = files.copied(alloc, file, calls)?;
     play.begin(match fault {
         Fault::Fails => Part::ThroughFault,
         Fault::Stops => Part::UpToFault,
     });
-    let mut files = F::made(alloc, file, calls).played(alloc, play);
-    let is_spent = files.is_spent();
-    let files = files.left(alloc, fault)?;
+    let mut spent = copy.played(alloc, play);
+    let is_spent = spent.is_spent();
+    let left = spent.left(alloc, fault)?;
     has_stopped(play, is_spent)?;
     play.begin(Part::Resume);
-    drop(files.played(alloc, play));
+    drop(left.played(alloc, play));
     is_done(play)?;
     Ok(is_spent)
 }

@@ -21,6 +21,8 @@ impl Request {
 /// The requests of an example, each on a connection of its own, and what is to happen to which file meanwhile.
 #[derive(Drop)]
 pub struct Script {
+    /// The statements of SQL that have made the database before it is opened first. There may be none.
+    pub statements: String,
     pub requests: Vec<Request>,
     /// The requests by which the archive is looked at.
     pub looks: Vec<Vec<u8>>,
@@ -31,6 +33,7 @@ pub struct Script {
 impl Script {
     pub fn new(alloc: Global) -> Script {
         Script {
+            statements: String::new(alloc),
             requests: Vec::new(alloc),
             looks: Vec::new(alloc),
             faults: Vec::new(alloc),
@@ -49,6 +52,12 @@ impl Script {
         } else {
             Err(Trouble::Line("such a line stands above the first exchange"))
         }
+    }
+
+    /// These statements have made the database.
+    pub fn fill(&mut self, alloc: Global, statements: &str) -> Result<(), AllocError> {
+        self.statements = String::from_str(alloc, statements)?;
+        Ok(())
     }
 
     /// Adds what happens, at each of these files.

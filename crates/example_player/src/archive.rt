@@ -16,6 +16,9 @@ pub trait ExampleArchive: Archive + Drop {
     /// A new archive.
     fn made(alloc: Global) -> Result<Self, Trouble>;
 
+    /// The tables that these statements of SQL make, on which no archive was opened yet.
+    fn filled(alloc: Global, statements: &str) -> Result<Self::Tables, Trouble>;
+
     /// Closes it.
     fn closed(self) -> Self::Tables;
 
@@ -25,8 +28,8 @@ pub trait ExampleArchive: Archive + Drop {
     /// The tables, on which no archive opens: that comes to the fault of this name.
     fn unopened(alloc: Global, tables: Self::Tables, fault: &str) -> Result<Self::Tables, Trouble>;
 
-    /// The tables, which a statement has changed.
-    fn changed(tables: Self::Tables, statement: &str) -> Result<Self::Tables, Trouble>;
+    /// The tables, which these statements of SQL have changed.
+    fn changed(tables: Self::Tables, statements: &str) -> Result<Self::Tables, Trouble>;
 
     /// Makes a call of it, and tells in a word what that came to.
     fn answers(

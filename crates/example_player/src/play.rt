@@ -164,6 +164,7 @@ impl<A: ExampleArchive> Play<A> {
             "stops" => self.script.add_faults(Fault::Stops, rest),
             "looks" => self.script.add_looks(self.alloc, rest),
             "config" => self.configures(rest),
+            "store" => self.fills(rest),
             _ if self.script.has_faults() => {
                 Err(Trouble::Line("no such line stands where a file fails or stops"))
             }
@@ -172,6 +173,14 @@ impl<A: ExampleArchive> Play<A> {
             }
             _ => self.between(word, rest),
         }
+    }
+
+    // The statements that make the tables of the archive, before it is opened first.
+    fn fills(&mut self, statements: &str) -> Result<(), Trouble> {
+        self.exchange.is_answered()?;
+        self.side.fill(self.alloc, statements)?;
+        self.script.fill(self.alloc, statements)?;
+        Ok(())
     }
 
     // A part of the configuration: where a file fails or stops it holds from the first exchange on.

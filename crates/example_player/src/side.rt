@@ -41,6 +41,15 @@ impl<A: ExampleArchive> Side<A> {
         }
     }
 
+    /// The archive is to be the one whose tables these statements make. It stays closed until it is needed.
+    pub fn fill(&mut self, alloc: Global, statements: &str) -> Result<(), Trouble> {
+        if !matches!(self, Side::New) {
+            return Err(Trouble::Line("a store stands above all that is played"));
+        }
+        self.change_to(Side::Closed(A::filled(alloc, statements)?));
+        Ok(())
+    }
+
     /// Opens a hub over the archive, where none is there yet.
     pub fn open(&mut self, alloc: Global, settings: &Settings) -> Result<(), Trouble> {
         if let Side::New | Side::Closed(_) | Side::Archive(_) = self {

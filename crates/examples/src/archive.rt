@@ -11,7 +11,7 @@ use dep_decisions::Operation;
 use dep_moment::Moment;
 use dep_schema::OpenFault;
 use dep_server::Archive;
-use dep_store::Store;
+use dep_store::{Store, Unwatched};
 use dep_types::{Config, Outlet, StoreFault, StreamFault};
 use example_player::ExampleArchive;
 use example_text::{ArchiveCall, Page, Trouble};
@@ -57,6 +57,10 @@ impl ExampleArchive for MemoryArchive {
         MemoryArchive::opened(alloc, Connection::open_in_memory(alloc)?)
     }
 
+    fn filled(alloc: Global, statements: &str) -> Result<Connection<MemStore>, Trouble> {
+        MemoryArchive::changed(Connection::open_in_memory(alloc)?, statements)
+    }
+
     fn closed(self) -> Connection<MemStore> {
         self.store.close()
     }
@@ -91,9 +95,9 @@ impl ExampleArchive for MemoryArchive {
 
     fn changed(
         mut connection: Connection<MemStore>,
-        statement: &str,
+        statements: &str,
     ) -> Result<Connection<MemStore>, Trouble> {
-        match execute(&mut connection, statement) {
+        match execute(&mut connection, statements) {
             Ok(()) => Ok(connection),
             Err(why) => {
                 drop(connection);
@@ -118,7 +122,7 @@ fn open(
     connection: Connection<MemStore>,
 ) -> Result<Store<MemStore>, (OpenFault, Connection<MemStore>)> {
     if connection.is_autocommit() {
-        Store::open(alloc, connection)
+        Store::open(alloc, connection, &mut Unwatched)
     } else {
         Err((OpenFault::Store, connection))
     }
@@ -139,10 +143,10 @@ fn is_fault(alloc: Global, came: OpenFault, fault: &str) -> Result<(), Trouble> 
     )?))
 }
 
-fn execute(connection: &mut Connection<MemStore>, statement: &str) -> Result<(), Trouble> {
-    match connection.execute(statement, &[]) {
-        Ok(_) if connection.is_autocommit() => Ok(()),
-        Ok(_) => Err(Trouble::Line("the statement left a transaction open")),
+fn execute(connection: &mut Connection<MemStore>, statements: &str) -> Result<(), Trouble> {
+    match connection.execute_batch(statements) {
+        Ok(()) if connection.is_autocommit() => Ok(()),
+        Ok(()) => Err(Trouble::Line("the statement left a transaction open")),
         Err(Error::SqliteFailure(ErrorCode::OutOfMemory)) => Err(Trouble::Memory),
         Err(_) => Err(Trouble::Line("the statement fails")),
     }

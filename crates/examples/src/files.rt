@@ -1,6 +1,6 @@
 //! The files of an archive, in memory.
 
-use dep_store::Store;
+use dep_store::{Store, Unwatched};
 use example_faults::{Fault, FaultPlay, FaultyFile, FaultyFiles};
 use example_text::Trouble;
 use sqlite::{Alter, Connection, Files, Options};
@@ -14,17 +14,27 @@ pub struct MemoryFiles {
 }
 
 impl FaultyFiles for MemoryFiles {
-    fn made(alloc: Global, file: FaultyFile, calls: u64) -> MemoryFiles {
+    fn made(alloc: Global, statements: &str) -> Result<MemoryFiles, Trouble> {
+        let files = Files {
+            log: Fuse::new(Memory::new(alloc), u64::MAX),
+            db: Fuse::new(Memory::new(alloc), u64::MAX),
+        };
+        Ok(MemoryFiles {
+            files: filled(alloc, files, statements)?,
+        })
+    }
+
+    fn copied(&self, alloc: Global, file: FaultyFile, calls: u64) -> Result<MemoryFiles, Trouble> {
         let (log, db) = match file {
             FaultyFile::Log => (calls, u64::MAX),
             FaultyFile::Database => (u64::MAX, calls),
         };
-        MemoryFiles {
+        Ok(MemoryFiles {
             files: Files {
-                log: Fuse::new(Memory::new(alloc), log),
-                db: Fuse::new(Memory::new(alloc), db),
+                log: copied(alloc, &self.files.log, log)?,
+                db: copied(alloc, &self.files.db, db)?,
             },
-        }
+        })
     }
 
     fn played(self, alloc: Global, play: &mut FaultPlay<'_>) -> MemoryFiles {
@@ -39,12 +49,7 @@ impl FaultyFiles for MemoryFiles {
 
     fn left(mut self, alloc: Global, fault: Fault) -> Result<MemoryFiles, Trouble> {
         match fault {
-            Fault::Fails => Ok(MemoryFiles {
-                files: Files {
-                    log: copied(alloc, &self.files.log)?,
-                    db: copied(alloc, &self.files.db)?,
-                },
-            }),
+            Fault::Fails => self.copied(alloc, FaultyFile::Log, u64::MAX),
             Fault::Stops => {
                 self.files.log.crash();
                 self.files.db.crash();
@@ -54,17 +59,45 @@ impl FaultyFiles for MemoryFiles {
     }
 }
 
+// How each database is opened: with one seed for the salts of its log.
+fn options() -> Options {
+    Options::new(1)
+}
+
 fn is_spent(file: &mut Fuse<Memory>) -> bool {
     !file.may_be_used() || file.len().is_err()
 }
 
-// A file with the same bytes, whose calls go through.
-fn copied(alloc: Global, file: &Fuse<Memory>) -> Result<Fuse<Memory>, Trouble> {
+// A file with the same bytes, all synced, of which so many calls go through.
+fn copied(alloc: Global, file: &Fuse<Memory>, calls: u64) -> Result<Fuse<Memory>, Trouble> {
     let mut copy = Memory::new(alloc);
     if copy.write_at(0, file.inner().bytes()).is_err() || copy.sync().is_err() {
         return Err(Trouble::Memory);
     }
-    Ok(Fuse::new(copy, u64::MAX))
+    Ok(Fuse::new(copy, calls))
+}
+
+// The files, whose database these statements have made, where there are any. The log is empty then, unless memory was refused.
+fn filled(
+    alloc: Global,
+    files: Files<Fuse<Memory>>,
+    statements: &str,
+) -> Result<Files<Fuse<Memory>>, Trouble> {
+    if statements.is_empty() || !files.may_be_used() {
+        return Ok(files);
+    }
+    let Ok(mut connection) = Connection::open_files(alloc, files, options()) else {
+        return Err(Trouble::Memory);
+    };
+    let executed = connection.execute_batch(statements);
+    let files = match connection.close_files() {
+        Ok(files) => files,
+        Err((_, store)) => store.close(),
+    };
+    if executed.is_err() {
+        return Err(Trouble::Memory);
+    }
+    Ok(files)
 }
 
 fn played_in(
@@ -75,7 +108,7 @@ fn played_in(
     if !files.may_be_used() {
         return files;
     }
-    match Connection::open_files(alloc, files, Options::new(1)) {
+    match Connection::open_files(alloc, files, options()) {
         Ok(connection) => played_on(alloc, connection, play).into_store().close(),
         Err((_, left)) => left.into_files(),
     }
@@ -90,7 +123,7 @@ fn played_on<S: Alter + Drop>(
     if !connection.is_autocommit() {
         return connection;
     }
-    match Store::open(alloc, connection) {
+    match Store::open(alloc, connection, &mut Unwatched) {
         Ok(store) => play.plays(store).close(),
         Err((_, connection)) => connection,
     }

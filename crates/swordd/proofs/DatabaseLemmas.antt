@@ -9,12 +9,12 @@ use Rattle.sqlite_trees.specs.declared.store.Store.{Ghosts}
 use Rattle.dep_types.specs.State.{State, empty_state}
 use Rattle.dep_types.specs.Config.{IsChecked}
 use Rattle.dep_types.specs.declared.config.Config.{Config}
-use Rattle.dep_schema.specs.Standing.{HoldsNone, IsBack}
+use Rattle.dep_schema.specs.Standing.{HoldsNone}
 use Rattle.dep_schema.specs.States.{StandsFor, IsLeftAs, Leaves}
 use Rattle.dep_schema.proofs.Transacting.{IsSettled, leaves_as_was}
 use Rattle.dep_schema.specs.declared.opening.OpenFault.{OpenFault}
 use Rattle.dep_store.specs.Archive.{condition_of}
-use Rattle.dep_store.specs.Opening.{OpenLeaves}
+use Rattle.dep_upgrading.specs.Migrating.{Keeps, OpenLeaves}
 use Rattle.dep_store.specs.Starting.{OpeningLeaves}
 use Rattle.dep_store.specs.declared.starting.StartFault.{StartFault}
 use Rattle.dep_store.specs.declared.starting.StartFault.TheVariants as fault
@@ -39,7 +39,7 @@ opening_left old new leaves = record {
 -- between transactions a database that is left alone is as it was committed
 pub left_alone : (d : db.State) → (IsTrue d.is_open → IsSettled d) → (IsTrue d.is_open → d.now ≡ d.committed) → IsRefused d d
 left_alone d settled between = record {
-  back = λ is_open. (between is_open, refl);
+  back = λ is_open. inl (between is_open, refl);
   stop = record {
     fresh = λ clean is_open none trees h. inl (subst HoldsNone (sym (same is_open trees h)) none);
     found = λ clean is_open s left trees h. (s, subst (λ (t : Trees). IsLeftAs t s) (sym (same is_open trees h)) left, refl);
@@ -120,11 +120,11 @@ module _ (given new : db.State) (clean : IsTrue new.is_open → HasCleanDisk new
 
   -- no hub was made
   pub fails : (config : Config) (count : ℕ) (start : StartFault)
-      → ((f : OpenFault) → start ≡ fault.Open f → IsTrue new.is_open → IsBack given new)
+      → ((f : OpenFault) → start ≡ fault.Open f → IsTrue new.is_open → Keeps given new)
       → ((f : HubFault) → start ≡ fault.Hub f → IsKeptFor given new)
       → (start ≡ fault.Hub refused.Config → ¬ IsChecked config)
       → ServesDatabase config count given new (outcome_of_start start)
-  fails config count (fault.Open f) left kept refuses = not_opened (record { back = left f refl; stop = stop })
+  fails config count (fault.Open f) left kept refuses = not_opened (record { back = λ is_open. inr (left f refl is_open); stop = stop })
   fails config count (fault.Hub refused.Config) left kept refuses = unchecked (refuses refl) (kept_refused (kept refused.Config refl))
   fails config count (fault.Hub refused.Memory) left kept refuses = not_begun (kept_refused (kept refused.Memory refl))
 

@@ -1,12 +1,12 @@
 -- What is made of the database of a store that is opened and served, and what a stop then leaves of it.
-use Rattle.std.specs.Prelude.{ℕ, List, [], ◌∷◌, ◌++◌, All, IsTrue}
+use Rattle.std.specs.Prelude.{◌⊎◌, ℕ, List, [], ◌∷◌, ◌++◌, All, IsTrue}
 use Rattle.sqlite.specs.State as db
 use Rattle.dep_types.specs.State.{State, empty_state}
 use Rattle.dep_types.specs.Config.{IsChecked}
 use Rattle.dep_types.specs.declared.config.Config.{Config}
 use Rattle.dep_schema.specs.Standing.{HoldsNone, IsBack}
 use Rattle.dep_schema.specs.States.{StandsFor, IsLeftAs, Leaves}
-use Rattle.dep_store.specs.Opening.{OpenLeaves}
+use Rattle.dep_upgrading.specs.Migrating.{Keeps, OpenLeaves}
 use Rattle.dep_store.specs.declared.starting.StartFault.{StartFault}
 use Rattle.dep_store.specs.declared.starting.StartFault.TheVariants as fault
 use Rattle.dep_server.specs.declared.faults.HubFault.TheVariants as refused
@@ -23,9 +23,10 @@ pub record IsKept (old new : db.State) : Type 0 where
   pub found : IsTrue new.is_open → (s : State) → IsLeftAs old.now.trees s → StandsFor new s
   pub stop : OpenLeaves old new
 
--- it was not opened as a store: it is as it was committed, and what a stop leaves is that of an open
+-- It was not opened as a store: it is as it was committed, or keeps what an open that failed keeps. What a stop leaves
+-- is that of an open.
 pub record IsRefused (old new : db.State) : Type 0 where
-  pub back : IsTrue new.is_open → IsBack old new
+  pub back : IsTrue new.is_open → IsBack old new ⊎ Keeps old new
   pub stop : OpenLeaves old new
 
 -- these records led from the first state to the one for which it stands; with a stop they lead to what a stop leaves

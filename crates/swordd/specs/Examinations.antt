@@ -6,7 +6,9 @@ use Rattle.std.specs.declared.io.ErrorKind.{ErrorKind}
 use Rattle.std.specs.declared.io.ErrorKind.TheVariants.{OutOfMemory}
 use Rattle.dep_types.specs.State.{State, empty_state}
 use Rattle.dep_tables.specs.Tables.{Tables}
-use Rattle.dep_schema.specs.Standing.{Holds, HoldsNone, Stands}
+use Rattle.dep_tables.specs.Versions.{our_version, older_version, HasVersion}
+use Rattle.dep_schema.specs.Standing.{Holds, HoldsOlder, HoldsNone, Stands}
+use Rattle.dep_upgrading.specs.Migrating.{IsUpgraded}
 use Rattle.dep_schema.specs.States.{TablesStandFor, IsLeftAs}
 use Rattle.dep_store.specs.Audits.{Audits}
 use Rattle.dep_store.specs.Exports.{Exports}
@@ -18,18 +20,32 @@ use Rattle.swordd.specs.Databases.{IsKept, IsRefused}
 abbrev pub Stays : (old new : db.State) → Outcome → Type 0
 Stays old new outcome = IsKept old new ⊎ ((outcome ≡ StoreFault) × IsRefused old new)
 
--- so do tables that stand for no state
+-- so do tables that stand for no state, and those of version 1 are now of version 2
+pub record AreOpened (old new : db.State) : Type 0 where
+  pub newest : IsTrue new.is_open → (t : Tables) → Holds old.now.trees t
+      → HasVersion our_version t → Stands new t
+  pub older : IsTrue new.is_open → (t : Tables) → HoldsOlder old.now.trees t
+      → HasVersion older_version t → (after : Tables) × Stands new after × IsUpgraded t after
+
 abbrev pub TablesStay : (old new : db.State) → Outcome → Type 0
 TablesStay old new outcome =
-    (IsTrue new.is_open → (t : Tables) → Holds old.now.trees t → Stands new t)
-    ⊎ ((outcome ≡ StoreFault) × IsRefused old new)
+    AreOpened old new ⊎ ((outcome ≡ StoreFault) × IsRefused old new)
+
+-- it was written of the tables that those of version 1 become, or nothing was
+abbrev pub AuditsOlder : Tables → (written : List ℕ) → Outcome → Type 0
+AuditsOlder t written outcome =
+    ((after : Tables) × IsUpgraded t after × Audits after written outcome)
+    ⊎ ((written ≡ []) × (outcome ≡ StoreFault))
 
 -- What is written is what an audit of the tables writes, by its outcome; of an empty database that of the initial
 -- state.
 pub record AuditsDatabase (old new : db.State) (written : List ℕ) (outcome : Outcome) : Type 0 where
   pub fresh : HasCleanDisk new → HoldsNone old.now.trees
       → (t : Tables) × TablesStandFor t empty_state × Audits t written outcome
-  pub found : HasCleanDisk new → (t : Tables) → Holds old.now.trees t → Audits t written outcome
+  pub found : HasCleanDisk new → (t : Tables) → Holds old.now.trees t → HasVersion our_version t
+      → Audits t written outcome
+  pub older : HasCleanDisk new → (t : Tables) → HoldsOlder old.now.trees t
+      → HasVersion older_version t → AuditsOlder t written outcome
   pub stays : Stays old new outcome
   pub tables : TablesStay old new outcome
 

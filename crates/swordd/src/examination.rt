@@ -12,6 +12,7 @@ ghost use Rattle.swordd.specs.Examinations.{AuditsDatabase, ExportsInto, Exports
 
 use crate::folder::Folder;
 use crate::folder_sink::FolderSink;
+use crate::progress::Progress;
 use dep_program::Outcome;
 use dep_store::{Store, Watch, audit_all, export_object};
 use dep_types::Outlet;
@@ -34,7 +35,7 @@ pub fn audit_database<S: Alter, W: Outlet, P: Watch>(
     ensures cause { result.0 ≡ Outcome.TransferFault
         → HasRisen (W.failures lines.old) (W.failures lines.new) }
 {
-    match Store::open(alloc, connection) {
+    match Store::open(alloc, connection, watch) {
         Ok(mut store) => {
             let outcome = audit_all(alloc, &mut store, lines, watch);
             (outcome, store.close())
@@ -57,7 +58,7 @@ pub fn export_database<S: Alter>(
     ensures open { IsTrue (state S.Store result.1).is_open
         → IsTrue (state S.Store connection).is_open }
 {
-    match Store::open(rt.alloc(), connection) {
+    match Store::open(rt.alloc(), connection, &mut Progress::new(rt)) {
         Ok(mut store) => {
             let outcome = export_into(rt, &mut store, object, folder);
             (outcome, store.close())

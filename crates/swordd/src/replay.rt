@@ -11,7 +11,7 @@ use dep_moment::Moment;
 use dep_program::{Outcome, configuration};
 use dep_schema::OpenFault;
 use dep_server::{Hub, HubFault, Served, serve_connection};
-use dep_store::Store;
+use dep_store::{Store, Unwatched};
 use dep_types::{Inlet, Outlet};
 use sqlite::{Connection, MemStore};
 use std::alloc::Global;
@@ -55,7 +55,7 @@ fn new_store(alloc: Global) -> Result<Store<MemStore>, OpenFault>
     let Ok(connection) = Connection::open_in_memory(alloc) else {
         return Err(OpenFault::Memory);
     };
-    match Store::open(alloc, connection) {
+    match Store::open(alloc, connection, &mut Unwatched) {
         Ok(store) => Ok(store),
         Err((fault, _)) => Err(fault),
     }

@@ -7,19 +7,24 @@ ghost use Rattle.swordd.specs.Databases.{ServesDatabase, outcome_of_start};
 
 use dep_program::{Door, Outcome, configuration_at, serve_at};
 use dep_server::HubFault;
-use dep_store::{StartFault, open_hub};
+use dep_store::{StartFault, Watch, open_hub};
 use sqlite::{Alter, Connection};
 use std::alloc::Global;
 use std::net::{Net, TcpListener, TcpStream};
 use std::time::Clock;
 
 /// Opens the store in the database, serves so many connections of 127.0.0.1 at the port, one after another, and hands
-/// the database back.
-pub fn serve_database<R: Net<Listener = TcpListener, Stream = TcpStream> + Clock, S: Alter>(
+/// the database back. The watch is told of what is read where version 1 becomes version 2.
+pub fn serve_database<
+    R: Net<Listener = TcpListener, Stream = TcpStream> + Clock,
+    S: Alter,
+    W: Watch,
+>(
     rt: &R,
     alloc: Global,
     door: Door,
     connection: Connection<S>,
+    watch: &mut W,
 ) -> (Outcome, Connection<S>)
     requires settled { (state S.Store connection).in_transaction ≡ false }
     ensures serves { ServesDatabase (program_config (base_at door.port)) door.count
@@ -33,7 +38,7 @@ pub fn serve_database<R: Net<Listener = TcpListener, Stream = TcpStream> + Clock
     let Ok(config) = configuration_at(alloc, u64::from(door.port)) else {
         return (Outcome::StoreFault, connection);
     };
-    match open_hub(alloc, config, connection) {
+    match open_hub(alloc, config, connection, watch) {
         Ok(mut hub) => {
             let outcome = serve_at(rt, alloc, door, &mut hub);
             (outcome, hub.into_store().close())

@@ -35,7 +35,9 @@ fn worked<S: Alter>(
     ensures works { WorksOn job.entry (state S.Store connection) (state S.Store result.1) result.0 }
 {
     match job {
-        Job::Serve(door) => serve_database(rt, rt.alloc(), door, connection),
+        Job::Serve(door) => {
+            serve_database(rt, rt.alloc(), door, connection, &mut Progress::new(rt))
+        }
         Job::Export { object, folder } => export_database(rt, connection, object, folder),
         Job::Audit => audit_database(
             rt.alloc(),

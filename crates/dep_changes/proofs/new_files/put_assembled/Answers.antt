@@ -13,13 +13,13 @@ returns-in_err-upload-clause-map g c clean inside ours s are o u it numbers at_o
 pub returns-in_err-upload-clause-ours : goal.returns-in_err-upload-clause-ours
 returns-in_err-upload-clause-ours g c clean inside ours = IfOk-from_err c.from_residual.result _ c.from_residual.ensures.0
 
-pub returns-in_err-new_row-clause-map : goal.returns-in_err-new_row-clause-map
-returns-in_err-new_row-clause-map g c clean inside ours s are o u it numbers at_o at_u whole seen =
-    IfOk-from_err c.from_residual-in_err-new_row.result _ c.from_residual-in_err-new_row.ensures.0
+pub returns-in_err-row-clause-map : goal.returns-in_err-row-clause-map
+returns-in_err-row-clause-map g c clean inside ours s are o u it numbers at_o at_u whole seen =
+    IfOk-from_err c.from_residual-in_err-row.result _ c.from_residual-in_err-row.ensures.0
 
-pub returns-in_err-new_row-clause-ours : goal.returns-in_err-new_row-clause-ours
-returns-in_err-new_row-clause-ours g c clean inside ours =
-    IfOk-from_err c.from_residual-in_err-new_row.result _ c.from_residual-in_err-new_row.ensures.0
+pub returns-in_err-row-clause-ours : goal.returns-in_err-row-clause-ours
+returns-in_err-row-clause-ours g c clean inside ours =
+    IfOk-from_err c.from_residual-in_err-row.result _ c.from_residual-in_err-row.ensures.0
 
 pub returns-clause-ours : goal.returns-clause-ours
 returns-clause-ours g c = c.assemble.ensures.ours
@@ -30,15 +30,15 @@ returns-clause-stays g c = c.assemble.ensures.stays
 pub returns-in_err-upload-clause-cause : goal.returns-in_err-upload-clause-cause
 returns-in_err-upload-clause-cause g c storable clean inside = let whole = storable.3 in absurd (c.in_err-upload.ensures.absent whole.upload whole.it whole.told)
 
-pub returns-in_err-new_row-clause-cause : goal.returns-in_err-new_row-clause-cause
-returns-in_err-new_row-clause-cause g c storable clean inside =
-    if_err_is _ c.from_residual-in_err-new_row.result c.in_err-new_row.field-0.0 c.from_residual-in_err-new_row.ensures.1
-    (fails_first g.T.Statements.state c.args.tx.now c.args.tx.now (FailsHolding ⊤) _ (memory tt c.in_err-new_row.ensures.cause))
+pub returns-in_err-row-clause-cause : goal.returns-in_err-row-clause-cause
+returns-in_err-row-clause-cause g c storable clean inside =
+    if_err_is _ c.from_residual-in_err-row.result c.in_err-row.field-0.0 c.from_residual-in_err-row.ensures.1
+    (fails_first g.T.Statements.state c.args.tx.now c.args.tx.now (FailsHolding ⊤) _ (memory tt c.in_err-row.ensures.cause))
 
 pub returns-clause-cause : goal.returns-clause-cause
 returns-clause-cause g c storable clean inside =
     let view = c.args.change.now.view.now in
     let whole = storable.3 in
     let upload = whole_fits c.in_ok-upload.upload.row whole.upload whole.it whole.fits (c.in_ok-upload.ensures.told whole.upload whole.it whole.told).0 in
-    let fits = new_row_fits view storable.0 c.in_ok-new_row.field-0 storable.1 storable.2 upload.size c.in_ok-new_row.ensures.told in
+    let fits = new_row_fits view storable.0 c.in_ok-row.row storable.1 storable.2 upload.size c.in_ok-row.ensures.told in
     caused_among g.T.Statements.state FailsByStatement (FailsHolding ⊤) (by_statement ⊤) c.assemble.result c.args.tx.now c.assemble.new.tx (c.assemble.ensures.cause (upload, fits) clean inside)

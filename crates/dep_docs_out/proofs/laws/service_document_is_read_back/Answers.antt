@@ -55,7 +55,7 @@ returns c = λ config texts limits.
                         abstract_text,
                         (
                           tt,
-                          (tt, tt),
+                          (tt, (tt, tt)),
                           (
                             tt,
                             tt,

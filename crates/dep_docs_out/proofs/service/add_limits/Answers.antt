@@ -10,7 +10,7 @@ returns c =
     c.in_ok-flag.ensures
     ⨾ rw c.as_str.ensures at c.in_ok-text.ensures
     ⨾ rw c.as_str-2.ensures at c.in_ok-text-2.ensures
-    ⨾ c.in_ok-only.ensures
+    ⨾ c.in_ok-add_digests.ensures
     ⨾ c.in_ok-whole_number.ensures
     ⨾ c.in_ok-whole_number-2.ensures
     ⨾ e) c.whole_number-3.ensures

@@ -6,7 +6,7 @@ use Rattle.dep_tables.proofs.Chains.{clean_before, stays_then, stays_ok, stays_e
 use Rattle.dep_tables.specs.Tables.{tables_of}
 use Rattle.dep_types.specs.declared.rows.FileRow.{FileRow}
 use Rattle.dep_row_maps.specs.Causes.{FailsByStatement}
-use Rattle.dep_row_maps.specs.Causes.FailsByStatement.{blocks_deleted}
+use Rattle.dep_row_maps.specs.Causes.FailsByStatement.{blocks_deleted, sha512_deleted}
 use Rattle.dep_row_maps.proofs.Causes.{fails_then, if_err_is}
 use Rattle.dep_files.proofs.Results.{fails_behind}
 use Rattle.dep_files.proofs.FileCalls.{one_more_gone}
@@ -16,15 +16,18 @@ pub rows-preserved : goal.rows-preserved
 rows-preserved g c =
     let old = g.T.Statements.state c.args.tx.now in
     let mid = g.T.Statements.state c.rows.tx in
-    let new = g.T.Statements.state c.delete_blocks.new.tx in
+    let one = g.T.Statements.state c.delete_blocks.new.tx in
+    let new = g.T.Statements.state c.delete_sha512.new.tx in
     let inv = c.rows.invariant in
     let within : c.rows.row-index < length c.args.rows.now = omega arith in (
-      stays_ok (stays_then inv.0 c.in_ok-delete_blocks.ensures.stays),
+      stays_ok (stays_then (stays_then inv.0 c.in_ok-delete_blocks.ensures.stays) c.in_ok-delete_sha512.ensures.stays),
       λ clean inside ours.
-          let before = clean_before c.delete_blocks.ensures.stays clean in
+          let clean_one = clean_before c.delete_sha512.ensures.stays clean in
+          let before = clean_before c.delete_blocks.ensures.stays clean_one in
           let was = inv.1 before inside ours in
-          let leads = c.in_ok-delete_blocks.ensures.ok clean (inv.0.inside before inside) was.ours in
-          record { ours = leads.ours; rows = one_more_gone (tables_of old) (tables_of mid) (tables_of new) c.args.rows.now c.rows.row-index _ within c.row-item.is was.rows leads.rows },
+          let first = c.in_ok-delete_blocks.ensures.ok clean_one (inv.0.inside before inside) was.ours in
+          let second = c.in_ok-delete_sha512.ensures.ok clean first.shows.mode first.ours in
+          record { ours = second.ours; rows = one_more_gone (tables_of old) (tables_of mid) (tables_of one) (tables_of new) c.args.rows.now c.rows.row-index _ within c.row-item.is was.rows first.rows second.rows },
     )
 
 pub returns-in_err-delete_blocks-clause-stays : goal.returns-in_err-delete_blocks-clause-stays
@@ -33,6 +36,14 @@ returns-in_err-delete_blocks-clause-stays g c = stays_err c.from_residual.ensure
 pub returns-in_err-delete_blocks-clause-err : goal.returns-in_err-delete_blocks-clause-err
 returns-in_err-delete_blocks-clause-err g c clean inside is_open =
     if_failed _ (fails_behind c.rows.invariant.0 c.in_err-delete_blocks.ensures.stays c.in_err-delete_blocks.ensures.err clean inside is_open)
+
+pub returns-in_err-delete_sha512-clause-stays : goal.returns-in_err-delete_sha512-clause-stays
+returns-in_err-delete_sha512-clause-stays g c =
+    stays_err c.from_residual-in_err-delete_sha512.ensures.0 (stays_then (stays_then c.rows.invariant.0 c.in_ok-delete_blocks.ensures.stays) c.delete_sha512.ensures.stays)
+
+pub returns-in_err-delete_sha512-clause-err : goal.returns-in_err-delete_sha512-clause-err
+returns-in_err-delete_sha512-clause-err g c clean inside is_open =
+    if_failed _ (fails_behind (stays_then c.rows.invariant.0 c.in_ok-delete_blocks.ensures.stays) c.in_err-delete_sha512.ensures.stays c.in_err-delete_sha512.ensures.err clean inside is_open)
 
 pub returns-clause-ok : goal.returns-clause-ok
 returns-clause-ok g c = rw (take_all c.rows.row-index c.args.rows.now c.rows-test.false) at c.rows.invariant.1
@@ -48,3 +59,15 @@ returns-in_err-delete_blocks-clause-cause g c storable clean inside =
     let below = subst (λ (r : FileRow). r.file < 2 ^ 63) (sym c.row-item.is) (All-get_or (λ (r : FileRow). r.file < 2 ^ 63) c.args.rows.now c.rows.row-index _ within storable) in
     if_err_is _ c.from_residual.result c.in_err-delete_blocks.field-0.0 c.from_residual.ensures.1 (fails_then g.T.Statements.state old mid new inv.0.survives FailsByStatement _
     (blocks_deleted _ (c.in_err-delete_blocks.ensures.cause below clean (inv.0.inside before inside))))
+
+pub returns-in_err-delete_sha512-clause-cause : goal.returns-in_err-delete_sha512-clause-cause
+returns-in_err-delete_sha512-clause-cause g c storable clean inside =
+    let old = c.args.tx.now in
+    let one = c.delete_blocks.new.tx in
+    let new = c.delete_sha512.new.tx in
+    let stays = stays_then c.rows.invariant.0 c.in_ok-delete_blocks.ensures.stays in
+    let before = clean_before c.delete_sha512.ensures.stays clean in
+    let within : c.rows.row-index < length c.args.rows.now = omega arith in
+    let below = subst (λ (r : FileRow). r.file < 2 ^ 63) (sym c.row-item.is) (All-get_or (λ (r : FileRow). r.file < 2 ^ 63) c.args.rows.now c.rows.row-index _ within storable) in
+    if_err_is _ c.from_residual-in_err-delete_sha512.result c.in_err-delete_sha512.field-0.0 c.from_residual-in_err-delete_sha512.ensures.1 (fails_then g.T.Statements.state old one new stays.survives FailsByStatement _
+    (sha512_deleted _ (c.in_err-delete_sha512.ensures.cause below clean (stays.inside before inside))))

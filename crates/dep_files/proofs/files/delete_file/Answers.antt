@@ -1,8 +1,8 @@
 use Rattle.dep_tables.specs.Tables.{tables_of}
-use Rattle.dep_tables.proofs.Results.{ok_then}
-use Rattle.dep_tables.proofs.Chains.{clean_before, stays_then}
+use Rattle.dep_tables.proofs.Results.{ok_then, if_failed}
+use Rattle.dep_tables.proofs.Chains.{clean_before, stays_then, stays_err}
 use Rattle.dep_row_maps.specs.Causes.{FailsByStatement}
-use Rattle.dep_row_maps.specs.Causes.FailsByStatement.{blocks_deleted, file_deleted}
+use Rattle.dep_row_maps.specs.Causes.FailsByStatement.{blocks_deleted, file_deleted, sha512_deleted}
 use Rattle.dep_row_maps.proofs.Causes.{fails_first, fails_then, if_err_then, if_err_is, never_failed}
 use Rattle.dep_files.proofs.Results.{fails_behind}
 use Rattle.dep_files.proofs.FileCalls.{file_gone, file_absent}
@@ -11,42 +11,71 @@ use Rattle.dep_files.proofs.files.delete_file.Goals as goal
 pub returns-clause-map : goal.returns-clause-map
 returns-clause-map g c clean inside ours s are n o it there has =
     let old = g.T.Statements.state c.args.tx.now in
-    let mid = g.T.Statements.state c.delete_blocks.new.tx in
+    let one = g.T.Statements.state c.delete_blocks.new.tx in
+    let two = g.T.Statements.state c.delete_sha512.new.tx in
     let new = g.T.Statements.state c.delete_file.new.tx in
-    let before = clean_before c.delete_file.ensures.stays clean in
-    let first = c.in_ok-delete_blocks.ensures.ok before inside ours in
-    ok_then c.delete_file.result (c.delete_file.ensures.ok clean first.shows.mode first.ours)
-    (λ leads. file_gone (tables_of old) (tables_of mid) (tables_of new) s c.args.file n o it are ours.trees.ordered.1.1.1.1.0 there has first.rows leads.rows)
+    let clean_two = clean_before c.delete_file.ensures.stays clean in
+    let clean_one = clean_before c.delete_sha512.ensures.stays clean_two in
+    let first = c.in_ok-delete_blocks.ensures.ok clean_one inside ours in
+    let second = c.in_ok-delete_sha512.ensures.ok clean_two first.shows.mode first.ours in
+    ok_then c.delete_file.result (c.delete_file.ensures.ok clean second.shows.mode second.ours)
+    (λ leads. file_gone (tables_of old) (tables_of one) (tables_of two) (tables_of new) s c.args.file are ours.trees.ordered.1.1.1.1.0 first.rows second.rows leads.rows n o it there has)
 
 pub returns-clause-absent : goal.returns-clause-absent
 returns-clause-absent g c clean inside ours s are none =
     let old = g.T.Statements.state c.args.tx.now in
-    let mid = g.T.Statements.state c.delete_blocks.new.tx in
+    let one = g.T.Statements.state c.delete_blocks.new.tx in
+    let two = g.T.Statements.state c.delete_sha512.new.tx in
     let new = g.T.Statements.state c.delete_file.new.tx in
-    let before = clean_before c.delete_file.ensures.stays clean in
-    let first = c.in_ok-delete_blocks.ensures.ok before inside ours in
-    ok_then c.delete_file.result (c.delete_file.ensures.ok clean first.shows.mode first.ours)
-    (λ leads. file_absent (tables_of old) (tables_of mid) (tables_of new) s c.args.file are ours.trees.ordered.1.1.1.1.0 none first.rows leads.rows)
+    let clean_two = clean_before c.delete_file.ensures.stays clean in
+    let clean_one = clean_before c.delete_sha512.ensures.stays clean_two in
+    let first = c.in_ok-delete_blocks.ensures.ok clean_one inside ours in
+    let second = c.in_ok-delete_sha512.ensures.ok clean_two first.shows.mode first.ours in
+    ok_then c.delete_file.result (c.delete_file.ensures.ok clean second.shows.mode second.ours)
+    (λ leads. file_absent (tables_of old) (tables_of one) (tables_of two) (tables_of new) s c.args.file are ours.trees.ordered.1.1.1.1.0 first.rows second.rows leads.rows none)
+
+pub returns-in_err-delete_sha512-clause-stays : goal.returns-in_err-delete_sha512-clause-stays
+returns-in_err-delete_sha512-clause-stays g c =
+    stays_err c.from_residual-in_err-delete_sha512.ensures.0 (stays_then c.in_ok-delete_blocks.ensures.stays c.delete_sha512.ensures.stays)
+
+pub returns-in_err-delete_sha512-clause-err : goal.returns-in_err-delete_sha512-clause-err
+returns-in_err-delete_sha512-clause-err g c clean inside is_open =
+    if_failed _ (fails_behind c.in_ok-delete_blocks.ensures.stays c.in_err-delete_sha512.ensures.stays c.in_err-delete_sha512.ensures.err clean inside is_open)
 
 pub returns-clause-stays : goal.returns-clause-stays
-returns-clause-stays g c = stays_then c.in_ok-delete_blocks.ensures.stays c.delete_file.ensures.stays
+returns-clause-stays g c = stays_then (stays_then c.in_ok-delete_blocks.ensures.stays c.in_ok-delete_sha512.ensures.stays) c.delete_file.ensures.stays
 
 pub returns-clause-err : goal.returns-clause-err
-returns-clause-err g c = fails_behind c.in_ok-delete_blocks.ensures.stays c.delete_file.ensures.stays c.delete_file.ensures.err
+returns-clause-err g c =
+    fails_behind (stays_then c.in_ok-delete_blocks.ensures.stays c.in_ok-delete_sha512.ensures.stays) c.delete_file.ensures.stays c.delete_file.ensures.err
 
 pub returns-in_err-delete_blocks-clause-cause : goal.returns-in_err-delete_blocks-clause-cause
 returns-in_err-delete_blocks-clause-cause g c storable clean inside =
     if_err_is _ c.from_residual.result c.in_err-delete_blocks.field-0.0 c.from_residual.ensures.1 (fails_first g.T.Statements.state c.args.tx.now c.delete_blocks.new.tx FailsByStatement _
     (blocks_deleted _ (c.in_err-delete_blocks.ensures.cause storable clean inside)))
 
+pub returns-in_err-delete_sha512-clause-cause : goal.returns-in_err-delete_sha512-clause-cause
+returns-in_err-delete_sha512-clause-cause g c storable clean inside =
+    let old = c.args.tx.now in
+    let one = c.delete_blocks.new.tx in
+    let new = c.delete_sha512.new.tx in
+    let before = clean_before c.delete_sha512.ensures.stays clean in
+    if_err_is _ c.from_residual-in_err-delete_sha512.result c.in_err-delete_sha512.field-0.0 c.from_residual-in_err-delete_sha512.ensures.1
+    (fails_then g.T.Statements.state old one new c.delete_blocks.ensures.stays.survives FailsByStatement _
+    (sha512_deleted _ (c.in_err-delete_sha512.ensures.cause storable clean (c.in_ok-delete_blocks.ensures.stays.inside before inside))))
+
 pub returns-clause-cause : goal.returns-clause-cause
 returns-clause-cause g c storable clean inside =
     let old = c.args.tx.now in
-    let mid = c.delete_blocks.new.tx in
+    let two = c.delete_sha512.new.tx in
     let new = c.delete_file.new.tx in
+    let stays = stays_then c.in_ok-delete_blocks.ensures.stays c.in_ok-delete_sha512.ensures.stays in
     let before = clean_before c.delete_file.ensures.stays clean in
-    if_err_then c.delete_file.result (c.delete_file.ensures.cause storable clean (c.in_ok-delete_blocks.ensures.stays.inside before inside))
-    (λ fault failed. fails_then g.T.Statements.state old mid new c.delete_blocks.ensures.stays.survives FailsByStatement fault (file_deleted _ failed))
+    if_err_then c.delete_file.result (c.delete_file.ensures.cause storable clean (stays.inside before inside))
+    (λ fault failed. fails_then g.T.Statements.state old two new stays.survives FailsByStatement fault (file_deleted _ failed))
+
+pub returns-in_err-delete_sha512-clause-numbers : goal.returns-in_err-delete_sha512-clause-numbers
+returns-in_err-delete_sha512-clause-numbers g c great = never_failed _ _ (c.in_ok-delete_blocks.ensures.numbers great).0
 
 pub returns-clause-numbers : goal.returns-clause-numbers
 returns-clause-numbers g c great = never_failed _ _ (c.in_ok-delete_blocks.ensures.numbers great).0

@@ -1,14 +1,14 @@
-use Rattle.std.proofs.Common.{◌≡◌, ◌<◌, ◌^◌, ap, ◌∙◌, map}
+use Rattle.std.proofs.Common.{◌≡◌, ◌<◌, ◌^◌, List, ap, ◌∙◌, map}
 use Rattle.dep_types.specs.declared.rows.FileRow.{FileRow}
-use Rattle.dep_tables.specs.Tables.{Tables, tables_of}
+use Rattle.dep_tables.specs.Tables.{tables_of}
 use Rattle.dep_tables.proofs.Results.{ok_then, if_failed}
 use Rattle.dep_tables.proofs.Chains.{clean_before, stays_then, stays_err}
 use Rattle.std.proofs.lemmas.List.Elements.{All-same}
+use Rattle.dep_row_maps.specs.Laws.{without_contents}
 use Rattle.dep_row_maps.specs.Causes.{FailsByStatement}
 use Rattle.dep_row_maps.specs.Causes.FailsByStatement.{files_deleted, files_read as rows_read}
 use Rattle.dep_row_maps.proofs.Causes.{fails_first, fails_then, fails_behind_them, if_err_then, if_err_is, never_failed}
 use Rattle.dep_row_maps.proofs.Readings.{files_read}
-use Rattle.dep_files.specs.Edits.{without_contents}
 use Rattle.dep_files.proofs.Results.{still_ours, same_tables, left_whole, fails_behind, uncommitted_behind}
 use Rattle.dep_files.proofs.FileCalls.{files_gone}
 use Rattle.dep_files.proofs.Storable.{storable_files}
@@ -28,9 +28,9 @@ returns-clause-map g c clean inside ours s are o there =
     let found = c.in_ok-rows.rows.items in
     let is = files_read (tables_of old) s are c.args.object found (c.in_ok-rows.ensures.ok clean_one ours) in
     let gone = c.in_ok-delete_contents.ensures.ok clean_two (c.in_ok-rows.ensures.stays.inside clean_one inside) ours_one in
-    let first : tables_of two ≡ record (tables_of old) { blocks = without_contents (map (λ (r : FileRow). r.file) found) (tables_of old).blocks } =
-    gone.rows ∙ ap (λ (fs : _). record (tables_of one) { blocks = without_contents (map (λ (r : FileRow). r.file) fs) (tables_of one).blocks }) c.as_slice.ensures.value
-    ∙ ap (λ (t : Tables). record t { blocks = without_contents (map (λ (r : FileRow). r.file) found) t.blocks }) tables_one in
+    let numbers = λ (rows : List FileRow). map (λ (r : FileRow). r.file) rows in
+    let first : tables_of two ≡ without_contents (numbers found) (tables_of old) =
+    gone.rows ∙ ap (λ rows. without_contents (numbers rows) (tables_of one)) c.as_slice.ensures.value ∙ ap (without_contents (numbers found)) tables_one in
     ok_then c.delete_files.result (c.delete_files.ensures.ok clean (c.in_ok-delete_contents.ensures.stays.inside clean_two (c.in_ok-rows.ensures.stays.inside clean_one inside)) gone.ours)
     (λ leads. files_gone (tables_of old) (tables_of two) (tables_of new) s c.args.object o found are ours.trees.ordered.1.1.1.1.0 there is first leads.rows)
 

@@ -1,4 +1,4 @@
-use Rattle.std.proofs.Common.{◌∙◌, sym}
+use Rattle.std.proofs.Common.{◌∙◌}
 use Rattle.dep_rulings.specs.Memory.{TouchTakesMemory}
 use Rattle.dep_rulings.proofs.Memory.{on_err, touches_uploads}
 use Rattle.dep_rulings.proofs.touched.touches.Goals as goal

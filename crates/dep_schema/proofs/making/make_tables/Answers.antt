@@ -9,24 +9,31 @@ pub returns-clause-gains : goal.returns-clause-gains
 returns-clause-gains g c clean inside =
     let old = g.T.Statements.state c.args.tx.now in
     let mid = g.T.Statements.state c.create_tables.new.tx in
+    let named = g.T.Statements.state c.create_indexes.new.tx in
     let new = g.T.Statements.state c.add_rows.new.tx in
     let made = c.in_ok-create_tables.ensures in
-    let before = clean_before c.add_rows.ensures.stays clean in
-    gains c.add_rows.result old.now mid.now new.now (made.adds before inside) (c.add_rows.ensures.beside clean (made.stays.inside before inside))
+    let both = c.in_ok-create_indexes.ensures in
+    let clean_named = clean_before c.add_rows.ensures.stays clean in
+    let clean_mid = clean_before both.stays clean_named in
+    let inside_mid = made.stays.inside clean_mid inside in
+    gains c.add_rows.result old.now mid.now named.now new.now (made.adds clean_mid inside) (both.adds clean_named inside_mid) (c.add_rows.ensures.beside clean (both.stays.inside clean_named inside_mid))
 
 pub returns-clause-ok : goal.returns-clause-ok
 returns-clause-ok g c clean inside empty =
     first_seen c.add_rows.result (g.T.Statements.state c.args.tx.now) (g.T.Statements.state c.add_rows.new.tx) empty (returns-clause-gains g c clean inside)
 
 pub returns-clause-stays : goal.returns-clause-stays
-returns-clause-stays g c = stays_then c.in_ok-create_tables.ensures.stays c.add_rows.ensures.stays
+returns-clause-stays g c = stays_then (stays_then c.in_ok-create_tables.ensures.stays c.in_ok-create_indexes.ensures.stays) c.add_rows.ensures.stays
 
 pub returns-clause-cause : goal.returns-clause-cause
 returns-clause-cause g c clean inside =
     let made = c.in_ok-create_tables.ensures in
-    let before = clean_before c.add_rows.ensures.stays clean in
-    if_err_then c.add_rows.result (c.add_rows.ensures.cause clean (made.stays.inside before inside))
-    (λ fault failed. inr (c.create_tables.new.tx, made.adds before inside, made.stays.survives, failed))
+    let both = c.in_ok-create_indexes.ensures in
+    let clean_named = clean_before c.add_rows.ensures.stays clean in
+    let clean_mid = clean_before both.stays clean_named in
+    let inside_mid = made.stays.inside clean_mid inside in
+    if_err_then c.add_rows.result (c.add_rows.ensures.cause clean (both.stays.inside clean_named inside_mid))
+    (λ fault failed. inr (c.create_tables.new.tx, made.adds clean_mid inside, made.stays.survives, inr (c.create_indexes.new.tx, both.adds clean_named inside_mid, both.stays.survives, failed)))
 
 -- where one was not made, nothing is said of an Ok
 pub returns-in_err-create_tables : goal.returns-in_err-create_tables
@@ -37,4 +44,19 @@ returns-in_err-create_tables g c =
       gains = λ clean inside. IfOk-from_err c.from_residual.result _ is_err;
       cause = λ clean inside. if_err_told _ c.from_residual.result _ c.from_residual.ensures.1 (inl (c.in_err-create_tables.ensures.cause clean inside));
       stays = stays_err {r = Err c.in_err-create_tables.field-0.0} is_err c.in_err-create_tables.ensures.stays;
+    }
+
+pub returns-in_err-create_indexes : goal.returns-in_err-create_indexes
+returns-in_err-create_indexes g c =
+    let made = c.in_ok-create_tables.ensures in
+    let failed = c.in_err-create_indexes.ensures in
+    let is_err = c.from_residual-in_err-create_indexes.ensures.0 in
+    record {
+      ok = λ clean inside empty. IfOk-from_err c.from_residual-in_err-create_indexes.result _ is_err;
+      gains = λ clean inside. IfOk-from_err c.from_residual-in_err-create_indexes.result _ is_err;
+      cause = λ clean inside.
+          let before = clean_before failed.stays clean in
+          if_err_told _ c.from_residual-in_err-create_indexes.result _ c.from_residual-in_err-create_indexes.ensures.1
+          (inr (c.create_tables.new.tx, made.adds before inside, made.stays.survives, inl (failed.cause clean (made.stays.inside before inside))));
+      stays = stays_err is_err (stays_then {r = Err c.in_err-create_indexes.field-0.0} made.stays failed.stays);
     }

@@ -1,39 +1,25 @@
-use Rattle.std.proofs.Common.{inl, inr, refl, subst, sym}
+use Rattle.std.proofs.Common.{pos, inl, inr, refl, subst, sym}
 use Rattle.std.proofs.lemmas.Bool.{both_ways}
 use Rattle.sqlite.specs.Held.{state}
 use Rattle.dep_schema.specs.Texts.{find_format_text}
-use Rattle.dep_schema.specs.OpenFaults.{AreOurVersion}
+use Rattle.dep_schema.specs.OpenFaults.{AreVersion}
 use Rattle.dep_schema.proofs.Asking.{shown_stays, tells_stay}
-use Rattle.dep_schema.proofs.Version.{found_version, find_stays, none_shown, empty_lacks}
-use Rattle.dep_schema.proofs.Refusing.{lacking_told, ours_told, unchanged_told, finds_told}
+use Rattle.dep_schema.proofs.Version.{found_version, none_known, none_had, find_stays, none_shown, empty_lacks}
+use Rattle.dep_schema.proofs.Refusing.{lacking_told, known_told, version_told, unchanged_told, finds_told}
 use Rattle.dep_schema.proofs.opening.find_format.Goals as goal
 
 pub returns-then-are_known-clause-empty : goal.returns-then-are_known-clause-empty
 returns-then-are_known-clause-empty g c clean empty = absurd (none_shown (state g.S.Store c.args.tx.now.conn.now) (state g.S.Store c.query_all.new.self.conn.now) _ (empty_lacks _ empty) (c.in-Ok.ensures.ok clean))
 
 pub returns-then-are_known-clause-ours : goal.returns-then-are_known-clause-ours
-returns-then-are_known-clause-ours g c clean ours =
-    (refl, (found_version (state g.S.Store c.args.tx.now.conn.now) (state g.S.Store c.query_all.new.self.conn.now) _ ours (c.in-Ok.ensures.ok clean)).0 (subst AreOurVersion c.as_slice.ensures.value (c.are_known.ensures.0 c.if-are_known.true)))
+returns-then-are_known-clause-ours g c clean known =
+    (2, refl, (found_version 2 (state g.S.Store c.args.tx.now.conn.now) (state g.S.Store c.query_all.new.self.conn.now) _ known (c.in-Ok.ensures.ok clean)).0 (subst (AreVersion (pos 2)) c.as_slice.ensures.value (c.are_known.ensures.0 c.if-are_known.true)))
 
 pub returns-then-are_known-clause-same : goal.returns-then-are_known-clause-same
 returns-then-are_known-clause-same g c clean either = elim either [
-  | inl ours ↦ find_stays (state g.S.Store c.args.tx.now.conn.now) (state g.S.Store c.query_all.new.self.conn.now) _ ours (c.in-Ok.ensures.ok clean)
+  | inl known ↦ find_stays (state g.S.Store c.args.tx.now.conn.now) (state g.S.Store c.query_all.new.self.conn.now) _ known (c.in-Ok.ensures.ok clean)
   | inr empty ↦ absurd (none_shown (state g.S.Store c.args.tx.now.conn.now) (state g.S.Store c.query_all.new.self.conn.now) _ (empty_lacks _ empty) (c.in-Ok.ensures.ok clean))
 ]
-
-pub returns-then-are_known-clause-stays : goal.returns-then-are_known-clause-stays
-returns-then-are_known-clause-stays g c = shown_stays g.S.Store c.args.tx.now.conn c.query_all.new.self.conn c.query_all.ensures.same_reference c.query_all.ensures.survives find_format_text _ _ c.in-Ok.ensures.ok
-
-pub returns-in-Ok-clause-empty : goal.returns-in-Ok-clause-empty
-returns-in-Ok-clause-empty g c clean empty said = none_shown (state g.S.Store c.args.tx.now.conn.now) (state g.S.Store c.query_all.new.self.conn.now) _ (empty_lacks _ empty) (c.in-Ok.ensures.ok clean)
-
-pub returns-in-Ok-clause-ours : goal.returns-in-Ok-clause-ours
-returns-in-Ok-clause-ours g c clean ours said version =
-    let known = (found_version (state g.S.Store c.args.tx.now.conn.now) (state g.S.Store c.query_all.new.self.conn.now) _ ours (c.in-Ok.ensures.ok clean)).1 version in
-    both_ways c.are_known.result c.if-are_known.false (c.are_known.ensures.1 (subst AreOurVersion (sym c.as_slice.ensures.value) known))
-
-pub returns-in-Ok-clause-stays : goal.returns-in-Ok-clause-stays
-returns-in-Ok-clause-stays g c = shown_stays g.S.Store c.args.tx.now.conn c.query_all.new.self.conn c.query_all.ensures.same_reference c.query_all.ensures.survives find_format_text _ _ c.in-Ok.ensures.ok
 
 pub returns-then-are_known-clause-lacking : goal.returns-then-are_known-clause-lacking
 returns-then-are_known-clause-lacking g c clean lacks = absurd (none_shown (state g.S.Store c.args.tx.now.conn.now) (state g.S.Store c.query_all.new.self.conn.now) _ lacks (c.in-Ok.ensures.ok clean))
@@ -41,15 +27,63 @@ returns-then-are_known-clause-lacking g c clean lacks = absurd (none_shown (stat
 pub returns-then-are_known-clause-left : goal.returns-then-are_known-clause-left
 returns-then-are_known-clause-left g c clean lacks = absurd (none_shown (state g.S.Store c.args.tx.now.conn.now) (state g.S.Store c.query_all.new.self.conn.now) _ lacks (c.in-Ok.ensures.ok clean))
 
+pub returns-then-are_known-clause-told : goal.returns-then-are_known-clause-told
+returns-then-are_known-clause-told g c clean = (_, c.in-Ok.ensures.ok clean, subst (AreVersion (pos 2)) c.as_slice.ensures.value (c.are_known.ensures.0 c.if-are_known.true))
+
+pub returns-then-are_known-clause-stays : goal.returns-then-are_known-clause-stays
+returns-then-are_known-clause-stays g c = shown_stays g.S.Store c.args.tx.now.conn c.query_all.new.self.conn c.query_all.ensures.same_reference c.query_all.ensures.survives find_format_text _ _ c.in-Ok.ensures.ok
+
+pub returns-then-are_known-2-clause-empty : goal.returns-then-are_known-2-clause-empty
+returns-then-are_known-2-clause-empty g c clean empty = absurd (none_shown (state g.S.Store c.args.tx.now.conn.now) (state g.S.Store c.query_all.new.self.conn.now) _ (empty_lacks _ empty) (c.in-Ok.ensures.ok clean))
+
+pub returns-then-are_known-2-clause-ours : goal.returns-then-are_known-2-clause-ours
+returns-then-are_known-2-clause-ours g c clean known =
+    (1, refl, (found_version 1 (state g.S.Store c.args.tx.now.conn.now) (state g.S.Store c.query_all.new.self.conn.now) _ known (c.in-Ok.ensures.ok clean)).0 (subst (AreVersion (pos 1)) c.as_slice-else-are_known.ensures.value (c.are_known-else-are_known.ensures.0 c.if-are_known-2.true)))
+
+pub returns-then-are_known-2-clause-same : goal.returns-then-are_known-2-clause-same
+returns-then-are_known-2-clause-same g c clean either = elim either [
+  | inl known ↦ find_stays (state g.S.Store c.args.tx.now.conn.now) (state g.S.Store c.query_all.new.self.conn.now) _ known (c.in-Ok.ensures.ok clean)
+  | inr empty ↦ absurd (none_shown (state g.S.Store c.args.tx.now.conn.now) (state g.S.Store c.query_all.new.self.conn.now) _ (empty_lacks _ empty) (c.in-Ok.ensures.ok clean))
+]
+
+pub returns-then-are_known-2-clause-lacking : goal.returns-then-are_known-2-clause-lacking
+returns-then-are_known-2-clause-lacking g c clean lacks = absurd (none_shown (state g.S.Store c.args.tx.now.conn.now) (state g.S.Store c.query_all.new.self.conn.now) _ lacks (c.in-Ok.ensures.ok clean))
+
+pub returns-then-are_known-2-clause-left : goal.returns-then-are_known-2-clause-left
+returns-then-are_known-2-clause-left g c clean lacks = absurd (none_shown (state g.S.Store c.args.tx.now.conn.now) (state g.S.Store c.query_all.new.self.conn.now) _ lacks (c.in-Ok.ensures.ok clean))
+
+pub returns-then-are_known-2-clause-told : goal.returns-then-are_known-2-clause-told
+returns-then-are_known-2-clause-told g c clean = (_, c.in-Ok.ensures.ok clean, subst (AreVersion (pos 1)) c.as_slice-else-are_known.ensures.value (c.are_known-else-are_known.ensures.0 c.if-are_known-2.true))
+
+pub returns-then-are_known-2-clause-stays : goal.returns-then-are_known-2-clause-stays
+returns-then-are_known-2-clause-stays g c = shown_stays g.S.Store c.args.tx.now.conn c.query_all.new.self.conn c.query_all.ensures.same_reference c.query_all.ensures.survives find_format_text _ _ c.in-Ok.ensures.ok
+
+pub returns-in-Ok-clause-empty : goal.returns-in-Ok-clause-empty
+returns-in-Ok-clause-empty g c clean empty said = none_shown (state g.S.Store c.args.tx.now.conn.now) (state g.S.Store c.query_all.new.self.conn.now) _ (empty_lacks _ empty) (c.in-Ok.ensures.ok clean)
+
+pub returns-in-Ok-clause-ours : goal.returns-in-Ok-clause-ours
+returns-in-Ok-clause-ours g c clean known said =
+    none_had (state g.S.Store c.args.tx.now.conn.now) (state g.S.Store c.query_all.new.self.conn.now) _ known (c.in-Ok.ensures.ok clean)
+    (none_known _ (λ shown. both_ways c.are_known.result c.if-are_known.false (c.are_known.ensures.1 (subst (AreVersion (pos 2)) (sym c.as_slice.ensures.value) shown)))
+    (λ shown. both_ways c.are_known-else-are_known.result c.if-are_known-2.false (c.are_known-else-are_known.ensures.1 (subst (AreVersion (pos 1)) (sym c.as_slice-else-are_known.ensures.value) shown))))
+
 pub returns-in-Ok-clause-lacking : goal.returns-in-Ok-clause-lacking
 returns-in-Ok-clause-lacking g c clean lacks said = none_shown (state g.S.Store c.args.tx.now.conn.now) (state g.S.Store c.query_all.new.self.conn.now) _ lacks (c.in-Ok.ensures.ok clean)
 
-pub returns-then-are_known-clause-told : goal.returns-then-are_known-clause-told
-returns-then-are_known-clause-told g c clean = (_, c.in-Ok.ensures.ok clean, subst AreOurVersion c.as_slice.ensures.value (c.are_known.ensures.0 c.if-are_known.true))
-
 pub returns-in-Ok-clause-told : goal.returns-in-Ok-clause-told
 returns-in-Ok-clause-told g c clean =
-    inl (refl, inl (_, c.in-Ok.ensures.ok clean, λ known. both_ways c.are_known.result c.if-are_known.false (c.are_known.ensures.1 (subst AreOurVersion (sym c.as_slice.ensures.value) known))))
+    inl (
+      refl,
+      inl (
+        _,
+        c.in-Ok.ensures.ok clean,
+        none_known _ (λ shown. both_ways c.are_known.result c.if-are_known.false (c.are_known.ensures.1 (subst (AreVersion (pos 2)) (sym c.as_slice.ensures.value) shown)))
+            (λ shown. both_ways c.are_known-else-are_known.result c.if-are_known-2.false (c.are_known-else-are_known.ensures.1 (subst (AreVersion (pos 1)) (sym c.as_slice-else-are_known.ensures.value) shown))),
+      ),
+    )
+
+pub returns-in-Ok-clause-stays : goal.returns-in-Ok-clause-stays
+returns-in-Ok-clause-stays g c = shown_stays g.S.Store c.args.tx.now.conn c.query_all.new.self.conn c.query_all.ensures.same_reference c.query_all.ensures.survives find_format_text _ _ c.in-Ok.ensures.ok
 
 -- an error tells that there is no `format`, or a fault
 pub returns : goal.returns
@@ -60,7 +94,8 @@ returns g c =
     let is = c.told_by.ensures in
     record {
       empty = λ clean empty. lacking_told old new c.in-Err.error c.told_by.result is (failed clean) (empty_lacks _ empty);
-      ours = λ clean ours. ours_told old new c.in-Err.error c.told_by.result is (failed clean) ours;
+      ours = λ clean known. known_told old new c.in-Err.error c.told_by.result is (failed clean) known;
+      known = version_told c.in-Err.error c.told_by.result is;
       lacking = λ clean lacks. lacking_told old new c.in-Err.error c.told_by.result is (failed clean) lacks;
       same = λ clean either. unchanged_told old new c.in-Err.error c.told_by.result is (failed clean);
       left = λ clean lacks. unchanged_told old new c.in-Err.error c.told_by.result is (failed clean);

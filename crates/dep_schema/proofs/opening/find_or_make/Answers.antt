@@ -1,22 +1,23 @@
-use Rattle.std.proofs.Common.{◌≡◌, Err, inl, inr, ap, refl, rules, subst, sym, ◌∙◌}
-use Rattle.std.proofs.lemmas.Bool.{both_ways}
+use Rattle.std.proofs.Common.{◌≡◌, IfSome, Err, inl, inr, ap, refl, rules, subst, sym, ◌∙◌}
 use Rattle.std.proofs.lemmas.Result.{IfOk-from_err}
 use Rattle.sqlite.specs.Effect.{Database}
 use Rattle.sqlite.specs.Held.{state}
 use Rattle.sqlite.specs.State.{HasCleanDisk}
 use Rattle.dep_schema.specs.OpenFaults.{FailsToMake}
 use Rattle.dep_tables.proofs.Chains.{clean_before, stays_then, stays_ok, stays_err}
+use Rattle.dep_tables.specs.Tables.{tables_of}
+use Rattle.dep_tables.specs.Versions.{IsKnownVersion, HasVersion}
 use Rattle.dep_schema.specs.Standing.{GainsOurs}
 use Rattle.dep_schema.proofs.Asking.{stays_on}
 use Rattle.dep_schema.proofs.Version.{never_named, never_refused, told_as}
-use Rattle.dep_schema.proofs.Refusing.{match_err, shows_true, shows_false, lent_fails}
+use Rattle.dep_schema.proofs.Refusing.{match_err, some_is_not_none, of_found, none_found, matched_some, matched_none, lent_fails}
 use Rattle.dep_schema.proofs.opening.find_or_make.Goals as goal
 
 -- where the tables were not looked for, nothing is said of an Ok
-pub returns-in_err-find_format : goal.returns-in_err-find_format
-returns-in_err-find_format g c =
-    let told = c.in_err-find_format.ensures in
-    let fault = c.in_err-find_format.field-0.0 in
+pub returns-in_err-version : goal.returns-in_err-version
+returns-in_err-version g c =
+    let told = c.in_err-version.ensures in
+    let fault = c.in_err-version.field-0.0 in
     let result = c.from_residual.result in
     let is_err = c.from_residual.ensures.0 in
     let is = told_as result fault _ c.from_residual.ensures.1 in
@@ -25,30 +26,38 @@ returns-in_err-find_format g c =
       ours = λ clean ours. IfOk-from_err result _ is_err;
       version = λ clean said. (λ empty. told.empty clean empty (is said), λ ours. told.ours clean ours (is said));
       gains = λ clean inside lacks. IfOk-from_err result _ is_err;
+      made = λ clean lacks. IfOk-from_err result _ is_err;
+      known = IfOk-from_err result _ is_err;
       lacking = λ clean said lacks. told.lacking clean lacks (is said);
       told = λ clean inside. match_err _ _ result fault c.from_residual.ensures.1 (inl (told.told clean));
       stays = stays_err {r = Err fault} is_err told.stays;
     }
 
--- where they were found, they are ours
-pub returns-then-branch : goal.returns-then-branch
-returns-then-branch g c =
-    let told = c.in_ok-find_format.ensures in
-    let there = c.in_ok-find_format.field-0 in
+-- where they were found, they are of one of our versions
+pub returns-in-Some : goal.returns-in-Some
+returns-in-Some g c =
+    let told = c.in_ok-version.ensures in
+    let found = c.in_ok-version.field-0 in
+    let version = c.in-Some.version in
+    let is = c.in-Some.is in
+    let shown = subst (λ o. IfSome o IsKnownVersion) is told.known in
     record {
-      empty = λ clean inside empty. absurd (both_ways there (told.empty clean empty) c.if-branch.true);
-      ours = λ clean ours. ((told.ours clean ours).1, (told.same clean (inl ours)).0.now_is);
+      empty = λ clean inside empty. absurd (some_is_not_none version (sym is ∙ told.empty clean empty));
+      ours = λ clean known. (of_found (λ v. HasVersion v (tables_of (state g.S.Store c.args.tx.now.conn.now))) found version is (told.ours clean known), (told.same clean (inl known)).0.now_is);
       version = λ clean said. absurd (never_refused _ _ said);
-      gains = λ clean inside lacks. absurd (both_ways there (told.lacking clean lacks) c.if-branch.true);
+      gains = λ clean inside lacks. absurd (some_is_not_none version (sym is ∙ told.lacking clean lacks));
       lacking = λ clean said lacks. never_refused _ _ said;
-      told = λ clean inside. (c.find_format.new.tx.conn.now, inl (shows_true _ _ there c.if-branch.true (told.told clean)));
+      told = λ clean inside. (c.find_format.new.tx.conn.now, inl (matched_some _ _ found version is (told.told clean)));
+      made = λ clean lacks. absurd (some_is_not_none version (sym is ∙ told.lacking clean lacks));
+      known = shown;
       stays = stays_ok told.stays;
     }
 
 -- where they were made, they were not there
 pub returns-in-Ok : goal.returns-in-Ok
 returns-in-Ok g c =
-    let told = c.in_ok-find_format.ensures in
+    let told = c.in_ok-version.ensures in
+    let found = c.in_ok-version.field-0 in
     let last = c.tx-1.given.0 in
     let same : c.make_tables.new.tx.tx.now ≡ last = search rules in
     let made = rw same at c.in-Ok.ensures in
@@ -58,33 +67,37 @@ returns-in-Ok g c =
       empty = λ clean inside empty.
           let before = clean_before stays clean in
           made.ok clean (told.stays.inside before inside) (ap (λ (d : Database). d.schema) (told.same before (inr empty)).0.now_is ∙ empty);
-      ours = λ clean ours. absurd (both_ways c.in_ok-find_format.field-0 c.if-branch.false (told.ours (clean_before stays clean) ours).0);
+      ours = λ clean known. absurd (none_found (λ v. HasVersion v (tables_of (state g.S.Store c.args.tx.now.conn.now))) found c.in_default.is (told.ours (clean_before stays clean) known));
       version = λ clean said. absurd (never_refused _ _ said);
       gains = λ clean inside lacks.
           let before = clean_before stays clean in
           subst (λ (d : Database). GainsOurs d new.now) (told.left before lacks).0.now_is (made.gains clean (told.stays.inside before inside));
       lacking = λ clean said lacks. never_refused _ _ said;
-      told = λ clean inside. (c.find_format.new.tx.conn.now, inr (shows_false _ _ c.in_ok-find_format.field-0 c.if-branch.false (told.told (clean_before stays clean))));
+      told = λ clean inside. (c.find_format.new.tx.conn.now, inr (matched_none _ _ found c.in_default.is (told.told (clean_before stays clean)), refl));
+      made = λ clean lacks. refl;
+      known = inl refl;
       stays = stays_ok (stays_then told.stays stays);
     }
 
 -- where they were not made, nothing is said of an Ok, and the fault tells no version
 pub returns-in-Err : goal.returns-in-Err
 returns-in-Err g c =
+    let told = c.in_ok-version.ensures in
     let same : c.make_tables.new.tx.tx.now ≡ c.tx-1.given.0 = search rules in
     let stays = rw same at (stays_on g.S.Store c.in-Err.ensures.stays) in
     record {
       empty = λ clean inside empty. tt;
-      ours = λ clean ours. tt;
+      ours = λ clean known. tt;
       version = λ clean said. absurd (never_named c.in-Err.fault c.from.result c.from.ensures said);
       gains = λ clean inside lacks. tt;
       lacking = λ clean said lacks. never_named c.in-Err.fault c.from.result c.from.ensures said;
       told = λ clean inside.
           let before = clean_before stays clean in
-          let found = c.in_ok-find_format.ensures in
           let last = subst (λ t. HasCleanDisk (state g.S.Store t.conn.now)) (sym same) clean in
           let failed = subst (λ t. FailsToMake (state g.S.Store) c.find_format.new.tx.conn.now t.conn.now c.in-Err.fault) same
-          (lent_fails g.S.Store _ c.make_tables.new.tx c.in-Err.fault (c.in-Err.ensures.cause last (found.stays.inside before inside))) in
-          inr (c.find_format.new.tx.conn.now, c.in-Err.fault, shows_false _ _ c.in_ok-find_format.field-0 c.if-branch.false (found.told before), found.stays.survives, failed, c.from.ensures);
-      stays = stays_err refl (stays_then {r = Err c.in-Err.fault} c.in_ok-find_format.ensures.stays stays);
+          (lent_fails g.S.Store _ c.make_tables.new.tx c.in-Err.fault (c.in-Err.ensures.cause last (told.stays.inside before inside))) in
+          inr (c.find_format.new.tx.conn.now, c.in-Err.fault, matched_none _ _ c.in_ok-version.field-0 c.in_default.is (told.told before), told.stays.survives, failed, c.from.ensures);
+      made = λ clean lacks. tt;
+      known = tt;
+      stays = stays_err refl (stays_then {r = Err c.in-Err.fault} told.stays stays);
     }

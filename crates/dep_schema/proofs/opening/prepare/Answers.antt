@@ -1,4 +1,4 @@
-use Rattle.std.proofs.Common.{◌≡◌, ◌∙◌, inl, inr, IsTrue, refl, subst, rules, ap, arith, Err}
+use Rattle.std.proofs.Common.{◌≡◌, ◌∙◌, inl, inr, IsTrue, refl, subst, rules, ap, Err}
 use Rattle.std.proofs.lemmas.Result.{IfOk-from_err}
 use Rattle.sqlite.specs.Held.{state}
 use Rattle.sqlite.specs.State.{HasCleanDisk}
@@ -6,21 +6,21 @@ use Rattle.sqlite.proofs.Callers.{survives_begin}
 use Rattle.sqlite.proofs.StateLemmas.{clean_if_open}
 use Rattle.dep_tables.proofs.Chains.{was_clean}
 use Rattle.dep_schema.proofs.Prepared.{AreMade, AreMissed, IsCommitted, IsUncommitted, IsGivenUp, on_err_by}
-use Rattle.dep_schema.proofs.Prepared.{fresh, found, free, beside, opened, crash, fell_back, left, refused, crash_missed}
-use Rattle.dep_schema.specs.OpenFaults.{open_fault_for, FailsToFindOrMake, ShowsOursOrNone, begun}
-use Rattle.dep_schema.proofs.Refusing.{match_err, if_err_told, refuses_ours, uncommitted, failed_only, clean_last}
+use Rattle.dep_schema.proofs.Prepared.{fresh, found, made_new, free, beside, opened, crash, fell_back, left, refused, crash_missed}
+use Rattle.dep_schema.specs.OpenFaults.{open_fault_for, FailsToFindOrMake, ShowsOrMakes, begun}
+use Rattle.dep_schema.proofs.Refusing.{match_err, if_err_told, refuses_known, uncommitted, failed_only, clean_last}
 use Rattle.dep_schema.proofs.Version.{never_named, never_refused, told_as}
 use Rattle.dep_schema.proofs.opening.prepare.Goals as goal
 
 -- where the tables were not found, nothing is said of an Ok
-pub returns-in_err-find_or_make : goal.returns-in_err-find_or_make
-returns-in_err-find_or_make g c =
+pub returns-in_err-version : goal.returns-in_err-version
+returns-in_err-version g c =
     let old = c.args.connection.now in
     let last = c.find_or_make.new.tx.conn.now in
     let new = c.connection-1.given.0 in
     let same : c.drop-tx.new.self.0 ≡ new = search rules in
-    let fault = c.in_err-find_or_make.field-0.0 in
-    let told = c.in_err-find_or_make.ensures in
+    let fault = c.in_err-version.field-0.0 in
+    let told = c.in_err-version.ensures in
     let missed = subst (λ h. AreMissed (state g.S.Store h) (state g.S.Store last) fault) c.transaction-tx.ensures.begun
     (record {
       version = λ clean is. told.version clean (ap Err is);
@@ -37,12 +37,14 @@ returns-in_err-find_or_make g c =
     let sure = clean_if_open (g.S.Store.view new.store) (g.met.S.Store.shut_if_dirty new.store) in
     record {
       fresh = λ clean empty. IfOk-from_err result _ is_err;
-      found = λ clean ours. IfOk-from_err result _ is_err;
+      found = λ clean its known ours. IfOk-from_err result _ is_err;
+      made = λ clean lacks. IfOk-from_err result _ is_err;
+      known = IfOk-from_err result _ is_err;
       version = λ clean said. missed.version (before clean) (told_as result fault _ c.from_residual.ensures.1 said);
       lacking = λ clean said. missed.lacking (before clean) (told_as result fault _ c.from_residual.ensures.1 said);
       told = λ clean. match_err _ _ result fault c.from_residual.ensures.1 (inl (last, failed (before clean) refl, ended.survives));
-      ours = λ clean ours. if_err_told _ result fault c.from_residual.ensures.1
-          (refuses_ours g.S.Store old last new ours fault (failed (before clean) refl) missed.survives ended.survives (clean_last (state g.S.Store (begun old)) (state g.S.Store last) _ missed.survives (before clean)));
+      ours = λ clean known. if_err_told _ result fault c.from_residual.ensures.1
+          (refuses_known g.S.Store old last new known fault (failed (before clean) refl) missed.survives ended.survives (clean_last (state g.S.Store (begun old)) (state g.S.Store last) _ missed.survives (before clean)));
       free = λ clean lacks. IfOk-from_err result _ is_err;
       beside = λ clean lacks has. IfOk-from_err result _ is_err;
       left = λ clean is_open. on_err_by result (left g.S.Store old last new missed.kept ended.survives.clean ended.undone clean is_open);
@@ -59,27 +61,30 @@ returns-in-Ok g c =
     let last = c.find_or_make.new.tx.conn.now in
     let new = c.connection-2-1.given.0 in
     let same : c.commit.new.self.0 ≡ new = search rules in
-    let told = c.in_ok-find_or_make.ensures in
+    let told = c.in_ok-version.ensures in
+    let version = c.in_ok-version.version in
     let stays = told.stays in
-    let made = subst (λ h. AreMade (state g.S.Store h) (state g.S.Store last)) c.transaction-tx.ensures.begun
-    (record { empty = told.empty; ours = told.ours; gains = told.gains; inside = stays.inside; kept = stays.kept; survives = stays.survives }) in
-    let shown = subst (λ h. HasCleanDisk (state g.S.Store last) → IsTrue (state g.S.Store h).in_transaction → ShowsOursOrNone g.S.Store h) c.transaction-tx.ensures.begun told.told in
+    let made = subst (λ h. AreMade (state g.S.Store h) (state g.S.Store last) version) c.transaction-tx.ensures.begun
+    (record { empty = told.empty; ours = told.ours; gains = told.gains; new = told.made; inside = stays.inside; kept = stays.kept; survives = stays.survives }) in
+    let shown = subst (λ h. HasCleanDisk (state g.S.Store last) → IsTrue (state g.S.Store h).in_transaction → ShowsOrMakes g.S.Store h version) c.transaction-tx.ensures.begun told.told in
     let ended = subst (λ h. IsCommitted (state g.S.Store last) (state g.S.Store h)) same
     (record { ended = c.commit.ensures.ended; shows = λ clean. (c.in-Ok.ensures.ok clean).1; survives = c.commit.ensures.survives }) in
     record {
-      fresh = fresh g.S.Store old last new made ended;
-      found = found g.S.Store old last new made ended;
+      fresh = fresh g.S.Store old last new version made ended;
+      found = found g.S.Store old last new version made ended;
+      made = made_new g.S.Store old last new version made ended;
+      known = told.known;
       version = λ clean said. absurd (never_refused _ _ said);
       lacking = λ clean said lacks. never_refused _ _ said;
       told = λ clean. shown (clean_last (state g.S.Store last) (state g.S.Store new) _ ended.survives clean) refl;
-      ours = λ clean ours. tt;
-      free = free g.S.Store old last new made ended;
-      beside = beside g.S.Store old last new made ended;
+      ours = λ clean known. tt;
+      free = free g.S.Store old last new version made ended;
+      beside = beside g.S.Store old last new version made ended;
       left = λ clean is_open. tt;
-      opened = opened g.S.Store old last new made ended;
+      opened = opened g.S.Store old last new version made ended;
       refused = λ is_open. tt;
       mode = ended.ended;
-      crash = crash g.S.Store old last new made ended.survives;
+      crash = crash g.S.Store old last new version made ended.survives;
     }
 
 -- a commit that failed is told as no version
@@ -89,24 +94,27 @@ returns-in-Err g c =
     let last = c.find_or_make.new.tx.conn.now in
     let new = c.connection-2-1.given.0 in
     let same : c.commit.new.self.0 ≡ new = search rules in
-    let told = c.in_ok-find_or_make.ensures in
+    let told = c.in_ok-version.ensures in
+    let version = c.in_ok-version.version in
     let stays = told.stays in
-    let made = subst (λ h. AreMade (state g.S.Store h) (state g.S.Store last)) c.transaction-tx.ensures.begun
-    (record { empty = told.empty; ours = told.ours; gains = told.gains; inside = stays.inside; kept = stays.kept; survives = stays.survives }) in
+    let made = subst (λ h. AreMade (state g.S.Store h) (state g.S.Store last) version) c.transaction-tx.ensures.begun
+    (record { empty = told.empty; ours = told.ours; gains = told.gains; new = told.made; inside = stays.inside; kept = stays.kept; survives = stays.survives }) in
     let ended = subst (λ h. IsUncommitted (state g.S.Store last) (state g.S.Store h) c.in-Err.error) same
     (record { ended = c.commit.ensures.ended; failed = λ clean. c.in-Err.ensures.err clean; survives = c.commit.ensures.survives }) in
-    let undone = fell_back g.S.Store old last new made c.in-Err.error ended in
+    let undone = fell_back g.S.Store old last new version made c.in-Err.error ended in
     let tells = c.from.ensures ∙ ap open_fault_for c.fault_of.ensures in
     let since = survives_begin g.S.Store old (state g.S.Store last) (λ _. ⊥) made.survives in
     let before = clean_last (state g.S.Store last) (state g.S.Store new) _ ended.survives in
     let failed = λ (clean : HasCleanDisk (state g.S.Store new)). failed_only (state g.S.Store last) (state g.S.Store new) c.in-Err.error (made.inside (before clean) refl) (ended.failed clean) in
     record {
       fresh = λ clean empty. tt;
-      found = λ clean ours. tt;
+      found = λ clean its known ours. tt;
+      made = λ clean lacks. tt;
+      known = tt;
       version = λ clean said. absurd (never_named c.fault_of.result c.from.result c.from.ensures said);
       lacking = λ clean said lacks. never_named c.fault_of.result c.from.result c.from.ensures said;
       told = λ clean. inr (last, c.in-Err.error, since, failed clean, tells);
-      ours = λ clean ours. uncommitted g.S.Store old last new ours _ c.in-Err.error (failed clean) tells since ended.survives.counts (before clean);
+      ours = λ clean known. uncommitted g.S.Store old last new known _ c.in-Err.error (failed clean) tells since ended.survives.counts (before clean);
       free = λ clean lacks. tt;
       beside = λ clean lacks has. tt;
       left = left g.S.Store old last new made.kept ended.survives.clean undone;
@@ -114,5 +122,5 @@ returns-in-Err g c =
       refused = refused g.S.Store old last new made.kept ended.survives.clean undone
           (clean_if_open (g.S.Store.view new.store) (g.met.S.Store.shut_if_dirty new.store));
       mode = ended.ended;
-      crash = crash g.S.Store old last new made ended.survives;
+      crash = crash g.S.Store old last new version made ended.survives;
     }

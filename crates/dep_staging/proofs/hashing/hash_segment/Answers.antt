@@ -1,5 +1,5 @@
 use Rattle.std.proofs.Common.{◌<◌, ◌≤◌, ◌^◌, ◌++◌, length, arith, rules, sym, ap, subst, ◌∙◌, append-nil, append_assoc}
-use Rattle.sha2.specs.Hashers.{Holds256}
+use Rattle.dep_fixity.specs.Fixity.{Holds}
 use Rattle.sqlite.proofs.StateLemmas.{unchanged}
 use Rattle.sqlite.proofs.Callers.{unchanged_then}
 use Rattle.dep_tables.proofs.Results.{if_failed}
@@ -20,7 +20,7 @@ loop-place-init g c = (
   c.div_ceil-place-end.ensures,
   search rules,
   λ is_open clean ours. unchanged (g.T.Statements.state c.args.tx.now) is_open,
-  λ is_open clean ours s are bytes message its holds. subst (Holds256 c.args.hasher.now) (sym (append-nil message)) holds,
+  λ is_open clean ours s are bytes message its holds. subst (Holds c.args.hasher.now) (sym (append-nil message)) holds,
   subst (λ n. n < 2 ^ 63) (sym c.div_ceil-place-end.ensures) (few_blocks c.args.segment.now.size (omega arith)),
 )
 
@@ -42,7 +42,7 @@ loop-place-preserved g c =
           let are_mid = subst (λ (t : Tables). TablesAre t s) (sym (same_tables old mid same)) are in
           let within : c.loop-place.place < length (blocks_of bytes) = subst (λ n. c.loop-place.place < n) (inv.0 ∙ counted s c.args.segment.now bytes its) c.loop-place-test.true in
           let block = c.as_slice.ensures.value ∙ c.in_ok-block.ensures.map clean (still_ours old mid same ours) s are_mid bytes its in
-          subst (Holds256 c.update.new.self) (append_assoc message _ _ ∙ ap (λ l. message ++ l) (one_block_more bytes c.loop-place.place c.as_slice.result.now within block)) (c.update.ensures _ so_far),
+          subst (Holds c.update.new.self) (append_assoc message _ _ ∙ ap (λ l. message ++ l) (one_block_more bytes c.loop-place.place c.as_slice.result.now within block)) (c.update.ensures _ so_far),
       inv.4,
     )
 
@@ -50,7 +50,7 @@ pub returns-clause-map : goal.returns-clause-map
 returns-clause-map g c clean ours is_open s are bytes message its holds =
     let inv = c.loop-place.invariant in
     let past : length (blocks_of bytes) ≤ c.loop-place.place = subst (λ n. n ≤ c.loop-place.place) (inv.0 ∙ counted s c.args.segment.now bytes its) c.loop-place-test.false in
-    subst (Holds256 c.loop-place.hasher) (ap (λ l. message ++ l) (all_blocks bytes c.loop-place.place past)) (inv.3 is_open clean ours s are bytes message its holds)
+    subst (Holds c.loop-place.hasher) (ap (λ l. message ++ l) (all_blocks bytes c.loop-place.place past)) (inv.3 is_open clean ours s are bytes message its holds)
 
 pub returns-in_err-block-clause-stays : goal.returns-in_err-block-clause-stays
 returns-in_err-block-clause-stays g c = stays_err c.from_residual.ensures.0 (stays_then c.loop-place.invariant.1 c.segment_block.ensures.stays)

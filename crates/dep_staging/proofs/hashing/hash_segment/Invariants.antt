@@ -1,7 +1,7 @@
 use Rattle.std.proofs.Common.{◌≡◌, ◌<◌, ◌^◌, ℕ, List, ◌++◌, take, IsTrue}
 use Rattle.std.specs.Int.{div_ceil}
 use Rattle.std.specs.List.{flat_map}
-use Rattle.sha2.specs.Hashers.{Holds256}
+use Rattle.dep_fixity.specs.Fixity.{Holds}
 use Rattle.sqlite.specs.State.{HasCleanDisk, IsUnchanged}
 use Rattle.dep_types.specs.State.{State}
 use Rattle.dep_tables.specs.Tables.{tables_of, IsOurs}
@@ -19,6 +19,6 @@ invariant-loop-place g l =
     × Stays g.T.Statements.lenders g.T.Statements.state l.fn.tx l.tx
     × (IsTrue old.is_open → HasCleanDisk now → IsOurs old → IsUnchanged old now)
     × (IsTrue old.is_open → HasCleanDisk now → IsOurs old → (s : State) → TablesAre (tables_of old) s
-    → (bytes message : List ℕ) → IsSegmentOf s l.segment bytes → Holds256 l.fn.hasher message
-    → Holds256 l.hasher (message ++ flat_map (λ b. b) (take l.place (blocks_of bytes))))
+    → (bytes message : List ℕ) → IsSegmentOf s l.segment bytes → Holds l.fn.hasher message
+    → Holds l.hasher (message ++ flat_map (λ b. b) (take l.place (blocks_of bytes))))
     × (l.place-end < 2 ^ 63)

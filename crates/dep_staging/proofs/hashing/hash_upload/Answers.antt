@@ -2,8 +2,7 @@ use Rattle.std.proofs.Common.{◌≡◌, ◌≤◌, ◌∙◌, ℕ, List, length
 use Rattle.std.specs.FinMap as finmap
 use Rattle.std.specs.List.{flat_map}
 use Rattle.std.proofs.lemmas.List.{take_all, length-map}
-use Rattle.sha2.specs.Sha256.{sha256}
-use Rattle.sha2.specs.Hashers.{Holds256}
+use Rattle.dep_fixity.specs.Fixity.{Holds, digests_of}
 use Rattle.sqlite.proofs.Callers.{unchanged_then}
 use Rattle.dep_tables.proofs.Results.{if_failed}
 use Rattle.dep_tables.proofs.Chains.{clean_before, stays_then, stays_ok, stays_err}
@@ -51,7 +50,7 @@ rows-preserved g c =
           let none : SegmentRow = record { upload = 0; number = 0; size = 0 } in
           let e = entry_of u es c.as_slice-row-items.result.now (finmap.entries_sorted (segments_at s.uploads u)) c.rows.row-index none
           (c.as_slice-row-items.ensures.value ∙ listed) c.rows-test.true in
-          subst (Holds256 c.hash_segment.new.hasher) e.grows (m e.bytes _ (segment_is s u c.rows.row-index _ e) so_far),
+          subst (Holds c.hash_segment.new.hasher) e.grows (m e.bytes _ (segment_is s u c.rows.row-index _ e) so_far),
     )
 
 pub returns-clause-map : goal.returns-clause-map
@@ -64,11 +63,11 @@ returns-clause-map g c clean ours s are =
     segments_read (tables_of old) s are u c.in_ok-rows.rows.items (c.in_ok-rows.ensures.ok (clean_before inv.0 clean) ours) in
     let count : length c.as_slice-row-items.result.now ≡ length es = ap length (c.as_slice-row-items.ensures.value ∙ listed) ∙ length-map es (of_entry u) in
     let past : length es ≤ c.rows.row-index = subst (λ n. n ≤ c.rows.row-index) count c.rows-test.false in
-    c.finalize.ensures _ (subst (Holds256 c.rows.hasher) (ap (flat_map (λ (e : ℕ × List ℕ). e.1)) (take_all c.rows.row-index es past)) (inv.2 clean ours s are))
+    c.finish.ensures _ (subst (Holds c.rows.hasher) (ap (flat_map (λ (e : ℕ × List ℕ). e.1)) (take_all c.rows.row-index es past)) (inv.2 clean ours s are))
 
 pub returns-clause-assembled : goal.returns-clause-assembled
 returns-clause-assembled g c clean ours s are it there within =
-    returns-clause-map g c clean ours s are ∙ ap sha256 (ap joined (segments_there s.uploads c.args.upload it there) ∙ assembled-joined it within)
+    returns-clause-map g c clean ours s are ∙ ap digests_of (ap joined (segments_there s.uploads c.args.upload it there) ∙ assembled-joined it within)
 
 pub returns-in_err-hash_segment-clause-stays : goal.returns-in_err-hash_segment-clause-stays
 returns-in_err-hash_segment-clause-stays g c = stays_err c.from_residual-in_err-hash_segment.ensures.0 (stays_then (stays_then c.in_ok-rows.ensures.stays c.rows.invariant.0) c.hash_segment.ensures.stays)

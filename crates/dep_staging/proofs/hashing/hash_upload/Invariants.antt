@@ -1,7 +1,7 @@
 use Rattle.std.proofs.Common.{take}
 use Rattle.std.specs.List.{flat_map}
 use Rattle.std.specs.FinMap as finmap
-use Rattle.sha2.specs.Hashers.{Holds256}
+use Rattle.dep_fixity.specs.Fixity.{Holds}
 use Rattle.sqlite.specs.State.{HasCleanDisk, IsUnchanged}
 use Rattle.dep_types.specs.State.{State}
 use Rattle.dep_tables.specs.Tables.{tables_of, IsOurs}
@@ -17,4 +17,4 @@ invariant-rows g l =
     Stays g.T.Statements.lenders g.T.Statements.state l.initial.tx l.tx
     × (HasCleanDisk now → IsOurs old → IsUnchanged old now)
     × (HasCleanDisk now → IsOurs old → (s : State) → TablesAre (tables_of old) s
-    → Holds256 l.hasher (flat_map (λ e. e.1) (take l.row-index (finmap.entries (segments_at s.uploads l.upload)))))
+    → Holds l.hasher (flat_map (λ e. e.1) (take l.row-index (finmap.entries (segments_at s.uploads l.upload)))))

@@ -1,132 +1,115 @@
-use Rattle.std.proofs.Common.{sym, subst, ◌∙◌, arith, rules}
-use Rattle.dep_types.specs.State.{State}
+use Rattle.std.proofs.Common.{◌≡◌, ◌-◌, sym, subst, arith, rules}
+use Rattle.dep_tables.specs.Edits.{IsLeftBefore}
 use Rattle.dep_tables.specs.Tables.{Tables, tables_of}
 use Rattle.dep_tables.proofs.Results.{if_failed}
 use Rattle.dep_tables.proofs.Chains.{clean_before, stays_then, stays_ok, stays_err}
 use Rattle.dep_row_maps.specs.TablesAre.{TablesAre}
-use Rattle.dep_row_maps.proofs.Readings.{next_upload_read}
 use Rattle.dep_files.proofs.Results.{still_ours, same_tables, fails_behind, uncommitted_behind}
 use Rattle.dep_staging.specs.Expiring.{expired_all}
-use Rattle.dep_staging.proofs.Next.{next_of, none_after}
-use Rattle.dep_staging.specs.Causes.{FailsToExpireAll}
-use Rattle.dep_staging.specs.Causes.FailsToExpireAll.{next}
+use Rattle.dep_staging.specs.Causes.{FailsToExpire, FailsToExpireAll}
+use Rattle.dep_staging.specs.Causes.FailsToExpireAll.{looked, ended}
 use Rattle.dep_row_maps.proofs.Causes.{fails_then, fails_later, if_err_is}
-use Rattle.dep_staging.proofs.Expired.{none_expired, one_more, all_expired, next_there, expire_fails}
+use Rattle.dep_staging.proofs.Expired.{none_expired, found_idle, one_more, all_expired, few_uploads, idle_storable}
 use Rattle.dep_staging.proofs.ticking.expire_idle.Goals as goal
-
-pub uploads-preserved : goal.uploads-preserved
-uploads-preserved g c =
-    let mid = g.T.Statements.state c.uploads.tx in
-    let seen = g.T.Statements.state c.next_upload.new.tx in
-    let new = g.T.Statements.state c.expire_if_idle.new.tx in
-    let inv = c.uploads.invariant in
-    let looked = stays_then inv.0 c.in_ok-upload.ensures.stays in
-    let clean_seen = clean_before c.expire_if_idle.ensures.stays in
-    let clean_mid = clean_before c.next_upload.ensures.stays in (
-      stays_ok (stays_then looked c.in_ok-expire_if_idle.ensures.stays),
-      λ clean inside ours.
-          let before = clean_seen clean in
-          let ours_mid = inv.1 (clean_mid before) inside ours in
-          c.in_ok-expire_if_idle.ensures.ours clean (looked.inside before inside) (still_ours mid seen (c.in_ok-upload.ensures.same before ours_mid) ours_mid),
-      λ clean inside ours s are zero_free.
-          let before = clean_seen clean in
-          let ours_mid = inv.1 (clean_mid before) inside ours in
-          let z = inv.2 (clean_mid before) inside ours s are zero_free in
-          let same = c.in_ok-upload.ensures.same before ours_mid in
-          let was : State = record s { uploads = z.uploads; timed_out = z.numbers } in
-          let next = next_of z.uploads c.uploads.last c.in-Some.upload (sym c.in-Some.is ∙ next_upload_read (tables_of mid) was z.are c.uploads.last c.in_ok-upload.field-0 (c.in_ok-upload.ensures.ok before ours_mid)) in
-          one_more c.args.config.now c.args.clock c.uploads.last c.in-Some.upload s (tables_of mid) z next (tables_of new)
-          (c.in_ok-expire_if_idle.ensures.map clean (looked.inside before inside) (still_ours mid seen same ours_mid) was (subst (λ (t : Tables). TablesAre t was) (sym (same_tables mid seen same)) z.are)),
-      λ clean inside ours s are zero_free storable.
-          let before = clean_seen clean in
-          let ours_mid = inv.1 (clean_mid before) inside ours in
-          let z = inv.2 (clean_mid before) inside ours s are zero_free in
-          let last = inv.3 (clean_mid before) inside ours s are zero_free storable in
-          let was : State = record s { uploads = z.uploads; timed_out = z.numbers } in
-          let next = next_of z.uploads c.uploads.last c.in-Some.upload (sym c.in-Some.is ∙ next_upload_read (tables_of mid) was z.are c.uploads.last c.in_ok-upload.field-0 (c.in_ok-upload.ensures.ok before ours_mid)) in
-          let it = next_there c.args.config.now c.args.clock c.uploads.last c.in-Some.upload s (tables_of mid) z next in
-          (storable c.in-Some.upload it.0 it.1, omega (arith, last.1, next.after)),
-    )
-
-pub returns-in_default-clause-map : goal.returns-in_default-clause-map
-returns-in_default-clause-map g c clean inside ours s are zero_free =
-    let mid = g.T.Statements.state c.uploads.tx in
-    let seen = g.T.Statements.state c.next_upload.new.tx in
-    let inv = c.uploads.invariant in
-    let before = clean_before c.next_upload.ensures.stays clean in
-    let ours_mid = inv.1 before inside ours in
-    let z = inv.2 before inside ours s are zero_free in
-    let was : State = record s { uploads = z.uploads; timed_out = z.numbers } in
-    let same = c.in_ok-upload.ensures.same clean ours_mid in
-    let none = none_after z.uploads c.uploads.last (sym c.in_default.is ∙ next_upload_read (tables_of mid) was z.are c.uploads.last c.in_ok-upload.field-0 (c.in_ok-upload.ensures.ok clean ours_mid)) in
-    subst (λ (t : Tables). TablesAre t (expired_all c.args.config.now c.args.clock s)) (sym (same_tables mid seen same)) (all_expired c.args.config.now c.args.clock c.uploads.last s (tables_of mid) z none)
 
 pub uploads-init : goal.uploads-init
 uploads-init g c = (
   search rules,
   λ clean inside ours. ours,
-  λ clean inside ours s are zero_free. none_expired c.args.config.now c.args.clock s (tables_of (g.T.Statements.state c.args.tx.now)) are zero_free,
-  λ clean inside ours s are zero_free storable. (omega arith, omega arith),
+  λ clean inside ours s are. none_expired c.args.config.now c.args.clock s (tables_of (g.T.Statements.state c.args.tx.now)) are,
 )
 
-pub returns-in_err-upload-clause-cause : goal.returns-in_err-upload-clause-cause
-returns-in_err-upload-clause-cause g c clean inside ours s are zero_free storable =
-    let old = c.args.tx.now in
-    let mid = c.uploads.tx in
-    let new = c.next_upload.new.tx in
+pub uploads-preserved : goal.uploads-preserved
+uploads-preserved g c =
+    let config = c.args.config.now in
+    let clock = c.args.clock in
+    let mid = g.T.Statements.state c.uploads.tx in
+    let seen = g.T.Statements.state c.left_before.new.tx in
+    let new = g.T.Statements.state c.expire.new.tx in
     let inv = c.uploads.invariant in
-    let before = clean_before c.next_upload.ensures.stays clean in
-    let last = inv.3 before inside ours s are zero_free storable in
-    if_err_is _ c.from_residual.result c.in_err-upload.field-0.0 c.from_residual.ensures.1 (fails_then g.T.Statements.state old mid new inv.0.survives (FailsToExpireAll c.args.config.now c.args.clock s.uploads) _ (next c.uploads.last (c.in_err-upload.ensures.cause last.0 clean)))
+    let saw = stays_then inv.0 c.in_ok-left.ensures.stays in
+    let clean_seen = clean_before c.expire.ensures.stays in
+    let clean_mid = clean_before c.left_before.ensures.stays in (
+      stays_ok (stays_then saw c.in_ok-expire.ensures.stays),
+      λ clean inside ours.
+          let before = clean_seen clean in
+          let ours_mid = inv.1 (clean_mid before) inside ours in
+          c.in_ok-expire.ensures.ours clean (saw.inside before inside) (still_ours mid seen (c.in_ok-left.ensures.same before ours_mid) ours_mid),
+      λ clean inside ours s are.
+          let before = clean_seen clean in
+          let ours_mid = inv.1 (clean_mid before) inside ours in
+          let z = inv.2 (clean_mid before) inside ours s are in
+          let same = c.in_ok-left.ensures.same before ours_mid in
+          let read = subst (λ m. IsLeftBefore m (tables_of mid) c.in_ok-left.field-0) c.saturating_sub-moment.ensures (c.in_ok-left.ensures.ok before ours_mid) in
+          one_more config clock c.uploads.passed s (tables_of mid) z c.in_ok-left.field-0 read c.in-Some.left c.in-Some.is (tables_of new)
+          (c.in_ok-expire.ensures.map clean (saw.inside before inside) (still_ours mid seen same ours_mid) z.left (subst (λ (t : Tables). TablesAre t z.left) (sym (same_tables mid seen same)) z.are)),
+    )
 
-pub returns-in_err-expire_if_idle-clause-cause : goal.returns-in_err-expire_if_idle-clause-cause
-returns-in_err-expire_if_idle-clause-cause g c clean inside ours s are zero_free storable =
+pub returns-in_default-clause-map : goal.returns-in_default-clause-map
+returns-in_default-clause-map g c clean inside ours s are =
+    let mid = g.T.Statements.state c.uploads.tx in
+    let seen = g.T.Statements.state c.left_before.new.tx in
+    let inv = c.uploads.invariant in
+    let before = clean_before c.left_before.ensures.stays clean in
+    let ours_mid = inv.1 before inside ours in
+    let z = inv.2 before inside ours s are in
+    let same = c.in_ok-left.ensures.same clean ours_mid in
+    let read = subst (λ m. IsLeftBefore m (tables_of mid) c.in_ok-left.field-0) c.saturating_sub-moment.ensures (c.in_ok-left.ensures.ok clean ours_mid) in
+    subst (λ (t : Tables). TablesAre t (expired_all c.args.config.now c.args.clock s)) (sym (same_tables mid seen same))
+    (all_expired c.args.config.now c.args.clock c.uploads.passed s (tables_of mid) z c.in_ok-left.field-0 read c.in_default.is)
+
+pub returns-in_err-left-clause-cause : goal.returns-in_err-left-clause-cause
+returns-in_err-left-clause-cause g c clean inside ours s are below storable =
     let config = c.args.config.now in
     let clock = c.args.clock in
     let old = c.args.tx.now in
     let mid = c.uploads.tx in
-    let seen = c.next_upload.new.tx in
-    let new = c.expire_if_idle.new.tx in
+    let new = c.left_before.new.tx in
+    let moment : c.saturating_sub-moment.result ≡ clock - config.staging_max_idle = c.saturating_sub-moment.ensures in
+    if_err_is _ c.from_residual.result c.in_err-left.field-0.0 c.from_residual.ensures.1 (fails_then g.T.Statements.state old mid new c.uploads.invariant.0.survives (FailsToExpireAll config clock s.uploads) _
+    (looked (rw moment at (c.in_err-left.ensures.cause (omega (arith, below, moment)) clean))))
+
+pub returns-in_err-expire-clause-cause : goal.returns-in_err-expire-clause-cause
+returns-in_err-expire-clause-cause g c clean inside ours s are below storable =
+    let config = c.args.config.now in
+    let clock = c.args.clock in
+    let old = c.args.tx.now in
+    let mid = c.uploads.tx in
+    let seen = c.left_before.new.tx in
+    let new = c.expire.new.tx in
     let inv = c.uploads.invariant in
-    let clean_seen = clean_before c.expire_if_idle.ensures.stays clean in
-    let clean_mid = clean_before c.next_upload.ensures.stays clean_seen in
-    let looked = stays_then inv.0 c.in_ok-upload.ensures.stays in
+    let clean_seen = clean_before c.expire.ensures.stays clean in
+    let clean_mid = clean_before c.left_before.ensures.stays clean_seen in
+    let saw = stays_then inv.0 c.in_ok-left.ensures.stays in
     let ours_mid = inv.1 clean_mid inside ours in
-    let z = inv.2 clean_mid inside ours s are zero_free in
-    let same = c.in_ok-upload.ensures.same clean_seen ours_mid in
-    let was : State = record s { uploads = z.uploads; timed_out = z.numbers } in
-    let after = next_of z.uploads c.uploads.last c.in-Some.upload (sym c.in-Some.is ∙ next_upload_read (tables_of (g.T.Statements.state mid)) was z.are c.uploads.last c.in_ok-upload.field-0 (c.in_ok-upload.ensures.ok clean_seen ours_mid)) in
-    let it = next_there config clock c.uploads.last c.in-Some.upload s (tables_of (g.T.Statements.state mid)) z after in
-    if_err_is _ c.from_residual-in_err-expire_if_idle.result c.in_err-expire_if_idle.field-0.0 c.from_residual-in_err-expire_if_idle.ensures.1 (fails_later g.T.Statements.state old seen new looked.survives (FailsToExpireAll config clock z.uploads) (FailsToExpireAll config clock s.uploads)
-    (λ at now fault failed. expire_fails config clock c.uploads.last s (tables_of (g.T.Statements.state mid)) z at now fault failed) _
-    (c.in_err-expire_if_idle.ensures.cause clean (looked.inside clean_seen inside) (still_ours (g.T.Statements.state mid) (g.T.Statements.state seen) same ours_mid) was
-    (subst (λ (t : Tables). TablesAre t was) (sym (same_tables (g.T.Statements.state mid) (g.T.Statements.state seen) same)) z.are) (storable c.in-Some.upload it.0 it.1)))
+    let z = inv.2 clean_mid inside ours s are in
+    let read = subst (λ m. IsLeftBefore m (tables_of (g.T.Statements.state mid)) c.in_ok-left.field-0) c.saturating_sub-moment.ensures (c.in_ok-left.ensures.ok clean_seen ours_mid) in
+    let u = c.in-Some.left.upload in
+    let idle = z.idle u (found_idle config clock c.uploads.passed s (tables_of (g.T.Statements.state mid)) z c.in_ok-left.field-0 read c.in-Some.left c.in-Some.is) in
+    if_err_is _ c.from_residual-in_err-expire.result c.in_err-expire.field-0.0 c.from_residual-in_err-expire.ensures.1 (fails_later g.T.Statements.state old seen new saw.survives (FailsToExpire u) (FailsToExpireAll config clock s.uploads)
+    (λ at now fault failed. ended u idle failed) _
+    (c.in_err-expire.ensures.cause (idle_storable config clock u s.uploads storable idle) clean (saw.inside clean_seen inside)))
 
 pub returns-clause-cause : goal.returns-clause-cause
-returns-clause-cause g c clean inside ours s are zero_free storable =
-    let last = c.uploads.invariant.3 clean inside ours s are zero_free storable in
-    absurd (omega (arith, last.0, last.1, c.uploads-test.false))
+returns-clause-cause g c clean inside ours s are below storable =
+    let z = c.uploads.invariant.2 clean inside ours s are in
+    absurd (omega (arith, z.count, few_uploads s.uploads storable, c.uploads-test.false))
 
-pub returns-in_err-upload-clause-stays : goal.returns-in_err-upload-clause-stays
-returns-in_err-upload-clause-stays g c = stays_err c.from_residual.ensures.0 (stays_then c.uploads.invariant.0 c.next_upload.ensures.stays)
+pub returns-in_err-left-clause-stays : goal.returns-in_err-left-clause-stays
+returns-in_err-left-clause-stays g c = stays_err c.from_residual.ensures.0 (stays_then c.uploads.invariant.0 c.left_before.ensures.stays)
 
-pub returns-in_err-upload-clause-err : goal.returns-in_err-upload-clause-err
-returns-in_err-upload-clause-err g c ours clean inside is_open =
-    let ours_mid = c.uploads.invariant.1 (clean_before c.next_upload.ensures.stays clean) inside ours in
-    if_failed _ (fails_behind c.uploads.invariant.0 c.in_err-upload.ensures.stays (λ clean within is_open. c.in_err-upload.ensures.err clean within ours_mid is_open) clean inside is_open)
+pub returns-in_err-left-clause-err : goal.returns-in_err-left-clause-err
+returns-in_err-left-clause-err g c ours clean inside is_open =
+    let ours_mid = c.uploads.invariant.1 (clean_before c.left_before.ensures.stays clean) inside ours in
+    if_failed _ (fails_behind c.uploads.invariant.0 c.in_err-left.ensures.stays (λ clean within is_open. c.in_err-left.ensures.err clean within ours_mid is_open) clean inside is_open)
 
 pub returns-in_default-clause-stays : goal.returns-in_default-clause-stays
-returns-in_default-clause-stays g c = stays_ok (stays_then c.uploads.invariant.0 c.in_ok-upload.ensures.stays)
+returns-in_default-clause-stays g c = stays_ok (stays_then c.uploads.invariant.0 c.in_ok-left.ensures.stays)
 
-pub returns-in_err-expire_if_idle-clause-stays : goal.returns-in_err-expire_if_idle-clause-stays
-returns-in_err-expire_if_idle-clause-stays g c =
-    stays_err c.from_residual-in_err-expire_if_idle.ensures.0 (stays_then (stays_then c.uploads.invariant.0 c.in_ok-upload.ensures.stays) c.expire_if_idle.ensures.stays)
+pub returns-in_err-expire-clause-stays : goal.returns-in_err-expire-clause-stays
+returns-in_err-expire-clause-stays g c =
+    stays_err c.from_residual-in_err-expire.ensures.0 (stays_then (stays_then c.uploads.invariant.0 c.in_ok-left.ensures.stays) c.expire.ensures.stays)
 
-pub returns-in_err-expire_if_idle-clause-err : goal.returns-in_err-expire_if_idle-clause-err
-returns-in_err-expire_if_idle-clause-err g c ours clean inside is_open =
-    let mid = g.T.Statements.state c.uploads.tx in
-    let seen = g.T.Statements.state c.next_upload.new.tx in
-    let clean_seen = clean_before c.expire_if_idle.ensures.stays clean in
-    let ours_mid = c.uploads.invariant.1 (clean_before c.next_upload.ensures.stays clean_seen) inside ours in
-    let ours_seen = still_ours mid seen (c.in_ok-upload.ensures.same clean_seen ours_mid) ours_mid in
-    if_failed _ (uncommitted_behind (stays_then c.uploads.invariant.0 c.in_ok-upload.ensures.stays) c.in_err-expire_if_idle.ensures.stays (c.in_err-expire_if_idle.ensures.err ours_seen) clean inside is_open)
+pub returns-in_err-expire-clause-err : goal.returns-in_err-expire-clause-err
+returns-in_err-expire-clause-err g c ours clean inside is_open =
+    if_failed _ (uncommitted_behind (stays_then c.uploads.invariant.0 c.in_ok-left.ensures.stays) c.in_err-expire.ensures.stays c.in_err-expire.ensures.err clean inside is_open)

@@ -1,4 +1,4 @@
-use Rattle.std.proofs.Common.{◌≡◌, max, ap, refl, sym, subst, ◌∙◌}
+use Rattle.std.proofs.Common.{◌≡◌, ◌<◌, ◌^◌, max, ap, refl, sym, subst, ◌∙◌}
 use Rattle.dep_types.specs.State.{State}
 use Rattle.dep_tables.specs.Tables.{Tables, tables_of}
 use Rattle.dep_tables.specs.declared.state.StateRow.{StateRow}
@@ -6,7 +6,7 @@ use Rattle.dep_row_maps.specs.Stored.{state_row}
 use Rattle.dep_row_maps.specs.TablesAre.{TablesAre}
 use Rattle.dep_row_maps.proofs.Readings.{state_read}
 use Rattle.dep_files.proofs.Results.{still_ours, same_tables, left_whole, fails_behind, uncommitted_behind}
-use Rattle.dep_staging.proofs.Expired.{tick_is, ticked_clock, ticked_row, storable_tick, no_upload_0, storable_uploads}
+use Rattle.dep_staging.proofs.Expired.{tick_is, ticked_clock, ticked_row, storable_tick, storable_uploads}
 use Rattle.dep_tables.proofs.Results.{if_failed}
 use Rattle.dep_tables.proofs.Chains.{clean_before, stays_then, stays_ok, stays_err}
 use Rattle.dep_tables.specs.Clauses.{FailsToRun}
@@ -35,7 +35,7 @@ returns-clause-map g c clean inside ours s are zero_free =
     let are_one = subst (λ (t : Tables). TablesAre t s) (sym (same_tables old one same)) are in
     let set = c.in_ok-set_clock.ensures.map clean_two inside_one ours_one s are_one is in
     let was : State = record s { clock = clock } in
-    let expired = c.in_ok-expire_idle.ensures.map clean (c.in_ok-set_clock.ensures.stays.inside clean_two inside_one) (c.in_ok-set_clock.ensures.ours clean_two inside_one ours_one) was set zero_free in
+    let expired = c.in_ok-expire_idle.ensures.map clean (c.in_ok-set_clock.ensures.stays.inside clean_two inside_one) (c.in_ok-set_clock.ensures.ours clean_two inside_one ours_one) was set in
     (now, subst (TablesAre (tables_of new)) (tick_is c.args.config.now s c.args.moment clock s.next now refl) expired)
 
 pub returns-in_err-row-clause-err : goal.returns-in_err-row-clause-err
@@ -85,7 +85,7 @@ returns-in_err-expire_idle-clause-cause g c clean inside ours s are sound =
     if_err_is _ c.from_residual-in_err-expire_idle.result c.in_err-expire_idle.field-0.0 c.from_residual-in_err-expire_idle.ensures.1 (fails_later g.T.Statements.state old two new set_stays.survives (FailsToExpireAll config clock s.uploads) (FailsToTick config s c.args.moment)
     (λ at later fault failed. expired (subst (λ k. FailsToExpireAll config k s.uploads at later fault) now failed)) _
     (c.in_err-expire_idle.ensures.cause clean (set_stays.inside clean_two inside) (c.in_ok-set_clock.ensures.ours clean_two inside_one ours_one) was set
-    (no_upload_0 s sound) (storable_uploads s sound)))
+    (subst (λ k. k < 2 ^ 63) (sym now) (storable_tick config s c.args.moment sound).clock) (storable_uploads s sound)))
 
 pub returns-in_err-set_clock-clause-stays : goal.returns-in_err-set_clock-clause-stays
 returns-in_err-set_clock-clause-stays g c =

@@ -7,20 +7,19 @@ use Rattle.sqlite.specs.Held.{state}
 use Rattle.sqlite.specs.State.{State}
 use Rattle.sqlite.proofs.StateLemmas.{survives_then, unchanged}
 use Rattle.dep_tables.specs.Tables.{Tables, tables_of}
-use Rattle.dep_tables.specs.declared.owner.BlockOwner.TheVariants as owner
 use Rattle.dep_types.specs.declared.rows.FileRow.{FileRow}
 use Rattle.dep_row_maps.proofs.Causes.{survives_itself}
-use Rattle.dep_streams.specs.Fixity.{IsDigestOf, KeepsDamaged}
-use Rattle.dep_manifest.specs.Damaged.{number_unless_kept}
+use Rattle.dep_streams.specs.Fixity.{HasFixity, KeepsDamaged, number_if_damaged}
+use Rattle.dep_streams.specs.declared.auditing.FileFixity.{FileFixity}
 use Rattle.dep_streams.proofs.Stills.{still_then, ours_still, tables_still, kept_still, failed_still}
 use Rattle.dep_streams.proofs.Digests.{one_more, zip_more}
 use Rattle.dep_streams.proofs.auditing.audit_files.Goals as goal
 
-abbrev its : State → FileRow → List ℕ → Type 0
-its old row digest = IsDigestOf (tables_of old) (owner.File row.file) digest
+abbrev its : State → FileRow → FileFixity → Type 0
+its old row found = HasFixity (tables_of old) row.file found
 
-abbrev number_of : FileRow × List ℕ → List ℕ
-number_of p = number_unless_kept p.0 p.1
+abbrev number_of : FileRow × FileFixity → List ℕ
+number_of p = number_if_damaged p.0 p.1
 
 pub files-init : goal.files-init
 files-init g c = (
@@ -38,7 +37,7 @@ files-preserved g c =
     let inv = c.files.invariant in
     let earlier = c.keep_damaged.ensures.clean in (
       λ clean. inv.0 (earlier clean),
-      λ clean ours. survives_then old mid new _ _ (λ _. ⊥) (λ _ db none. none) (λ _ db none. none) (inv.1 (earlier clean) ours) (c.keep_damaged.ensures.survives (ours_still old mid (inv.2 (earlier clean) ours) ours)),
+      λ clean ours. survives_then old mid new _ _ (λ _. ⊥) (λ _ db none. none) (λ _ db none. none) (inv.1 (earlier clean) ours) (c.keep_damaged.ensures.survives clean (ours_still old mid (inv.2 (earlier clean) ours) ours)),
       λ clean ours.
           let still = inv.2 (earlier clean) ours in
           still_then old mid new still (c.in-Ok.ensures.same clean (ours_still old mid still ours)),
@@ -49,16 +48,16 @@ files-preserved g c =
           let xs = c.args.files.now in
           let i = c.files.row-index in
           let row : FileRow = c.row-item.result in
-          let digests : List (List ℕ) = done.0 ++ it.digest ∷ [] in
+          let found : List FileFixity = done.0 ++ it.found ∷ [] in
           let grown : take (i + 1) xs ≡ take i xs ++ row ∷ [] = take_more xs i row c.files-test.true ∙ ap (λ (x : FileRow). take i xs ++ x ∷ []) (sym c.row-item.is) in
-          let all = one_more (its old) (take i xs) done.0 row it.digest done.1 it.its in
-          let pairs = zip_more (its old) (take i xs) done.0 row it.digest done.1 in (
-            digests,
-            subst (λ (l : List FileRow). AllZip (its old) l digests) (sym grown) all,
-            it.noted ∙ ap (λ l. l ++ number_unless_kept row it.digest) done.2
-                ∙ ap (λ l. flat_map number_of (zip (take i xs) done.0) ++ l) (sym (append-nil (number_unless_kept row it.digest)))
-                ∙ sym (flat_map-append number_of (zip (take i xs) done.0) ((row, it.digest) ∷ []))
-                ∙ ap (flat_map number_of) (sym pairs) ∙ ap (λ (l : List FileRow). flat_map number_of (zip l digests)) (sym grown),
+          let all = one_more (its old) (take i xs) done.0 row it.found done.1 it.its in
+          let pairs = zip_more (its old) (take i xs) done.0 row it.found done.1 in (
+            found,
+            subst (λ (l : List FileRow). AllZip (its old) l found) (sym grown) all,
+            it.noted ∙ ap (λ l. l ++ number_if_damaged row it.found) done.2
+                ∙ ap (λ l. flat_map number_of (zip (take i xs) done.0) ++ l) (sym (append-nil (number_if_damaged row it.found)))
+                ∙ sym (flat_map-append number_of (zip (take i xs) done.0) ((row, it.found) ∷ []))
+                ∙ ap (flat_map number_of) (sym pairs) ∙ ap (λ (l : List FileRow). flat_map number_of (zip l found)) (sym grown),
           ),
     )
 
@@ -71,7 +70,7 @@ returns g c =
           let done = inv.3 clean ours in
           record {
             checked = refl;
-            digests = done.0;
+            found = done.0;
             are = subst (λ (l : List FileRow). AllZip (its (state g.S.Store c.args.connection.now)) l done.0) whole done.1;
             damaged = done.2 ∙ ap (λ (l : List FileRow). flat_map number_of (zip l done.0)) whole;
           };
@@ -102,5 +101,5 @@ returns-in-Err g c =
       clean = λ clean. inv.0 (told.clean clean);
       survives = λ clean ours.
           let before = told.clean clean in
-          survives_then old mid new _ _ (λ _. ⊥) (λ _ db none. none) (λ _ db none. none) (inv.1 before ours) (told.survives (ours_still old mid (inv.2 before ours) ours));
+          survives_then old mid new _ _ (λ _. ⊥) (λ _ db none. none) (λ _ db none. none) (inv.1 before ours) (told.survives clean (ours_still old mid (inv.2 before ours) ours));
     }

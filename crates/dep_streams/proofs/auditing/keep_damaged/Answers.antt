@@ -1,16 +1,24 @@
-use Rattle.std.proofs.Common.{inl, inr, refl}
+use Rattle.std.proofs.Common.{inl, refl}
+use Rattle.dep_streams.specs.Causes.FailsToCheck.{not_found, not_noted}
 use Rattle.dep_streams.proofs.auditing.keep_damaged.Goals as goal
 
 pub returns-in-Err : goal.returns-in-Err
 returns-in-Err g c =
     let told = c.in-Err.ensures in
-    record { notes = λ clean ours. tt; cause = λ clean ours. inl (told.cause clean ours); same = λ clean ours. tt; err = told.err; clean = told.clean; survives = told.survives }
+    record {
+      notes = λ clean ours. tt;
+      cause = λ clean ours. not_found (told.cause clean ours);
+      same = λ clean ours. tt;
+      err = told.err;
+      clean = told.clean;
+      survives = told.survives;
+    }
 
 pub returns-in-Ok-note_damaged : goal.returns-in-Ok-note_damaged
 returns-in-Ok-note_damaged g c =
     let told = c.in-Ok.ensures in
     record {
-      notes = λ clean ours. record { digest = c.in-Ok.digest; its = told.hashes clean ours; noted = c.in-Ok-note_damaged.ensures.ok };
+      notes = λ clean ours. record { found = c.in-Ok.found; its = told.ok clean ours; noted = c.in-Ok-note_damaged.ensures.ok };
       cause = λ clean ours. tt;
       same = told.same;
       err = λ clean ours is_open. tt;
@@ -18,12 +26,13 @@ returns-in-Ok-note_damaged g c =
       survives = told.survives;
     }
 
+-- there was no memory to note it
 pub returns-in-Err-note_damaged : goal.returns-in-Err-note_damaged
 returns-in-Err-note_damaged g c =
     let told = c.in-Ok.ensures in
     record {
       notes = λ clean ours. tt;
-      cause = λ clean ours. inr (c.in-Ok.digest, told.hashes clean ours, c.in-Err-note_damaged.ensures.damaged, refl);
+      cause = λ clean ours. not_noted c.in-Ok.found (told.ok clean ours) c.in-Err-note_damaged.ensures.damaged refl;
       same = λ clean ours. tt;
       err = λ clean ours is_open. inl (told.same clean ours);
       clean = told.clean;

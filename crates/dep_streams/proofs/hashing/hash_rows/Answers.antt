@@ -14,7 +14,7 @@ pub returns-in-Err : goal.returns-in-Err
 returns-in-Err g c =
     let ended = not_begun g.S.Store c.args.sql.now (bound c.args.params.now) c.args.connection.now c.query.follows.lender-at-none
     c.query.result c.in-Err.error c.fault_of.result c.query.follows.holds-at-none c.in-Err.is c.fault_of.ensures in
-    record { hashes = ended.hashes; cause = ended.cause; same = ended.same; err = ended.err; clean = ended.clean; survives = ended.survives }
+    record { hashes = ended.hashes; cause = ended.cause; same = ended.same; err = ended.err; mode = ended.mode; clean = ended.clean; survives = ended.survives }
 
 pub rows-init : goal.rows-init
 rows-init g c =
@@ -27,6 +27,7 @@ rows-init g c =
           let none = begun_plain g.S.Store c.args.sql.now (bound c.args.params.now) c.args.connection.now c.in-Ok.rows.conn.now plain (made.begun clean) in
           ([], none.0, none.1, c.new-hasher.ensures, refl),
       clean_was first begun (CommitsShowing c.args.sql.now (bound c.args.params.now) first) made.survives,
+      made.mode,
     )
 
 pub rows-preserved : goal.rows-preserved
@@ -42,6 +43,7 @@ rows-preserved g c =
           hashed_more g.S.Store c.rows.rows now c.next.result moved c.args.sql.now (bound c.args.params.now) first c.rows.counter c.rows.hasher
           (c.rows.invariant.2 (earlier late) plain) late c.in-Some.row c.hash_row.new.hasher some c.in-Ok-hash_row.ensures.holds,
       λ late. c.rows.invariant.3 (earlier late),
+      λ outside. moved.mode (c.rows.invariant.4 outside),
     )
 
 pub returns-in_default : goal.returns-in_default
@@ -51,10 +53,10 @@ returns-in_default g c =
     let names = sym (c.next.follows.holds-at-none.same_reference ∙ c.rows.invariant.0 ∙ c.in-Ok.ensures.same_reference) in
     let same = sym (c.connection-in_default-1.given.1 names ∙ c.drop-rows-in_default.ensures) in
     let none = answered c.next.result c.in-Ok-next.next None c.in-Ok-next.is c.in_default.is in
-    let ended = subst (λ h. EndsHashing c.args.sql.now (bound c.args.params.now) first (state g.S.Store h) (Ok c.finalize.result)) same
+    let ended = subst (λ h. EndsHashing c.args.sql.now (bound c.args.params.now) first (state g.S.Store h) (Ok c.finish.result)) same
     (ends_whole g.S.Store c.rows.rows now c.next.result c.next.follows.holds-at-none c.args.sql.now (bound c.args.params.now) first
-    c.rows.counter c.rows.hasher c.rows.invariant.1 c.rows.invariant.2 c.rows.invariant.3 none c.finalize.result c.finalize.ensures) in
-    record { hashes = ended.hashes; cause = ended.cause; same = ended.same; err = ended.err; clean = ended.clean; survives = ended.survives }
+    c.rows.counter c.rows.hasher c.rows.invariant.1 c.rows.invariant.2 c.rows.invariant.4 c.rows.invariant.3 none c.finish.result c.finish.ensures) in
+    record { hashes = ended.hashes; cause = ended.cause; same = ended.same; err = ended.err; mode = ended.mode; clean = ended.clean; survives = ended.survives }
 
 pub returns-in-Err-next : goal.returns-in-Err-next
 returns-in-Err-next g c =
@@ -65,8 +67,8 @@ returns-in-Err-next g c =
     let fault = c.fault_of-in-Err-next.result in
     let ended = subst (λ h. EndsHashing c.args.sql.now (bound c.args.params.now) first (state g.S.Store h) (Err fault)) same
     (ends_failed g.S.Store c.rows.rows now c.next.result c.next.follows.holds-at-none c.args.sql.now (bound c.args.params.now) first
-    c.rows.counter c.rows.hasher c.rows.invariant.1 c.rows.invariant.2 c.rows.invariant.3 c.in-Err-next.error c.in-Err-next.is fault c.fault_of-in-Err-next.ensures) in
-    record { hashes = ended.hashes; cause = ended.cause; same = ended.same; err = ended.err; clean = ended.clean; survives = ended.survives }
+    c.rows.counter c.rows.hasher c.rows.invariant.1 c.rows.invariant.2 c.rows.invariant.4 c.rows.invariant.3 c.in-Err-next.error c.in-Err-next.is fault c.fault_of-in-Err-next.ensures) in
+    record { hashes = ended.hashes; cause = ended.cause; same = ended.same; err = ended.err; mode = ended.mode; clean = ended.clean; survives = ended.survives }
 
 pub returns-in-Err-hash_row : goal.returns-in-Err-hash_row
 returns-in-Err-hash_row g c =
@@ -77,8 +79,8 @@ returns-in-Err-hash_row g c =
     let some = answered c.next.result c.in-Ok-next.next (Some c.in-Some.row) c.in-Ok-next.is c.in-Some.is in
     let ended = subst (λ h. EndsHashing c.args.sql.now (bound c.args.params.now) first (state g.S.Store h) (Err c.in-Err-hash_row.fault)) same
     (ends_refused g.S.Store c.rows.rows now c.next.result c.next.follows.holds-at-none c.args.sql.now (bound c.args.params.now) first
-    c.rows.counter c.rows.hasher c.rows.invariant.1 c.rows.invariant.2 c.rows.invariant.3 c.in-Some.row some c.in-Err-hash_row.fault c.in-Err-hash_row.ensures.refused) in
-    record { hashes = ended.hashes; cause = ended.cause; same = ended.same; err = ended.err; clean = ended.clean; survives = ended.survives }
+    c.rows.counter c.rows.hasher c.rows.invariant.1 c.rows.invariant.2 c.rows.invariant.4 c.rows.invariant.3 c.in-Some.row some c.in-Err-hash_row.fault c.in-Err-hash_row.ensures.refused) in
+    record { hashes = ended.hashes; cause = ended.cause; same = ended.same; err = ended.err; mode = ended.mode; clean = ended.clean; survives = ended.survives }
 
 -- no more rows can be counted
 pub returns : goal.returns
@@ -93,7 +95,8 @@ returns g c =
           (given_begin g.S.Store c.args.sql.now (bound c.args.params.now) c.rows.rows.conn.now x.0 x.1)) (subst (λ n. 2 ^ 64 - 1 ≤ n) (sym x.4) c.rows-test.false) refl;
       same = λ late plain. tt;
       err = λ late plain. inl (c.rows.invariant.2 late plain).2;
+      mode = c.rows.invariant.4;
       clean = c.rows.invariant.3;
       survives = c.rows.invariant.1;
     }) in
-    record { hashes = ended.hashes; cause = ended.cause; same = ended.same; err = ended.err; clean = ended.clean; survives = ended.survives }
+    record { hashes = ended.hashes; cause = ended.cause; same = ended.same; err = ended.err; mode = ended.mode; clean = ended.clean; survives = ended.survives }

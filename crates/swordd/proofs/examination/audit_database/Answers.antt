@@ -1,4 +1,4 @@
-use Rattle.std.proofs.Common.{[], sym, subst}
+use Rattle.std.proofs.Common.{[], inr, sym, subst}
 use Rattle.std.proofs.KnownBytes.{Appends-nil}
 use Rattle.sqlite.specs.Held.{Held, state}
 use Rattle.sqlite.proofs.StateLemmas.{clean_if_open}
@@ -15,12 +15,12 @@ returns-in-Ok-clause-audits g c =
       subst (λ (h : Held _). AuditsDatabase (state g.S.Store c.args.connection) (state g.S.Store h) it.0 run.result) (sym c.close.ensures)
           (audits_all (state g.S.Store c.args.connection) (state g.S.Store c.in-Ok.store) (state g.S.Store run.new.store)
           (λ is_open. clean_if_open (g.S.Store.view run.new.store.store) (g.met.S.Store.shut_if_dirty run.new.store.store) is_open)
-          run.ensures.honest c.in-Ok.ensures.fresh c.in-Ok.ensures.found it.0 run.result c.in-Ok.ensures.tables it.2 run.ensures.still run.ensures.stop),
+          run.ensures.honest c.in-Ok.ensures.fresh c.in-Ok.ensures.found it.0 run.result c.in-Ok.ensures.tables c.in-Ok.ensures.older it.2 run.ensures.still run.ensures.stop),
     )
 
 pub returns-in-Err-clause-audits : goal.returns-in-Err-clause-audits
 returns-in-Err-clause-audits g c = (
   [],
   Appends-nil (g.W.Outlet.taken c.args.lines.now),
-  audits_none (state g.S.Store c.args.connection) (state g.S.Store c.in-Err.connection) (record { back = c.in-Err.ensures.left; stop = c.in-Err.ensures.stop }),
+  audits_none (state g.S.Store c.args.connection) (state g.S.Store c.in-Err.connection) (record { back = λ is_open. inr (c.in-Err.ensures.left is_open); stop = c.in-Err.ensures.stop }),
 )

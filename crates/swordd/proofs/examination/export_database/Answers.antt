@@ -1,4 +1,4 @@
-use Rattle.std.proofs.Common.{sym, subst}
+use Rattle.std.proofs.Common.{inr, sym, subst}
 use Rattle.sqlite.specs.Held.{Held, state}
 use Rattle.sqlite.proofs.StateLemmas.{clean_if_open}
 use Rattle.swordd.specs.Examinations.{ExportsDatabase}
@@ -16,4 +16,4 @@ returns-in-Ok-clause-exports g c =
 
 pub returns-in-Err-clause-exports : goal.returns-in-Err-clause-exports
 returns-in-Err-clause-exports g c =
-    exports_none (state g.S.Store c.args.connection) (state g.S.Store c.in-Err.connection) (record { back = c.in-Err.ensures.left; stop = c.in-Err.ensures.stop }) c.args.object
+    exports_none (state g.S.Store c.args.connection) (state g.S.Store c.in-Err.connection) (record { back = λ is_open. inr (c.in-Err.ensures.left is_open); stop = c.in-Err.ensures.stop }) c.args.object

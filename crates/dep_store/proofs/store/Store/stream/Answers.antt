@@ -1,4 +1,5 @@
 use Rattle.std.proofs.Common.{rules, IsTrue, [], inl, refl, sym, subst}
+use Rattle.std.proofs.KnownBytes.{Appends-nil}
 use Rattle.sqlite.specs.Held.{state}
 use Rattle.sqlite.proofs.StateLemmas.{clean_if_open}
 use Rattle.dep_tables.specs.Tables.{Tables}
@@ -73,3 +74,9 @@ returns-in-Err-Memory-clause-stop g c clean s given =
     let stands = rw (← c.self.view_is) at given in
     let store = c.self.inside.connection.store in
     leaves_still (state g.S.Store c.self.inside.connection) (state g.S.Store c.check_open.new.connection) s (λ trees h. g.met.S.Store.settled store trees stands.stands.is_open h) stands c.check_open.ensures.survives clean
+
+pub returns-in-Err-Store-clause-streams : goal.returns-in-Err-Store-clause-streams
+returns-in-Err-Store-clause-streams g c = ([], Appends-nil (g.O.Outlet.taken c.args.out.now), λ clean s given. inl refl)
+
+pub returns-in-Err-Memory-clause-streams : goal.returns-in-Err-Memory-clause-streams
+returns-in-Err-Memory-clause-streams g c = ([], Appends-nil (g.O.Outlet.taken c.args.out.now), λ clean s given. inl refl)

@@ -1,0 +1,7 @@
+use Rattle.dep_tables.proofs.Results.{ok_then}
+use Rattle.dep_schema.proofs.MadeIndexes.{adds_files_index}
+use Rattle.dep_schema.proofs.indexing.index_files.Goals as goal
+
+pub returns-clause-adds : goal.returns-clause-adds
+returns-clause-adds g c clean inside =
+    ok_then c.run.result (c.run.ensures.runs clean inside) (λ ran. adds_files_index (g.T.Statements.state c.args.tx.now) (g.T.Statements.state c.run.new.self) ran.0 ran.1)

@@ -1,0 +1,39 @@
+use Rattle.std.proofs.Common.{◌<◌, ◌^◌, length, arith}
+use Rattle.std.proofs.lemmas.List.Elements.{All-get_or}
+use Rattle.std.proofs.lemmas.List.{take_all}
+use Rattle.dep_tables.proofs.Chains.{clean_before, stays_then, stays_ok, stays_err}
+use Rattle.dep_tables.specs.Tables.{tables_of}
+use Rattle.dep_tables.specs.declared.sha512s.FileSha512.{FileSha512}
+use Rattle.dep_row_maps.proofs.Causes.{if_err_is}
+use Rattle.dep_schema.proofs.Upgraded.{one_more_value, put_fails}
+use Rattle.dep_schema.proofs.upgrading.insert_values.Goals as goal
+
+pub values-preserved : goal.values-preserved
+values-preserved g c =
+    let old = g.T.Statements.state c.args.tx.now in
+    let mid = g.T.Statements.state c.values.tx in
+    let new = g.T.Statements.state c.insert_sha512.new.tx in
+    let inv = c.values.invariant in
+    let within : c.values.value-index < length c.args.values.now = omega arith in (
+      stays_ok (stays_then inv.0 c.in_ok-insert_sha512.ensures.stays),
+      λ clean inside ours.
+          let before = clean_before c.insert_sha512.ensures.stays clean in
+          let was = inv.1 before inside ours in
+          let leads = c.in_ok-insert_sha512.ensures.ok clean (inv.0.inside before inside) was.ours in
+          record { ours = leads.ours; rows = one_more_value (tables_of old) (tables_of mid) (tables_of new) c.args.values.now c.values.value-index _ within was.rows leads.rows },
+    )
+
+pub returns-in_err-insert_sha512-clause-stays : goal.returns-in_err-insert_sha512-clause-stays
+returns-in_err-insert_sha512-clause-stays g c = stays_err c.from_residual.ensures.0 (stays_then c.values.invariant.0 c.insert_sha512.ensures.stays)
+
+pub returns-clause-ok : goal.returns-clause-ok
+returns-clause-ok g c = rw (take_all c.values.value-index c.args.values.now c.values-test.false) at c.values.invariant.1
+
+pub returns-in_err-insert_sha512-clause-cause : goal.returns-in_err-insert_sha512-clause-cause
+returns-in_err-insert_sha512-clause-cause g c storable clean inside =
+    let stays = c.values.invariant.0 in
+    let before = clean_before c.insert_sha512.ensures.stays clean in
+    let within : c.values.value-index < length c.args.values.now = omega arith in
+    if_err_is _ c.from_residual.result _ c.from_residual.ensures.1
+    (put_fails g.T.Statements.state c.args.values.now c.args.tx.now c.values.tx c.insert_sha512.new.tx stays.survives c.values.value-index _ within _
+    (c.in_err-insert_sha512.ensures.cause (All-get_or (λ (v : FileSha512). v.file < 2 ^ 63) c.args.values.now c.values.value-index _ within storable) clean (stays.inside before inside)))

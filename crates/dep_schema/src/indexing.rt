@@ -1,0 +1,51 @@
+//! The indexes of the tables, which statements of their own make.
+
+ghost use Rattle.std.specs.Prelude.{ℕ, [], IsTrue, OnOk, IfErr};
+ghost use Rattle.sqlite.specs.State.{HasCleanDisk, ExecutesInside};
+ghost use Rattle.dep_tables.specs.Schema.{files_table, files_index, uploads_table, uploads_index};
+ghost use Rattle.dep_tables.specs.Clauses.{StaysWithin, FailsToRun};
+ghost use Rattle.dep_schema.specs.Beside.{AddsIndex, AddsIndexes};
+ghost use Rattle.dep_schema.specs.OpenFaults.{FailsToIndex};
+ghost use Rattle.dep_schema.specs.Standing.{Turns};
+ghost use Rattle.dep_schema.specs.Texts.{index_files_text, index_uploads_text};
+
+use dep_tables::Statements;
+use dep_types::StoreFault;
+
+/// The index by which the files of an object are found.
+fn index_files<T: Statements>(tx: &mut T) -> Result<(), StoreFault>
+    ensures adds { Turns (T.state tx.old) (T.state tx.new) result (AddsIndex files_table files_index) }
+    ensures ran { HasCleanDisk (T.state tx.new) → IsTrue (T.state tx.old).in_transaction
+        → OnOk result ((count : ℕ) × ExecutesInside 0 index_files_text [] (T.state tx.old) (T.state tx.new)
+        (Ok count)) }
+    ensures cause { HasCleanDisk (T.state tx.new) → IsTrue (T.state tx.old).in_transaction
+        → IfErr result (FailsToRun index_files_text [] (T.state tx.old) (T.state tx.new)) }
+    ensures stays { StaysWithin T.lenders T.state tx.old tx.new result }
+{
+    tx.run("CREATE INDEX files_of_object ON files (object, file)", &[])
+}
+
+/// The index by which the upload is found that was left the longest.
+fn index_uploads<T: Statements>(tx: &mut T) -> Result<(), StoreFault>
+    ensures adds { Turns (T.state tx.old) (T.state tx.new) result
+        (AddsIndex uploads_table uploads_index) }
+    ensures cause { HasCleanDisk (T.state tx.new) → IsTrue (T.state tx.old).in_transaction
+        → IfErr result (FailsToRun index_uploads_text [] (T.state tx.old) (T.state tx.new)) }
+    ensures stays { StaysWithin T.lenders T.state tx.old tx.new result }
+{
+    tx.run(
+        "CREATE INDEX uploads_by_last ON uploads (last, upload)",
+        &[],
+    )
+}
+
+/// Both indexes, one after the other.
+pub(crate) fn create_indexes<T: Statements>(tx: &mut T) -> Result<(), StoreFault>
+    ensures adds { Turns (T.state tx.old) (T.state tx.new) result AddsIndexes }
+    ensures cause { HasCleanDisk (T.state tx.new) → IsTrue (T.state tx.old).in_transaction
+        → IfErr result (FailsToIndex T.state tx.old tx.new) }
+    ensures stays { StaysWithin T.lenders T.state tx.old tx.new result }
+{
+    index_files(tx)?;
+    index_uploads(tx)
+}

@@ -1,0 +1,97 @@
+//! The tables of version 1 become those of version 2, in one transaction.
+
+ghost use Rattle.std.specs.Prelude.{◌≡◌, ⊤, false, [], IsTrue, OnOk, IfErr};
+ghost use Rattle.sqlite.specs.State.{HasCleanDisk};
+ghost use Rattle.sqlite.specs.Held.{state};
+ghost use Rattle.dep_statements.specs.Adding.{Adds};
+ghost use Rattle.dep_tables.specs.Schema.{our_schema, older_schema, sha512s_table};
+ghost use Rattle.dep_tables.specs.Tables.{tables_of, IsOlder};
+ghost use Rattle.dep_tables.specs.Clauses.{StaysWithin, FailsToRun};
+ghost use Rattle.dep_row_maps.specs.Causes.{FailsByOne};
+ghost use Rattle.dep_row_maps.specs.Clauses.{Becomes};
+ghost use Rattle.dep_row_maps.specs.Sha512s.{upgraded};
+ghost use Rattle.dep_schema.specs.Standing.{Sees, Turns};
+ghost use Rattle.dep_schema.specs.Texts.{create_sha512s_text};
+ghost use Rattle.dep_schema.specs.Transactions.{TransactsTo};
+ghost use Rattle.dep_schema.specs.Upgrading.{with_no_sha512s, with_sha512s, AreStorable, FailsToExtend, FailsToPut, FailsToRewrite, FailsToUpgrade};
+
+use crate::indexing::create_indexes;
+use crate::lending::Lent;
+use dep_tables::{BlockOwner, FileSha512, Statements, fault_of, insert_sha512, write_version};
+use dep_types::StoreFault;
+use sqlite::{Alter, Connection};
+
+/// The table `sha512s`, beside what is there.
+fn create_sha512s<T: Statements>(tx: &mut T) -> Result<(), StoreFault>
+    ensures adds { Turns (T.state tx.old) (T.state tx.new) result (Adds sha512s_table) }
+    ensures cause { HasCleanDisk (T.state tx.new) → IsTrue (T.state tx.old).in_transaction
+        → IfErr result (FailsToRun create_sha512s_text [] (T.state tx.old) (T.state tx.new)) }
+    ensures stays { StaysWithin T.lenders T.state tx.old tx.new result }
+{
+    tx.run(
+        "CREATE TABLE sha512s (kind INTEGER NOT NULL, owner INTEGER NOT NULL, value BLOB NOT NULL, PRIMARY KEY (kind, owner)) STRICT",
+        &[],
+    )
+}
+
+/// What version 2 has beside the tables of version 1: the table `sha512s`, empty, and the indexes.
+fn extend_schema<T: Statements>(tx: &mut T) -> Result<(), StoreFault>
+    ensures ok { HasCleanDisk (T.state tx.new) → IsTrue (T.state tx.old).in_transaction
+        → IsOlder (T.state tx.old)
+        → OnOk result (Sees (T.state tx.new) (with_no_sha512s (tables_of (T.state tx.old)))) }
+    ensures cause { FailsByOne T.state tx.old tx.new result ⊤ FailsToExtend }
+    ensures stays { StaysWithin T.lenders T.state tx.old tx.new result }
+{
+    create_sha512s(tx)?;
+    create_indexes(tx)
+}
+
+/// The values of files, one after another.
+fn insert_values<T: Statements>(tx: &mut T, values: &[FileSha512]) -> Result<(), StoreFault>
+    ensures ok { Becomes (T.state tx.old) (T.state tx.new) result (with_sha512s values.now) }
+    ensures cause { FailsByOne T.state tx.old tx.new result (AreStorable values.now)
+        (FailsToPut values.now) }
+    ensures stays { StaysWithin T.lenders T.state tx.old tx.new result }
+{
+    'values: for value in values {
+        insert_sha512(tx, BlockOwner::File(value.file), &value.value)?;
+    }
+    Ok(())
+}
+
+/// The tables and indexes of version 2 in place of the tables of version 1, with these values.
+fn upgrade_tables<T: Statements>(tx: &mut T, values: &[FileSha512]) -> Result<(), StoreFault>
+    ensures ok { HasCleanDisk (T.state tx.new) → IsTrue (T.state tx.old).in_transaction
+        → IsOlder (T.state tx.old)
+        → OnOk result (Sees (T.state tx.new) (upgraded values.now (tables_of (T.state tx.old)))) }
+    ensures cause { FailsByOne T.state tx.old tx.new result (AreStorable values.now)
+        (FailsToRewrite values.now) }
+    ensures stays { StaysWithin T.lenders T.state tx.old tx.new result }
+{
+    extend_schema(tx)?;
+    insert_values(tx, values)?;
+    write_version(tx)
+}
+
+/// Turns the tables of version 1 into those of version 2, with these values of its files and none of uploads. A number of
+/// a file of 2^63 or more, and two values of one file, are a fault of the store. A fault, also of the commit, and want of
+/// memory leave the tables as they were.
+pub fn upgrade<S: Alter>(
+    connection: &mut Connection<S>,
+    values: &[FileSha512],
+) -> Result<(), StoreFault>
+    requires settled { (state S.Store connection.old).in_transaction ≡ false }
+    ensures upgrades { TransactsTo older_schema our_schema
+        (state S.Store connection.old) (state S.Store connection.new) result
+        (λ t _ after. after ≡ upgraded values.now t) }
+    ensures mode { (state S.Store connection.new).in_transaction ≡ false }
+    ensures cause { HasCleanDisk (state S.Store connection.new) → AreStorable values.now
+        → IfErr result (FailsToUpgrade S.Store connection.old connection.new values.now) }
+{
+    let mut tx = connection.transaction();
+    upgrade_tables(&mut Lent { tx: &mut tx }, values)?;
+    match tx.commit() {
+        Ok(()) => Ok(()),
+        Err(error) => Err(fault_of(error)),
+    }
+}

@@ -1,0 +1,71 @@
+-- The values of files, one after another.
+use Rattle.std.proofs.Common.{◌≡◌, inl, inr, ℕ, ◌<◌, ◌≤◌, ◌+◌, pos, List, [], ◌∷◌, ◌++◌, map, filter, find, Option, Some, None, refl, sym, ap, ◌∙◌, append-nil, append_assoc, arith}
+use Rattle.std.specs.Prelude.{option_map}
+use Rattle.std.specs.List.{AllByRecursion}
+use Rattle.std.proofs.lemmas.List.{map-append}
+use Rattle.sqlite.specs.declared.types.Value.{Value}
+use Rattle.sqlite.specs.declared.types.Value.TheVariants.{Int}
+use Rattle.sqlite_value.specs.Order.{Row}
+use Rattle.sqlite_trees.specs.Tree.{rowid}
+use Rattle.dep_statements.specs.Rows.{IsOrdered, is_after}
+use Rattle.dep_tables.specs.Tables.{Tables}
+use Rattle.dep_tables.specs.declared.sha512s.FileSha512.{FileSha512}
+use Rattle.dep_streams.specs.Sha512s.{HasValue, IsFileAfter, IsValueAfter, AreValuesOf, IsReached}
+use Rattle.dep_streams.proofs.Walks.{found_after, next_row, no_row, found_there}
+
+abbrev key : FileSha512 → Value
+key v = Int (pos v.file)
+
+-- the row that was asked for
+file_row : (t : Tables) (after file : ℕ) → IsFileAfter t after (Some file) → (row : Row) × (find (is_after after) t.files ≡ Some row) × (rowid row ≡ Int (pos file))
+file_row t after file e = go (find (is_after after) t.files) refl e
+  where
+    go : (o : Option Row) → find (is_after after) t.files ≡ o → option_map (λ n. Int (pos n)) (Some file) ≡ option_map rowid o → (row : Row) × (find (is_after after) t.files ≡ Some row) × (rowid row ≡ Int (pos file))
+    go None is e = absurd (cc)
+    go (Some row) is e = let same : rowid row ≡ Int (pos file) = cc in (row, is, same)
+
+no_file_row : (t : Tables) (after : ℕ) → IsFileAfter t after None → find (is_after after) t.files ≡ None
+no_file_row t after e = go (find (is_after after) t.files) refl e
+  where
+    go : (o : Option Row) → find (is_after after) t.files ≡ o → option_map (λ n. Int (pos n)) None ≡ option_map rowid o → find (is_after after) t.files ≡ None
+    go None is e = is
+    go (Some row) is e = absurd (cc)
+
+-- These are the values of the files up to a number, and with those behind it of all. There are no more of them than
+-- numbers up to it.
+pub record AreValuesTo (t : Tables) (values : List FileSha512) (last count : ℕ) : Type 0 where
+  pub numbered : map key values ++ map rowid (filter (is_after last) t.files) ≡ map rowid (filter (is_after 0) t.files)
+  pub each : AllByRecursion (HasValue t) values
+  pub reached : IsReached t last
+  pub few : count ≤ last
+
+pub no_values : (t : Tables) → AreValuesTo t [] 0 0
+no_values t = record { numbered = refl; each = tt; reached = inl refl; few = omega arith }
+
+all_more : {X : Type 0} (P : X → Type 0) (xs : List X) (x : X) → AllByRecursion P xs → P x → AllByRecursion P (xs ++ x ∷ [])
+all_more P [] x all its = (its, tt)
+all_more P (y ∷ xs) x all its = (all.0, all_more P xs x all.1 its)
+
+one_less : (count last file : ℕ) → count ≤ last → last < file → count + 1 ≤ file
+one_less count last file few behind = omega arith
+
+pub one_more : (t : Tables) (values : List FileSha512) (last count : ℕ) (v : FileSha512) → IsOrdered t.files → AreValuesTo t values last count → IsValueAfter t last (Some v) → AreValuesTo t (values ++ v ∷ []) v.file (count + 1)
+one_more t values last count v up so_far next =
+    let (row, found, is) = file_row t last v.file next.0 in
+    record {
+      numbered =
+          ap (λ l. l ++ map rowid (filter (is_after v.file) t.files)) (map-append key values (v ∷ []))
+          ∙ append_assoc (map key values) (key v ∷ []) (map rowid (filter (is_after v.file) t.files))
+          ∙ ap (λ x. map key values ++ x ∷ map rowid (filter (is_after v.file) t.files)) (sym is)
+          ∙ ap (λ l. map key values ++ map rowid l) (sym (next_row last v.file row t.files up.0 found is))
+          ∙ so_far.numbered;
+      each = all_more (HasValue t) values v so_far.each next.1;
+      reached = inr (row, (found_there (is_after last) row t.files found).1, is);
+      few = one_less count last v.file so_far.few (found_after last v.file row t.files found is);
+    }
+
+pub all_valued : (t : Tables) (values : List FileSha512) (last count : ℕ) → AreValuesTo t values last count → IsValueAfter t last None → AreValuesOf t values
+all_valued t values last count so_far none = record {
+  numbered = sym (append-nil (map key values)) ∙ ap (λ l. map key values ++ map rowid l) (sym (no_row last t.files (no_file_row t last none.0))) ∙ so_far.numbered;
+  each = so_far.each;
+}

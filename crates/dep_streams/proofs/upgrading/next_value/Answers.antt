@@ -1,0 +1,101 @@
+use Rattle.std.proofs.Common.{None, refl, subst}
+use Rattle.sqlite.specs.Held.{state}
+use Rattle.sqlite.proofs.Callers.{unchanged_then}
+use Rattle.dep_files.proofs.Results.{same_tables}
+use Rattle.dep_tables.specs.Tables.{Tables, tables_of}
+use Rattle.dep_tables.specs.declared.owner.BlockOwner.TheVariants as owner
+use Rattle.dep_streams.specs.Causes.FailsToHashNext.{no_file, no_blocks}
+use Rattle.dep_streams.specs.Fixity.{AreDigestsOf}
+use Rattle.dep_streams.specs.Sha512s.{IsFileAfter}
+use Rattle.dep_streams.proofs.KnownTables.{blocks_plain}
+use Rattle.dep_streams.proofs.SendingLemmas.{rolled_then}
+use Rattle.dep_streams.proofs.Stills.{known_same, survives_both}
+use Rattle.dep_streams.proofs.Streams.{blocks_from}
+use Rattle.dep_streams.proofs.upgrading.next_value.Goals as goal
+
+-- the file was not told
+pub returns-in-Err : goal.returns-in-Err
+returns-in-Err g c =
+    let told = c.in-Err.ensures in
+    record {
+      ok = λ clean known. tt;
+      cause = λ clean known. no_file (told.cause clean);
+      same = λ clean known. tt;
+      err = told.err;
+      found = λ clean. tt;
+      «open» = told.«open»;
+      mode = told.mode;
+      clean = told.clean;
+      survives = λ clean known. told.survives known;
+    }
+
+-- there is none
+pub returns-in_default : goal.returns-in_default
+returns-in_default g c =
+    let old = state g.S.Store c.args.connection.now in
+    let told = c.in-Ok.ensures in
+    record {
+      ok = λ clean known. (subst (IsFileAfter (tables_of old) c.args.after) c.in_default.is (told.ok clean known), tt);
+      cause = λ clean known. tt;
+      same = told.same;
+      err = λ clean known is_open. tt;
+      found = told.found;
+      «open» = told.«open»;
+      mode = told.mode;
+      clean = told.clean;
+      survives = λ clean known. told.survives known;
+    }
+
+pub returns-in-Ok-hash_blocks : goal.returns-in-Ok-hash_blocks
+returns-in-Ok-hash_blocks g c =
+    let old = state g.S.Store c.args.connection.now in
+    let mid = state g.S.Store c.next_file.new.connection in
+    let new = state g.S.Store c.hash_blocks.new.connection in
+    let first = c.in-Ok.ensures in
+    let second = c.in-Ok-hash_blocks.ensures in
+    record {
+      ok = λ clean known.
+          let before = second.clean clean in
+          let same = first.same before known in (
+            subst (IsFileAfter (tables_of old) c.args.after) c.in-Some.is (first.ok before known),
+            (
+              c.in-Ok-hash_blocks.digests,
+              subst (λ (t : Tables). AreDigestsOf t (owner.File c.in-Some.file) c.in-Ok-hash_blocks.digests) (same_tables old mid same) (second.hashes clean (known_same old mid same known)),
+              refl,
+            ),
+          );
+      cause = λ clean known. tt;
+      same = λ clean known. let same = first.same (second.clean clean) known in unchanged_then old mid new same (second.same clean (known_same old mid same known));
+      err = λ clean known is_open. tt;
+      found = λ clean. first.found (second.clean clean);
+      «open» = λ clean is_open. first.found (second.clean clean);
+      mode = λ outside. second.mode (first.mode outside);
+      clean = λ clean. first.clean (second.clean clean);
+      survives = λ clean known. survives_both old mid new (first.survives known) (second.survives (known_same old mid (first.same (second.clean clean) known) known));
+    }
+
+-- its blocks were not all read
+pub returns-in-Err-hash_blocks : goal.returns-in-Err-hash_blocks
+returns-in-Err-hash_blocks g c =
+    let old = state g.S.Store c.args.connection.now in
+    let mid = state g.S.Store c.next_file.new.connection in
+    let new = state g.S.Store c.hash_blocks.new.connection in
+    let first = c.in-Ok.ensures in
+    let second = c.in-Err-hash_blocks.ensures in
+    record {
+      ok = λ clean known. tt;
+      cause = λ clean known.
+          let before = second.clean clean in
+          let same = first.same before known in
+          no_blocks c.in-Some.file (subst (IsFileAfter (tables_of old) c.args.after) c.in-Some.is (first.ok before known))
+          (blocks_from (owner.File c.in-Some.file) None old mid new c.in-Err-hash_blocks.fault (blocks_plain old known) same (first.survives known) (second.cause clean (known_same old mid same known)));
+      same = λ clean known. tt;
+      err = λ clean known is_open.
+          let same = first.same (second.clean clean) known in
+          rolled_then old mid new same (second.err clean (known_same old mid same known) is_open);
+      found = λ clean. tt;
+      «open» = λ clean is_open. first.found (second.clean clean);
+      mode = λ outside. second.mode (first.mode outside);
+      clean = λ clean. first.clean (second.clean clean);
+      survives = λ clean known. survives_both old mid new (first.survives known) (second.survives (known_same old mid (first.same (second.clean clean) known) known));
+    }

@@ -1,0 +1,79 @@
+-- The SHA-512 values of the files, and those that uploads promised.
+use Rattle.std.proofs.Common.{◌≡◌, ℕ, ℤ, pos, List, [], ◌∷◌, map, filter, not, true, false, Option, Ok, codes, refl, ◌∙◌}
+use Rattle.std.specs.Option.{option_to_list, option_map}
+use Rattle.std.specs.List.{list_any}
+use Rattle.std.proofs.lemmas.Bool.{and_parts, and_from}
+use Rattle.sqlite_tied.specs.Compute.{everything}
+use Rattle.sqlite.specs.Listing.{understood}
+use Rattle.sqlite.specs.Rowids.TheVariants.{Chosen}
+use Rattle.sqlite.specs.Order.{Row, column}
+use Rattle.sqlite.specs.Term.{Term, lit, col}
+use Rattle.sqlite.specs.State.{State, ExecutesInside, Shown}
+use Rattle.sqlite.specs.declared.types.Value.TheVariants.{Null, Int, Blob}
+use Rattle.sqlite_value.specs.Keys.{plain, first_key}
+use Rattle.sqlite_schema.specs.Rules.{agree}
+use Rattle.sqlite_rules.specs.Edit.{with_rowid}
+use Rattle.dep_statements.specs.Query.{no_limit}
+use Rattle.dep_statements.specs.Rows.{put_next, columns_from}
+use Rattle.dep_statements.proofs.Values.{cast_int, cast_null}
+use Rattle.dep_statements.proofs.Tests.{equals_int}
+use Rattle.dep_statements.proofs.Unique.{IsKey}
+use Rattle.dep_statements.proofs.Written.{Inserts, Deletes, inserts_next, deletes_where}
+use Rattle.dep_statements.proofs.Selected.{Asks, selects_all}
+use Rattle.dep_tables.specs.Schema.{our_schema, sha512s_table}
+use Rattle.dep_tables.specs.Texts.{insert_sha512_text, delete_sha512_text, find_sha512_text}
+use Rattle.dep_tables.specs.declared.owner.BlockOwner.{BlockOwner}
+use Rattle.dep_tables.specs.Rows.{kind_of, number_of, owner_values, sha512_values, is_sha512_of, value_in}
+use Rattle.dep_tables.specs.Tables.{tables_of, IsOurs, Leads}
+use Rattle.dep_tables.proofs.Leading.{leads, sha512s_at}
+use Rattle.dep_tables.proofs.BlocksTable.{of_owner, tests_owner}
+use Rattle.dep_tables.proofs.Answered.{read_few}
+
+abbrev terms : List Term
+terms = lit Null ∷ col 0 0 ∷ col 0 1 ∷ col 0 2 ∷ []
+
+insert_is : Inserts our_schema insert_sha512_text 9 terms
+unfolding understood everything
+insert_is = (refl, (refl, refl))
+
+abbrev places : List ℕ
+places = 1 ∷ 2 ∷ []
+
+key : IsKey our_schema sha512s_table places
+key = record { name = codes "sqlite_autoindex_sha512s_1"; tree = 13; at = 3; listed = refl; guards_it = refl }
+
+agrees : (o : BlockOwner) (value : List ℕ) (id : ℤ) (other : Row) → is_sha512_of o other ≡ true → agree plain places other places (Int id ∷ sha512_values o value) ≡ true
+unfolding first_key
+agrees o value id other same =
+    let two = and_parts _ _ same in
+    and_from _ _ (equals_int (column other 1) (pos (kind_of o)) ∙ two.0) (and_from _ _ (equals_int (column other 2) (pos (number_of o)) ∙ two.1) refl)
+
+pub inserts_sha512 : (old new : State) (o : BlockOwner) (value : List ℕ) (count : ℕ) → IsOurs old → ExecutesInside 0 insert_sha512_text (sha512_values o value) old new (Ok count)
+    → Leads old new (record (tables_of old) { sha512s = put_next (sha512_values o value) (tables_of old).sha512s }) × (list_any (is_sha512_of o) (tables_of old).sha512s ≡ false)
+inserts_sha512 old new o value count ours h =
+    let made = inserts_next our_schema 9 12 sha512s_at insert_sha512_text (sha512_values o value) old new ours.schema ours.trees.ordered.1.1.1.1.1.1.1.1.1.0 count h terms insert_is (sha512_values o value)
+    (λ i. with_rowid Chosen (old.now.trees 12) (cast_null i ∷ cast_int (pos (kind_of o)) i ∷ cast_int (pos (number_of o)) i ∷ Blob value ∷ []) ∷ [])
+    places key (is_sha512_of o) (agrees o value) in
+    (leads old new 12 _ ours made.0 _ refl, made.1)
+
+delete_is : Deletes our_schema delete_sha512_text 9 12 of_owner
+unfolding understood everything
+delete_is = (refl, (refl, refl))
+
+pub deletes_sha512 : (old new : State) (o : BlockOwner) (count : ℕ) → IsOurs old → ExecutesInside 0 delete_sha512_text (owner_values o) old new (Ok count)
+    → Leads old new (record (tables_of old) { sha512s = filter (λ r. not (is_sha512_of o r)) (tables_of old).sha512s })
+deletes_sha512 old new o count ours h =
+    leads old new 12 _ ours
+    (deletes_where our_schema 9 12 sha512s_at delete_sha512_text (owner_values o) old new ours.schema ours.trees.ordered.1.1.1.1.1.1.1.1.1.0 count h of_owner delete_is (is_sha512_of o) (tests_owner o)) _ refl
+
+pub find_is : Asks our_schema find_sha512_text 12 of_owner (col 1 3 ∷ []) [] no_limit
+unfolding understood everything
+find_is = record { names = _; is = refl; unlisted = refl; plain = (refl, refl) }
+
+-- over any kind of value that reads as bytes
+pub finds_sha512 : {B : Type 0} (bytes : B → List ℕ) (old new : State) (o : BlockOwner) (found : Option B) → IsOurs old
+    → (rows : List Row) × Shown find_sha512_text (owner_values o) old new rows × (map (λ b. Blob (bytes b) ∷ []) (option_to_list found) ≡ map (columns_from 0 1) rows)
+    → map value_in (filter (is_sha512_of o) (tables_of old).sha512s) ≡ option_to_list (option_map (λ b. Blob (bytes b)) found)
+finds_sha512 bytes old new o found ours read =
+    read_few (λ b. Blob (bytes b)) value_in found (filter (is_sha512_of o) (tables_of old).sha512s) read.0
+    (selects_all our_schema find_sha512_text (owner_values o) old ours.schema 12 sha512s_at.own of_owner (col 1 3 ∷ []) (is_sha512_of o) (tests_owner o) new [] find_is read.0 read.1) read.2
