@@ -5,9 +5,10 @@
 
 `swordd serve` serves five stores in files at once: of 100, 1,000 and 5,000 objects, each with a file and metadata, and of
 100 objects with 100 and with 1,000 open uploads. Each kind of request is asked of all of them in turn, again and again, so
-that what else the machine does meets them alike. A line tells the median of each in microseconds, and how many times that
-of the smallest store the largest took. Where that is above 1.5, the kind is measured once more; the status is 1 where it
-is above 1.5 again.
+that what else the machine does meets them alike. What is measured is the server's processor time, since the time of the
+clock is mostly that of the disk, and grows where others use it. A line tells the median of each in microseconds, and how
+many times that of the smallest store the largest took. Where that is above 1.5, the kind is measured once more; the status
+is 1 where it is above 1.5 again.
 
 The stores are filled by Python's sqlite3, with the rows of a first object and a first upload of the server's own under other
 numbers; before that it compares such rows with those of a server that was asked for each. It needs nothing else.
@@ -57,31 +58,34 @@ class Client:
     """A client of a server, over one connection."""
 
     def __init__(self, server):
-        self.base = server.base
+        self.base, self.process = server.base, server.process
         self.connection = http.client.HTTPConnection("127.0.0.1", server.port, timeout=60)
         self.connection.connect()
 
     def ask(self, status, method, path, body=None, headers=None):
-        """One request, which has to come to this status. Returns its seconds, and the path of what it made."""
-        began = time.perf_counter()
+        """One request, which has to come to this status. Returns the path of what it made."""
         self.connection.request(method, path, body, headers or {})
         reply = self.connection.getresponse()
         reply.read()
-        took = time.perf_counter() - began
         if reply.status != status:
             raise RuntimeError(f"{method} {path}: {reply.status}")
-        return took, (reply.getheader("Location") or "").removeprefix(self.base)
+        return (reply.getheader("Location") or "").removeprefix(self.base)
+
+    def used(self):
+        """The processor time that the server has used, in seconds."""
+        with open(f"/proc/{self.process.pid}/schedstat", encoding="ascii") as told:
+            return int(told.read().split()[0]) / 1e9
 
     def deposit(self, count):
         """So many objects."""
         for _ in range(count):
-            _, path = self.ask(201, "POST", "/service", CONTENT, FILE)
+            path = self.ask(201, "POST", "/service", CONTENT, FILE)
             self.ask(204, "PUT", f"{path}/metadata", TITLES, METADATA)
 
     def upload(self, count):
         """So many uploads, with the first of two segments."""
         for _ in range(count):
-            _, path = self.ask(201, "POST", "/staging", None, OPENING)
+            path = self.ask(201, "POST", "/staging", None, OPENING)
             self.ask(204, "POST", path, CONTENT, SEGMENT)
 
 
@@ -93,16 +97,14 @@ class Asked:
         self.chosen = self.made = self.opened = ""
 
     def deposit(self):
-        took, self.made = self.client.ask(201, "POST", "/service", CONTENT, FILE)
+        self.made = self.client.ask(201, "POST", "/service", CONTENT, FILE)
         self.chosen = str(random.randint(1, self.objects))
-        return took
 
     def open(self):
-        took, self.opened = self.client.ask(201, "POST", "/staging", None, OPENING)
-        return took
+        self.opened = self.client.ask(201, "POST", "/staging", None, OPENING)
 
     def get(self, path):
-        return self.client.ask(200, "GET", path.replace("N", self.chosen))[0]
+        self.client.ask(200, "GET", path.replace("N", self.chosen))
 
 
 KINDS = {
@@ -111,13 +113,13 @@ KINDS = {
     "GET an object": lambda it: it.get("/objects/N"),
     "GET a file": lambda it: it.get("/objects/N/files/N"),
     "GET the list of a bag": lambda it: it.get("/objects/N/bag"),
-    "PUT metadata": lambda it: it.client.ask(204, "PUT", f"/objects/{it.chosen}/metadata", TITLES, METADATA)[0],
-    "POST a file to an object": lambda it: it.client.ask(200, "POST", it.made, CONTENT, FILE)[0],
-    "DELETE an object": lambda it: it.client.ask(204, "DELETE", it.made)[0],
+    "PUT metadata": lambda it: it.client.ask(204, "PUT", f"/objects/{it.chosen}/metadata", TITLES, METADATA),
+    "POST a file to an object": lambda it: it.client.ask(200, "POST", it.made, CONTENT, FILE),
+    "DELETE an object": lambda it: it.client.ask(204, "DELETE", it.made),
     "POST an upload": lambda it: it.open(),
-    "POST a segment": lambda it: it.client.ask(204, "POST", it.opened, CONTENT, SEGMENT)[0],
+    "POST a segment": lambda it: it.client.ask(204, "POST", it.opened, CONTENT, SEGMENT),
     "GET an upload": lambda it: it.get(it.opened),
-    "DELETE an upload": lambda it: it.client.ask(204, "DELETE", it.opened)[0],
+    "DELETE an upload": lambda it: it.client.ask(204, "DELETE", it.opened),
 }
 
 
@@ -171,10 +173,12 @@ def measured(stores, kinds):
     for turn in range(WARM_UP + ROUNDS):
         for kind, ask in KINDS.items():
             random.shuffle(order)
+            before = [it.client.used() for it in stores]
             for place in order:
-                took = ask(stores[place])
-                if turn >= WARM_UP:
-                    times[kind][place].append(took)
+                ask(stores[place])
+            if turn >= WARM_UP:
+                for place, it in enumerate(stores):
+                    times[kind][place].append(it.client.used() - before[place])
         if turn > 2 * WARM_UP and time.monotonic() > ends:
             break
     return {kind: [1e6 * statistics.median(it) for it in times[kind]] for kind in kinds}
