@@ -8,11 +8,11 @@ use Rattle.sqlite_trees.specs.Tree.{put_row, without_rowid, rowid}
 use Rattle.dep_statements.specs.Rows.{row_at, replaced, is_after, is_below_number, has_number, put_next, InOrder, IsFirst}
 use Rattle.dep_types.specs.declared.rows.ObjectRow.{ObjectRow}
 use Rattle.dep_types.specs.declared.rows.FileRow.{FileRow}
-use Rattle.dep_types.specs.declared.rows.UploadRow.{UploadRow}
 use Rattle.dep_tables.specs.declared.state.StateRow.{StateRow}
 use Rattle.dep_tables.specs.declared.metadata.MetadataRow.{MetadataRow}
 use Rattle.dep_tables.specs.declared.segments.SegmentRow.{SegmentRow}
 use Rattle.dep_tables.specs.declared.uploads.LeftUpload.{LeftUpload}
+use Rattle.dep_tables.specs.declared.uploads.UploadColumns.{UploadColumns}
 use Rattle.dep_tables.specs.declared.owner.BlockOwner.{BlockOwner}
 use Rattle.dep_tables.specs.declared.owner.BlockOwner.TheVariants.{File, Upload}
 use Rattle.dep_tables.specs.declared.owner.BlockKey.{BlockKey}
@@ -96,10 +96,10 @@ AreFileRowsOf object t found =
 
 -- ---- uploads
 
-abbrev pub with_new_upload_row : UploadRow → Tables → Tables
+abbrev pub with_new_upload_row : UploadColumns → Tables → Tables
 with_new_upload_row row t = record t { uploads = put_row (stored_upload row) t.uploads }
 
-abbrev pub with_upload_row : UploadRow → Tables → Tables
+abbrev pub with_upload_row : UploadColumns → Tables → Tables
 with_upload_row row t = record t { uploads = replaced (stored_upload row) t.uploads }
 
 abbrev pub without_upload_row : ℕ → Tables → Tables
@@ -108,7 +108,7 @@ without_upload_row upload t = record t { uploads = without_rowid (pos upload) t.
 abbrev pub LacksUploadRow : ℕ → Tables → Type 0
 LacksUploadRow upload t = row_at t.uploads upload ≡ None
 
-abbrev pub IsUploadRowAt : ℕ → Tables → Option UploadRow → Type 0
+abbrev pub IsUploadRowAt : ℕ → Tables → Option UploadColumns → Type 0
 IsUploadRowAt upload t found =
     option_map upload_values found ≡ option_map shown_upload (row_at t.uploads upload)
 

@@ -18,6 +18,7 @@ use Rattle.dep_tables.specs.declared.state.StateRow.{StateRow}
 use Rattle.dep_tables.specs.declared.metadata.MetadataRow.{MetadataRow}
 use Rattle.dep_tables.specs.declared.segments.SegmentRow.{SegmentRow}
 use Rattle.dep_tables.specs.declared.uploads.LeftUpload.{LeftUpload}
+use Rattle.dep_tables.specs.declared.uploads.UploadColumns.{UploadColumns}
 use Rattle.dep_tables.specs.declared.owner.BlockOwner.{BlockOwner}
 use Rattle.dep_tables.specs.declared.owner.BlockOwner.TheVariants.{File, Upload}
 use Rattle.dep_tables.specs.declared.owner.BlockKey.{BlockKey}
@@ -189,21 +190,32 @@ IsFileRow = HasKinds file_kinds
 
 -- ---- uploads
 
-abbrev pub upload_columns : UploadRow → Row
+-- what the row of an upload has of it
+abbrev pub columns_of_upload : UploadRow → UploadColumns
+columns_of_upload r = record {
+  upload = r.upload;
+  size = r.size;
+  count = r.count;
+  segment_size = r.segment_size;
+  sha256 = r.sha256;
+  last = r.last;
+}
+
+abbrev pub upload_columns : UploadColumns → Row
 upload_columns r =
     Int (pos r.size) ∷ Int (pos r.count) ∷ Int (pos r.segment_size) ∷ or_null Blob r.sha256
     ∷ Int (pos r.last) ∷ []
 
-abbrev pub upload_values : UploadRow → Row
+abbrev pub upload_values : UploadColumns → Row
 upload_values r = Int (pos r.upload) ∷ upload_columns r
 
-abbrev pub stored_upload : UploadRow → Row
+abbrev pub stored_upload : UploadColumns → Row
 stored_upload r = Int (pos r.upload) ∷ Null ∷ upload_columns r
 
 abbrev pub shown_upload : Row → Row
 shown_upload stored = column stored 0 ∷ columns_from 2 5 stored
 
-pub record IsStorableUpload (r : UploadRow) : Type 0 where
+pub record IsStorableUpload (r : UploadColumns) : Type 0 where
   pub upload : r.upload < 2 ^ 63
   pub size : r.size < 2 ^ 63
   pub count : r.count < 2 ^ 63

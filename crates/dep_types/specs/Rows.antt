@@ -50,5 +50,6 @@ upload_row n u = record {
   count = u.count;
   segment_size = u.segment_size;
   sha256 = u.sha256;
+  sha512 = u.sha512;
   last = u.last;
 }
