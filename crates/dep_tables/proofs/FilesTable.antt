@@ -17,7 +17,7 @@ use Rattle.dep_statements.proofs.Tests.{passes_key}
 use Rattle.dep_statements.proofs.Answered.{by_rowid}
 use Rattle.dep_statements.proofs.Written.{Inserts, Deletes, inserts_keyed, deletes_keyed, deletes_where}
 use Rattle.dep_statements.proofs.Selected.{Asks, selects_keyed, selects_in_order}
-use Rattle.dep_types.specs.declared.rows.FileRow.{FileRow}
+use Rattle.dep_tables.specs.declared.files.FileColumns.{FileColumns}
 use Rattle.dep_tables.specs.Schema.{our_schema}
 use Rattle.dep_tables.specs.Texts.{insert_file_text, delete_file_text, delete_files_text, find_file_text, files_of_text}
 use Rattle.dep_tables.specs.Rows.{stored_file, file_values, file_columns, shown_file}
@@ -32,7 +32,7 @@ insert_is : Inserts our_schema insert_file_text 4 terms
 unfolding understood everything
 insert_is = (refl, (refl, refl))
 
-pub inserts_file : (old new : State) (r : FileRow) (count : ℕ) → IsOurs old → ExecutesInside 0 insert_file_text (file_values r) old new (Ok count)
+pub inserts_file : (old new : State) (r : FileColumns) (count : ℕ) → IsOurs old → ExecutesInside 0 insert_file_text (file_values r) old new (Ok count)
     → Leads old new (record (tables_of old) { files = put_row (stored_file r) (tables_of old).files }) × (row_at (tables_of old).files r.file ≡ None)
 inserts_file old new r count ours h =
     let made = inserts_keyed our_schema 4 5 files_at insert_file_text (file_values r) old new ours.schema ours.trees.ordered.1.1.1.1.0 count h terms insert_is r.file (Null ∷ file_columns r)
@@ -73,7 +73,7 @@ pub find_is : Asks our_schema find_file_text 5 tests values [] no_limit
 unfolding understood everything
 find_is = record { names = _; is = refl; unlisted = refl; plain = (refl, refl) }
 
-pub finds_file : (old new : State) (key : ℕ) (found : Option FileRow) → IsOurs old
+pub finds_file : (old new : State) (key : ℕ) (found : Option FileColumns) → IsOurs old
     → (rows : List Row) × Shown find_file_text (Int (pos key) ∷ []) old new rows × (map file_values (option_to_list found) ≡ map (columns_from 0 10) rows)
     → option_map file_values found ≡ option_map shown_file (row_at (tables_of old).files key)
 finds_file old new key found ours read =
@@ -84,7 +84,7 @@ pub list_is : Asks our_schema files_of_text 5 of_object values by_rowid no_limit
 unfolding understood everything
 list_is = record { names = _; is = refl; unlisted = refl; plain = (refl, refl) }
 
-pub lists_files : (old new : State) (object : ℕ) (found : List FileRow) → IsOurs old
+pub lists_files : (old new : State) (object : ℕ) (found : List FileColumns) → IsOurs old
     → (rows : List Row) × Shown files_of_text (Int (pos object) ∷ []) old new rows × (map file_values found ≡ map (columns_from 0 10) rows)
     → map file_values found ≡ map shown_file (filter (has_number 2 object) (tables_of old).files)
 lists_files old new object found ours read =

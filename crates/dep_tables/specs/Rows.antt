@@ -8,12 +8,15 @@ use Rattle.sqlite.specs.declared.types.Value.TheVariants.{Null, Int, Text, Blob}
 use Rattle.sqlite.specs.Order.{Row, column}
 use Rattle.sqlite.specs.Values.{or_null}
 use Rattle.sqlite_value.specs.Order.{value_cmp}
+use Rattle.sqlite_trees.specs.Tree.{rowid}
 use Rattle.dep_statements.specs.Rows.{has_number, exceeds_number, columns_from}
 use Rattle.dep_types.specs.declared.rows.ObjectRow.{ObjectRow}
 use Rattle.dep_types.specs.declared.rows.FileRow.{FileRow}
 use Rattle.dep_types.specs.declared.rows.UploadRow.{UploadRow}
 use Rattle.dep_tables.specs.declared.columns.ColumnKind.{ColumnKind}
 use Rattle.dep_tables.specs.declared.columns.ColumnKind.TheVariants as kind
+use Rattle.dep_tables.specs.declared.files.FileColumns.{FileColumns}
+use Rattle.dep_tables.specs.declared.sha512s.FileSha512.{FileSha512}
 use Rattle.dep_tables.specs.declared.state.StateRow.{StateRow}
 use Rattle.dep_tables.specs.declared.metadata.MetadataRow.{MetadataRow}
 use Rattle.dep_tables.specs.declared.segments.SegmentRow.{SegmentRow}
@@ -161,15 +164,30 @@ IsMetadataRow = HasKinds metadata_kinds
 
 -- ---- files
 
-abbrev pub file_columns : FileRow → Row
+-- what the row of a file has of it
+abbrev pub columns_of_file : FileRow → FileColumns
+columns_of_file r = record {
+  file = r.file;
+  object = r.object;
+  name = r.name;
+  media = r.media;
+  size = r.size;
+  tag = r.tag;
+  deposited = r.deposited;
+  behalf = r.behalf;
+  by_reference = r.by_reference;
+  sha256 = r.sha256;
+}
+
+abbrev pub file_columns : FileColumns → Row
 file_columns r =
     Int (pos r.object) ∷ Text r.name ∷ Text r.media ∷ Int (pos r.size) ∷ Int (pos r.tag)
     ∷ Int (pos r.deposited) ∷ or_null Text r.behalf ∷ flag r.by_reference ∷ Blob r.sha256 ∷ []
 
-abbrev pub file_values : FileRow → Row
+abbrev pub file_values : FileColumns → Row
 file_values r = Int (pos r.file) ∷ file_columns r
 
-abbrev pub stored_file : FileRow → Row
+abbrev pub stored_file : FileColumns → Row
 stored_file r = Int (pos r.file) ∷ Null ∷ file_columns r
 
 abbrev pub shown_file : Row → Row
@@ -397,3 +415,25 @@ sha512_kinds = kind.Sha512 ∷ []
 
 abbrev pub IsSha512Row : Row → Type 0
 IsSha512Row = HasKinds sha512_kinds
+
+-- the value of a file, beside the file's number
+abbrev pub file_sha512_values : FileSha512 → Row
+file_sha512_values v = Int (pos v.file) ∷ Blob v.value ∷ []
+
+-- the row of the file of a row of `files`
+abbrev pub is_sha512_of_row : Row → Row → Bool
+is_sha512_of_row file stored =
+    has_number 1 0 stored && is_eq (value_cmp (column stored 2) (rowid file))
+
+abbrev pub shown_file_sha512 : Row × Row → Row
+shown_file_sha512 both = rowid both.0 ∷ value_in both.1 ∷ []
+
+abbrev pub file_sha512_kinds : List ColumnKind
+file_sha512_kinds = kind.Number ∷ kind.Sha512 ∷ []
+
+abbrev pub IsFileSha512Row : Row → Type 0
+IsFileSha512Row = HasKinds file_sha512_kinds
+
+-- by the number of the file, of rows as they are shown
+abbrev pub by_file : Row → Row → Ordering
+by_file a b = value_cmp (column a 0) (column b 0)

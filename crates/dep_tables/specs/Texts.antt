@@ -108,3 +108,6 @@ find_sha512_text = codes "SELECT value FROM sha512s WHERE kind = ?1 AND owner = 
 
 abbrev pub delete_sha512_text : List ℕ
 delete_sha512_text = codes "DELETE FROM sha512s WHERE kind = ?1 AND owner = ?2"
+
+abbrev pub sha512s_of_text : List ℕ
+sha512s_of_text = codes "SELECT files.file, sha512s.value FROM files JOIN sha512s ON sha512s.kind = 0 AND sha512s.owner = files.file WHERE files.object = ?1 ORDER BY files.file"
