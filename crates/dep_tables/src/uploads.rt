@@ -165,7 +165,10 @@ impl FromRow for UploadColumns {
 }
 
 /// The row of this key. It is a fault of the store where the row is not one that `insert_upload` writes, and for a number of 2^63 or more.
-pub fn find_upload<T: Statements>(tx: &mut T, upload: u64) -> Result<Option<UploadColumns>, StoreFault>
+pub fn find_upload<T: Statements>(
+    tx: &mut T,
+    upload: u64,
+) -> Result<Option<UploadColumns>, StoreFault>
     ensures ok { Reads (T.state tx.old) (T.state tx.new) result (IsUploadRowAt upload) }
     ensures same { ReadsOnly (T.state tx.old) (T.state tx.new) result }
     ensures numbers { RefusesNumbers (T.state tx.old) (T.state tx.new) result (upload < 2 ^ 63) }
