@@ -89,8 +89,17 @@ finds_sha512 bytes old new o found ours read =
 
 -- ---- those of the files of an object
 
+abbrev of_kind : Term
+of_kind = equals (col 2 1) (lit (Int (pos 0)))
+
+abbrev of_file : Term
+of_file = equals (col 2 2) (col 1 0)
+
+abbrev of_object : Term
+of_object = equals (col 1 2) (col 0 0)
+
 abbrev of_files : List Term
-of_files = equals (col 2 1) (lit (Int (pos 0))) ∷ equals (col 2 2) (col 1 0) ∷ equals (col 1 2) (col 0 0) ∷ []
+of_files = of_kind ∷ of_file ∷ of_object ∷ []
 
 abbrev values : List Term
 values = col 1 0 ∷ col 2 3 ∷ []
@@ -110,9 +119,11 @@ turned false b false = refl
 tests_files : (object : ℕ) (files : List Row) → IsOrdered files → (file : Row) → Has files file → (row : Row) → pass_together (Int (pos object) ∷ []) of_files file row ≡ (has_number 2 object file && is_sha512_of_row file row)
 tests_files object files up file there row =
     let params = Int (pos object) ∷ [] in
-    pass_three params file row _ _ _ (has_number 1 0 row) (is_eq (value_cmp (column row 2) (rowid file))) (has_number 2 object file)
-    (holds_literal params file row 0 1) (holds_key params file row 2 (all_has _ files file up.1 there)) (holds_first params file row 0 object 2 refl)
-    ∙ turned _ _ _
+    let kind = has_number 1 0 row in
+    let number = is_eq (value_cmp (column row 2) (rowid file)) in
+    let its = has_number 2 object file in
+    pass_three params file row of_kind of_file of_object kind number its (holds_literal params file row 0 1) (holds_key params file row 2 (all_has _ files file up.1 there)) (holds_first params file row 0 object 2 refl)
+    ∙ turned kind number its
 
 pub lists_sha512s : (old new : State) (object : ℕ) (found : List FileSha512) → IsOurs old
     → (rows : List Row) × Shown sha512s_of_text (Int (pos object) ∷ []) old new rows × (map file_sha512_values found ≡ map (columns_from 0 2) rows)
