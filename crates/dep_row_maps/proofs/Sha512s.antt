@@ -1,5 +1,5 @@
 -- The rows of `sha512s` against the value of each owner.
-use Rattle.std.proofs.Common.{◌≡◌, ◌≢◌, ◌⊎◌, inl, inr, ℕ, ◌≤◌, not, List, [], ◌∷◌, length, map, filter, Option, Some, None, option_map, refl, sym, ap, subst, ◌∙◌, arith}
+use Rattle.std.proofs.Common.{◌≡◌, ◌≢◌, ◌⊎◌, inl, inr, ℕ, ◌≤◌, not, List, [], ◌∷◌, length, map, filter, Option, Some, None, option_map, option_and_then, refl, sym, ap, subst, ◌∙◌, arith}
 use Rattle.std.specs.Option.{option_to_list}
 use Rattle.std.specs.List.Sorted.{IsPermutation}
 use Rattle.std.proofs.lemmas.List.Sorted.{IsPermutation-refl}
@@ -26,7 +26,7 @@ use Rattle.dep_row_maps.proofs.Blocks.{one_owner, same_owner, is_owner}
 use Rattle.dep_row_maps.proofs.Owners.{owners-put, owners-delete, with_at}
 use Rattle.dep_row_maps.proofs.Files.{same_number}
 use Rattle.dep_row_maps.proofs.FilesOwn.{own-moved, own-alike, own-put, own-removed, other_file, other_upload, no_upload, no_file}
-use Rattle.dep_row_maps.proofs.Lens.{under_here, under_there, under_same, under_gone, under_left}
+use Rattle.dep_row_maps.proofs.Lens.{get_here, get_there, get_gone, get_left}
 
 module _ (rows : List Row) (values now : Sha512s) (are : Sha512sAre rows values) where
   -- a value is put in for an owner that has none
@@ -72,12 +72,28 @@ values_stay t now s new h common same files promises = record {
   uploads_sha512s = λ u. h.uploads_sha512s u ∙ sym (promises u);
 }
 
+-- ---- the promise under a number
+
 abbrev promise_in : Upload → Option (List ℕ)
 promise_in it = it.sha512
 
--- an upload in whose place is one of the same promise
-pub same_promises : (staged : Numbered Upload) (u : ℕ) (it : Upload) → it.sha512 ≡ promised_at staged u → (q : ℕ) → promised_at (finmap.insert staged u it) q ≡ promised_at staged q
-same_promises = under_same promise_in None same_number
+module _ (staged : Numbered Upload) (u : ℕ) (it : Upload) where
+  pub promise_there : finmap.get staged u ≡ Some it → promised_at staged u ≡ it.sha512
+  promise_there there = ap (option_and_then promise_in) there
+
+  promise_here : promised_at (finmap.insert staged u it) u ≡ it.sha512
+  promise_here = ap (option_and_then promise_in) (get_here staged u it)
+
+  other_promises : (q : ℕ) → q ≢ u → promised_at (finmap.insert staged u it) q ≡ promised_at staged q
+  other_promises q apart = ap (option_and_then promise_in) (get_there staged u it q apart)
+
+  -- an upload comes in the place of one of the same promise
+  pub same_promises : it.sha512 ≡ promised_at staged u → (q : ℕ) → promised_at (finmap.insert staged u it) q ≡ promised_at staged q
+  same_promises is q = go (same_number q u)
+    where
+      go : (q ≡ u) ⊎ (q ≢ u) → promised_at (finmap.insert staged u it) q ≡ promised_at staged q
+      go (inl e) = ap (promised_at (finmap.insert staged u it)) e ∙ promise_here ∙ is ∙ ap (promised_at staged) (sym e)
+      go (inr apart) = other_promises q apart
 
 module _ (rows : List Row) (objects : Numbered Object) (staged : Numbered Upload) (h : AreValuesOf rows objects staged) where
   -- ---- of a file
@@ -141,7 +157,7 @@ module _ (rows : List Row) (objects : Numbered Object) (staged : Numbered Upload
           values = now.0;
           are = sha512s-put rows h.values now.0 h.are up (owner.Upload u) value (h.uploads u ∙ none) now.1 now.2;
           files = own-alike HasSha512 None objects h.values now.0 (λ f. now.2 (owner.File f) (no_file f u)) h.files;
-          uploads = promises_now now.0 (finmap.insert staged u it) (now.1 ∙ sym is ∙ sym (under_here promise_in None same_number staged u it)) now.2 (under_there promise_in None same_number staged u it);
+          uploads = promises_now now.0 (finmap.insert staged u it) (now.1 ∙ sym is ∙ sym (promise_here staged u it)) now.2 (other_promises staged u it);
         }
 
     -- an upload of which none was promised is put in
@@ -161,7 +177,7 @@ module _ (rows : List Row) (objects : Numbered Object) (staged : Numbered Upload
           values = now.0;
           are = sha512s-delete rows h.values now.0 h.are (owner.Upload u) now.1 now.2;
           files = own-alike HasSha512 None objects h.values now.0 (λ f. now.2 (owner.File f) (no_file f u)) h.files;
-          uploads = promises_now now.0 (finmap.remove staged u) (now.1 ∙ sym (under_gone promise_in None same_number staged u)) now.2 (under_left promise_in None same_number staged u);
+          uploads = promises_now now.0 (finmap.remove staged u) (now.1 ∙ sym (ap (option_and_then promise_in) (get_gone staged u))) now.2 (λ q apart. ap (option_and_then promise_in) (get_left staged u q apart));
         }
 
 -- that of an upload that goes, and of a file that is put in
