@@ -3,10 +3,10 @@
 ghost use Rattle.std.specs.Prelude.{◌≡◌, ◌↔◌, pos, IsTrue, ◌<◌, ◌^◌, ◌∷◌, []};
 ghost use Rattle.sqlite.specs.declared.types.Value.TheVariants.{Int};
 ghost use Rattle.sqlite.specs.Values.{bound};
-ghost use Rattle.dep_tables.specs.Rows.{IsStorableUpload, columns_of_upload, upload_values, IsNumberRow, IsUploadRow, IsLeftRow};
-ghost use Rattle.dep_tables.specs.Edits.{with_new_upload_row, with_upload_row, without_upload_row, LacksUploadRow, IsUploadRowAt, IsUploadAfter, IsLeftBefore};
+ghost use Rattle.dep_tables.specs.Rows.{IsStorableUpload, columns_of_upload, upload_values, IsUploadRow, IsLeftRow};
+ghost use Rattle.dep_tables.specs.Edits.{with_new_upload_row, with_upload_row, without_upload_row, LacksUploadRow, IsUploadRowAt, IsLeftBefore};
 ghost use Rattle.dep_tables.specs.Clauses.{AtMostOne, Changes, Shows, Reads, ReadsOnly, FailsWhole, FailsReading, RefusesNumbers, FailsByRunning, FailsByReadingNumbers, StaysWithin};
-ghost use Rattle.dep_tables.specs.Texts.{insert_upload_text, write_upload_text, delete_upload_text, find_upload_text, next_upload_text, left_before_text};
+ghost use Rattle.dep_tables.specs.Texts.{insert_upload_text, write_upload_text, delete_upload_text, find_upload_text, left_before_text};
 
 use crate::calls::Statements;
 use crate::columns::ColumnKind::{self, Number, Sha256OrNull};
@@ -184,26 +184,6 @@ pub fn find_upload<T: Statements>(
         tx,
         "SELECT upload, size, count, segment_size, sha256, last FROM uploads WHERE upload = ?1",
         &key_param(upload),
-    )
-}
-
-/// The least upload above this one. A number of 2^63 or more is a fault of the store.
-pub fn next_upload<T: Statements>(tx: &mut T, after: u64) -> Result<Option<u64>, StoreFault>
-    ensures ok { Reads (T.state tx.old) (T.state tx.new) result (IsUploadAfter after) }
-    ensures same { ReadsOnly (T.state tx.old) (T.state tx.new) result }
-    ensures numbers { RefusesNumbers (T.state tx.old) (T.state tx.new) result (after < 2 ^ 63) }
-    ensures cause { FailsByReadingNumbers (T.state tx.old) (T.state tx.new) result
-        (after < 2 ^ 63) next_upload_text (Int (pos after) ∷ []) (AtMostOne IsNumberRow) }
-    ensures err { FailsReading (T.state tx.old) (T.state tx.new) result }
-    ensures stays { StaysWithin T.lenders T.state tx.old tx.new result }
-{
-    if after >= LIMIT {
-        return Err(StoreFault::Store);
-    }
-    ask_one(
-        tx,
-        "SELECT upload FROM uploads WHERE upload > ?1 ORDER BY upload LIMIT 1",
-        &key_param(after),
     )
 }
 
