@@ -2,15 +2,13 @@
 use Rattle.std.specs.Prelude.{ℕ, ◌+◌, zero, suc, Bool, not, if◌then◌else◌, Option, List, [], ◌∷◌, ◌++◌, length, take, drop, filter, fold, unwrap_or, map as each}
 use Rattle.std.specs.Option.{option_to_list}
 use Rattle.std.specs.FinMap as map
-use Rattle.sha2.specs.Sha512.{sha512}
 use Rattle.sqlite_value.specs.Order.{Row, column, bytes}
 use Rattle.dep_types.specs.Maps.{Numbered}
 use Rattle.dep_types.specs.State.{State, Object, File, Upload, Texts}
 use Rattle.dep_types.specs.Rows.{object_row, file_row, upload_row}
 use Rattle.dep_statements.specs.Rows.{has_number, put_next}
-use Rattle.dep_tables.specs.Rows.{stored_state, stored_object, stored_file, columns_of_file, stored_upload, columns_of_upload, metadata_values, segment_values, block_values, is_part_of, moved_to, value_in}
+use Rattle.dep_tables.specs.Rows.{stored_state, stored_object, stored_file, stored_upload, columns_of_upload, metadata_values, segment_values, block_values, is_part_of, moved_to, value_in}
 use Rattle.dep_tables.specs.declared.owner.BlockOwner.TheVariants as owner
-use Rattle.dep_tables.specs.declared.sha512s.FileSha512.{FileSha512}
 use Rattle.dep_tables.specs.declared.state.StateRow.{StateRow}
 use Rattle.dep_tables.specs.declared.metadata.MetadataRow.{MetadataRow}
 use Rattle.dep_tables.specs.declared.segments.SegmentRow.{SegmentRow}
@@ -32,7 +30,7 @@ abbrev pub object_stored : ℕ → Object → Row
 object_stored n o = stored_object (object_row n o)
 
 abbrev pub file_stored : (n f : ℕ) → File → Row
-file_stored n f file = stored_file (columns_of_file (file_row n f file))
+file_stored n f file = stored_file (file_row n f file)
 
 abbrev pub upload_stored : ℕ → Upload → Row
 upload_stored u it = stored_upload (columns_of_upload (upload_row u it))
@@ -147,10 +145,6 @@ shown_sha512 stored = value_in stored ∷ []
 
 abbrev pub sha512_rows : Option (List ℕ) → List Row
 sha512_rows value = each (λ v. Blob v ∷ []) (option_to_list value)
-
--- that of a file's content, beside the file's number
-abbrev pub content_sha512 : ℕ → File → FileSha512
-content_sha512 f file = record { file = f; value = sha512 file.content }
 
 -- ---- what files have
 

@@ -8,7 +8,7 @@ use Rattle.sqlite.specs.Order.{Row}
 use Rattle.sqlite.specs.Tree.{Trees}
 use Rattle.sqlite.specs.Term.{Term, Env}
 use Rattle.sqlite.specs.Query.{Query, Join, IsAnswer, matches, inner, left, end, output, output_cmp, page, Output}
-use Rattle.sqlite_sql.specs.Query.{or_nulls}
+use Rattle.sqlite.specs.Query.{or_nulls}
 use Rattle.sqlite.specs.Program.{overlay}
 use Rattle.sqlite.specs.Effect.{Database, Answers}
 use Rattle.dep_statements.specs.Query.{plain_query, one_table, left_tables, plainly, passes, pass_together}

@@ -1,5 +1,5 @@
 -- What a SELECT from two tables of a schema answers.
-use Rattle.std.proofs.Common.{◌≡◌, inl, inr, ℕ, List, [], ◌∷◌, ◌++◌, map, filter, Bool, true, false, ◌&&◌, Ordering, refl, ap, ap₂, subst, ◌∙◌}
+use Rattle.std.proofs.Common.{◌≡◌, inl, inr, ℕ, List, [], ◌∷◌, ◌++◌, map, filter, Bool, true, false, Ordering, refl, ap, ap₂, subst, ◌∙◌}
 use Rattle.std.specs.Cmp.{IsTotalOrder}
 use Rattle.sqlite.specs.Order.{Row}
 use Rattle.sqlite.specs.Term.{Term}
@@ -14,7 +14,7 @@ use Rattle.sqlite_value.specs.declared.keys.Key.{Key}
 use Rattle.sqlite_trees.proofs.ListLemmas.{filter_all, filter_none}
 use Rattle.sqlite_rules.specs.Lists.{Has}
 use Rattle.sqlite_rules.proofs.ListLemmas.{all_from}
-use Rattle.sqlite_sql.specs.Query.{or_nulls}
+use Rattle.sqlite.specs.Query.{or_nulls}
 use Rattle.std.specs.List.Sorted.{IsPermutation}
 use Rattle.dep_statements.specs.Query.{left_tables, plainly, no_limit, pass_together}
 use Rattle.dep_statements.specs.Rows.{InOrder, left_join}

@@ -16,6 +16,10 @@ map_id : (rows : List Row) → map (λ r. r) rows ≡ rows
 map_id [] = refl
 map_id (r ∷ rows) = ap (λ xs. r ∷ xs) (map_id rows)
 
+at_most : {R : Type 0} (found : Option R) → length (option_to_list found) ≤ 1
+at_most None = omega arith
+at_most (Some x) = omega arith
+
 -- of what is stored: rows, or pairs of them
 module _ {R S : Type 0} (values : R → Row) (width : ℕ) (see : S → Row) (whole : (r : S) → columns_from 0 width (see r) ≡ see r) where
   -- rows that are shown of stored ones, in any order, have no more columns
@@ -30,6 +34,13 @@ module _ {R S : Type 0} (values : R → Row) (width : ℕ) (see : S → Row) (wh
   -- rows in an order
   pub read_in_order : (cmp : Row → Row → Ordering) (stored : List S) (rows : List Row) (read : List R) → InOrder cmp (map see stored) rows → map values read ≡ map (columns_from 0 width) rows → InOrder cmp (map see stored) (map values read)
   read_in_order cmp stored rows read h is = subst (InOrder cmp (map see stored)) (sym (is ∙ no_wider stored rows h.same)) h
+
+  -- at most one was read, so at most one was there
+  pub read_at_most : (found : Option R) (stored : List S) (rows : List Row) → IsPermutation (map see stored) rows → map values (option_to_list found) ≡ map (columns_from 0 width) rows → map values (option_to_list found) ≡ map see stored
+  read_at_most found stored rows same is =
+      let all : map values (option_to_list found) ≡ rows = is ∙ no_wider stored rows same in
+      let few : length rows ≤ 1 = omega (arith, ap length all, length-map (option_to_list found) values, at_most found) in
+      all ∙ sym (short_permutation rows (map see stored) few (IsPermutation-sym (map see stored) rows same))
 
   each_whole : (stored : List S) → map (columns_from 0 width) (map see stored) ≡ map see stored
   each_whole [] = refl
@@ -51,10 +62,6 @@ module _ {R S : Type 0} (values : R → Row) (width : ℕ) (see : S → Row) (wh
 take_none : {X : Type 0} (xs : List X) → take 0 xs ≡ []
 take_none [] = refl
 take_none (x ∷ xs) = refl
-
-at_most : {R : Type 0} (found : Option R) → length (option_to_list found) ≤ 1
-at_most None = omega arith
-at_most (Some x) = omega arith
 
 -- the first of rows in an order
 module _ {R : Type 0} (values : R → Row) (width : ℕ) (see : Row → Row) (whole : (r : Row) → columns_from 0 width (see r) ≡ see r) where

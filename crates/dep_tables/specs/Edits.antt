@@ -4,11 +4,11 @@ use Rattle.std.specs.List.{list_any}
 use Rattle.std.specs.Option.{option_to_list}
 use Rattle.sqlite.specs.declared.types.Value.{Value}
 use Rattle.sqlite.specs.declared.types.Value.TheVariants.{Int}
+use Rattle.sqlite.specs.Order.{Row}
 use Rattle.sqlite_trees.specs.Tree.{put_row, without_rowid, rowid}
-use Rattle.dep_statements.specs.Rows.{row_at, replaced, is_after, is_below_number, has_number, put_next, inner_join, InOrder, IsFirst}
+use Rattle.dep_statements.specs.Rows.{row_at, replaced, is_after, is_below_number, has_number, put_next, left_join, InOrder, IsFirst}
 use Rattle.dep_types.specs.declared.rows.ObjectRow.{ObjectRow}
-use Rattle.dep_tables.specs.declared.files.FileColumns.{FileColumns}
-use Rattle.dep_tables.specs.declared.sha512s.FileSha512.{FileSha512}
+use Rattle.dep_types.specs.declared.rows.FileRow.{FileRow}
 use Rattle.dep_tables.specs.declared.state.StateRow.{StateRow}
 use Rattle.dep_tables.specs.declared.metadata.MetadataRow.{MetadataRow}
 use Rattle.dep_tables.specs.declared.segments.SegmentRow.{SegmentRow}
@@ -18,7 +18,7 @@ use Rattle.dep_tables.specs.declared.owner.BlockOwner.{BlockOwner}
 use Rattle.dep_tables.specs.declared.owner.BlockOwner.TheVariants.{File, Upload}
 use Rattle.dep_tables.specs.declared.owner.BlockKey.{BlockKey}
 use Rattle.dep_tables.specs.declared.owner.BlockPlace.{BlockPlace}
-use Rattle.dep_tables.specs.Rows.{stored_format, sha512_values, is_sha512_of, value_in, file_sha512_values, is_sha512_of_row, shown_file_sha512, by_file, stored_state, state_values, shown_state, stored_object, object_values, shown_object, metadata_values, shown_metadata, has_metadata_key, by_name_and_place, stored_file, file_values, shown_file, stored_upload, upload_values, shown_upload, segment_values, shown_segment, has_segment_key, by_number, stored_number, block_values, bytes_in, shown_place, place_values, is_block, is_block_of, is_part_of, is_later_block, moved_to, by_part_and_place, left_values, shown_left, by_last_and_upload}
+use Rattle.dep_tables.specs.Rows.{stored_format, sha512_values, is_sha512_of, is_sha512_of_row, value_in, stored_state, state_values, shown_state, stored_object, object_values, shown_object, metadata_values, shown_metadata, has_metadata_key, by_name_and_place, stored_file, file_values, shown_file, by_file, stored_upload, upload_values, shown_upload, segment_values, shown_segment, has_segment_key, by_number, stored_number, block_values, bytes_in, shown_place, place_values, is_block, is_block_of, is_part_of, is_later_block, moved_to, by_part_and_place, left_values, shown_left, by_last_and_upload}
 use Rattle.dep_tables.specs.Tables.{Tables}
 use Rattle.dep_tables.specs.Versions.{our_version}
 
@@ -76,7 +76,7 @@ AreMetadataRowsOf object t found =
 
 -- ---- files
 
-abbrev pub with_new_file_row : FileColumns → Tables → Tables
+abbrev pub with_new_file_row : FileRow → Tables → Tables
 with_new_file_row row t = record t { files = put_row (stored_file row) t.files }
 
 abbrev pub without_file_row : ℕ → Tables → Tables
@@ -88,12 +88,19 @@ without_file_rows object t = record t { files = filter (λ r. not (has_number 2 
 abbrev pub LacksFileRow : ℕ → Tables → Type 0
 LacksFileRow file t = row_at t.files file ≡ None
 
-abbrev pub IsFileRowAt : ℕ → Tables → Option FileColumns → Type 0
-IsFileRowAt file t found = option_map file_values found ≡ option_map shown_file (row_at t.files file)
+-- rows of `files`, each beside the row of its SHA-512
+abbrev pub with_sha512s : Tables → List Row → List (Row × Row)
+with_sha512s t files = left_join is_sha512_of_row files t.sha512s
 
-abbrev pub AreFileRowsOf : ℕ → Tables → List FileColumns → Type 0
+abbrev pub IsFileRowAt : ℕ → Tables → Option FileRow → Type 0
+IsFileRowAt file t found =
+    map file_values (option_to_list found)
+    ≡ map shown_file (with_sha512s t (option_to_list (row_at t.files file)))
+
+abbrev pub AreFileRowsOf : ℕ → Tables → List FileRow → Type 0
 AreFileRowsOf object t found =
-    map file_values found ≡ map shown_file (filter (has_number 2 object) t.files)
+    InOrder by_file (map shown_file (with_sha512s t (filter (has_number 2 object) t.files)))
+    (map file_values found)
 
 -- ---- uploads
 
@@ -186,11 +193,3 @@ LacksSha512 owner t = list_any (is_sha512_of owner) t.sha512s ≡ false
 
 abbrev pub IsSha512Of : BlockOwner → Tables → List Value → Type 0
 IsSha512Of owner t found = map value_in (filter (is_sha512_of owner) t.sha512s) ≡ found
-
--- those of the files of an object, by the numbers of the files
-abbrev pub AreSha512sOf : ℕ → Tables → List FileSha512 → Type 0
-AreSha512sOf object t found =
-    InOrder by_file
-    (map shown_file_sha512
-    (inner_join is_sha512_of_row (filter (has_number 2 object) t.files) t.sha512s))
-    (map file_sha512_values found)

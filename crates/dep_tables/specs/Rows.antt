@@ -1,6 +1,6 @@
 -- Rows of the tables as they are stored, where the column of a key is NULL, and as they are given and shown.
 -- Is..Row says that a row, as a query shows it, has the columns of one that was given.
-use Rattle.std.specs.Prelude.{◌≡◌, ◌⊎◌, ℕ, ◌<◌, ◌^◌, pos, Bool, if◌then◌else◌, ◌&&◌, ◌||◌, List, [], ◌∷◌, length, get_or, IsUtf8}
+use Rattle.std.specs.Prelude.{◌≡◌, ◌⊎◌, ℕ, ◌<◌, ◌^◌, pos, Bool, if◌then◌else◌, ◌&&◌, ◌||◌, List, [], ◌∷◌, ◌++◌, length, get_or, IsUtf8}
 use Rattle.std.specs.declared.cmp.Ordering.{Ordering}
 use Rattle.std.specs.Ordering.{ordering_then, is_eq}
 use Rattle.sqlite.specs.declared.types.Value.{Value}
@@ -15,8 +15,6 @@ use Rattle.dep_types.specs.declared.rows.FileRow.{FileRow}
 use Rattle.dep_types.specs.declared.rows.UploadRow.{UploadRow}
 use Rattle.dep_tables.specs.declared.columns.ColumnKind.{ColumnKind}
 use Rattle.dep_tables.specs.declared.columns.ColumnKind.TheVariants as kind
-use Rattle.dep_tables.specs.declared.files.FileColumns.{FileColumns}
-use Rattle.dep_tables.specs.declared.sha512s.FileSha512.{FileSha512}
 use Rattle.dep_tables.specs.declared.state.StateRow.{StateRow}
 use Rattle.dep_tables.specs.declared.metadata.MetadataRow.{MetadataRow}
 use Rattle.dep_tables.specs.declared.segments.SegmentRow.{SegmentRow}
@@ -164,34 +162,28 @@ IsMetadataRow = HasKinds metadata_kinds
 
 -- ---- files
 
--- what the row of a file has of it
-abbrev pub columns_of_file : FileRow → FileColumns
-columns_of_file r = record {
-  file = r.file;
-  object = r.object;
-  name = r.name;
-  media = r.media;
-  size = r.size;
-  tag = r.tag;
-  deposited = r.deposited;
-  behalf = r.behalf;
-  by_reference = r.by_reference;
-  sha256 = r.sha256;
-}
-
-abbrev pub file_columns : FileColumns → Row
+abbrev pub file_columns : FileRow → Row
 file_columns r =
     Int (pos r.object) ∷ Text r.name ∷ Text r.media ∷ Int (pos r.size) ∷ Int (pos r.tag)
     ∷ Int (pos r.deposited) ∷ or_null Text r.behalf ∷ flag r.by_reference ∷ Blob r.sha256 ∷ []
 
-abbrev pub file_values : FileColumns → Row
-file_values r = Int (pos r.file) ∷ file_columns r
+-- what its row is given; what is read of it, with the SHA-512 beside it
+abbrev pub file_row_values : FileRow → Row
+file_row_values r = Int (pos r.file) ∷ file_columns r
 
-abbrev pub stored_file : FileColumns → Row
+abbrev pub file_values : FileRow → Row
+file_values r = file_row_values r ++ Blob r.sha512 ∷ []
+
+abbrev pub stored_file : FileRow → Row
 stored_file r = Int (pos r.file) ∷ Null ∷ file_columns r
 
-abbrev pub shown_file : Row → Row
-shown_file stored = column stored 0 ∷ columns_from 2 9 stored
+-- the value in a row of `sha512s`
+abbrev pub value_in : Row → Value
+value_in stored = column stored 3
+
+-- of a stored row and the stored row of its SHA-512
+abbrev pub shown_file : Row × Row → Row
+shown_file both = (column both.0 0 ∷ columns_from 2 9 both.0) ++ value_in both.1 ∷ []
 
 pub record IsStorableFile (r : FileRow) : Type 0 where
   pub file : r.file < 2 ^ 63
@@ -201,10 +193,16 @@ pub record IsStorableFile (r : FileRow) : Type 0 where
   pub deposited : r.deposited < 2 ^ 63
 
 abbrev pub file_kinds : List ColumnKind
-file_kinds = kind.Number ∷ kind.Number ∷ kind.Text ∷ kind.Text ∷ kind.Number ∷ kind.Number ∷ kind.Number ∷ kind.TextOrNull ∷ kind.Flag ∷ kind.Sha256 ∷ []
+file_kinds =
+    kind.Number ∷ kind.Number ∷ kind.Text ∷ kind.Text ∷ kind.Number ∷ kind.Number ∷ kind.Number
+    ∷ kind.TextOrNull ∷ kind.Flag ∷ kind.Sha256 ∷ kind.Sha512 ∷ []
 
 abbrev pub IsFileRow : Row → Type 0
 IsFileRow = HasKinds file_kinds
+
+-- by number, of rows as they are shown
+abbrev pub by_file : Row → Row → Ordering
+by_file a b = value_cmp (column a 0) (column b 0)
 
 -- ---- uploads
 
@@ -406,8 +404,10 @@ sha512_values o value = Int (pos (kind_of o)) ∷ Int (pos (number_of o)) ∷ Bl
 abbrev pub is_sha512_of : BlockOwner → Row → Bool
 is_sha512_of o stored = has_number 1 (kind_of o) stored && has_number 2 (number_of o) stored
 
-abbrev pub value_in : Row → Value
-value_in stored = column stored 3
+-- that of the file of a row of `files`
+abbrev pub is_sha512_of_row : Row → Row → Bool
+is_sha512_of_row file stored =
+    has_number 1 0 stored && is_eq (value_cmp (column stored 2) (rowid file))
 
 -- a SHA-512 alone
 abbrev pub sha512_kinds : List ColumnKind
@@ -415,25 +415,3 @@ sha512_kinds = kind.Sha512 ∷ []
 
 abbrev pub IsSha512Row : Row → Type 0
 IsSha512Row = HasKinds sha512_kinds
-
--- the value of a file, beside the file's number
-abbrev pub file_sha512_values : FileSha512 → Row
-file_sha512_values v = Int (pos v.file) ∷ Blob v.value ∷ []
-
--- the row of the file of a row of `files`
-abbrev pub is_sha512_of_row : Row → Row → Bool
-is_sha512_of_row file stored =
-    has_number 1 0 stored && is_eq (value_cmp (column stored 2) (rowid file))
-
-abbrev pub shown_file_sha512 : Row × Row → Row
-shown_file_sha512 both = rowid both.0 ∷ value_in both.1 ∷ []
-
-abbrev pub file_sha512_kinds : List ColumnKind
-file_sha512_kinds = kind.Number ∷ kind.Sha512 ∷ []
-
-abbrev pub IsFileSha512Row : Row → Type 0
-IsFileSha512Row = HasKinds file_sha512_kinds
-
--- by the number of the file, of rows as they are shown
-abbrev pub by_file : Row → Row → Ordering
-by_file a b = value_cmp (column a 0) (column b 0)

@@ -44,10 +44,10 @@ abbrev pub delete_files_text : List ℕ
 delete_files_text = codes "DELETE FROM files WHERE object = ?1"
 
 abbrev pub find_file_text : List ℕ
-find_file_text = codes "SELECT file, object, name, media, size, tag, deposited, behalf, by_reference, sha256 FROM files WHERE file = ?1"
+find_file_text = codes "SELECT file, object, name, media, size, tag, deposited, behalf, by_reference, sha256, value FROM files LEFT JOIN sha512s ON kind = 0 AND owner = file WHERE file = ?1"
 
 abbrev pub files_of_text : List ℕ
-files_of_text = codes "SELECT file, object, name, media, size, tag, deposited, behalf, by_reference, sha256 FROM files WHERE object = ?1 ORDER BY file"
+files_of_text = codes "SELECT file, object, name, media, size, tag, deposited, behalf, by_reference, sha256, value FROM files LEFT JOIN sha512s ON kind = 0 AND owner = file WHERE object = ?1 ORDER BY file"
 
 abbrev pub insert_upload_text : List ℕ
 insert_upload_text = codes "INSERT INTO uploads (upload, size, count, segment_size, sha256, last) VALUES (?1, ?2, ?3, ?4, ?5, ?6)"
@@ -105,6 +105,3 @@ find_sha512_text = codes "SELECT value FROM sha512s WHERE kind = ?1 AND owner = 
 
 abbrev pub delete_sha512_text : List ℕ
 delete_sha512_text = codes "DELETE FROM sha512s WHERE kind = ?1 AND owner = ?2"
-
-abbrev pub sha512s_of_text : List ℕ
-sha512s_of_text = codes "SELECT files.file, sha512s.value FROM files JOIN sha512s ON sha512s.kind = 0 AND sha512s.owner = files.file WHERE files.object = ?1 ORDER BY files.file"

@@ -3,13 +3,13 @@
 ghost use Rattle.std.specs.Prelude.{All, ◌≡◌, ◌↔◌, pos, IsTrue, ◌<◌, ◌^◌, ◌∷◌, []};
 ghost use Rattle.sqlite.specs.declared.types.Value.TheVariants.{Int};
 ghost use Rattle.sqlite.specs.Values.{bound};
-ghost use Rattle.dep_tables.specs.Rows.{IsStorableFile, columns_of_file, file_values, IsFileRow};
+ghost use Rattle.dep_tables.specs.Rows.{IsStorableFile, file_row_values, IsFileRow};
 ghost use Rattle.dep_tables.specs.Edits.{with_new_file_row, without_file_row, without_file_rows, LacksFileRow, IsFileRowAt, AreFileRowsOf};
 ghost use Rattle.dep_tables.specs.Clauses.{AtMostOne, Changes, Shows, Reads, ReadsOnly, FailsWhole, FailsReading, RefusesNumbers, FailsByRunning, FailsByReading, StaysWithin};
 ghost use Rattle.dep_tables.specs.Texts.{insert_file_text, delete_file_text, delete_files_text, find_file_text, files_of_text};
 
 use crate::calls::Statements;
-use crate::columns::ColumnKind::{self, Flag, Number, Sha256, Text, TextOrNull};
+use crate::columns::ColumnKind::{self, Flag, Number, Sha256, Sha512, Text, TextOrNull};
 use crate::numbers::{LIMIT, flag_at, flag_number, key_param, number, number_at};
 use crate::reading::{FromRow, ask_all, ask_one};
 use crate::texts::{digest_at, text_at, text_or_null, text_or_null_at, text_value};
@@ -17,31 +17,6 @@ use dep_types::{FileRow, StoreFault};
 use sqlite::types::ValueRef;
 use sqlite::{Error, Row};
 use std::alloc::Global;
-
-/// A file as its row has it: its SHA-512 has a table of its own.
-#[derive(Drop)]
-pub struct FileColumns {
-    /// The file's number.
-    pub file: u64,
-    /// The number of the object that it belongs to.
-    pub object: u64,
-    /// The name that it was deposited under.
-    pub name: dep_types::Text,
-    /// Its media type (RFC 9110, section 8.3.1), as it was given.
-    pub media: dep_types::Text,
-    /// How many bytes it has.
-    pub size: u64,
-    /// Its entity tag.
-    pub tag: u64,
-    /// The moment of its deposit, in seconds of Unix time.
-    pub deposited: u64,
-    /// On whose behalf it was deposited.
-    pub behalf: Option<dep_types::Text>,
-    /// Whether it was deposited by reference to a staged upload.
-    pub by_reference: bool,
-    /// The SHA-256 of its bytes (FIPS 180-4).
-    pub sha256: [u8; 32],
-}
 
 fn is_storable_file(row: &FileRow) -> bool
     ensures { IsTrue result ↔ IsStorableFile row.now }
@@ -55,7 +30,7 @@ fn is_storable_file(row: &FileRow) -> bool
 
 fn file_params(row: &FileRow) -> [ValueRef<'_>; 10]
     requires { IsStorableFile row.now }
-    ensures { bound result ≡ file_values (columns_of_file row.now) }
+    ensures { bound result ≡ file_row_values row.now }
 {
     [
         ValueRef::Int(number(row.file)),
@@ -71,15 +46,14 @@ fn file_params(row: &FileRow) -> [ValueRef<'_>; 10]
     ]
 }
 
-/// Adds a row, without the SHA-512. It is a fault of the store where there is a row of this key, and where a number is 2^63 or more.
+/// Adds a row; the SHA-512 has a table of its own. It is a fault of the store where there is a row of this key, and where a number is 2^63 or more.
 pub fn insert_file<T: Statements>(tx: &mut T, row: &FileRow) -> Result<(), StoreFault>
-    ensures ok { Changes (T.state tx.old) (T.state tx.new) result
-        (with_new_file_row (columns_of_file row.now)) }
+    ensures ok { Changes (T.state tx.old) (T.state tx.new) result (with_new_file_row row.now) }
     ensures free { Shows (T.state tx.old) (T.state tx.new) result (LacksFileRow row.now.file) }
     ensures numbers { RefusesNumbers (T.state tx.old) (T.state tx.new) result
         (IsStorableFile row.now) }
     ensures cause { FailsByRunning (T.state tx.old) (T.state tx.new) result
-        (IsStorableFile row.now) insert_file_text (file_values (columns_of_file row.now)) }
+        (IsStorableFile row.now) insert_file_text (file_row_values row.now) }
     ensures err { FailsWhole (T.state tx.old) (T.state tx.new) result }
     ensures stays { StaysWithin T.lenders T.state tx.old tx.new result }
 {
@@ -122,11 +96,11 @@ pub fn delete_files<T: Statements>(tx: &mut T, object: u64) -> Result<(), StoreF
     tx.run("DELETE FROM files WHERE object = ?1", &key_param(object))
 }
 
-impl FromRow for FileColumns {
+impl FromRow for FileRow {
     ghost use Rattle.dep_tables.specs.Rows.{file_values, file_kinds};
     ghost use Rattle.std.specs.Prelude.{⊤};
 
-    ghost width = { 10 };
+    ghost width = { 11 };
 
     ghost values = { file_values };
 
@@ -136,13 +110,13 @@ impl FromRow for FileColumns {
 
     fn kinds() -> &'static [ColumnKind] {
         &[
-            Number, Number, Text, Text, Number, Number, Number, TextOrNull, Flag, Sha256,
+            Number, Number, Text, Text, Number, Number, Number, TextOrNull, Flag, Sha256, Sha512,
         ]
     }
 
-    fn from_row(row: &Row) -> Result<FileColumns, Error> {
+    fn from_row(row: &Row) -> Result<FileRow, Error> {
         // The texts are read last, so that few are held, and let go, where another column is refused.
-        Ok(FileColumns {
+        Ok(FileRow {
             file: number_at(row, 0)?,
             object: number_at(row, 1)?,
             size: number_at(row, 4)?,
@@ -150,6 +124,7 @@ impl FromRow for FileColumns {
             deposited: number_at(row, 6)?,
             by_reference: flag_at(row, 8)?,
             sha256: digest_at(row, 9)?,
+            sha512: digest_at(row, 10)?,
             name: text_at(row, 2)?,
             media: text_at(row, 3)?,
             behalf: text_or_null_at(row, 7)?,
@@ -157,8 +132,8 @@ impl FromRow for FileColumns {
     }
 }
 
-/// The row of this key. It is a fault of the store where the row is not one that `insert_file` writes, and for a number of 2^63 or more.
-pub fn find_file<T: Statements>(tx: &mut T, file: u64) -> Result<Option<FileColumns>, StoreFault>
+/// The row of this key, with the SHA-512 of the file. It is a fault of the store where the row is not one that `insert_file` writes, where the file has no SHA-512, and for a number of 2^63 or more.
+pub fn find_file<T: Statements>(tx: &mut T, file: u64) -> Result<Option<FileRow>, StoreFault>
     ensures ok { Reads (T.state tx.old) (T.state tx.new) result (IsFileRowAt file) }
     ensures same { ReadsOnly (T.state tx.old) (T.state tx.new) result }
     ensures numbers { RefusesNumbers (T.state tx.old) (T.state tx.new) result (file < 2 ^ 63) }
@@ -172,17 +147,17 @@ pub fn find_file<T: Statements>(tx: &mut T, file: u64) -> Result<Option<FileColu
     }
     ask_one(
         tx,
-        "SELECT file, object, name, media, size, tag, deposited, behalf, by_reference, sha256 FROM files WHERE file = ?1",
+        "SELECT file, object, name, media, size, tag, deposited, behalf, by_reference, sha256, value FROM files LEFT JOIN sha512s ON kind = 0 AND owner = file WHERE file = ?1",
         &key_param(file),
     )
 }
 
-/// The rows of an object, by ascending key. It is a fault of the store where one is not one that `insert_file` writes, and for a number of 2^63 or more.
+/// The rows of an object, by ascending key, each with the SHA-512 of its file. It is a fault of the store where one is not one that `insert_file` writes, where a file has no SHA-512, and for a number of 2^63 or more.
 pub fn files_of<T: Statements>(
     tx: &mut T,
     alloc: Global,
     object: u64,
-) -> Result<Vec<FileColumns>, StoreFault>
+) -> Result<Vec<FileRow>, StoreFault>
     ensures ok { Reads (T.state tx.old) (T.state tx.new) result
         (λ t found. AreFileRowsOf object t found.items) }
     ensures same { ReadsOnly (T.state tx.old) (T.state tx.new) result }
@@ -198,7 +173,7 @@ pub fn files_of<T: Statements>(
     ask_all(
         tx,
         alloc,
-        "SELECT file, object, name, media, size, tag, deposited, behalf, by_reference, sha256 FROM files WHERE object = ?1 ORDER BY file",
+        "SELECT file, object, name, media, size, tag, deposited, behalf, by_reference, sha256, value FROM files LEFT JOIN sha512s ON kind = 0 AND owner = file WHERE object = ?1 ORDER BY file",
         &key_param(object),
     )
 }

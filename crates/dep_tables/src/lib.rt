@@ -23,14 +23,14 @@ pub use blocks::{delete_blocks, insert_block, move_part, next_block, read_block}
 pub use calls::Statements;
 pub use columns::ColumnKind;
 pub use fault::fault_of;
-pub use files::{FileColumns, delete_file, delete_files, files_of, find_file, insert_file};
+pub use files::{delete_file, delete_files, files_of, find_file, insert_file};
 pub use format::write_version;
 pub use metadata::{MetadataRow, delete_metadata, insert_metadata, metadata_of};
 pub use numbers::{LIMIT, number_at};
 pub use objects::{delete_object, find_object, insert_object, next_object, write_object};
 pub use owner::{BlockKey, BlockOwner, BlockPlace, is_storable_owner, owner_params, part_params};
 pub use segments::{SegmentRow, delete_segments, insert_segment, segments_of};
-pub use sha512s::{FileSha512, delete_sha512, find_sha512, insert_sha512, sha512s_of};
+pub use sha512s::{FileSha512, delete_sha512, find_sha512, insert_sha512};
 pub use state::{StateRow, read_state, write_state};
 pub use timed_out::{find_timed_out, insert_timed_out};
 pub use uploads::{

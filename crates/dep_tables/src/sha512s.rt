@@ -1,24 +1,22 @@
 //! The SHA-512 values of the files, and those that uploads promised.
 
-ghost use Rattle.std.specs.Prelude.{◌≡◌, ◌<◌, ◌^◌, All, pos, ◌∷◌, [], option_map};
+ghost use Rattle.std.specs.Prelude.{◌≡◌, ◌∷◌, [], option_map};
 ghost use Rattle.std.specs.Option.{option_to_list};
-ghost use Rattle.sqlite.specs.declared.types.Value.TheVariants.{Int, Blob};
+ghost use Rattle.sqlite.specs.declared.types.Value.TheVariants.{Blob};
 ghost use Rattle.sqlite.specs.Values.{bound};
-ghost use Rattle.dep_tables.specs.Rows.{IsStorableOwner, owner_values, sha512_values, IsSha512Row, IsFileSha512Row};
-ghost use Rattle.dep_tables.specs.Edits.{with_new_sha512, without_sha512, LacksSha512, IsSha512Of, AreSha512sOf};
-ghost use Rattle.dep_tables.specs.Clauses.{AtMostOne, Changes, Shows, Reads, ReadsOnly, FailsWhole, FailsReading, RefusesNumbers, FailsByRunning, FailsByReading, FailsByReadingNumbers, StaysWithin};
-ghost use Rattle.dep_tables.specs.Texts.{insert_sha512_text, delete_sha512_text, find_sha512_text, sha512s_of_text};
+ghost use Rattle.dep_tables.specs.Rows.{IsStorableOwner, owner_values, sha512_values, IsSha512Row};
+ghost use Rattle.dep_tables.specs.Edits.{with_new_sha512, without_sha512, LacksSha512, IsSha512Of};
+ghost use Rattle.dep_tables.specs.Clauses.{AtMostOne, Changes, Shows, Reads, ReadsOnly, FailsWhole, FailsReading, RefusesNumbers, FailsByRunning, FailsByReadingNumbers, StaysWithin};
+ghost use Rattle.dep_tables.specs.Texts.{insert_sha512_text, delete_sha512_text, find_sha512_text};
 
 use crate::calls::Statements;
-use crate::columns::ColumnKind::{self, Number, Sha512};
-use crate::numbers::{LIMIT, key_param, number_at};
+use crate::columns::ColumnKind::{self, Sha512};
 use crate::owner::{BlockOwner, is_storable_owner, owner_params};
-use crate::reading::{FromRow, ask_all, ask_one};
+use crate::reading::{FromRow, ask_one};
 use crate::texts::digest_at;
 use dep_types::StoreFault;
 use sqlite::types::ValueRef;
 use sqlite::{Error, Row};
-use std::alloc::Global;
 
 /// The SHA-512 of a file's content.
 #[derive(Drop)]
@@ -125,54 +123,5 @@ pub fn find_sha512<T: Statements>(
         tx,
         "SELECT value FROM sha512s WHERE kind = ?1 AND owner = ?2",
         &owner_params(owner),
-    )
-}
-
-impl FromRow for FileSha512 {
-    ghost use Rattle.dep_tables.specs.Rows.{file_sha512_values, file_sha512_kinds};
-
-    ghost width = { 2 };
-
-    ghost values = { file_sha512_values };
-
-    ghost columns = { file_sha512_kinds };
-
-    ghost copies = { ⊥ };
-
-    fn kinds() -> &'static [ColumnKind] {
-        &[Number, Sha512]
-    }
-
-    fn from_row(row: &Row) -> Result<FileSha512, Error> {
-        Ok(FileSha512 {
-            file: number_at(row, 0)?,
-            value: digest_at(row, 1)?,
-        })
-    }
-}
-
-/// The SHA-512 of each file of an object that has one, by ascending number of the file. It is a fault of the store where a value is not one of 64 bytes, and for a number of 2^63 or more.
-pub fn sha512s_of<T: Statements>(
-    tx: &mut T,
-    alloc: Global,
-    object: u64,
-) -> Result<Vec<FileSha512>, StoreFault>
-    ensures ok { Reads (T.state tx.old) (T.state tx.new) result
-        (λ t found. AreSha512sOf object t found.items) }
-    ensures same { ReadsOnly (T.state tx.old) (T.state tx.new) result }
-    ensures numbers { RefusesNumbers (T.state tx.old) (T.state tx.new) result (object < 2 ^ 63) }
-    ensures cause { FailsByReading (T.state tx.old) (T.state tx.new) result
-        (object < 2 ^ 63) sha512s_of_text (Int (pos object) ∷ []) (All IsFileSha512Row) }
-    ensures err { FailsReading (T.state tx.old) (T.state tx.new) result }
-    ensures stays { StaysWithin T.lenders T.state tx.old tx.new result }
-{
-    if object >= LIMIT {
-        return Err(StoreFault::Store);
-    }
-    ask_all(
-        tx,
-        alloc,
-        "SELECT files.file, sha512s.value FROM files JOIN sha512s ON sha512s.kind = 0 AND sha512s.owner = files.file WHERE files.object = ?1 ORDER BY files.file",
-        &key_param(object),
     )
 }

@@ -1,13 +1,12 @@
-use Rattle.dep_tables.specs.Rows.{columns_of_file}
 use Rattle.dep_tables.proofs.Results.{ok_then, not_storable, is_storable}
 use Rattle.dep_tables.proofs.FilesTable.{inserts_file}
 use Rattle.dep_tables.proofs.files.insert_file.Goals as goal
 
 pub returns-clause-ok : goal.returns-clause-ok
-returns-clause-ok g c clean inside ours = ok_then c.run.result (c.run.ensures.runs clean inside) (λ ran. (inserts_file (g.T.Statements.state c.args.tx.now) (g.T.Statements.state c.run.new.self) (columns_of_file c.args.row.now) ran.0 ours (rw c.file_params.ensures at ran.1)).0)
+returns-clause-ok g c clean inside ours = ok_then c.run.result (c.run.ensures.runs clean inside) (λ ran. (inserts_file (g.T.Statements.state c.args.tx.now) (g.T.Statements.state c.run.new.self) c.args.row.now ran.0 ours (rw c.file_params.ensures at ran.1)).0)
 
 pub returns-clause-free : goal.returns-clause-free
-returns-clause-free g c clean inside ours = ok_then c.run.result (c.run.ensures.runs clean inside) (λ ran. (inserts_file (g.T.Statements.state c.args.tx.now) (g.T.Statements.state c.run.new.self) (columns_of_file c.args.row.now) ran.0 ours (rw c.file_params.ensures at ran.1)).1)
+returns-clause-free g c clean inside ours = ok_then c.run.result (c.run.ensures.runs clean inside) (λ ran. (inserts_file (g.T.Statements.state c.args.tx.now) (g.T.Statements.state c.run.new.self) c.args.row.now ran.0 ours (rw c.file_params.ensures at ran.1)).1)
 
 pub returns-clause-cause : goal.returns-clause-cause
 returns-clause-cause g c storable clean inside = rw c.file_params.ensures at (c.run.ensures.cause clean inside)
