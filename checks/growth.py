@@ -5,14 +5,16 @@
 
 `swordd serve` serves five stores in files at once: of 100, 1,000 and 5,000 objects, each with a file and metadata, and of
 100 objects with 100 and with 1,000 open uploads. Each kind of request is asked of all of them in turn, again and again, so
-that what else the machine does meets them alike. A line tells the median of each in microseconds, and how many times that
-of the smallest store the largest took. Where that is above 1.5, the kind is measured once more; the status is 1 where it
-is above 1.5 again.
+that what else the machine does meets them alike. What is measured is the server's processor time, since the time of the
+clock is mostly that of the disk, and grows where others use it. A line tells the median of each in microseconds, and how
+many times that of the smallest store the largest took. Where that is above 1.5, the kind is measured once more; the status
+is 1 where it is above 1.5 again.
 
 The stores are filled by Python's sqlite3, with the rows of a first object and a first upload of the server's own under other
 numbers; before that it compares such rows with those of a server that was asked for each. It needs nothing else.
 """
 
+import hashlib
 import http.client
 import json
 import random
@@ -33,9 +35,10 @@ WARM_UP, ROUNDS = 5, 60
 MOST_SECONDS = 20
 FILE = {"Content-Type": "text/plain", "Content-Disposition": "attachment; filename=a.txt"}
 METADATA = {"Content-Type": "application/json"}
-OPENING = {"Content-Disposition": "segment-init; size=200; segment_count=2; segment_size=100"}
-SEGMENT = {"Content-Disposition": "segment; segment_number=1"}
 CONTENT, TITLES = b"x" * 100, json.dumps({"dc:title": ["T", "U"]})
+OPENING = {"Content-Disposition": "segment-init; size=200; segment_count=2; segment_size=100; digest=SHA-512="
+                                  + hashlib.sha512(2 * CONTENT).hexdigest()}
+SEGMENT = {"Content-Disposition": "segment; segment_number=1"}
 # What object n is, and what upload n is, told of the first one. Each object is two changes.
 NUMBERED = "WITH RECURSIVE numbers(n) AS (SELECT 2 UNION ALL SELECT n + 1 FROM numbers WHERE n < ?1) INSERT INTO "
 OBJECT_ROWS = (
@@ -48,8 +51,8 @@ UPLOAD_ROWS = (
     "uploads SELECT n, size, count, segment_size, sha256, last FROM numbers, uploads WHERE upload = 1",
     "segments SELECT n, number, size FROM numbers, segments WHERE upload = 1",
     "blocks SELECT kind, n, part, place, bytes FROM numbers, blocks WHERE kind = 1 AND owner = 1")
-# In tables of version 2 besides.
-SHA512_ROW = "sha512s SELECT kind, n, value FROM numbers, sha512s WHERE kind = 0 AND owner = 1"
+# In tables of version 2 besides, for a file and for an upload.
+SHA512_ROWS = [f"sha512s SELECT kind, n, value FROM numbers, sha512s WHERE kind = {kind} AND owner = 1" for kind in (0, 1)]
 MOMENTS = {"clock", "changed", "deposited", "last"}
 
 
@@ -57,31 +60,34 @@ class Client:
     """A client of a server, over one connection."""
 
     def __init__(self, server):
-        self.base = server.base
+        self.base, self.process = server.base, server.process
         self.connection = http.client.HTTPConnection("127.0.0.1", server.port, timeout=60)
         self.connection.connect()
 
     def ask(self, status, method, path, body=None, headers=None):
-        """One request, which has to come to this status. Returns its seconds, and the path of what it made."""
-        began = time.perf_counter()
+        """One request, which has to come to this status. Returns the path of what it made."""
         self.connection.request(method, path, body, headers or {})
         reply = self.connection.getresponse()
         reply.read()
-        took = time.perf_counter() - began
         if reply.status != status:
             raise RuntimeError(f"{method} {path}: {reply.status}")
-        return took, (reply.getheader("Location") or "").removeprefix(self.base)
+        return (reply.getheader("Location") or "").removeprefix(self.base)
+
+    def used(self):
+        """The processor time that the server has used, in seconds."""
+        with open(f"/proc/{self.process.pid}/schedstat", encoding="ascii") as told:
+            return int(told.read().split()[0]) / 1e9
 
     def deposit(self, count):
         """So many objects."""
         for _ in range(count):
-            _, path = self.ask(201, "POST", "/service", CONTENT, FILE)
+            path = self.ask(201, "POST", "/service", CONTENT, FILE)
             self.ask(204, "PUT", f"{path}/metadata", TITLES, METADATA)
 
     def upload(self, count):
         """So many uploads, with the first of two segments."""
         for _ in range(count):
-            _, path = self.ask(201, "POST", "/staging", None, OPENING)
+            path = self.ask(201, "POST", "/staging", None, OPENING)
             self.ask(204, "POST", path, CONTENT, SEGMENT)
 
 
@@ -93,16 +99,14 @@ class Asked:
         self.chosen = self.made = self.opened = ""
 
     def deposit(self):
-        took, self.made = self.client.ask(201, "POST", "/service", CONTENT, FILE)
+        self.made = self.client.ask(201, "POST", "/service", CONTENT, FILE)
         self.chosen = str(random.randint(1, self.objects))
-        return took
 
     def open(self):
-        took, self.opened = self.client.ask(201, "POST", "/staging", None, OPENING)
-        return took
+        self.opened = self.client.ask(201, "POST", "/staging", None, OPENING)
 
     def get(self, path):
-        return self.client.ask(200, "GET", path.replace("N", self.chosen))[0]
+        self.client.ask(200, "GET", path.replace("N", self.chosen))
 
 
 KINDS = {
@@ -111,13 +115,13 @@ KINDS = {
     "GET an object": lambda it: it.get("/objects/N"),
     "GET a file": lambda it: it.get("/objects/N/files/N"),
     "GET the list of a bag": lambda it: it.get("/objects/N/bag"),
-    "PUT metadata": lambda it: it.client.ask(204, "PUT", f"/objects/{it.chosen}/metadata", TITLES, METADATA)[0],
-    "POST a file to an object": lambda it: it.client.ask(200, "POST", it.made, CONTENT, FILE)[0],
-    "DELETE an object": lambda it: it.client.ask(204, "DELETE", it.made)[0],
+    "PUT metadata": lambda it: it.client.ask(204, "PUT", f"/objects/{it.chosen}/metadata", TITLES, METADATA),
+    "POST a file to an object": lambda it: it.client.ask(200, "POST", it.made, CONTENT, FILE),
+    "DELETE an object": lambda it: it.client.ask(204, "DELETE", it.made),
     "POST an upload": lambda it: it.open(),
-    "POST a segment": lambda it: it.client.ask(204, "POST", it.opened, CONTENT, SEGMENT)[0],
+    "POST a segment": lambda it: it.client.ask(204, "POST", it.opened, CONTENT, SEGMENT),
     "GET an upload": lambda it: it.get(it.opened),
-    "DELETE an upload": lambda it: it.client.ask(204, "DELETE", it.opened)[0],
+    "DELETE an upload": lambda it: it.client.ask(204, "DELETE", it.opened),
 }
 
 
@@ -137,8 +141,8 @@ def fill(store, objects, uploads):
     database = sqlite3.connect(store, isolation_level=None)
     database.execute("BEGIN")
     has_sha512s = database.execute("SELECT count(*) FROM sqlite_master WHERE name = 'sha512s'").fetchone() == (1,)
-    for rows, count in ((OBJECT_ROWS + (SHA512_ROW,) * has_sha512s, objects), (UPLOAD_ROWS, uploads)):
-        for text in rows if count > 1 else ():
+    for rows, sha512, count in zip((OBJECT_ROWS, UPLOAD_ROWS), SHA512_ROWS, (objects, uploads)):
+        for text in (*rows, *[sha512] * has_sha512s) if count > 1 else ():
             database.execute(NUMBERED + text, (count,))
     database.execute("UPDATE state SET next_object = ?1 + 1, next_file = ?1 + 1, next_upload = ?2 + 1, "
                      "next_change = 2 * ?1 + 1", (objects, uploads))
@@ -171,10 +175,12 @@ def measured(stores, kinds):
     for turn in range(WARM_UP + ROUNDS):
         for kind, ask in KINDS.items():
             random.shuffle(order)
+            before = [it.client.used() for it in stores]
             for place in order:
-                took = ask(stores[place])
-                if turn >= WARM_UP:
-                    times[kind][place].append(took)
+                ask(stores[place])
+            if turn >= WARM_UP:
+                for place, it in enumerate(stores):
+                    times[kind][place].append(it.client.used() - before[place])
         if turn > 2 * WARM_UP and time.monotonic() > ends:
             break
     return {kind: [1e6 * statistics.median(it) for it in times[kind]] for kind in kinds}
