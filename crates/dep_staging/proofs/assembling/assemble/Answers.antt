@@ -9,7 +9,7 @@ use Rattle.dep_staging.proofs.Moved.{made}
 use Rattle.dep_staging.proofs.assembling.assemble.Goals as goal
 
 pub returns-clause-map : goal.returns-clause-map
-returns-clause-map g c clean inside ours s are o it file there held whole upload_is row_is content value_is =
+returns-clause-map g c clean inside ours s are o it file there held whole upload_is row_is content =
     let old = g.T.Statements.state c.args.tx.now in
     let one = g.T.Statements.state c.move_parts.new.tx in
     let two = g.T.Statements.state c.delete_sha512.new.tx in
@@ -28,8 +28,8 @@ returns-clause-map g c clean inside ours s are o it file there held whole upload
     let fourth = c.in_ok-delete_upload.ensures.ok clean_four third.shows.mode third.ours in
     let fifth = c.in_ok-insert_sha512.ensures.ok clean_five fourth.shows.mode fourth.ours in
     ok_both c.insert_file.result (c.insert_file.ensures.ok clean fifth.shows.mode fifth.ours) (c.insert_file.ensures.free clean fifth.shows.mode fifth.ours)
-    (λ leads free. made (tables_of old) (tables_of one) (tables_of two) (tables_of three) (tables_of four) (tables_of five) (tables_of new) c.args.upload.now c.args.row.now c.args.sha512.now first.rows second.rows third.rows fourth.rows fifth.rows leads.rows
-    s o it file are ours.trees.ordered.1.1.1.1.0 ours.trees.ordered.1.1.1.1.1.1.1.1.1.0 there held whole upload_is row_is content value_is free)
+    (λ leads free. made (tables_of old) (tables_of one) (tables_of two) (tables_of three) (tables_of four) (tables_of five) (tables_of new) c.args.upload.now c.args.row.now first.rows second.rows third.rows fourth.rows fifth.rows leads.rows
+    s o it file are ours.trees.ordered.1.1.1.1.0 ours.trees.ordered.1.1.1.1.1.1.1.1.1.0 there held whole upload_is row_is content free)
 
 pub returns-in_err-delete_sha512-clause-stays : goal.returns-in_err-delete_sha512-clause-stays
 returns-in_err-delete_sha512-clause-stays g c =
