@@ -28,8 +28,9 @@ use std::alloc::Global;
 /// The part that a content has that came whole.
 const ONLY_PART: u64 = 1;
 
-/// Adds a file to an object that is there: its row, the SHA-512 that it has, and the content, each byte of which is written once, as one part of number 1. It is a fault of the store
-/// where the number of the file is taken, and where a number is 2^63 or more.
+/// Adds a file to an object that is there: its row, the SHA-512 that it has, and the content, each
+/// byte of which is written once, as one part of number 1. It is a fault of the store where the
+/// number of the file is taken, and where a number is 2^63 or more.
 pub fn put_file<T: Statements, C: Content>(
     tx: &mut T,
     row: &FileRow,
@@ -47,7 +48,8 @@ pub fn put_file<T: Statements, C: Content>(
           files = put_row (stored_file row.now) t.files;
           blocks = put_blocks (BlockOwner.File row.now.file) only_part 0
               (blocks_of (C.bytes content.now)) t.blocks;
-          sha512s = put_next (sha512_values (BlockOwner.File row.now.file) row.now.sha512) t.sha512s;
+          sha512s = put_next (sha512_values (BlockOwner.File row.now.file) row.now.sha512)
+              t.sha512s;
         }) }
     ensures free { FromMaps (T.state tx.old) (T.state tx.new)
         (λ s. OnOk result ((n : ℕ) → file_at s n row.now.file ≡ None)) }
