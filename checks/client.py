@@ -59,7 +59,8 @@ def replace_metadata(server, path):
 
 def deposit_in_segments(server, path, content):
     """A file in four segments, the last one first, which becomes the object's second file."""
-    headers = {"Content-Disposition": f"segment-init; size={len(content)}; segment_count=4; segment_size={SEGMENT}"}
+    headers = {"Content-Disposition": f"segment-init; size={len(content)}; segment_count=4; segment_size={SEGMENT}; "
+                                      f"digest=SHA-512={hashlib.sha512(content).hexdigest()}"}
     reply, _ = server.ask(201, "POST", "/staging", headers=headers)
     upload = reply.headers["Location"]
     for number in (4, 1, 3, 2):
@@ -90,7 +91,8 @@ def look_at_store(server):
     """The store once the object is deleted and the server has ended."""
     database = sqlite3.connect(server.store)
     expect("the integrity check", database.execute("PRAGMA integrity_check").fetchall(), [("ok",)])
-    expect("the blocks that are left", database.execute("SELECT count(*) FROM blocks").fetchall(), [(0,)])
+    for table in ("blocks", "sha512s"):
+        expect(f"the rows of {table} that are left", database.execute(f"SELECT count(*) FROM {table}").fetchall(), [(0,)])
     database.close()
 
 

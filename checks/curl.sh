@@ -70,7 +70,9 @@ ask 412 -X DELETE -H 'If-Match: "1"' "$object/metadata"
 # A file of 200,000 bytes in four segments, the last one first.
 head -c 200000 /dev/urandom >"$folder/large"
 split -b 65536 -d -a 1 "$folder/large" "$folder/segment."
-ask 201 -X POST -H "Content-Disposition: segment-init; size=200000; segment_count=4; segment_size=65536" "$base/staging"
+sizes='size=200000; segment_count=4; segment_size=65536'
+ask 201 -X POST -H "Content-Disposition: segment-init; $sizes; digest=SHA-512=$(sha512sum "$folder/large" | cut -c1-128)" \
+    "$base/staging"
 upload=$(told Location)
 for segment in 3 0 2 1; do
     ask 204 --data-binary "@$folder/segment.$segment" -H 'Content-Type:' \
@@ -99,6 +101,8 @@ wait $server
 status=$?
 [ "$status" = 0 ] || wrong "the server ended with status $status: $(cat "$folder/said")"
 [ "$(sqlite3 "$folder/deposits.db" 'PRAGMA integrity_check')" = ok ] || wrong 'the integrity check of the store'
-[ "$(sqlite3 "$folder/deposits.db" 'SELECT count(*) FROM blocks')" = 0 ] || wrong 'blocks are left'
+for table in blocks sha512s; do
+    [ "$(sqlite3 "$folder/deposits.db" "SELECT count(*) FROM $table")" = 0 ] || wrong "rows of $table are left"
+done
 [ $failed = 0 ] && echo "curl: $number requests, each answered as it should be"
 exit $failed

@@ -803,8 +803,7 @@ class Step:
         refuse_if(segment_size > config.max_upload, "InvalidSegmentSize")
         refuse_if(not (count - 1) * segment_size < size <= count * segment_size, "InvalidSegmentSize")
         key = archive.take("upload")
-        kept = {name: digest for name, digest in promised.items() if name == b"sha-256"}
-        upload = archive.uploads[key] = Upload(size, count, segment_size, kept, archive.clock)
+        upload = archive.uploads[key] = Upload(size, count, segment_size, promised, archive.clock)
         location = f"{config.base}/staging/{key}"
         return Reply(201, "application/json", upload_document(config, key, upload), location=location)
 
