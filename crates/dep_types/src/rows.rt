@@ -45,6 +45,8 @@ pub struct FileRow {
     pub by_reference: bool,
     /// The SHA-256 of its bytes (FIPS 180-4).
     pub sha256: [u8; 32],
+    /// The SHA-512 of its bytes (FIPS 180-4).
+    pub sha512: [u8; 64],
 }
 
 /// A staged upload, without its segments.
