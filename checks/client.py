@@ -19,7 +19,7 @@ from expectations import expect, status_of
 from served import Server
 
 SEGMENT = 65_536
-REQUESTS = 21
+REQUESTS = 22
 
 
 def has(what, content, text):
@@ -78,11 +78,12 @@ def deposit_in_segments(server, path, content):
 
 
 def read_bag(server, path, content):
-    """The manifest of the bag, line by line, and a file of it."""
-    _, manifest = server.ask(200, "GET", path + "/bag/manifest-sha256.txt")
+    """The manifests of the bag, line by line, and a file of it."""
     payload = {"data/1/a.txt": b"abc", "data/2/large": content}
-    lines = [f"{hashlib.sha256(part).hexdigest()}  {name}\n" for name, part in payload.items()]
-    expect("the manifest", manifest.decode(), "".join(lines))
+    for algorithm in ("sha256", "sha512"):
+        _, manifest = server.ask(200, "GET", f"{path}/bag/manifest-{algorithm}.txt")
+        lines = [f"{hashlib.new(algorithm, part).hexdigest()}  {name}\n" for name, part in payload.items()]
+        expect(f"the manifest by {algorithm}", manifest.decode(), "".join(lines))
     _, came = server.ask(200, "GET", path + "/bag/data/2/large")
     expect("the file of the bag", came, content)
 

@@ -9,7 +9,7 @@ folder=$(mktemp -d) || exit 2
 port=$((20000 + $$ % 20000))
 base=http://127.0.0.1:$port
 # Each call of curl below is one connection; the server ends after the last.
-"$program" serve $port "$folder/deposits.db" 21 2>"$folder/said" &
+"$program" serve $port "$folder/deposits.db" 22 2>"$folder/said" &
 server=$!
 trap 'kill $server 2>/dev/null; rm -r "$folder"' EXIT
 failed=0
@@ -86,11 +86,13 @@ ask 404 "$upload"
 ask 200 "$object/files/2"
 cmp -s "$folder/body" "$folder/large" || wrong 'the large file came back otherwise'
 
-ask 200 "$object/bag/manifest-sha256.txt"
 mkdir -p "$folder/data/1" "$folder/data/2"
 cp "$folder/a.txt" "$folder/data/1/a.txt"
 cp "$folder/large" "$folder/data/2/large"
-(cd "$folder" && sha256sum --check --quiet body) || wrong 'the manifest of the bag'
+for algorithm in sha256 sha512; do
+    ask 200 "$object/bag/manifest-$algorithm.txt"
+    (cd "$folder" && ${algorithm}sum --check --quiet body) || wrong "the manifest of the bag by $algorithm"
+done
 ask 200 "$object/bag/data/2/large"
 cmp -s "$folder/body" "$folder/large" || wrong 'the file of the bag came back otherwise'
 

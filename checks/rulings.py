@@ -635,7 +635,8 @@ def examples_of(section):
 
 # ---- files
 
-BAG = ("bagit.txt", "bag-info.txt", "manifest-sha256.txt", "metadata/sword.json", "tagmanifest-sha256.txt", "data/1/a.txt")
+BAG = ("bagit.txt", "bag-info.txt", "manifest-sha256.txt", "manifest-sha512.txt", "metadata/sword.json", "tagmanifest-sha256.txt",
+       "tagmanifest-sha512.txt", "data/1/a.txt")
 FILES = {
     "order-deposits.txt": ("deposits of files and metadata", {"service": [*cases.deposits()]}),
     "order-deposits-by-reference.txt": ("deposits by reference", {"uploads": [*cases.deposits_by_reference()]}),
