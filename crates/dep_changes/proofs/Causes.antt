@@ -72,8 +72,8 @@ pub never_absent : {P : Type 0} (view : View) → TellsStorableObject view → v
 never_absent view told none = absurd (let is = told.told in cc)
 
 -- the row of a new file
-pub new_row_fits : (view : View) → HasStorableNumbers view → (row : FileRow) {file object size : ℕ} {name media sha256 : List ℕ} {behalf : Option (List ℕ)} {by_reference : Bool} → IsStorable object → IsStorable file → IsStorable size
-    → row ≡ record { file = file; object = object; name = name; media = media; size = size; tag = view.next.change; deposited = view.clock; behalf = behalf; by_reference = by_reference; sha256 = sha256 } → IsStorableFile row
+pub new_row_fits : (view : View) → HasStorableNumbers view → (row : FileRow) {file object size : ℕ} {name media sha256 sha512 : List ℕ} {behalf : Option (List ℕ)} {by_reference : Bool} → IsStorable object → IsStorable file → IsStorable size
+    → row ≡ record { file = file; object = object; name = name; media = media; size = size; tag = view.next.change; deposited = view.clock; behalf = behalf; by_reference = by_reference; sha256 = sha256; sha512 = sha512 } → IsStorableFile row
 new_row_fits view numbers row object file size is = subst IsStorableFile (sym is) (record { file = file; object = object; size = size; tag = numbers.change; deposited = numbers.clock })
 
 pub whole_fits : (row : UploadRow) (u : ℕ) (it : Upload) → IsStorableUpload (columns_of_upload (upload_row u it)) → row ≡ upload_row u it → IsStorableUpload (columns_of_upload row)
