@@ -17,6 +17,7 @@ ghost use Rattle.dep_schema.specs.Upgrading.{with_no_sha512s, with_sha512s, AreS
 
 use crate::indexing::create_indexes;
 use crate::lending::Lent;
+use crate::making::SHA512S;
 use dep_tables::{BlockOwner, FileSha512, Statements, fault_of, insert_sha512, write_version};
 use dep_types::StoreFault;
 use sqlite::{Alter, Connection};
@@ -28,10 +29,7 @@ fn create_sha512s<T: Statements>(tx: &mut T) -> Result<(), StoreFault>
         → IfErr result (FailsToRun create_sha512s_text [] (T.state tx.old) (T.state tx.new)) }
     ensures stays { StaysWithin T.lenders T.state tx.old tx.new result }
 {
-    tx.run(
-        "CREATE TABLE sha512s (kind INTEGER NOT NULL, owner INTEGER NOT NULL, value BLOB NOT NULL, PRIMARY KEY (kind, owner)) STRICT",
-        &[],
-    )
+    tx.run(SHA512S, &[])
 }
 
 /// What version 2 has beside the tables of version 1: the table `sha512s`, empty, and the indexes.
