@@ -28,7 +28,7 @@ use Rattle.sqlite.specs.Effect.{Database}
 use Rattle.sqlite.specs.Schema.{Schema}
 use Rattle.dep_statements.specs.Adding.{HasCounters}
 use Rattle.dep_schema.specs.Beside.{LacksFormat}
-use Rattle.dep_schema.proofs.Missing.{find_missing}
+use Rattle.dep_schema.proofs.Missing.{find_missing, find_plain}
 use Rattle.dep_tables.specs.Tables.{tables_of, IsKnownSchema, IsKnown}
 use Rattle.dep_tables.specs.Versions.{our_version, older_version, HasVersion}
 use Rattle.dep_schema.specs.Standing.{no_schema, HasKnownVersion, Sees, Holds, IsBeside, GainsOurs, StandsBeside, CommitsBySchema, first_tables}
@@ -105,8 +105,13 @@ told_known version format rows same is = (Int (pos 1) ∷ Int (pos version) ∷ 
 pub found_version : (version : ℕ) (old new : State) (rows : List Row) → IsKnown old → Shown find_format_text [] old new rows → AreVersion (pos version) rows ↔ HasVersion version (tables_of old)
 found_version version old new rows known h = (known_told version (tables_of old).format rows (finds_rows old new rows known h), told_known version (tables_of old).format rows (finds_rows old new rows known h))
 
-pub find_stays : (old new : State) (rows : List Row) → IsKnown old → Shown find_format_text [] old new rows → IsUnchanged old new
-find_stays old new rows (its, known, ours) h = shown_unchanged find_format_text [] old new (subst (λ s. IsPlain (understood s find_format_text)) (sym ours.schema) (finds_in its known).plain) rows h
+-- it changes nothing, whatever tables there are
+pub find_stays : (old new : State) (rows : List Row) → Shown find_format_text [] old new rows → IsUnchanged old new
+unfolding Shown
+find_stays old new rows h = shown_unchanged find_format_text [] old new (find_plain old.now.schema h.0 h.1.is) rows h
+
+pub not_older : our_version ≡ older_version → ⊥
+not_older is = omega (arith, is)
 
 -- neither of the two versions that are known is shown
 pub none_known : (rows : List Row) → (AreVersion (pos our_version) rows → ⊥) → (AreVersion (pos older_version) rows → ⊥) → AreKnownVersion rows → ⊥
