@@ -1,5 +1,5 @@
 -- What the statements of an upgrade make of the tables of version 1.
-use Rattle.std.proofs.Common.{◌≡◌, inl, inr, ◌<◌, ◌+◌, ◌^◌, ℕ, IsTrue, List, [], ◌∷◌, ◌++◌, take, get_or, length, Result, Ok, Err, refl, sym, ap, subst, ◌∙◌}
+use Rattle.std.proofs.Common.{◌≡◌, inl, inr, ◌<◌, ◌+◌, ◌^◌, ℕ, true, false, IsTrue, List, [], ◌∷◌, ◌++◌, take, get_or, length, Result, Ok, Err, refl, sym, ap, subst, ◌∙◌}
 use Rattle.std.proofs.Math.Decide.{dec_lt}
 use Rattle.std.proofs.lemmas.List.{take_more, map-append}
 use Rattle.std.proofs.lemmas.List.Elements.{Contains-get_or}
@@ -122,6 +122,11 @@ pub free_new : (old mid new : Database) → Adds sha512s_table old mid → AddsI
 free_new old mid new added both =
     let indexes = free_indexes mid new both in
     record { table = added.free; files_index = added.keeps files_index.name indexes.0; uploads_index = added.keeps uploads_index.name indexes.1 }
+
+-- they are not in the tables of version 2
+pub new_not_free : AreNewNamesFree our_schema → ⊥
+unfolding everything
+new_not_free free = let no : true ≡ false = free.table in absurd (cc)
 
 put_each-append : (xs ys rows : List Row) → put_each (xs ++ ys) rows ≡ put_each ys (put_each xs rows)
 put_each-append [] ys rows = refl

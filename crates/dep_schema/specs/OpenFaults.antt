@@ -97,6 +97,10 @@ module _ (old new : State) where
       ((fault ≡ open_fault.UnknownVersion) × (HasKnownVersion (tables_of old) → ⊥))
       ⊎ GivesOut fault
 
+-- the query for the version would show this one
+abbrev pub TellsVersion : State → ℕ → Type 0
+TellsVersion s = ShowsVersion s s
+
 module _ {T : Type 0} (state : T → State) (old new : T) where
   -- one of the texts that make the tables failed, once those before it had made theirs
   abbrev pub FailsToCreate : StoreFault → Type 0
