@@ -1,9 +1,9 @@
 #!/bin/sh
 # Exports bags through the program, from a store that `swordd serve` made by curl, and has each folder checked by the
-# system's sha256sum and by a validator that knows RFC 8493 alone (checks/validate-bag), which also has to see damage.
-# Then it audits the store, before and after statements of sqlite3 that damage it. It needs curl, sqlite3, python3 and
-# sha256sum, and the program built (checks/built says where), and takes some seconds. The status is 1 where anything
-# came otherwise. checks/bags.py is the same story for a machine that has python3 alone.
+# system's sha256sum and sha512sum and by a validator that knows RFC 8493 alone (checks/validate-bag), which also has to
+# see damage. Then it audits the store, before and after statements of sqlite3 that damage it. It needs curl, sqlite3,
+# python3, sha256sum and sha512sum, and the program built (checks/built says where), and takes some seconds. The status
+# is 1 where anything came otherwise. checks/bags.py is the same story for a machine that has python3 alone.
 checks=$(cd "$(dirname "$0")" && pwd) || exit 2
 program=$("$checks/built" swordd) || exit 2
 folder=$(mktemp -d) || exit 2
@@ -42,12 +42,14 @@ prints() {
     [ "$(printf '%s\n' "$@")" = "$(cat "$folder/out")" ] || wrong "it printed: $(cat "$folder/out")"
 }
 
-# is_valid BAG: by both manifests and by the validator.
+# is_valid BAG: by its manifests, of which each algorithm has two, and by the validator.
 is_valid() {
-    for manifest in manifest-sha256.txt tagmanifest-sha256.txt; do
-        # sha256sum knows no escapes: the only one in these bags is that of the percent sign
-        [ -s "$1/$manifest" ] || continue
-        (cd "$1" && sed 's/%25/%/g' "$manifest" | sha256sum --check --strict --quiet) || wrong "$1: $manifest"
+    for algorithm in sha256 sha512; do
+        for manifest in "manifest-$algorithm.txt" "tagmanifest-$algorithm.txt"; do
+            # these commands know no escapes: the only one in these bags is that of the percent sign
+            [ -s "$1/$manifest" ] || continue
+            (cd "$1" && sed 's/%25/%/g' "$manifest" | ${algorithm}sum --check --strict --quiet) || wrong "$1: $manifest"
+        done
     done
     "$checks/validate-bag" "$1" >"$folder/told" || wrong "$1: $(cat "$folder/told")"
 }
@@ -78,7 +80,8 @@ deposit "$base/service" 'attachment; filename=a.txt' "$folder/abc" application/o
 wait $server || wrong "the server said: $(cat "$folder/served")"
 server=
 
-tags='bagit.txt bag-info.txt manifest-sha256.txt metadata/sword.json tagmanifest-sha256.txt'
+tags='bagit.txt bag-info.txt manifest-sha256.txt manifest-sha512.txt metadata/sword.json'
+tags="$tags tagmanifest-sha256.txt tagmanifest-sha512.txt"
 runs 0 '' export "$store" 1 "$folder/first"
 prints
 tree "$folder/first" $tags data/1/50%.txt data/2/%2e%2e 'data/3/déjà vu.txt' "data/4/$long"

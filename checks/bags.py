@@ -1,5 +1,5 @@
 #!/usr/bin/env python3
-"""Exports bags through the program, from a store that `swordd serve` made, and looks at each folder: its files, both
+"""Exports bags through the program, from a store that `swordd serve` made, and looks at each folder: its files, its
 manifests by hashlib, and checks/validate-bag, a validator that knows RFC 8493 alone and also has to see damage. Then it
 audits the store, before and after statements of Python's sqlite3 that damage it.
 
@@ -23,7 +23,8 @@ from expectations import expect, status_of
 from served import Server
 
 VALIDATOR = pathlib.Path(__file__).resolve().parent / "validate-bag"
-TAGS = ["bagit.txt", "bag-info.txt", "manifest-sha256.txt", "metadata/sword.json", "tagmanifest-sha256.txt"]
+LISTED = ["bagit.txt", "bag-info.txt", "manifest-sha256.txt", "manifest-sha512.txt", "metadata/sword.json"]
+TAGS = [*LISTED, "tagmanifest-sha256.txt", "tagmanifest-sha512.txt"]
 LONG = 255 * "y"
 DAMAGE = """UPDATE blocks SET bytes = X'616264' WHERE owner = 5; UPDATE files SET size = 4 WHERE file = 4;
     UPDATE blocks SET place = 9 WHERE owner = 2 AND place = 0; DELETE FROM blocks WHERE owner = 3;"""
@@ -55,21 +56,38 @@ def is_valid_by_validator(bag):
 
 
 def is_valid(bag):
-    """By both manifests and by the validator."""
-    for manifest in ("manifest-sha256.txt", "tagmanifest-sha256.txt"):
-        for line in (bag / manifest).read_text(encoding="utf-8").splitlines():
-            told, _, path = line.partition("  ")
-            content = (bag / path.replace("%25", "%")).read_bytes()
-            expect(f"the SHA-256 of {path}", hashlib.sha256(content).hexdigest(), told)
+    """By the manifests, of which each algorithm has two, and by the validator."""
+    payload = [str(it.relative_to(bag)) for it in (bag / "data").rglob("*") if it.is_file()]
+    for kind, named in (("manifest", payload), ("tagmanifest", LISTED)):
+        for algorithm in ("sha256", "sha512"):
+            lines = (bag / f"{kind}-{algorithm}.txt").read_text(encoding="utf-8").splitlines()
+            told = {path.replace("%25", "%"): digest for digest, _, path in (line.partition("  ") for line in lines)}
+            expect(f"the {kind} of {bag.name} by {algorithm}", told,
+                   {path: hashlib.new(algorithm, (bag / path).read_bytes()).hexdigest() for path in named})
     expect(f"the validator's word on {bag.name}", is_valid_by_validator(bag), True)
 
 
 def damage(bag, folder):
-    """The validator sees a changed byte, a file too many, a file too few, and another tag file."""
+    """The validator sees a changed byte, a file too many, a file too few, another tag file, and a manifest of either
+    algorithm that tells another digest or lacks a file, where all else is as it tells."""
+    def without_line(copy, manifest):
+        """The manifest without its first line, and the tag manifests without it."""
+        (copy / manifest).write_bytes((copy / manifest).read_bytes().partition(b"\n")[2])
+        for it in copy.glob("tagmanifest-*.txt"):
+            it.write_bytes(b"".join(line for line in it.read_bytes().splitlines(True) if manifest.encode() not in line))
+
+    def with_other_digest(copy, manifest):
+        """The tag manifest with another digit in its first line."""
+        content = (copy / manifest).read_bytes()
+        (copy / manifest).write_bytes((b"1" if content[:1] == b"0" else b"0") + content[1:])
+
     for number, works in enumerate((
             lambda copy: (copy / "data/1/50%.txt").write_bytes(b"abcx"), lambda copy: (copy / "data/9").write_bytes(b""),
             lambda copy: next((copy / "data/3").iterdir()).unlink(),
-            lambda copy: (copy / "bagit.txt").write_bytes((bag / "bagit.txt").read_bytes() + b"x"))):
+            lambda copy: (copy / "bagit.txt").write_bytes((bag / "bagit.txt").read_bytes() + b"x"),
+            lambda copy: without_line(copy, "manifest-sha256.txt"), lambda copy: without_line(copy, "manifest-sha512.txt"),
+            lambda copy: with_other_digest(copy, "tagmanifest-sha256.txt"),
+            lambda copy: with_other_digest(copy, "tagmanifest-sha512.txt"))):
         copy = folder / f"damaged-{number}"
         shutil.copytree(bag, copy)
         works(copy)

@@ -19,7 +19,7 @@ from expectations import expect, status_of
 from served import Server
 
 SEGMENT = 65_536
-REQUESTS = 21
+REQUESTS = 22
 
 
 def has(what, content, text):
@@ -59,7 +59,8 @@ def replace_metadata(server, path):
 
 def deposit_in_segments(server, path, content):
     """A file in four segments, the last one first, which becomes the object's second file."""
-    headers = {"Content-Disposition": f"segment-init; size={len(content)}; segment_count=4; segment_size={SEGMENT}"}
+    headers = {"Content-Disposition": f"segment-init; size={len(content)}; segment_count=4; segment_size={SEGMENT}; "
+                                      f"digest=SHA-512={hashlib.sha512(content).hexdigest()}"}
     reply, _ = server.ask(201, "POST", "/staging", headers=headers)
     upload = reply.headers["Location"]
     for number in (4, 1, 3, 2):
@@ -77,11 +78,12 @@ def deposit_in_segments(server, path, content):
 
 
 def read_bag(server, path, content):
-    """The manifest of the bag, line by line, and a file of it."""
-    _, manifest = server.ask(200, "GET", path + "/bag/manifest-sha256.txt")
+    """The manifests of the bag, line by line, and a file of it."""
     payload = {"data/1/a.txt": b"abc", "data/2/large": content}
-    lines = [f"{hashlib.sha256(part).hexdigest()}  {name}\n" for name, part in payload.items()]
-    expect("the manifest", manifest.decode(), "".join(lines))
+    for algorithm in ("sha256", "sha512"):
+        _, manifest = server.ask(200, "GET", f"{path}/bag/manifest-{algorithm}.txt")
+        lines = [f"{hashlib.new(algorithm, part).hexdigest()}  {name}\n" for name, part in payload.items()]
+        expect(f"the manifest by {algorithm}", manifest.decode(), "".join(lines))
     _, came = server.ask(200, "GET", path + "/bag/data/2/large")
     expect("the file of the bag", came, content)
 
@@ -90,7 +92,8 @@ def look_at_store(server):
     """The store once the object is deleted and the server has ended."""
     database = sqlite3.connect(server.store)
     expect("the integrity check", database.execute("PRAGMA integrity_check").fetchall(), [("ok",)])
-    expect("the blocks that are left", database.execute("SELECT count(*) FROM blocks").fetchall(), [(0,)])
+    for table in ("blocks", "sha512s"):
+        expect(f"the rows of {table} that are left", database.execute(f"SELECT count(*) FROM {table}").fetchall(), [(0,)])
     database.close()
 
 

@@ -9,7 +9,7 @@ folder=$(mktemp -d) || exit 2
 port=$((20000 + $$ % 20000))
 base=http://127.0.0.1:$port
 # Each call of curl below is one connection; the server ends after the last.
-"$program" serve $port "$folder/deposits.db" 21 2>"$folder/said" &
+"$program" serve $port "$folder/deposits.db" 22 2>"$folder/said" &
 server=$!
 trap 'kill $server 2>/dev/null; rm -r "$folder"' EXIT
 failed=0
@@ -70,7 +70,9 @@ ask 412 -X DELETE -H 'If-Match: "1"' "$object/metadata"
 # A file of 200,000 bytes in four segments, the last one first.
 head -c 200000 /dev/urandom >"$folder/large"
 split -b 65536 -d -a 1 "$folder/large" "$folder/segment."
-ask 201 -X POST -H "Content-Disposition: segment-init; size=200000; segment_count=4; segment_size=65536" "$base/staging"
+sizes='size=200000; segment_count=4; segment_size=65536'
+ask 201 -X POST -H "Content-Disposition: segment-init; $sizes; digest=SHA-512=$(sha512sum "$folder/large" | cut -c1-128)" \
+    "$base/staging"
 upload=$(told Location)
 for segment in 3 0 2 1; do
     ask 204 --data-binary "@$folder/segment.$segment" -H 'Content-Type:' \
@@ -84,11 +86,13 @@ ask 404 "$upload"
 ask 200 "$object/files/2"
 cmp -s "$folder/body" "$folder/large" || wrong 'the large file came back otherwise'
 
-ask 200 "$object/bag/manifest-sha256.txt"
 mkdir -p "$folder/data/1" "$folder/data/2"
 cp "$folder/a.txt" "$folder/data/1/a.txt"
 cp "$folder/large" "$folder/data/2/large"
-(cd "$folder" && sha256sum --check --quiet body) || wrong 'the manifest of the bag'
+for algorithm in sha256 sha512; do
+    ask 200 "$object/bag/manifest-$algorithm.txt"
+    (cd "$folder" && ${algorithm}sum --check --quiet body) || wrong "the manifest of the bag by $algorithm"
+done
 ask 200 "$object/bag/data/2/large"
 cmp -s "$folder/body" "$folder/large" || wrong 'the file of the bag came back otherwise'
 
@@ -99,6 +103,8 @@ wait $server
 status=$?
 [ "$status" = 0 ] || wrong "the server ended with status $status: $(cat "$folder/said")"
 [ "$(sqlite3 "$folder/deposits.db" 'PRAGMA integrity_check')" = ok ] || wrong 'the integrity check of the store'
-[ "$(sqlite3 "$folder/deposits.db" 'SELECT count(*) FROM blocks')" = 0 ] || wrong 'blocks are left'
+for table in blocks sha512s; do
+    [ "$(sqlite3 "$folder/deposits.db" "SELECT count(*) FROM $table")" = 0 ] || wrong "rows of $table are left"
+done
 [ $failed = 0 ] && echo "curl: $number requests, each answered as it should be"
 exit $failed

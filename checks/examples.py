@@ -186,7 +186,8 @@ class Play:
             part, came = self.intake.arrive(piece) if self.intake else self.server.arrive(current, piece, self.moment)
             sent += part
         self.compare(sent, came, word)
-        if self.has_faults and not self.stream.startswith(b"GET ") and before == self.looked():
+        may_stay = self.stream.startswith(b"GET ") or self.want.startswith(b"HTTP/1.1 4")
+        if self.has_faults and not may_stay and before == self.looked():
             raise Wrong("nothing that is looked at has changed")
         self.stream, self.want = b"", b""
 

@@ -14,6 +14,7 @@ The stores are filled by Python's sqlite3, with the rows of a first object and a
 numbers; before that it compares such rows with those of a server that was asked for each. It needs nothing else.
 """
 
+import hashlib
 import http.client
 import json
 import random
@@ -34,9 +35,10 @@ WARM_UP, ROUNDS = 5, 60
 MOST_SECONDS = 20
 FILE = {"Content-Type": "text/plain", "Content-Disposition": "attachment; filename=a.txt"}
 METADATA = {"Content-Type": "application/json"}
-OPENING = {"Content-Disposition": "segment-init; size=200; segment_count=2; segment_size=100"}
-SEGMENT = {"Content-Disposition": "segment; segment_number=1"}
 CONTENT, TITLES = b"x" * 100, json.dumps({"dc:title": ["T", "U"]})
+OPENING = {"Content-Disposition": "segment-init; size=200; segment_count=2; segment_size=100; digest=SHA-512="
+                                  + hashlib.sha512(2 * CONTENT).hexdigest()}
+SEGMENT = {"Content-Disposition": "segment; segment_number=1"}
 # What object n is, and what upload n is, told of the first one. Each object is two changes.
 NUMBERED = "WITH RECURSIVE numbers(n) AS (SELECT 2 UNION ALL SELECT n + 1 FROM numbers WHERE n < ?1) INSERT INTO "
 OBJECT_ROWS = (
@@ -49,8 +51,8 @@ UPLOAD_ROWS = (
     "uploads SELECT n, size, count, segment_size, sha256, last FROM numbers, uploads WHERE upload = 1",
     "segments SELECT n, number, size FROM numbers, segments WHERE upload = 1",
     "blocks SELECT kind, n, part, place, bytes FROM numbers, blocks WHERE kind = 1 AND owner = 1")
-# In tables of version 2 besides.
-SHA512_ROW = "sha512s SELECT kind, n, value FROM numbers, sha512s WHERE kind = 0 AND owner = 1"
+# In tables of version 2 besides, for a file and for an upload.
+SHA512_ROWS = [f"sha512s SELECT kind, n, value FROM numbers, sha512s WHERE kind = {kind} AND owner = 1" for kind in (0, 1)]
 MOMENTS = {"clock", "changed", "deposited", "last"}
 
 
@@ -139,8 +141,8 @@ def fill(store, objects, uploads):
     database = sqlite3.connect(store, isolation_level=None)
     database.execute("BEGIN")
     has_sha512s = database.execute("SELECT count(*) FROM sqlite_master WHERE name = 'sha512s'").fetchone() == (1,)
-    for rows, count in ((OBJECT_ROWS + (SHA512_ROW,) * has_sha512s, objects), (UPLOAD_ROWS, uploads)):
-        for text in rows if count > 1 else ():
+    for rows, sha512, count in zip((OBJECT_ROWS, UPLOAD_ROWS), SHA512_ROWS, (objects, uploads)):
+        for text in (*rows, *[sha512] * has_sha512s) if count > 1 else ():
             database.execute(NUMBERED + text, (count,))
     database.execute("UPDATE state SET next_object = ?1 + 1, next_file = ?1 + 1, next_upload = ?2 + 1, "
                      "next_change = 2 * ?1 + 1", (objects, uploads))

@@ -5,8 +5,9 @@
 
 In each round (200) a client deposits files, replaces metadata and sends segments over one connection, and after a
 random time the server gets SIGKILL. Then sqlite3 checks the store, and the server is started again on it: each change
-that was answered has to be there, and of the one that was in work all or nothing. The status is 0 where it was so. It
-needs nothing else; a round takes a second and a half of processor time.
+that was answered has to be there, and of the one that was in work all or nothing. Each upload promised a SHA-512 at its
+opening, every second one that of another content: sent to its end and deposited, it is refused then, and else taken.
+The status is 0 where it was so. It needs nothing else; a round takes a second and a half of processor time.
 """
 
 import hashlib
@@ -20,10 +21,11 @@ import sys
 import tempfile
 import threading
 import time
+from dataclasses import dataclass, field
 
 from served import Server
 
-MANY = 1_000_000
+MANY, SEGMENT = 1_000_000, 70_000
 
 
 class Known:
@@ -31,6 +33,18 @@ class Known:
 
     def __init__(self):
         self.files, self.titles, self.uploads, self.gone, self.asked = {}, {}, {}, set(), None
+
+
+@dataclass
+class Upload:
+    """An upload of three segments: its content, whether the SHA-512 that it promised is that, and what was answered."""
+    content: bytes
+    is_promised: bool
+    received: set = field(default_factory=set)
+
+    def deposited(self):
+        """The status of its deposit."""
+        return 201 if self.is_promised else 412
 
 
 def ask(connection, method, path, body=None, headers=None):
@@ -70,37 +84,54 @@ def delete_object(connection, known):
 
 def send_segment(connection, known):
     """A segment of an upload of three; with the third one it is deposited."""
-    waiting = [path for path, segments in known.uploads.items() if len(segments) < 3]
+    waiting = [path for path, upload in known.uploads.items() if len(upload.received) < 3]
     if not waiting:
-        known.asked = ("open",)
-        headers = {"Content-Disposition": "segment-init; size=210000; segment_count=3; segment_size=70000"}
-        reply, _ = ask(connection, "POST", "/staging", headers=headers)
-        assert reply.status == 201, reply.status
-        known.uploads["/" + reply.headers["Location"].split("/", 3)[3]] = {}
+        open_upload(connection, known)
         return
     path = waiting[0]
-    place = random.choice([n for n in (1, 2, 3) if n not in known.uploads[path]])
-    content = os.urandom(70_000)
+    upload = known.uploads[path]
+    place = random.choice([n for n in (1, 2, 3) if n not in upload.received])
     known.asked = ("segment", path, place)
-    headers = {"Content-Disposition": f"segment; segment_number={place}"}
-    reply, _ = ask(connection, "POST", path, content, headers)
-    assert reply.status == 204, reply.status
-    known.uploads[path][place] = content
-    if len(known.uploads[path]) == 3:
+    status = ask_for_segment(connection, path, upload, place)
+    assert status == 204, status
+    upload.received.add(place)
+    if len(upload.received) == 3:
         deposit_upload(connection, known, path)
 
 
-def deposit_upload(connection, known, path):
-    content = b"".join(segment for _, segment in sorted(known.uploads[path].items()))
-    known.asked = ("assemble", path, content)
+def open_upload(connection, known):
+    upload = Upload(os.urandom(3 * SEGMENT), random.random() < 0.5)
+    promised = hashlib.sha512(upload.content if upload.is_promised else b"").hexdigest()
+    sizes = f"size={len(upload.content)}; segment_count=3; segment_size={SEGMENT}"
+    known.asked = ("open",)
+    headers = {"Content-Disposition": f"segment-init; {sizes}; digest=SHA-512={promised}"}
+    reply, _ = ask(connection, "POST", "/staging", headers=headers)
+    assert reply.status == 201, reply.status
+    known.uploads["/" + reply.headers["Location"].split("/", 3)[3]] = upload
+
+
+def ask_for_segment(connection, path, upload, place):
+    headers = {"Content-Disposition": f"segment; segment_number={place}"}
+    return ask(connection, "POST", path, upload.content[(place - 1) * SEGMENT:place * SEGMENT], headers)[0].status
+
+
+def ask_for_deposit(connection, path):
     base = f"http://127.0.0.1:{connection.port}"
     document = {"byReferenceFiles": [{"@id": base + path, "contentDisposition": "attachment; filename=b"}]}
     headers = {"Content-Disposition": "attachment; by-reference=true", "Content-Type": "application/json"}
-    reply, document = ask(connection, "POST", "/service", json.dumps(document), headers)
-    assert reply.status == 201, reply.status
-    file = "/" + json.loads(document)["links"][0]["@id"].split("/", 3)[3]
-    known.files[file] = hashlib.sha256(content).digest()
-    del known.uploads[path]
+    return ask(connection, "POST", "/service", json.dumps(document), headers)
+
+
+def deposit_upload(connection, known, path):
+    """One that is refused stays."""
+    upload = known.uploads[path]
+    known.asked = ("assemble", path)
+    reply, document = ask_for_deposit(connection, path)
+    assert reply.status == upload.deposited(), reply.status
+    if reply.status == 201:
+        file = "/" + json.loads(document)["links"][0]["@id"].split("/", 3)[3]
+        known.files[file] = hashlib.sha256(upload.content).digest()
+        del known.uploads[path]
 
 
 def load(port, known):
@@ -138,13 +169,24 @@ def check(connection, known, wrong):
             find(f"title of {path}", reply.status == 200 and json.loads(document)["dc:title"] in [title, *in_work], wrong)
     for path in known.gone:
         find(f"{path} came back", ask(connection, "GET", path)[0].status == 404, wrong)
-    for path, segments in known.uploads.items():
+    for path, upload in known.uploads.items():
         reply, document = ask(connection, "GET", path)
-        if asked[:2] == ("assemble", path) and reply.status == 404:
+        if asked == ("assemble", path) and upload.is_promised and reply.status == 404:
             continue
         received = set(json.loads(document)["segments"]["received"]) if reply.status == 200 else None
         in_work = {asked[2]} if asked[:2] == ("segment", path) else set()
-        find(f"segments of {path}", received is not None and received - in_work == set(segments) - in_work, wrong)
+        find(f"segments of {path}", received is not None and received - in_work == upload.received - in_work, wrong)
+        if received is not None:
+            go_on(connection, path, upload, received, wrong)
+
+
+def go_on(connection, path, upload, received, wrong):
+    """The upload is sent to its end and deposited, by what was promised at its opening."""
+    for place in {1, 2, 3} - received:
+        status = ask_for_segment(connection, path, upload, place)
+        find(f"segment {place} of {path}: {status}", status == 204, wrong)
+    status = ask_for_deposit(connection, path)[0].status
+    find(f"the deposit of {path}: {status}", status == upload.deposited(), wrong)
 
 
 def integrity(folder, wrong):

@@ -31,7 +31,7 @@ text bag-list
 | Content-Type: text/plain; charset=utf-8
 | Content-Length: \\{list-length}
 |
-| bagit.txt\\nbag-info.txt\\nmanifest-sha256.txt\\nmetadata/sword.json\\ntagmanifest-sha256.txt\\ndata/\\{file}/a.txt\\n\\
+| bagit.txt\\nbag-info.txt\\nmanifest-sha256.txt\\nmanifest-sha512.txt\\nmetadata/sword.json\\ntagmanifest-sha256.txt\\ntagmanifest-sha512.txt\\ndata/\\{file}/a.txt\\n\\
 
 # 300 rounds on ten connections in turn"""
 ROUND = """\

@@ -545,9 +545,10 @@ def bag_of(item):
     """The files of a bag, in their order: path, media type, content."""
     payload = [(f"data/{key}/{file.name}", file.media, file.content) for key, file in sorted(item.files.items())]
 
-    def manifest(files):
-        lines = [f"{hashlib.sha256(content).hexdigest()}  {path.replace('%', '%25')}\n" for path, _, content in files]
-        return "".join(lines).encode()
+    def manifests(kind, files):
+        for name in ("sha256", "sha512"):
+            lines = [f"{hashlib.new(name, content).hexdigest()}  {path.replace('%', '%25')}\n" for path, _, content in files]
+            yield f"{kind}-{name}.txt", plain, "".join(lines).encode()
 
     plain = "text/plain; charset=utf-8"
     info = f"Bagging-Date: {stamp(item.changed)[:10]}\n"
@@ -555,10 +556,10 @@ def bag_of(item):
     tags = [
         ("bagit.txt", plain, b"BagIt-Version: 1.0\nTag-File-Character-Encoding: UTF-8\n"),
         ("bag-info.txt", plain, info.encode()),
-        ("manifest-sha256.txt", plain, manifest(payload)),
+        *manifests("manifest", payload),
         ("metadata/sword.json", "application/json", metadata_document(item.metadata)),
     ]
-    return [*tags, ("tagmanifest-sha256.txt", plain, manifest(tags)), *payload]
+    return [*tags, *manifests("tagmanifest", tags), *payload]
 
 
 # ---- one request
@@ -803,8 +804,7 @@ class Step:
         refuse_if(segment_size > config.max_upload, "InvalidSegmentSize")
         refuse_if(not (count - 1) * segment_size < size <= count * segment_size, "InvalidSegmentSize")
         key = archive.take("upload")
-        kept = {name: digest for name, digest in promised.items() if name == b"sha-256"}
-        upload = archive.uploads[key] = Upload(size, count, segment_size, kept, archive.clock)
+        upload = archive.uploads[key] = Upload(size, count, segment_size, promised, archive.clock)
         location = f"{config.base}/staging/{key}"
         return Reply(201, "application/json", upload_document(config, key, upload), location=location)
 

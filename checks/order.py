@@ -6,8 +6,9 @@ dictionary of settings, each of which sets one thing.
 
 Settings: the `request`, a field of it (its values parted by `|` where it stands more than once), its `content`, or
 `entry K` (the content is then the document of references with these entries); `object N tags` of the object, its metadata
-and its file set, `file OBJECT N tag`, the `path` that the bag has, `upload N SIZE COUNT SEGMENT-SIZE segments` (`-` for one
-that isn't there), the `next` number of a kind; and the configuration. `no` takes away what was set.
+and its file set, `file OBJECT N tag`, the `path` that the bag has, `upload N SIZE COUNT SEGMENT-SIZE promised DIGESTS segments`
+(DIGESTS as a Digest field has them, and `-` for a segment that isn't there), the `next` number of a kind; and the
+configuration. `no` takes away what was set.
 """
 
 import base64
@@ -185,9 +186,9 @@ RESOURCES = [
 
 class Upload:
     def __init__(self, text):
-        parts = re.fullmatch(r"(\d+) (\d+) (\d+)(?: promised SHA-256=(\w+))? segments (.*)", text)
+        parts = re.fullmatch(r"(\d+) (\d+) (\d+) promised (\S*) segments (.*)", text)
         self.size, self.count, self.segment_size = (int(parts[i]) for i in (1, 2, 3))
-        self.promised = {"sha-256": parts[4]} if parts[4] else {}
+        self.promised = digests_read([member for member in parts[4].split(",") if member])
         self.segments = [None if s == "-" else s for s in parts[5].split()]
         assert len(self.segments) == self.count
 

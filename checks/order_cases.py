@@ -70,11 +70,12 @@ REFERENCES = [
     (13.2, "entry 11 " + entry("06", "g")),
     (13.3, "entry 10 " + entry(6, "g", packaging=ZIP)),
     (13.4, "entry 9 " + entry(2, "y.bin")),
-    (13.5, "entry 4 " + entry(1, "timed-out")), (13.5, "entry 4 " + entry(9, "unknown")),
+    (13.5, "entry 4 " + entry(1, "timed-out")), (13.5, "entry 4 " + entry(11, "unknown")),
     (13.6, "entry 3 " + entry(4, "incomplete")),
     (13.7, "entry 2 " + entry(5, "abcd", contentLength=2)), (13.7, "entry 2 " + entry(5, "abcd", contentLength=5)),
-    (13.8, "entry 1 " + entry(7, "ijk", digest="SHA-256=" + sha256("abc"))), (13.8, "entry 1 " + entry(8, "f")),
+    (13.8, "entry 1 " + entry(7, "ijk", digest="SHA-256=" + sha256("abc"))),
     (13.8, "entry 1 " + entry(7, "ijk", digest="SHA-512=" + sha512("abc"))),
+    (13.8, "entry 1 " + entry(8, "f")), (13.8, "entry 1 " + entry(9, "f")), (13.8, "entry 1 " + entry(10, "f")),
 ]
 REFERENCES_HELD = ["entry 6 " + entry(7, "ijk", contentLength=3, packaging=BINARY),
                    "entry 6 " + entry(3, "f.bin", contentType="text/plain", ttl=None),
@@ -222,7 +223,8 @@ def openings():
                            (9, OPENING + "; digest=x"), (9, OPENING.replace("; segment_size=2", ""))],
         DIGEST, TOO_MUCH, full("upload"), GIVEN, ["max-segments 3", "max-assembled 5", "max-upload 2", "require-if-match true",
         "In-Progress: yes", f"Packaging: {ZIP}", "Content-Type:", OPENING + "; digest=SHA-256=" + sha256("abcde"),
-        OPENING.replace("size=5", "size=6")])
+        OPENING + "; digest=SHA-512=" + sha512("abcde"),
+        OPENING + f"; digest=SHA-256={sha256('abcde')},SHA-512={sha512('abcde')}", OPENING.replace("size=5", "size=6")])
     yield "an upload of smaller limits", ["POST /staging", OPENING, *LIMITS], flat(
         BEHALF, ENCODING, [(9, "content a")], DIGEST, [(14.1, "max-assembled 4"), (14.2, "max-segments 2"), (14.3, "max-upload 1")],
         full("upload"))

@@ -117,10 +117,11 @@ def read_bag(client, object_path):
         reply, parts[path] = client.ask(200, "GET", f"{object_path}/bag/{quoted}")
         if path.endswith(".txt") and not path.startswith("data/"):
             expect("media type of " + path, reply.headers["Content-Type"], PLAIN)
-    for name in ("manifest-sha256.txt", "tagmanifest-sha256.txt"):
-        for line in parts[name].decode().splitlines():
-            told, path = line.split("  ")
-            expect("digest of " + path, hashlib.sha256(parts[path.replace("%25", "%")]).hexdigest(), told)
+    for algorithm in ("sha256", "sha512"):
+        for name in (f"manifest-{algorithm}.txt", f"tagmanifest-{algorithm}.txt"):
+            for line in parts[name].decode().splitlines():
+                told, path = line.split("  ")
+                expect(f"{algorithm} of {path}", hashlib.new(algorithm, parts[path.replace("%25", "%")]).hexdigest(), told)
     payload = [content for path, content in parts.items() if path.startswith("data/")]
     oxum = f"Payload-Oxum: {sum(map(len, payload))}.{len(payload)}"
     expect("payload", oxum in parts["bag-info.txt"].decode(), True)

@@ -19,7 +19,7 @@ from dataclasses import dataclass, field, replace
 
 import examples
 import order_cases as cases
-from order import FIELDS, accepted, key_of, refusal, sha256, told, with_settings
+from order import FIELDS, accepted, key_of, refusal, sha256, sha512, told, with_settings
 
 DATA = pathlib.Path(__file__).resolve().parent.parent / "crates/examples/data"
 WORDS = examples.texts_of(DATA / "texts.txt")
@@ -190,10 +190,10 @@ class SetUp:
 
 
 def uploads(says, first, *rows):
-    """Uploads with these sizes and segments, None for one that isn't sent."""
+    """Uploads with these sizes, promised digests and segments, None for a segment that isn't sent."""
     made_up = SetUp(says)
     for upload, (size, count, segment_size, promised, *segments) in enumerate(rows, first):
-        digest, promise = (f"; digest=SHA-256={promised}", f" promised SHA-256={promised}") if promised else ("", "")
+        digest = f"; digest={promised}" if promised else ""
         sizes = f"size={size}; segment_count={count}; segment_size={segment_size}"
         made_up.add(asking("POST /staging", f"Content-Disposition: segment-init; {sizes}{digest}"), opened(upload, size, count, segment_size))
         for k, content in enumerate(segments, 1):
@@ -201,8 +201,13 @@ def uploads(says, first, *rows):
                 where = f"Content-Disposition: segment; segment_number={k}"
                 made_up.add(asking(f"POST /staging/{upload}", where, content=content), Reply("no-content"))
         kept = " ".join("-" if content is None else content for content in segments)
-        made_up.seen.append(f"upload {upload} {size} {count} {segment_size}{promise} segments {kept}")
+        made_up.seen.append(f"upload {upload} {size} {count} {segment_size} promised {promised} segments {kept}")
     return made_up
+
+
+def promise_of(text, other=None):
+    """Both digests of a text, or the SHA-512 of another one."""
+    return f"SHA-256={sha256(text)},SHA-512={sha512(text if other is None else other)}"
 
 
 SET_UPS = {
@@ -225,12 +230,14 @@ SET_UPS = {
         [asking("POST /staging", "Content-Disposition: segment-init; size=5; segment_count=3; segment_size=2")],
         [opened(1, 5, 3, 2, date="Sun, 15 Apr 2018 22:59:59 GMT")], ["upload 1 timed out"]),
     "whole-uploads": uploads(
-        "Uploads 2 to 8: `abcde`, `f`, `ab` without what follows, `abcd`, `gh`, `ijk`, and `f` though `g` was promised.", 2,
-        (5, 3, 2, sha256("abcde"), "ab", "cd", "e"), (1, 1, 1, None, "f"), (4, 2, 2, None, "ab", None), (4, 1, 4, None, "abcd"),
-        (2, 1, 2, None, "gh"), (3, 1, 3, None, "ijk"), (1, 1, 1, sha256("g"), "f")),
+        "Uploads 2 to 10: `abcde`, `f`, `ab` without what follows, `abcd`, `gh`, `ijk`, and `f` thrice though a digest of `g` was promised.",
+        2,
+        (5, 3, 2, promise_of("abcde"), "ab", "cd", "e"), (1, 1, 1, "", "f"), (4, 2, 2, "", "ab", None), (4, 1, 4, "", "abcd"),
+        (2, 1, 2, "", "gh"), (3, 1, 3, "", "ijk"), (1, 1, 1, "SHA-256=" + sha256("g"), "f"),
+        (1, 1, 1, "SHA-512=" + sha512("g"), "f"), (1, 1, 1, promise_of("f", "g"), "f")),
     "begun-uploads": uploads(
         "Uploads 2 and 3 of `abcde`: the segment in the middle and the last one are missing.", 2,
-        (5, 3, 2, None, "ab", None, "e"), (5, 3, 2, None, "ab", "cd", None)),
+        (5, 3, 2, "", "ab", None, "e"), (5, 3, 2, "", "ab", "cd", None)),
 }
 
 
@@ -259,8 +266,8 @@ WORLDS = {
     "service": World([], {}),
     "object": World([(MOMENT, "an-object")], {"object": 2, "file": 3, "change": 6}),
     "objects": World([(MOMENT, "an-object"), (MOMENT, "others")], {"object": 4, "file": 4, "change": 8}),
-    "uploads": World([IDLE, (MOMENT, "whole-uploads")], {"upload": 9}),
-    "object and uploads": World([IDLE, (MOMENT, "whole-uploads"), (MOMENT, "deposit")], {"object": 2, "file": 2, "upload": 9, "change": 2}),
+    "uploads": World([IDLE, (MOMENT, "whole-uploads")], {"upload": 11}),
+    "object and uploads": World([IDLE, (MOMENT, "whole-uploads"), (MOMENT, "deposit")], {"object": 2, "file": 2, "upload": 11, "change": 2}),
     "upload": World([IDLE, (MOMENT, "begun-uploads")], {"upload": 4}),
 }
 
@@ -273,7 +280,8 @@ CELLS = {"On-Behalf-Of": "behalf", "Content-Disposition": "disposition", "In-Pro
 ENTRY_KEYS = [f"entry {k}" for k in range(1, 13)]
 ENTRY_NAMES = ("a-number", "no-url", "no-name", "no-media-type", "no-length", "no-packaging", "no-digest", "another-host",
                "another-number", "a-package", "abcde-again", "an-idle-upload", "an-unknown-upload", "a-missing-segment",
-               "a-smaller-length", "a-greater-length", "another-digest", "a-broken-promise", "another-sha512")
+               "a-smaller-length", "a-greater-length", "another-digest", "another-sha512", "a-broken-promise",
+               "a-broken-sha512", "a-broken-promise-of-two")
 # What stands in many requests has a name.
 NAMES = {
     "as-file": cases.AS_FILE, "as-metadata": cases.AS_METADATA, "as-references": cases.AS_REFERENCES, "as-opening": cases.OPENING,
@@ -627,7 +635,8 @@ def examples_of(section):
 
 # ---- files
 
-BAG = ("bagit.txt", "bag-info.txt", "manifest-sha256.txt", "metadata/sword.json", "tagmanifest-sha256.txt", "data/1/a.txt")
+BAG = ("bagit.txt", "bag-info.txt", "manifest-sha256.txt", "manifest-sha512.txt", "metadata/sword.json", "tagmanifest-sha256.txt",
+       "tagmanifest-sha512.txt", "data/1/a.txt")
 FILES = {
     "order-deposits.txt": ("deposits of files and metadata", {"service": [*cases.deposits()]}),
     "order-deposits-by-reference.txt": ("deposits by reference", {"uploads": [*cases.deposits_by_reference()]}),

@@ -28,8 +28,9 @@ def deposit(server, contents):
     server.ask(204, "PUT", "/objects/1/metadata", '{"dc:title":"Observations"}', {"Content-Type": "application/json"})
     server.ask(200, "POST", "/objects/1", contents["large"],
                {"Content-Type": "image/png", "Content-Disposition": named + "large"})
-    server.ask(201, "POST", "/staging",
-               headers={"Content-Disposition": "segment-init; size=100000; segment_count=2; segment_size=65536"})
+    promised = hashlib.sha512(contents["segment"]).hexdigest()
+    sizes = "size=100000; segment_count=2; segment_size=65536"
+    server.ask(201, "POST", "/staging", headers={"Content-Disposition": f"segment-init; {sizes}; digest=SHA-512={promised}"})
     server.ask(204, "POST", "/staging/1", contents["segment"],
                {"Content-Disposition": "segment; segment_number=1"})
 

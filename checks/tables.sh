@@ -62,13 +62,16 @@ ask 204 -X PUT --data-binary '{"dc:title":"Observations"}' -H 'Content-Type: app
     "$base/objects/1/metadata"
 ask 200 --data-binary "@$folder/large" -H 'Content-Type: image/png' \
     -H 'Content-Disposition: attachment; filename=large' "$base/objects/1"
-ask 201 -X POST -H 'Content-Disposition: segment-init; size=100000; segment_count=2; segment_size=65536' "$base/staging"
+sizes='size=100000; segment_count=2; segment_size=65536'
+ask 201 -X POST -H "Content-Disposition: segment-init; $sizes; digest=SHA-512=$(digest sha512sum "$folder/segment")" \
+    "$base/staging"
 ask 204 --data-binary "@$folder/segment" -H 'Content-Type:' \
     -H 'Content-Disposition: segment; segment_number=1' "$base/staging/1"
 wait $server || wrong "the server ended otherwise: $(cat "$folder/said")"
 
 sed "s/{a.txt}/$(digest sha256sum "$folder/a.txt")/; s/{large}/$(digest sha256sum "$folder/large")/
-s/{a.txt sha512}/$(digest sha512sum "$folder/a.txt")/; s/{large sha512}/$(digest sha512sum "$folder/large")/" \
+s/{a.txt sha512}/$(digest sha512sum "$folder/a.txt")/; s/{large sha512}/$(digest sha512sum "$folder/large")/
+s/{segment sha512}/$(digest sha512sum "$folder/segment")/" \
     "$checks/tables.txt" >"$folder/tables"
 query=
 while IFS= read -r line; do

@@ -1,6 +1,6 @@
 #!/bin/sh
-# Exports the sample's bag into a folder, and has it checked by the system's sha256sum and by a validator that knows
-# RFC 8493 alone, which also has to see damage. What the program lists by itself has to be the lines of `listed`.
+# Exports the sample's bag into a folder, and has it checked by the system's sha256sum and sha512sum and by a validator
+# that knows RFC 8493 alone, which also has to see damage. What the program lists by itself has to be the lines of `listed`.
 here=$(cd "$(dirname "$0")" && pwd) || exit 2
 checks=$here/../..
 program=$("$checks/bench" --path bag_sample) || exit 2
@@ -9,9 +9,11 @@ room=$(mktemp -d)
 trap 'rm -rf "$room"' EXIT
 "$program" | cmp - "$here/listed"
 (cd "$room" && "$program" bag)
-# sha256sum knows no escapes: the only one in this bag is that of the percent sign
-for manifest in manifest-sha256.txt tagmanifest-sha256.txt; do
-    (cd "$room/bag" && sed 's/%25/%/g' "$manifest" | sha256sum --check --strict --quiet)
+# these commands know no escapes: the only one in this bag is that of the percent sign
+for algorithm in sha256 sha512; do
+    for manifest in "manifest-$algorithm.txt" "tagmanifest-$algorithm.txt"; do
+        (cd "$room/bag" && sed 's/%25/%/g' "$manifest" | ${algorithm}sum --check --strict --quiet)
+    done
 done
 "$checks/validate-bag" "$room/bag"
 # the validator sees damage: a changed byte, a file too many, a file too few

@@ -1,5 +1,5 @@
 -- What stands at the paths of a bag.
-use Rattle.std.proofs.Common.{◌≡◌, ℕ, Bool, true, false, cond, List, [], ◌∷◌, ◌++◌, Option, Some, None, refl, sym, ap, ◌∙◌, map as each, codes, nat_cmp, ◌==◌, arith, All}
+use Rattle.std.proofs.Common.{◌≡◌, ℕ, Bool, true, false, cond, List, [], ◌∷◌, ◌++◌, Option, Some, None, refl, sym, ap, ◌∙◌, map as each, nat_cmp, ◌==◌, arith, All}
 use Rattle.std.specs.Prelude.{find, bytes_eq, option_map}
 use Rattle.std.specs.Ordering.{eq_by_cmp}
 use Rattle.std.specs.Cmp.{nat_cmp_total}
@@ -13,14 +13,13 @@ use Rattle.dep_types.specs.Rows.{file_row, object_view}
 use Rattle.dep_types.specs.declared.rows.FileRow.{FileRow}
 use Rattle.dep_types.specs.declared.rows.ObjectView.{ObjectView}
 use Rattle.dep_types.specs.Sinks.{Entry}
-use Rattle.dep_manifest.specs.Manifest.{sha256_digest, manifest_of}
 use Rattle.dep_bag.specs.Parts.{told_parts, told_part, text_part, stored_part}
 use Rattle.dep_bag.specs.declared.part.BagPart.{BagPart}
 use Rattle.dep_bag.specs.declared.part.BagPart.TheVariants.{Bytes, Stored}
 use Rattle.dep_bag.proofs.Keys.{entries-held}
-use Rattle.dep_bag.specs.Bag.{listed_files, tag_manifest, bag_files}
+use Rattle.dep_bag.specs.Bag.{tag_files, bag_files}
 use Rattle.dep_bag.proofs.Files.{payload_entry}
-use Rattle.dep_bag.proofs.ToldBag.{same_listed}
+use Rattle.dep_bag.proofs.ToldBag.{same_tag_files}
 use Rattle.dep_answers.specs.Answers.{ReplyContent, StoredContent, bytes_of}
 use Rattle.dep_answers.specs.Bags.{BagEntry, bag_entries, tags_shown, payload_shown, shown_in_bag}
 use Rattle.dep_answers.specs.Told.{content_of, form_at}
@@ -48,23 +47,16 @@ payload_told n o (e ∷ es) h = λ i.
     ((payload_shown e).0, option_map shown_file (All-head (λ e. finmap.get o.files e.0 ≡ Some e.1) e es h i))
     ∷ payload_told n o es (All-tail (λ e. finmap.get o.files e.0 ≡ Some e.1) e es h) i
 
--- the parts by the tag files that are listed
-abbrev parts_by : ℕ → Object → List Entry → List (List ℕ × BagPart)
-parts_by n o listed =
-    each text_part listed
-    ++ text_part (codes "tagmanifest-sha256.txt", manifest_of sha256_digest listed)
-    ∷ each stored_part (object_view n o).files
-
 entries_told : (n : ℕ) (o : Object) → each (told_entry o) (told_parts (object_view n o)) ≡ each held_entry (bag_entries o)
 entries_told n o =
     let held = entries-held nat_cmp_total finmap.nat_cmp-IsAntisymmetric o.files in
-    ap (λ (listed : List Entry). each (told_entry o) (parts_by n o listed)) (same_listed n o)
+    ap (λ (texts : List Entry). each (told_entry o) (each text_part texts ++ each stored_part (object_view n o).files)) (same_tag_files n o)
     ∙ ap (λ (l : List Known). each held_entry (tags_shown o) ++ l) (payload_told n o (finmap.entries o.files) held)
 
 -- the files of the bag
 pub shown_files : (o : Object) → each (λ (p : BagEntry). (p.0, bytes_of p.1)) (bag_entries o) ≡ bag_files o
 unfolding bag_files
-shown_files o = ap (λ (l : List Entry). listed_files o ++ tag_manifest o ∷ l) (same_payload (finmap.entries o.files))
+shown_files o = ap (λ (l : List Entry). tag_files o ++ l) (same_payload (finmap.entries o.files))
   where
     same_payload : (es : List (ℕ × File)) → each (λ (p : BagEntry). (p.0, bytes_of p.1)) (each payload_shown es) ≡ each payload_entry es
     same_payload [] = refl

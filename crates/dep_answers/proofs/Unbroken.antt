@@ -82,7 +82,7 @@ bag_content : (s : State) → IsSound s → (n : ℕ) (path : List ℕ) (o : Opt
 bag_content s sound n path None there = tt
 bag_content s sound n path (Some o) there =
     let payload = payload_plain s sound n o there (finmap.entries o.files) (entries-held nat_cmp_total finmap.nat_cmp-IsAntisymmetric o.files) in
-    found_plain path (bag_entries o) (refl, (refl, (refl, (refl, (refl, payload)))))
+    found_plain path (bag_entries o) (refl, (refl, (refl, (refl, (refl, (refl, (refl, payload)))))))
 
 -- ---- documents and URLs
 

@@ -5,7 +5,7 @@ use Rattle.dep_types.specs.BagPaths.{payload_path}
 use Rattle.dep_types.specs.State.{Object, File}
 use Rattle.dep_docs_out.specs.Documents.{bag_metadata_document}
 use Rattle.dep_bag.specs.Bag.{bagit_text, info_text, oxum, payload, listed_files}
-use Rattle.dep_manifest.specs.Manifest.{sha256_digest, manifest_of}
+use Rattle.dep_manifest.specs.Manifest.{sha256_digest, sha512_digest, manifest_of}
 use Rattle.dep_answers.specs.Answers.{ReplyContent, Document, PlainText, StoredContent}
 
 -- a path, and what is shown there
@@ -18,8 +18,10 @@ tags_shown o =
     (codes "bagit.txt", PlainText bagit_text)
     ∷ (codes "bag-info.txt", PlainText (info_text o.changed (oxum (payload o))))
     ∷ (codes "manifest-sha256.txt", PlainText (manifest_of sha256_digest (payload o)))
+    ∷ (codes "manifest-sha512.txt", PlainText (manifest_of sha512_digest (payload o)))
     ∷ (codes "metadata/sword.json", Document (bag_metadata_document o.metadata))
     ∷ (codes "tagmanifest-sha256.txt", PlainText (manifest_of sha256_digest (listed_files o)))
+    ∷ (codes "tagmanifest-sha512.txt", PlainText (manifest_of sha512_digest (listed_files o)))
     ∷ []
 
 -- a file of the object, under its own media type

@@ -12,6 +12,7 @@ example_staged = record {
   count = 3;
   segment_size = 2;
   sha256 = None;
+  sha512 = None;
   last = 0;
   segments = finmap.from_sorted ((1, codes "ab") ∷ (3, codes "e") ∷ []);
 }

@@ -11,9 +11,8 @@ use Rattle.dep_types.specs.State.{State, Object, File}
 use Rattle.dep_types.specs.Rows.{file_row, object_view}
 use Rattle.dep_types.specs.Sinks.{Entry, IsFront, folder_made, file_given}
 use Rattle.dep_types.specs.declared.rows.ObjectView.{ObjectView}
-use Rattle.dep_manifest.specs.Manifest.{sha256_digest, manifest_of}
 use Rattle.dep_bag.specs.Bag.{payload, bag_files}
-use Rattle.dep_bag.specs.Parts.{told_listed, told_tag_files}
+use Rattle.dep_bag.specs.Parts.{told_tag_files}
 use Rattle.dep_bag.specs.Source.{view_at}
 use Rattle.dep_bag.specs.Giving.{IsGivenAt, IsGiven, tag_transcript, AreFilesOf}
 use Rattle.dep_bag.specs.Exports.{bag_transcript, IsExported}
@@ -21,7 +20,7 @@ use Rattle.dep_bag.specs.declared.export_fault.ExportFault.{ExportFault}
 use Rattle.dep_bag.specs.declared.export_fault.ExportFault.TheVariants.{NoSuchObject, Sink, Store, Memory}
 use Rattle.dep_bag.proofs.Files.{payload_entry}
 use Rattle.dep_bag.proofs.Keys.{entries-held}
-use Rattle.dep_bag.proofs.ToldBag.{same_listed}
+use Rattle.dep_bag.proofs.ToldBag.{same_tag_files}
 use Rattle.dep_bag.proofs.GivenParts.{IsOurs, given_front}
 
 same_view : (x y : ObjectView) → Some x ≡ Some y → x ≡ y
@@ -63,15 +62,11 @@ are_payload s n view v =
     subst (λ w. AreFilesOf s w.files (payload v.object)) (sym v.is)
     (are_files s n v.object v.held (map.entries v.object.files) (entries-held nat_cmp_total map.nat_cmp-IsAntisymmetric v.object.files))
 
-regroup : {X : Type 0} (xs : List X) (y : X) (ys : List X) → xs ++ y ∷ ys ≡ (xs ++ y ∷ []) ++ ys
-regroup xs y ys = sym (append_assoc xs (y ∷ []) ys)
-
 whole_transcript : (n : ℕ) (o : Object) → bag_transcript o ≡ tag_transcript (object_view n o) ++ flat_map file_given (payload o)
 unfolding bag_files
 whole_transcript n o =
     let tags : List Entry = told_tag_files (object_view n o) in
-    ap (λ listed. folder_made (codes "data") ++ flat_map file_given (listed ++ (codes "tagmanifest-sha256.txt", manifest_of sha256_digest listed) ∷ payload o)) (sym (same_listed n o))
-    ∙ ap (λ fs. folder_made (codes "data") ++ flat_map file_given fs) (regroup (told_listed (object_view n o)) (codes "tagmanifest-sha256.txt", manifest_of sha256_digest (told_listed (object_view n o))) (payload o))
+    ap (λ texts. folder_made (codes "data") ++ flat_map file_given (texts ++ payload o)) (sym (same_tag_files n o))
     ∙ ap (λ t. folder_made (codes "data") ++ t) (flat_map-append file_given tags (payload o))
     ∙ sym (append_assoc (folder_made (codes "data")) (flat_map file_given tags) (flat_map file_given (payload o)))
 

@@ -12,8 +12,10 @@ use Rattle.dep_types.specs.State.{Object, File}
 use Rattle.dep_types.specs.BagPaths.{payload_path}
 use Rattle.dep_docs_out.specs.Documents.{bag_metadata_document}
 use Rattle.dep_types.specs.Sinks.{Entry}
-use Rattle.dep_manifest.specs.Manifest.{sha256_digest, encoded_path, manifest_of}
-use Rattle.dep_bag.specs.Bag.{payload, oxum, listed_files, bag_files, bagit_text, info_text}
+use Rattle.dep_manifest.specs.Manifest.{encoded_path}
+use Rattle.dep_manifest.specs.declared.algorithm.Algorithm.{Algorithm}
+use Rattle.dep_manifest.specs.declared.algorithm.Algorithm.TheVariants.{Sha256, Sha512}
+use Rattle.dep_bag.specs.Bag.{payload, oxum, bagit_text, info_text, manifest_path, payload_manifest, listed_files, bag_files}
 use Rattle.dep_bag.specs.Valid.{is_payload}
 use Rattle.dep_bag.proofs.Lines.{BeginsPlain}
 use Rattle.dep_bag.proofs.Keys.{Distinct, Distinct-sorted}
@@ -24,6 +26,15 @@ order = slice_cmp nat_cmp
 
 abbrev pub payload_entry : ℕ × File → Entry
 payload_entry e = (payload_path e.0 e.1.name, e.1.content)
+
+abbrev pub bagit_file : Entry
+bagit_file = (codes "bagit.txt", bagit_text)
+
+abbrev pub info_file : Object → Entry
+info_file o = (codes "bag-info.txt", info_text o.changed (oxum (payload o)))
+
+abbrev pub metadata_file : Object → Entry
+metadata_file o = (codes "metadata/sword.json", bag_metadata_document o.metadata)
 
 abbrev pub IsSmall : ℕ × File → Type 0
 IsSmall e = e.0 < 2 ^ 64
@@ -66,10 +77,16 @@ Distinct-files o all =
         (
           tag-missed (codes "manifest-sha256.txt") (λ n name. refl) es,
           (
-            tag-missed (codes "metadata/sword.json") (λ n name. refl) es,
+            tag-missed (codes "manifest-sha512.txt") (λ n name. refl) es,
             (
-              tag-missed (codes "tagmanifest-sha256.txt") (λ n name. refl) es,
-              Distinct-payload es all (Distinct-sorted nat_cmp_total es (finmap.entries_sorted o.files)),
+              tag-missed (codes "metadata/sword.json") (λ n name. refl) es,
+              (
+                tag-missed (codes "tagmanifest-sha256.txt") (λ n name. refl) es,
+                (
+                  tag-missed (codes "tagmanifest-sha512.txt") (λ n name. refl) es,
+                  Distinct-payload es all (Distinct-sorted nat_cmp_total es (finmap.entries_sorted o.files)),
+                ),
+              ),
             ),
           ),
         ),
@@ -94,14 +111,22 @@ plain_each (e ∷ es) = All-cons (λ f. BeginsPlain f.0) (payload_entry e) (each
 pub plain_payload : (o : Object) → All (λ f. BeginsPlain f.0) (payload o)
 plain_payload o = plain_each (finmap.entries o.files)
 
-pub All-four : {X : Type 0} (P : X → Type 0) (a b c d : X) → P a → P b → P c → P d → All P (a ∷ b ∷ c ∷ d ∷ [])
-All-four P a b c d p q r s =
-    All-cons P a (b ∷ c ∷ d ∷ []) p (All-cons P b (c ∷ d ∷ []) q (All-cons P c (d ∷ []) r (All-cons P d [] s (All-nil P))))
+pub All-five : {X : Type 0} (P : X → Type 0) (a b c d e : X) → P a → P b → P c → P d → P e → All P (a ∷ b ∷ c ∷ d ∷ e ∷ [])
+All-five P a b c d e p q r s t =
+    All-cons P a (b ∷ c ∷ d ∷ e ∷ []) p (All-cons P b (c ∷ d ∷ e ∷ []) q (All-cons P c (d ∷ e ∷ []) r (All-cons P d (e ∷ []) s (All-cons P e [] t (All-nil P)))))
+
+-- what holds of each of the files that a tag manifest names
+pub All-listed : (P : Entry → Type 0) (o : Object) → P bagit_file → P (info_file o) → ((a : Algorithm) → P (payload_manifest a o)) → P (metadata_file o) → All P (listed_files o)
+All-listed P o declared told made kept = All-five P bagit_file (info_file o) (payload_manifest Sha256 o) (payload_manifest Sha512 o) (metadata_file o) declared told (made Sha256) (made Sha512) kept
+
+manifest-plain : (a : Algorithm) → BeginsPlain (manifest_path a)
+manifest-plain Sha256 = record { first = 109; rest = codes "anifest-sha256.txt"; is = refl; no_blank = refl }
+manifest-plain Sha512 = record { first = 109; rest = codes "anifest-sha512.txt"; is = refl; no_blank = refl }
 
 pub plain_listed : (o : Object) → All (λ f. BeginsPlain f.0) (listed_files o)
 plain_listed o =
-    All-four (λ f. BeginsPlain f.0) (codes "bagit.txt", bagit_text) (codes "bag-info.txt", info_text o.changed (oxum (payload o))) (codes "manifest-sha256.txt", manifest_of sha256_digest (payload o)) (codes "metadata/sword.json", bag_metadata_document o.metadata)
+    All-listed (λ f. BeginsPlain f.0) o
     (record { first = 98; rest = codes "agit.txt"; is = refl; no_blank = refl })
     (record { first = 98; rest = codes "ag-info.txt"; is = refl; no_blank = refl })
-    (record { first = 109; rest = codes "anifest-sha256.txt"; is = refl; no_blank = refl })
+    manifest-plain
     (record { first = 109; rest = codes "etadata/sword.json"; is = refl; no_blank = refl })

@@ -132,27 +132,25 @@ text_ended a b c d path text seen is begun adds ended = (
   ap (λ t. (file_begun path ++ t) ++ file_ended) is,
 )
 
--- a whole file was given next
-pub text_given : (a b c : Option (List ℕ)) (whole left path text : List ℕ) → Leaves a b whole (file_given (path, text) ++ left)
-    → (x : List ℕ) × Appends b c x × (x ≡ file_given (path, text)) → Leaves a c whole left
-text_given a b c whole left path text l g =
-    leaves_less a b c whole (file_given (path, text)) left l (subst (Appends b c) g.2 g.1)
+-- a part was given whole
+pub part_given : (a b c : Option (List ℕ)) (whole one left : List ℕ) → Leaves a b whole (one ++ left)
+    → (x : List ℕ) × Appends b c x × (x ≡ one) → Leaves a c whole left
+part_given a b c whole one left l g = leaves_less a b c whole one left l (subst (Appends b c) g.2 g.1)
 
 -- and a front of it, at a fault
-pub text_fails : {X : Type 0} (a b c : Option (List ℕ)) (whole left path text : List ℕ) (r : Result X ExportFault) (e : ExportFault)
-    → Leaves a b whole (file_given (path, text) ++ left) → (x : List ℕ) × Appends b c x × IsGivenAt e (file_given (path, text)) x
-    → IsErrAnd r (λ x. x ≡ e) → Gives a c whole r
-text_fails a b c whole left path text r e l g err =
-    let f = given_front e (file_given (path, text)) g.0 g.2 in
-    breaks a b c whole (file_given (path, text)) left g.0 r e l g.1 f.1 err f.0
+pub part_fails : {X : Type 0} (a b c : Option (List ℕ)) (whole one left : List ℕ) (r : Result X ExportFault) (e : ExportFault) → Leaves a b whole (one ++ left)
+    → (x : List ℕ) × Appends b c x × IsGivenAt e one x → IsErrAnd r (λ x. x ≡ e) → Gives a c whole r
+part_fails a b c whole one left r e l g err =
+    let f = given_front e one g.0 g.2 in
+    breaks a b c whole one left g.0 r e l g.1 f.1 err f.0
 
--- the last file is given as far as it is
-pub text_last : {X : Type 0} (a b c : Option (List ℕ)) (whole path text : List ℕ) (r : Result X ExportFault)
-    → Leaves a b whole (file_given (path, text) ++ []) → Gives b c (file_given (path, text)) r → Gives a c whole r
-text_last a b c whole path text (Ok x) l g = ends a c whole x (text_given a b c whole [] path text l g)
-text_last {X} a b c whole path text (Err e) l g =
+-- the last part is given as far as it is
+pub part_last : {X : Type 0} (a b c : Option (List ℕ)) (whole one : List ℕ) (r : Result X ExportFault)
+    → Leaves a b whole (one ++ []) → Gives b c one r → Gives a c whole r
+part_last a b c whole one (Ok x) l g = ends a c whole x (part_given a b c whole one [] l g)
+part_last {X} a b c whole one (Err e) l g =
     let r : Result X ExportFault = Err e in
-    text_fails a b c whole [] path text r e l g refl
+    part_fails a b c whole one [] r e l g refl
 
 pub caused_later : (before now after : ℕ) (fault : ExportFault) → now ≡ before → IsCausedBy fault now after → IsCausedBy fault before after
 caused_later before now after Sink same cause = subst (λ n. HasRisen n after) same cause

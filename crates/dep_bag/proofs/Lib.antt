@@ -1,9 +1,10 @@
 pub mod Lines
 pub mod Fronts
-pub mod FourLines
+pub mod FiveLines
 pub mod FoundFiles
 pub mod ToldBag
 pub mod GivenParts
+pub mod GivenFiles
 pub mod StoredFiles
 pub mod Still
 pub mod Payload

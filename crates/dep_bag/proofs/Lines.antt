@@ -1,7 +1,7 @@
 -- The lines of a manifest, read back.
 use Rattle.std.proofs.Common.{◌≡◌, ℕ, zero, suc, ◌+◌, ◌<◌, ◌==◌, Bool, true, false, cond, ◌&&◌, ◌||◌, List, [], ◌∷◌, ◌++◌, length, take, drop, map, Some, None, Ok, refl, sym, ap, subst, ◌∙◌, append_assoc, arith, codes}
 use Rattle.std.specs.Prelude.{flat_map, nat_lt, slice_index, ◌/◌, ◌%◌, is_some}
-use Rattle.std.specs.Int.{byte_at, bytes_high_first, to_be_bytes, w32}
+use Rattle.std.specs.Int.{byte_at, bytes_high_first, to_be_bytes, w32, w64}
 use Rattle.hex.specs.Hex.{IsBytes, lower_digits, encode_with}
 use Rattle.hex.proofs.HexLemmas.{IsDigits-lower_digits, length-encode_with, decode_sized-encode_lower}
 use Rattle.std.specs.List.{All, list_any, list_all, prefix_len, slice_split}
@@ -10,9 +10,13 @@ use Rattle.std.proofs.lemmas.List.Splits.{slice_split_at}
 use Rattle.std.proofs.lemmas.Bool.{lt-ltb, eqb-true}
 use Rattle.hex.specs.Hex.{encode_lower, is_hex_digit, decode_sized}
 use Rattle.sha2.specs.Sha256.{sha256, digest_bytes}
+use Rattle.sha2.specs.Sha512.{sha512, digest_bytes as digest_bytes512}
 use Rattle.sha2.proofs.Facts256.{length-sha256}
+use Rattle.sha2.proofs.Facts512.{length-sha512}
 use Rattle.dep_types.specs.Sinks.{Entry}
-use Rattle.dep_manifest.specs.Manifest.{Digest, IsDigest, sha256_digest, encoded_byte, encoded_path, manifest_of}
+use Rattle.dep_manifest.specs.Manifest.{Digest, IsDigest, digest_by, encoded_byte, encoded_path, manifest_of}
+use Rattle.dep_manifest.specs.declared.algorithm.Algorithm.{Algorithm}
+use Rattle.dep_manifest.specs.declared.algorithm.Algorithm.TheVariants.{Sha256, Sha512}
 use Rattle.dep_bag.specs.Valid.{Line, lines_of, parts_read, line_read, lines_read, manifest_read, digits_len, blanks_len}
 
 pub or-parts : (a b : Bool) → (a || b) ≡ false → (a ≡ false) × (b ≡ false)
@@ -142,8 +146,18 @@ IsBytes-sha256 : (m : List ℕ) → IsBytes (sha256 m)
 unfolding sha256
 IsBytes-sha256 m = IsBytes-digest _ 8
 
-pub sha256-digest : IsDigest sha256_digest
-sha256-digest = record { some = omega arith; sized = length-sha256; bytes = IsBytes-sha256 }
+IsBytes-digest512 : (h : List ℕ) (n : ℕ) → IsBytes (digest_bytes512 h n)
+unfolding digest_bytes512
+IsBytes-digest512 h zero i = omega arith
+IsBytes-digest512 h (suc n) i = IsBytes-append (digest_bytes512 h n) (to_be_bytes w64 (slice_index h n)) (IsBytes-digest512 h n) (IsBytes-high_first 8 (slice_index h n)) i
+
+IsBytes-sha512 : (m : List ℕ) → IsBytes (sha512 m)
+unfolding sha512
+IsBytes-sha512 m = IsBytes-digest512 _ 8
+
+pub IsDigest-digest_by : (a : Algorithm) → IsDigest (digest_by a)
+IsDigest-digest_by Sha256 = record { some = omega arith; sized = length-sha256; bytes = IsBytes-sha256 }
+IsDigest-digest_by Sha512 = record { some = omega arith; sized = length-sha512; bytes = IsBytes-sha512 }
 
 -- digits, which read back as the digest
 digest_digits : (d : Digest) → IsDigest d → (m : List ℕ) → list_all is_hex_digit (encode_lower (d.of m)) ≡ true

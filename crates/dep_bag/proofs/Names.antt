@@ -6,7 +6,7 @@ use Rattle.std.specs.List.{All, list_any, list_all}
 use Rattle.std.specs.Cmp.{nat_cmp_total}
 use Rattle.std.specs.FinMap as finmap
 use Rattle.std.proofs.lemmas.Bool.{eqb-true}
-use Rattle.std.proofs.lemmas.List.Elements.{All-cons, All-nil, All-head, All-tail, All-map, All-weaker, All-append}
+use Rattle.std.proofs.lemmas.List.Elements.{All-head, All-tail, All-map, All-weaker, All-append}
 use Rattle.dep_types.specs.State.{State, Object, File}
 use Rattle.dep_types.specs.Sound.{IsSound}
 use Rattle.dep_types.specs.Names.{is_name_byte, is_good_name, is_short}
@@ -15,7 +15,7 @@ use Rattle.dep_manifest.specs.Manifest.{encoded_byte, encoded_path}
 use Rattle.dep_bag.specs.Named.{percent_byte, percent_encoded}
 use Rattle.dep_bag.specs.Bag.{list_text}
 use Rattle.dep_bag.specs.Valid.{lines_of}
-use Rattle.dep_bag.proofs.Lines.{or-both, or-parts, and-parts, none-append, split_first}
+use Rattle.dep_bag.proofs.Lines.{or-both, or-parts, and-parts, none-append, split_first, All-none}
 use Rattle.dep_bag.proofs.Keys.{entries-held}
 use Rattle.dep_bag.proofs.PayloadPaths.{decimal-none}
 
@@ -92,12 +92,7 @@ payload_names s n o sound is =
     (finmap.entries o.files) (entries-held nat_cmp_total finmap.nat_cmp-IsAntisymmetric o.files))
 
 tags-no_lf : All HasNoLf tag_paths
-tags-no_lf =
-    All-cons HasNoLf (codes "bagit.txt") (codes "bag-info.txt" ∷ codes "manifest-sha256.txt" ∷ codes "metadata/sword.json" ∷ codes "tagmanifest-sha256.txt" ∷ []) refl
-    (All-cons HasNoLf (codes "bag-info.txt") (codes "manifest-sha256.txt" ∷ codes "metadata/sword.json" ∷ codes "tagmanifest-sha256.txt" ∷ []) refl
-    (All-cons HasNoLf (codes "manifest-sha256.txt") (codes "metadata/sword.json" ∷ codes "tagmanifest-sha256.txt" ∷ []) refl
-    (All-cons HasNoLf (codes "metadata/sword.json") (codes "tagmanifest-sha256.txt" ∷ []) refl
-    (All-cons HasNoLf (codes "tagmanifest-sha256.txt") [] refl (All-nil HasNoLf)))))
+tags-no_lf = All-none (list_any (λ b. b == 10)) tag_paths refl
 
 pub list_read_back : (s : State) (n : ℕ) (o : Object) → IsSound s → finmap.get s.objects n ≡ Some o → lines_of (list_text (bag_paths o)) ≡ bag_paths o ++ [] ∷ []
 list_read_back s n o sound is = lines_of-listed (bag_paths o) (All-append HasNoLf tag_paths (payload_paths o) tags-no_lf (payload_names s n o sound is))

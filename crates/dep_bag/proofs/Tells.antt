@@ -1,4 +1,4 @@
--- A valid bag tells the SHA-256 of each payload file.
+-- A valid bag tells the digests of each payload file.
 use Rattle.std.proofs.Common.{◌≡◌, ℕ, Bool, true, false, cond, List, [], ◌∷◌, map as each, Some, Ok, refl, sym, ap, ◌∙◌, subst, arith}
 use Rattle.std.specs.List.{All, Contains, filter}
 use Rattle.std.specs.Ordering.{is_eq}
@@ -7,10 +7,10 @@ use Rattle.std.specs.FinMap.Entries.{find}
 use Rattle.std.specs.FinMap as finmap
 use Rattle.std.proofs.lemmas.List.Elements.{All-cons, All-nil, All-map, All-weaker, All-contains, All-contains_itself, Contains-append_right}
 use Rattle.std.proofs.lemmas.List.Sorted.{Contains-permutation}
-use Rattle.sha2.specs.Sha256.{sha256}
 use Rattle.hex.specs.Hex.{decode_sized}
 use Rattle.dep_types.specs.Sinks.{Entry}
-use Rattle.dep_manifest.specs.Manifest.{sha256_digest, encoded_path}
+use Rattle.dep_manifest.specs.Manifest.{digest_by, encoded_path}
+use Rattle.dep_manifest.specs.declared.algorithm.Algorithm.{Algorithm}
 use Rattle.dep_bag.specs.Bag.{Bag}
 use Rattle.dep_bag.specs.Valid.{Line, IsValidBag, IsChecked, is_payload, payload_in}
 use Rattle.dep_manifest.proofs.Encoding.{encoding_injective}
@@ -55,18 +55,19 @@ all_mapped f (x ∷ xs) =
 all_from : {X Y : Type 0} (f : X → Y) (xs : List X) → All (λ y. (x : X) × Contains xs x × (f x ≡ y)) (each f xs)
 all_from f xs = All-map (λ y. (x : _) × Contains xs x × (f x ≡ y)) f xs (All-weaker (Contains xs) (λ z. (x : _) × Contains xs x × (f x ≡ f z)) (λ z h. (z, h, refl)) xs (All-contains_itself xs))
 
-pub tells : (b : Bag) (valid : IsValidBag b) (path bytes : List ℕ) → is_payload path ≡ true → finmap.get b.files path ≡ Some bytes
-    → (line : Line) × Contains valid.manifest.lines line × (line.path ≡ encoded_path path) × (decode_sized line.digits 32 ≡ Ok (sha256 bytes))
-tells b valid path bytes below got =
+pub tells : (b : Bag) (valid : IsValidBag b) (a : Algorithm) (path bytes : List ℕ) → is_payload path ≡ true → finmap.get b.files path ≡ Some bytes
+    → (line : Line) × Contains (valid.manifest a).lines line × (line.path ≡ encoded_path path) × (decode_sized line.digits (digest_by a).size ≡ Ok ((digest_by a).of bytes))
+tells b valid a path bytes below got =
+    let manifest = valid.manifest a in
     let entry : Entry = (path, bytes) in
     let es = finmap.entries b.files in
     let in_map : Contains es entry = found-in path bytes es (sym (finmap.get-entries b.files path) ∙ got) in
     let in_payload : Contains (payload_in b) entry = All-contains (λ y. is_payload y.0 ≡ true → Contains (payload_in b) y) es entry (all_kept (λ f. is_payload f.0) es) in_map below in
     let encode = λ (f : Entry). encoded_path f.0 in
     let written : Contains (each encode (payload_in b)) (encoded_path path) = All-contains (λ f. Contains (each encode (payload_in b)) (encode f)) (payload_in b) entry (all_mapped encode (payload_in b)) in_payload in
-    let in_lines : Contains (each (λ line. line.path) valid.manifest.lines) (encoded_path path) = Contains-permutation (each encode (payload_in b)) (each (λ line. line.path) valid.manifest.lines) (encoded_path path) valid.manifest.each_once written in
-    let found = All-contains (λ y. (line : Line) × Contains valid.manifest.lines line × (line.path ≡ y)) (each (λ line. line.path) valid.manifest.lines) (encoded_path path) (all_from (λ (line : Line). line.path) valid.manifest.lines) in_lines in
-    let check : IsChecked sha256_digest b found.0 = All-contains (IsChecked sha256_digest b) valid.manifest.lines found.0 valid.manifest.has.checked found.1 in
+    let in_lines : Contains (each (λ line. line.path) manifest.lines) (encoded_path path) = Contains-permutation (each encode (payload_in b)) (each (λ line. line.path) manifest.lines) (encoded_path path) manifest.each_once written in
+    let found = All-contains (λ y. (line : Line) × Contains manifest.lines line × (line.path ≡ y)) (each (λ line. line.path) manifest.lines) (encoded_path path) (all_from (λ (line : Line). line.path) manifest.lines) in_lines in
+    let check : IsChecked (digest_by a) b found.0 = All-contains (IsChecked (digest_by a) b) manifest.lines found.0 manifest.has.checked found.1 in
     let same : check.path ≡ path = encoding_injective check.path path (sym check.named ∙ found.2) in
     let held : Some check.bytes ≡ Some bytes = sym check.held ∙ ap (finmap.get b.files) same ∙ got in
-    (found.0, found.1, found.2, check.checksum ∙ ap (λ x. Ok (sha256 x)) (same_value check.bytes bytes held))
+    (found.0, found.1, found.2, check.checksum ∙ ap (λ x. Ok ((digest_by a).of x)) (same_value check.bytes bytes held))

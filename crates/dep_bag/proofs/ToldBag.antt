@@ -8,12 +8,13 @@ use Rattle.std.proofs.lemmas.List.Sums.{sum_by-cons}
 use Rattle.std.proofs.lemmas.List.Elements.{All-head, All-tail}
 use Rattle.dep_types.specs.State.{Object, File}
 use Rattle.dep_types.specs.Rows.{file_row, object_view}
-use Rattle.dep_manifest.specs.Manifest.{sha256_digest, checksum_of}
-use Rattle.dep_bag.specs.Bag.{payload, oxum, oxum_text, listed_files, bag_files, info_text, bagit_text}
+use Rattle.dep_manifest.specs.Manifest.{checksum_of, digest_by, manifest, manifest_of}
+use Rattle.dep_manifest.specs.declared.algorithm.Algorithm.{Algorithm}
+use Rattle.dep_manifest.specs.declared.algorithm.Algorithm.TheVariants.{Sha256, Sha512}
+use Rattle.dep_bag.specs.Bag.{payload, oxum, oxum_text, listed_files, tag_files, bag_files, info_text, bagit_text, manifest_path, tag_manifest_path}
 use Rattle.dep_types.specs.Sinks.{Entry}
-use Rattle.dep_manifest.specs.Manifest.{manifest, manifest_of}
 use Rattle.dep_docs_out.specs.Documents.{bag_metadata_document}
-use Rattle.dep_bag.specs.Parts.{row_checksum, told_oxum, told_listed, told_tag_manifest, told_parts, text_part, stored_part, told_bytes, held_bytes}
+use Rattle.dep_bag.specs.Parts.{row_checksum, told_oxum, told_listed, told_tag_files, told_parts, text_part, stored_part, told_bytes, held_bytes}
 use Rattle.dep_bag.proofs.Files.{payload_entry}
 use Rattle.dep_bag.proofs.Keys.{entries-held}
 
@@ -31,17 +32,26 @@ same_count n (e ∷ es) = ap suc (same_count n es)
 same_oxum : (n : ℕ) (o : Object) → told_oxum (object_view n o).files ≡ oxum (payload o)
 same_oxum n o = λ i. oxum_text (same_sum n (finmap.entries o.files) i) (same_count n (finmap.entries o.files) i)
 
-same_checksums : (n : ℕ) (es : List (ℕ × File)) → each row_checksum (each (λ e. file_row n e.0 e.1) es) ≡ each (checksum_of sha256_digest) (each payload_entry es)
-same_checksums n [] = refl
-same_checksums n (e ∷ es) = ap (λ l. checksum_of sha256_digest (payload_entry e) ∷ l) (same_checksums n es)
+same_checksums : (a : Algorithm) (n : ℕ) (es : List (ℕ × File)) → each (row_checksum a) (each (λ e. file_row n e.0 e.1) es) ≡ each (checksum_of (digest_by a)) (each payload_entry es)
+same_checksums a n [] = refl
+same_checksums Sha256 n (e ∷ es) = ap (λ l. checksum_of (digest_by Sha256) (payload_entry e) ∷ l) (same_checksums Sha256 n es)
+same_checksums Sha512 n (e ∷ es) = ap (λ l. checksum_of (digest_by Sha512) (payload_entry e) ∷ l) (same_checksums Sha512 n es)
 
-pub same_listed : (n : ℕ) (o : Object) → told_listed (object_view n o) ≡ listed_files o
+same_listed : (n : ℕ) (o : Object) → told_listed (object_view n o) ≡ listed_files o
 same_listed n o = λ i.
     (codes "bagit.txt", bagit_text)
     ∷ (codes "bag-info.txt", info_text o.changed (same_oxum n o i))
-    ∷ (codes "manifest-sha256.txt", manifest (same_checksums n (finmap.entries o.files) i))
+    ∷ (manifest_path Sha256, manifest (same_checksums Sha256 n (finmap.entries o.files) i))
+    ∷ (manifest_path Sha512, manifest (same_checksums Sha512 n (finmap.entries o.files) i))
     ∷ (codes "metadata/sword.json", bag_metadata_document o.metadata)
     ∷ []
+
+-- the files that a tag manifest names, and the tag manifests
+abbrev with_tag_manifests : List Entry → List Entry
+with_tag_manifests listed = listed ++ (tag_manifest_path Sha256, manifest_of (digest_by Sha256) listed) ∷ (tag_manifest_path Sha512, manifest_of (digest_by Sha512) listed) ∷ []
+
+pub same_tag_files : (n : ℕ) (o : Object) → told_tag_files (object_view n o) ≡ tag_files o
+same_tag_files n o = ap with_tag_manifests (same_listed n o)
 
 shown_stored : (n : ℕ) (o : Object) (es : List (ℕ × File)) → All (λ e. finmap.get o.files e.0 ≡ Some e.1) es
     → each (told_bytes o) (each stored_part (each (λ e. file_row n e.0 e.1) es)) ≡ each held_bytes (each payload_entry es)
@@ -50,16 +60,15 @@ shown_stored n o (e ∷ es) h = λ i.
     ((payload_entry e).0, option_map (λ f. f.content) (All-head (λ e. finmap.get o.files e.0 ≡ Some e.1) e es h i))
     ∷ shown_stored n o es (All-tail (λ e. finmap.get o.files e.0 ≡ Some e.1) e es h) i
 
--- four texts, one more, and the stored files
-told_all : (n : ℕ) (o : Object) (listed : List Entry) (tag : Entry) (es : List (ℕ × File)) → All (λ e. finmap.get o.files e.0 ≡ Some e.1) es
-    → each (told_bytes o) (each text_part listed ++ text_part tag ∷ each stored_part (each (λ e. file_row n e.0 e.1) es))
-    ≡ each held_bytes (listed ++ tag ∷ each payload_entry es)
-told_all n o [] tag es h = ap (λ l. held_bytes tag ∷ l) (shown_stored n o es h)
-told_all n o (f ∷ listed) tag es h = ap (λ l. held_bytes f ∷ l) (told_all n o listed tag es h)
+-- texts, and the stored files
+told_all : (n : ℕ) (o : Object) (texts : List Entry) (es : List (ℕ × File)) → All (λ e. finmap.get o.files e.0 ≡ Some e.1) es
+    → each (told_bytes o) (each text_part texts ++ each stored_part (each (λ e. file_row n e.0 e.1) es)) ≡ each held_bytes (texts ++ each payload_entry es)
+told_all n o [] es h = shown_stored n o es h
+told_all n o (f ∷ texts) es h = ap (λ l. held_bytes f ∷ l) (told_all n o texts es h)
 
 pub told_bag : (n : ℕ) (o : Object) → each (told_bytes o) (told_parts (object_view n o)) ≡ each held_bytes (bag_files o)
 unfolding bag_files
 told_bag n o =
     let held = entries-held nat_cmp_total finmap.nat_cmp-IsAntisymmetric o.files in
-    told_all n o (told_listed (object_view n o)) (codes "tagmanifest-sha256.txt", told_tag_manifest (object_view n o)) (finmap.entries o.files) held
-    ∙ ap (λ listed. each held_bytes (listed ++ (codes "tagmanifest-sha256.txt", manifest_of sha256_digest listed) ∷ payload o)) (same_listed n o)
+    told_all n o (told_tag_files (object_view n o)) (finmap.entries o.files) held
+    ∙ ap (λ texts. each held_bytes (texts ++ payload o)) (same_tag_files n o)

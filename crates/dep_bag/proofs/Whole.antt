@@ -1,13 +1,13 @@
 -- The bag of an object is valid.
 use Rattle.std.proofs.Common.{◌≡◌, ℕ, ◌^◌, ◌<◌, ◌+◌, ◌==◌, false, List, [], ◌∷◌, ◌++◌, length, map as each, Some, None, inl, refl, sym, ap, ◌∙◌, subst, arith, codes, append_assoc}
 use Rattle.std.specs.Prelude.{min, option_map, decimal, sum_by, nat_eq, IsTrue, not, ◌/◌, ◌%◌}
-use Rattle.std.specs.List.{All, filter, list_any, starts_with}
+use Rattle.std.specs.List.{All, Contains, filter, list_any, starts_with}
 use Rattle.std.specs.List.Sorted.{IsPermutation}
 use Rattle.std.specs.Cmp.{nat_cmp_total}
 use Rattle.std.specs.Cmp.Lexicographic.{nat_list_cmp_total}
 use Rattle.std.specs.FinMap.Entries.{find}
 use Rattle.std.specs.FinMap as finmap
-use Rattle.std.proofs.lemmas.List.Elements.{All-tail, All-map, All-weaker}
+use Rattle.std.proofs.lemmas.List.Elements.{All-drop, All-map, All-weaker}
 use Rattle.std.proofs.lemmas.List.Sorted.{IsPermutation-map, IsPermutation-sym, length_permutation, sum_by-IsPermutation}
 use Rattle.dep_types.specs.Maps.{◌>>=◌}
 use Rattle.dep_types.specs.State.{State, Object, File}
@@ -15,15 +15,16 @@ use Rattle.dep_types.specs.Limits.{greatest_moment}
 use Rattle.dep_types.specs.Sound.{IsSound}
 use Rattle.dep_types.specs.BagPaths.{payload_path, tag_paths, bag_paths}
 use Rattle.dep_moment.specs.Civil.{day_text, civil_of}
-use Rattle.dep_docs_out.specs.Documents.{bag_metadata_document}
 use Rattle.dep_types.specs.Sinks.{Entry}
-use Rattle.dep_manifest.specs.Manifest.{Digest, IsDigest, sha256_digest, encoded_path, manifest_of}
-use Rattle.dep_bag.specs.Bag.{Bag, payload, listed_files, bag_files, bag_of, bag_at, bagit_text, oxum, info_text}
+use Rattle.dep_manifest.specs.Manifest.{Digest, IsDigest, digest_by, encoded_path}
+use Rattle.dep_manifest.specs.declared.algorithm.Algorithm.{Algorithm}
+use Rattle.dep_manifest.specs.declared.algorithm.Algorithm.TheVariants.{Sha256, Sha512}
+use Rattle.dep_bag.specs.Bag.{Bag, payload, payload_manifest, listed_files, tag_manifest, bag_files, bag_of, bag_at, oxum, info_text, manifest_path}
 use Rattle.dep_bag.specs.Valid.{IsValidBag, IsChecked, IsPayloadManifest, IsTagManifest, is_payload, payload_in, lines_of, manifest_read}
-use Rattle.dep_bag.proofs.Lines.{line_of, sha256-digest, manifest_read_back, digest_read_back, split_first, none-append}
+use Rattle.dep_bag.proofs.Lines.{line_of, IsDigest-digest_by, manifest_read_back, digest_read_back, split_first, none-append}
 use Rattle.dep_bag.proofs.Keys.{entries-permuted, entries-held, found_each}
 use Rattle.dep_bag.proofs.PayloadPaths.{decimal-none, other_byte}
-use Rattle.dep_bag.proofs.Files.{order, payload_entry, IsSmall, Distinct-files, payload_of_files, plain_payload, plain_listed, All-four}
+use Rattle.dep_bag.proofs.Files.{order, payload_entry, bagit_file, info_file, metadata_file, IsSmall, Distinct-files, payload_of_files, plain_payload, plain_listed, All-five, All-listed}
 
 -- ---- each line that is written of a file that the bag holds is right
 
@@ -49,39 +50,34 @@ all_held o small =
     All-weaker (λ f. find order f.0 (bag_files o) ≡ Some f.1) (IsHeld (bag_of o)) (λ f found. held o f.0 ∙ found) (bag_files o)
     (found_each nat_list_cmp_total same_key (bag_files o) (Distinct-files o small))
 
-five_less : {X : Type 0} (P : X → Type 0) (a b c d e : X) (xs : List X) → All P (a ∷ b ∷ c ∷ d ∷ e ∷ xs) → All P xs
-five_less P a b c d e xs h = All-tail P e xs (All-tail P d (e ∷ xs) (All-tail P c (d ∷ e ∷ xs) (All-tail P b (c ∷ d ∷ e ∷ xs) (All-tail P a (b ∷ c ∷ d ∷ e ∷ xs) h))))
-
 payload_held : (o : Object) → All IsSmall (finmap.entries o.files) → All (IsHeld (bag_of o)) (payload o)
 unfolding bag_files
-payload_held o small =
-    five_less (IsHeld (bag_of o)) (codes "bagit.txt", bagit_text) (codes "bag-info.txt", info_text o.changed (oxum (payload o))) (codes "manifest-sha256.txt", manifest_of sha256_digest (payload o)) (codes "metadata/sword.json", bag_metadata_document o.metadata)
-    (codes "tagmanifest-sha256.txt", manifest_of sha256_digest (listed_files o)) (payload o) (all_held o small)
+payload_held o small = All-drop (IsHeld (bag_of o)) 7 (bag_files o) (all_held o small)
 
-declaration_held : (o : Object) → finmap.get (bag_of o).files (codes "bagit.txt") ≡ Some bagit_text
+declaration_held : (o : Object) → IsHeld (bag_of o) bagit_file
 unfolding bag_files
 declaration_held o = held o (codes "bagit.txt")
 
-info_held : (o : Object) → finmap.get (bag_of o).files (codes "bag-info.txt") ≡ Some (info_text o.changed (oxum (payload o)))
+info_held : (o : Object) → IsHeld (bag_of o) (info_file o)
 unfolding bag_files
 info_held o = held o (codes "bag-info.txt")
 
-manifest_held : (o : Object) → finmap.get (bag_of o).files (codes "manifest-sha256.txt") ≡ Some (manifest_of sha256_digest (payload o))
+manifest_held : (a : Algorithm) (o : Object) → IsHeld (bag_of o) (payload_manifest a o)
 unfolding bag_files
-manifest_held o = held o (codes "manifest-sha256.txt")
+manifest_held Sha256 o = held o (codes "manifest-sha256.txt")
+manifest_held Sha512 o = held o (codes "manifest-sha512.txt")
 
-metadata_held : (o : Object) → finmap.get (bag_of o).files (codes "metadata/sword.json") ≡ Some (bag_metadata_document o.metadata)
+metadata_held : (o : Object) → IsHeld (bag_of o) (metadata_file o)
 unfolding bag_files
 metadata_held o = held o (codes "metadata/sword.json")
 
-tag_manifest_held : (o : Object) → finmap.get (bag_of o).files (codes "tagmanifest-sha256.txt") ≡ Some (manifest_of sha256_digest (listed_files o))
+tag_manifest_held : (a : Algorithm) (o : Object) → IsHeld (bag_of o) (tag_manifest a o)
 unfolding bag_files
-tag_manifest_held o = held o (codes "tagmanifest-sha256.txt")
+tag_manifest_held Sha256 o = held o (codes "tagmanifest-sha256.txt")
+tag_manifest_held Sha512 o = held o (codes "tagmanifest-sha512.txt")
 
 listed_held : (o : Object) → All (IsHeld (bag_of o)) (listed_files o)
-listed_held o =
-    All-four (IsHeld (bag_of o)) (codes "bagit.txt", bagit_text) (codes "bag-info.txt", info_text o.changed (oxum (payload o))) (codes "manifest-sha256.txt", manifest_of sha256_digest (payload o)) (codes "metadata/sword.json", bag_metadata_document o.metadata)
-    (declaration_held o) (info_held o) (manifest_held o) (metadata_held o)
+listed_held o = All-listed (IsHeld (bag_of o)) o (declaration_held o) (info_held o) (λ a. manifest_held a o) (metadata_held o)
 
 -- ---- the payload of the bag is the object's files
 
@@ -142,38 +138,46 @@ counted o small =
 
 -- ---- the bag
 
-payload_manifest : (d : Digest) → IsDigest d → (path : List ℕ) (o : Object) → All IsSmall (finmap.entries o.files)
-    → finmap.get (bag_of o).files path ≡ Some (manifest_of d (payload o)) → IsPayloadManifest d (bag_of o) path
-payload_manifest d is path o small held = record {
-  lines = each (line_of d) (payload o);
-  has = record {
-    read = ap (λ x. x >>= manifest_read) held ∙ manifest_read_back d is (payload o) (plain_payload o);
-    checked = lines_checked d is (bag_of o) (payload o) (payload_held o small);
-  };
-  each_once = each_once d o small;
-}
+valid_manifest : (a : Algorithm) (o : Object) → All IsSmall (finmap.entries o.files) → IsPayloadManifest a (bag_of o)
+valid_manifest a o small =
+    let d = digest_by a in
+    let is = IsDigest-digest_by a in
+    record {
+      lines = each (line_of d) (payload o);
+      has = record {
+        read = ap (λ x. x >>= manifest_read) (manifest_held a o) ∙ manifest_read_back d is (payload o) (plain_payload o);
+        checked = lines_checked d is (bag_of o) (payload o) (payload_held o small);
+      };
+      each_once = each_once d o small;
+    }
 
-tags_manifest : (d : Digest) → IsDigest d → (path : List ℕ) (o : Object)
-    → finmap.get (bag_of o).files path ≡ Some (manifest_of d (listed_files o)) → IsTagManifest d (bag_of o) path (codes "manifest-sha256.txt")
-tags_manifest d is path o held = record {
-  lines = each (line_of d) (listed_files o);
-  has = record {
-    read = ap (λ x. x >>= manifest_read) held ∙ manifest_read_back d is (listed_files o) (plain_listed o);
-    checked = lines_checked d is (bag_of o) (listed_files o) (listed_held o);
-  };
-  names_manifest = (2, omega arith, refl);
-  names_no_tag_manifest = All-four (λ name. IsTrue (not (starts_with nat_eq name (codes "tagmanifest-"))))
-      (encoded_path (codes "bagit.txt")) (encoded_path (codes "bag-info.txt"))
-      (encoded_path (codes "manifest-sha256.txt")) (encoded_path (codes "metadata/sword.json"))
-      refl refl refl refl;
-}
+named : (a other : Algorithm) (o : Object) → Contains (each (λ line. line.path) (each (line_of (digest_by a)) (listed_files o))) (manifest_path other)
+named a Sha256 o = (2, omega arith, refl)
+named a Sha512 o = (3, omega arith, refl)
+
+valid_tag_manifest : (a : Algorithm) (o : Object) → IsTagManifest a (bag_of o)
+valid_tag_manifest a o =
+    let d = digest_by a in
+    let is = IsDigest-digest_by a in
+    record {
+      lines = each (line_of d) (listed_files o);
+      has = record {
+        read = ap (λ x. x >>= manifest_read) (tag_manifest_held a o) ∙ manifest_read_back d is (listed_files o) (plain_listed o);
+        checked = lines_checked d is (bag_of o) (listed_files o) (listed_held o);
+      };
+      names_manifests = λ other. named a other o;
+      names_no_tag_manifest = All-five (λ name. IsTrue (not (starts_with nat_eq name (codes "tagmanifest-"))))
+          (encoded_path (codes "bagit.txt")) (encoded_path (codes "bag-info.txt"))
+          (encoded_path (manifest_path Sha256)) (encoded_path (manifest_path Sha512)) (encoded_path (codes "metadata/sword.json"))
+          refl refl refl refl refl;
+    }
 
 pub valid : (o : Object) → All IsSmall (finmap.entries o.files) → IsValidBag (bag_of o)
 valid o small = record {
   declared = declaration_held o;
   folder = inl (0, omega arith, refl);
-  manifest = payload_manifest sha256_digest sha256-digest (codes "manifest-sha256.txt") o small (manifest_held o);
-  tag_manifest = tags_manifest sha256_digest sha256-digest (codes "tagmanifest-sha256.txt") o (tag_manifest_held o);
+  manifest = λ a. valid_manifest a o small;
+  tag_manifest = λ a. valid_tag_manifest a o;
   oxum = record { info = info_text o.changed (oxum (payload o)); has = info_held o; once = counted o small };
 }
 

@@ -8,7 +8,9 @@ use Rattle.dep_types.specs.BagPaths.{payload_path}
 use Rattle.dep_moment.specs.Civil.{day_text}
 use Rattle.dep_docs_out.specs.Documents.{bag_metadata_document}
 use Rattle.dep_types.specs.Sinks.{Entry}
-use Rattle.dep_manifest.specs.Manifest.{sha256_digest, manifest_of}
+use Rattle.dep_manifest.specs.Manifest.{digest_by, manifest_of}
+use Rattle.dep_manifest.specs.declared.algorithm.Algorithm.{Algorithm}
+use Rattle.dep_manifest.specs.declared.algorithm.Algorithm.TheVariants.{Sha256, Sha512}
 
 -- a list of folders, and bytes by path
 pub record Bag : Type 0 where
@@ -34,21 +36,38 @@ info_text changed payload_oxum =
 abbrev pub payload : Object → List Entry
 payload o = map (λ e. (payload_path e.0 e.1.name, e.1.content)) (finmap.entries o.files)
 
--- the files that the tag manifest names
+-- where the manifests of an algorithm stand
+abbrev pub manifest_path : Algorithm → List ℕ
+manifest_path Sha256 = codes "manifest-sha256.txt"
+manifest_path Sha512 = codes "manifest-sha512.txt"
+
+abbrev pub tag_manifest_path : Algorithm → List ℕ
+tag_manifest_path Sha256 = codes "tagmanifest-sha256.txt"
+tag_manifest_path Sha512 = codes "tagmanifest-sha512.txt"
+
+abbrev pub payload_manifest : Algorithm → Object → Entry
+payload_manifest a o = (manifest_path a, manifest_of (digest_by a) (payload o))
+
+-- the files that a tag manifest names
 abbrev pub listed_files : Object → List Entry
 listed_files o =
     (codes "bagit.txt", bagit_text)
     ∷ (codes "bag-info.txt", info_text o.changed (oxum (payload o)))
-    ∷ (codes "manifest-sha256.txt", manifest_of sha256_digest (payload o))
+    ∷ payload_manifest Sha256 o
+    ∷ payload_manifest Sha512 o
     ∷ (codes "metadata/sword.json", bag_metadata_document o.metadata)
     ∷ []
 
-abbrev pub tag_manifest : Object → Entry
-tag_manifest o = (codes "tagmanifest-sha256.txt", manifest_of sha256_digest (listed_files o))
+abbrev pub tag_manifest : Algorithm → Object → Entry
+tag_manifest a o = (tag_manifest_path a, manifest_of (digest_by a) (listed_files o))
+
+-- the files that are not payload
+abbrev pub tag_files : Object → List Entry
+tag_files o = listed_files o ++ tag_manifest Sha256 o ∷ tag_manifest Sha512 o ∷ []
 
 -- every file of the bag, in order
 unfoldable pub bag_files : Object → List Entry
-bag_files o = listed_files o ++ tag_manifest o ∷ payload o
+bag_files o = tag_files o ++ payload o
 
 abbrev pub bag_of : Object → Bag
 bag_of o = record { folders = codes "data" ∷ []; files = finmap.from_entries (bag_files o) }

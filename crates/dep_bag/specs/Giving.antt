@@ -9,7 +9,7 @@ use Rattle.dep_types.specs.declared.rows.ObjectView.{ObjectView}
 use Rattle.dep_types.specs.Streams.{HasContent}
 use Rattle.dep_types.specs.declared.stream_fault.StreamFault.{StreamFault}
 use Rattle.dep_types.specs.declared.stream_fault.StreamFault.TheVariants as stream
-use Rattle.dep_bag.specs.Parts.{row_path, told_tag_files}
+use Rattle.dep_bag.specs.Parts.{row_path, told_listed, told_tag_files}
 use Rattle.dep_bag.specs.declared.export_fault.ExportFault.{ExportFault}
 use Rattle.dep_bag.specs.declared.export_fault.ExportFault.TheVariants.{NoSuchObject, Sink, Store, Memory}
 
@@ -41,6 +41,10 @@ IsCausedBy Memory failures failures_after = failures_after ≡ failures
 abbrev pub HasCause : {X : Type 0} → Result X ExportFault → (failures failures_after : ℕ) → Type 0
 HasCause (Ok x) failures failures_after = failures_after ≡ failures
 HasCause (Err fault) failures failures_after = IsCausedBy fault failures failures_after
+
+-- the folder of the payload, and the files that a tag manifest names
+abbrev pub listed_transcript : ObjectView → List ℕ
+listed_transcript view = folder_made (codes "data") ++ flat_map file_given (told_listed view)
 
 -- the folder of the payload, and the files that are not payload
 abbrev pub tag_transcript : ObjectView → List ℕ

@@ -7,10 +7,14 @@ use Rattle.dep_types.specs.declared.rows.FileRow.{FileRow}
 use Rattle.dep_types.specs.declared.rows.ObjectView.{ObjectView}
 use Rattle.dep_docs_out.specs.Documents.{bag_metadata_document}
 use Rattle.dep_types.specs.Sinks.{Entry}
-use Rattle.dep_manifest.specs.Manifest.{Checksum, sha256_digest, manifest, manifest_of}
-use Rattle.dep_bag.specs.Bag.{bagit_text, oxum_text, info_text}
+use Rattle.dep_fixity.specs.declared.hasher.Digests.{Digests}
+use Rattle.dep_manifest.specs.Manifest.{Checksum, digest_by, digest_in, manifest, manifest_of}
+use Rattle.dep_manifest.specs.declared.algorithm.Algorithm.{Algorithm}
+use Rattle.dep_manifest.specs.declared.algorithm.Algorithm.TheVariants.{Sha256, Sha512}
+use Rattle.dep_bag.specs.Bag.{bagit_text, oxum_text, info_text, manifest_path, tag_manifest_path}
 use Rattle.dep_bag.specs.declared.part.BagPart.{BagPart}
 use Rattle.dep_bag.specs.declared.part.BagPart.TheVariants.{Bytes, Stored}
+use Rattle.dep_bag.specs.declared.tag_manifests.TagManifests.{TagManifests}
 
 -- a name in the folder of a number
 abbrev pub in_folder : (digits name : List ℕ) → List ℕ
@@ -20,8 +24,12 @@ in_folder digits name = codes "data/" ++ digits ++ codes "/" ++ name
 abbrev pub row_path : FileRow → List ℕ
 row_path row = payload_path row.file row.name
 
-abbrev pub row_checksum : FileRow → Checksum
-row_checksum row = record { path = row_path row; value = row.sha256 }
+-- the digests that a row keeps
+abbrev pub row_digests : FileRow → Digests
+row_digests row = record { sha256 = row.sha256; sha512 = row.sha512 }
+
+abbrev pub row_checksum : Algorithm → FileRow → Checksum
+row_checksum a row = record { path = row_path row; value = digest_in a (row_digests row) }
 
 abbrev pub told_oxum : List FileRow → List ℕ
 told_oxum rows = oxum_text (sum_by (λ row. row.size) rows) (length rows)
@@ -29,25 +37,36 @@ told_oxum rows = oxum_text (sum_by (λ row. row.size) rows) (length rows)
 abbrev pub told_info : ObjectView → List ℕ
 told_info view = info_text view.object.changed (told_oxum view.files)
 
-abbrev pub told_manifest : ObjectView → List ℕ
-told_manifest view = manifest (map row_checksum view.files)
+abbrev pub told_manifest : Algorithm → ObjectView → List ℕ
+told_manifest a view = manifest (map (row_checksum a) view.files)
 
--- the files that the tag manifest names
+-- the files that a tag manifest names
 abbrev pub told_listed : ObjectView → List Entry
 told_listed view =
     (codes "bagit.txt", bagit_text)
     ∷ (codes "bag-info.txt", told_info view)
-    ∷ (codes "manifest-sha256.txt", told_manifest view)
+    ∷ (manifest_path Sha256, told_manifest Sha256 view)
+    ∷ (manifest_path Sha512, told_manifest Sha512 view)
     ∷ (codes "metadata/sword.json", bag_metadata_document view.metadata)
     ∷ []
 
-abbrev pub told_tag_manifest : ObjectView → List ℕ
-told_tag_manifest view = manifest_of sha256_digest (told_listed view)
+abbrev pub told_tag_manifest : Algorithm → ObjectView → List ℕ
+told_tag_manifest a view = manifest_of (digest_by a) (told_listed view)
+
+abbrev pub told_tag_manifests : ObjectView → List Entry
+told_tag_manifests view =
+    (tag_manifest_path Sha256, told_tag_manifest Sha256 view)
+    ∷ (tag_manifest_path Sha512, told_tag_manifest Sha512 view)
+    ∷ []
 
 -- the files that are not payload
 abbrev pub told_tag_files : ObjectView → List Entry
-told_tag_files view =
-    told_listed view ++ (codes "tagmanifest-sha256.txt", told_tag_manifest view) ∷ []
+told_tag_files view = told_listed view ++ told_tag_manifests view
+
+-- the text of the tag manifest of an algorithm
+abbrev pub text_by : Algorithm → TagManifests → List ℕ
+text_by Sha256 manifests = manifests.sha256.items
+text_by Sha512 manifests = manifests.sha512.items
 
 -- the paths of the bag, in order
 abbrev pub told_paths : ObjectView → List (List ℕ)
@@ -62,9 +81,7 @@ stored_part row = (row_path row, Stored row.file)
 -- each path with what stands there, in order
 abbrev pub told_parts : ObjectView → List (List ℕ × BagPart)
 told_parts view =
-    map text_part (told_listed view)
-    ++ text_part (codes "tagmanifest-sha256.txt", told_tag_manifest view)
-    ∷ map stored_part view.files
+    map text_part (told_tag_files view) ++ map stored_part view.files
 
 -- what stands at a path
 abbrev pub told_part : ObjectView → List ℕ → Option BagPart

@@ -5,8 +5,9 @@ use Rattle.std.specs.FinMap as finmap
 use Rattle.hex.specs.Hex.{decode_sized, is_hex_digit}
 use Rattle.dep_types.specs.Maps.{◌>>=◌}
 use Rattle.dep_types.specs.Sinks.{Entry}
-use Rattle.dep_manifest.specs.Manifest.{Digest, sha256_digest, encoded_path}
-use Rattle.dep_bag.specs.Bag.{Bag, bagit_text, oxum}
+use Rattle.dep_manifest.specs.Manifest.{Digest, digest_by, encoded_path}
+use Rattle.dep_manifest.specs.declared.algorithm.Algorithm.{Algorithm}
+use Rattle.dep_bag.specs.Bag.{Bag, bagit_text, oxum, manifest_path, tag_manifest_path}
 
 -- whether a path stands below the folder `data`
 abbrev pub is_payload : List ℕ → Bool
@@ -74,16 +75,16 @@ abbrev pub paths_of : List Line → List (List ℕ)
 paths_of lines = map (λ line. line.path) lines
 
 -- a payload manifest names each payload file once, and nothing else
-pub record IsPayloadManifest (d : Digest) (b : Bag) (path : List ℕ) : Type 0 where
+pub record IsPayloadManifest (a : Algorithm) (b : Bag) : Type 0 where
   pub lines : List Line
-  pub has : HasManifest d b path lines
+  pub has : HasManifest (digest_by a) b (manifest_path a) lines
   pub each_once : IsPermutation (map (λ f. encoded_path f.0) (payload_in b)) (paths_of lines)
 
--- a tag manifest names the payload manifest and no tag manifest
-pub record IsTagManifest (d : Digest) (b : Bag) (path payload_manifest : List ℕ) : Type 0 where
+-- a tag manifest names each payload manifest and no tag manifest
+pub record IsTagManifest (a : Algorithm) (b : Bag) : Type 0 where
   pub lines : List Line
-  pub has : HasManifest d b path lines
-  pub names_manifest : Contains (paths_of lines) payload_manifest
+  pub has : HasManifest (digest_by a) b (tag_manifest_path a) lines
+  pub names_manifests : (other : Algorithm) → Contains (paths_of lines) (manifest_path other)
   pub names_no_tag_manifest
       : All (λ name. IsTrue (not (starts_with nat_eq name (codes "tagmanifest-")))) (paths_of lines)
 
@@ -94,10 +95,10 @@ pub record TellsOxum (b : Bag) : Type 0 where
   pub once : filter (λ line. starts_with nat_eq line (codes "Payload-Oxum:")) (lines_of info)
       ≡ (codes "Payload-Oxum: " ++ oxum (payload_in b)) ∷ []
 
+-- it has both manifests of each algorithm, and each of them is right
 pub record IsValidBag (b : Bag) : Type 0 where
   pub declared : finmap.get b.files (codes "bagit.txt") ≡ Some bagit_text
   pub folder : Contains b.folders (codes "data") ⊎ (payload_in b ≢ [])
-  pub manifest : IsPayloadManifest sha256_digest b (codes "manifest-sha256.txt")
-  pub tag_manifest : IsTagManifest sha256_digest b
-      (codes "tagmanifest-sha256.txt") (codes "manifest-sha256.txt")
+  pub manifest : (a : Algorithm) → IsPayloadManifest a b
+  pub tag_manifest : (a : Algorithm) → IsTagManifest a b
   pub oxum : TellsOxum b

@@ -6,15 +6,20 @@ ghost use Rattle.dep_types.specs.Sinks.{Entry, file_given};
 ghost use Rattle.dep_types.specs.Streams.{HasContent};
 ghost use Rattle.dep_types.specs.Conditions.{StandsFor, HasCleanDisk};
 ghost use Rattle.dep_bag.specs.Source.{KeepsStanding, StandsStill};
-ghost use Rattle.dep_bag.specs.Parts.{row_path};
-ghost use Rattle.dep_bag.specs.Giving.{IsGiven, Gives, HasCause, tag_transcript, unsent_fault, AreFilesOf};
+ghost use Rattle.dep_bag.specs.Parts.{row_path, told_tag_manifests};
+ghost use Rattle.dep_bag.specs.Giving.{IsGiven, Gives, HasCause, listed_transcript, tag_transcript, unsent_fault, AreFilesOf};
 
 use crate::export_fault::ExportFault;
 use crate::manifest::payload_manifest;
-use crate::paths::{BAG_INFO, BAGIT, MANIFEST, METADATA, TAG_MANIFEST, payload_path};
+use crate::paths::{
+    BAG_INFO, BAGIT, MANIFEST_SHA256, MANIFEST_SHA512, METADATA, TAG_MANIFEST_SHA256,
+    TAG_MANIFEST_SHA512, payload_path,
+};
 use crate::source::BagSource;
-use crate::tag_files::{declaration, information, tag_manifest};
+use crate::tag_files::{declaration, information};
+use crate::tag_manifests::{TagManifests, tag_manifests};
 use dep_docs_out::bag_metadata_doc;
+use dep_manifest::Algorithm;
 use dep_types::{BagSink, FileRow, ObjectView, StreamFault};
 use std::alloc::{AllocError, Global};
 
@@ -27,12 +32,49 @@ pub(crate) fn give_tag_files<K: BagSink>(
     ensures gives { Gives (K.taken sink.old) (K.taken sink.new) (tag_transcript view.now) result }
     ensures cause { HasCause result (K.failures sink.old) (K.failures sink.new) }
 {
+    give_listed(alloc, view, sink)?;
+    give_tag_manifests(alloc, view, sink)
+}
+
+// Gives the folder of the payload, and the files that the tag manifests name.
+fn give_listed<K: BagSink>(
+    alloc: Global,
+    view: &ObjectView,
+    sink: &mut K,
+) -> Result<(), ExportFault>
+    ensures gives { Gives (K.taken sink.old) (K.taken sink.new)
+        (listed_transcript view.now) result }
+    ensures cause { HasCause result (K.failures sink.old) (K.failures sink.new) }
+{
     sink.folder("data")?;
     give_text(sink, BAGIT, declaration(alloc))?;
     give_text(sink, BAG_INFO, information(alloc, view))?;
-    give_text(sink, MANIFEST, payload_manifest(alloc, view))?;
-    give_text(sink, METADATA, bag_metadata_doc(alloc, &view.metadata))?;
-    give_text(sink, TAG_MANIFEST, tag_manifest(alloc, view))
+    give_text(
+        sink,
+        MANIFEST_SHA256,
+        payload_manifest(alloc, view, Algorithm::Sha256),
+    )?;
+    give_text(
+        sink,
+        MANIFEST_SHA512,
+        payload_manifest(alloc, view, Algorithm::Sha512),
+    )?;
+    give_text(sink, METADATA, bag_metadata_doc(alloc, &view.metadata))
+}
+
+// Gives the tag manifests.
+fn give_tag_manifests<K: BagSink>(
+    alloc: Global,
+    view: &ObjectView,
+    sink: &mut K,
+) -> Result<(), ExportFault>
+    ensures gives { Gives (K.taken sink.old) (K.taken sink.new)
+        (flat_map file_given (told_tag_manifests view.now)) result }
+    ensures cause { HasCause result (K.failures sink.old) (K.failures sink.new) }
+{
+    let TagManifests { sha256, sha512 } = tag_manifests(alloc, view)?;
+    give_text(sink, TAG_MANIFEST_SHA256, Ok(sha256))?;
+    give_text(sink, TAG_MANIFEST_SHA512, Ok(sha512))
 }
 
 // Gives a file with these bytes. Where they could not be made, nothing of it is given.

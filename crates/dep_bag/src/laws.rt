@@ -1,13 +1,13 @@
 //! Laws of the bag of an object, apart from any code.
-ghost use Rattle.std.specs.Prelude.{◌≡◌, ℕ, List, Some, Ok, true, All, Contains, IsTrue, [], ◌∷◌, ◌++◌, flat_map, codes, map as each};
+ghost use Rattle.std.specs.Prelude.{◌≡◌, ℕ, List, Some, Ok, true, All, Contains, IsTrue, [], ◌∷◌, ◌++◌, length, flat_map, codes, map as each};
 ghost use Rattle.std.specs.FinMap as map;
-ghost use Rattle.sha2.specs.Sha256.{sha256};
 ghost use Rattle.hex.specs.Hex.{decode_sized};
 ghost use Rattle.dep_types.specs.State.{State, Object};
 ghost use Rattle.dep_types.specs.Sound.{IsSound};
 ghost use Rattle.dep_types.specs.Names.{is_good_name};
-ghost use Rattle.dep_types.specs.BagPaths.{bag_paths, payload_path};
-ghost use Rattle.dep_manifest.specs.Manifest.{encoded_path};
+ghost use Rattle.dep_types.specs.BagPaths.{bag_paths, payload_path, tag_paths};
+ghost use Rattle.dep_manifest.specs.Manifest.{digest_by, encoded_path};
+ghost use Rattle.dep_manifest.specs.declared.algorithm.Algorithm.{Algorithm};
 ghost use Rattle.dep_bag.specs.Bag.{Bag, oxum, list_text, bag_of, bag_at, bag_files};
 ghost use Rattle.dep_bag.specs.Valid.{IsValidBag, Line, is_payload, lines_of};
 ghost use Rattle.dep_types.specs.Rows.{object_view};
@@ -36,12 +36,13 @@ pub fn view_tells_bag()
         → each (told_bytes o) (told_parts (object_view n o)) ≡ each held_bytes (bag_files o) }
 {}
 
-/// A valid bag tells the SHA-256 of each of its payload files.
+/// A valid bag tells the digests of each of its payload files, by both algorithms.
 pub fn valid_bag_tells_each_file()
-    ensures { (b : Bag) (valid : IsValidBag b) (path bytes : List ℕ)
+    ensures { (b : Bag) (valid : IsValidBag b) (a : Algorithm) (path bytes : List ℕ)
         → is_payload path ≡ true → map.get b.files path ≡ Some bytes
-        → (line : Line) × Contains valid.manifest.lines line × (line.path ≡ encoded_path path)
-        × (decode_sized line.digits 32 ≡ Ok (sha256 bytes)) }
+        → (line : Line) × Contains (valid.manifest a).lines line
+        × (line.path ≡ encoded_path path)
+        × (decode_sized line.digits (digest_by a).size ≡ Ok ((digest_by a).of bytes)) }
 {}
 
 /// Of the paths of files with good names nothing but the percent sign is written otherwise.
@@ -60,4 +61,14 @@ pub fn list_reads_back()
 pub fn oxum_of_example()
     ensures { oxum ((codes "data/1/a", codes "abc") ∷ (codes "data/2/b", codes "de") ∷ [])
         ≡ codes "5.2" }
+{}
+
+/// The list of a bag without payload, and how many octets it has with `a.txt`, or with `50%.txt`, whose name isn't encoded there.
+pub fn list_of_examples()
+    ensures none { list_text tag_paths ≡
+        codes "bagit.txt\nbag-info.txt\nmanifest-sha256.txt\nmanifest-sha512.txt\n"
+        ++ codes "metadata/sword.json\ntagmanifest-sha256.txt\ntagmanifest-sha512.txt\n" }
+    ensures octets { length (list_text tag_paths) ≡ 129 }
+    ensures plain { length (list_text (tag_paths ++ payload_path 1 (codes "a.txt") ∷ [])) ≡ 142 }
+    ensures percent { length (list_text (tag_paths ++ payload_path 1 (codes "50%.txt") ∷ [])) ≡ 144 }
 {}

@@ -10,6 +10,7 @@ mod part;
 mod paths;
 mod source;
 mod tag_files;
+mod tag_manifests;
 
 pub use export_fault::ExportFault;
 pub use exporting::export;

@@ -1,20 +1,35 @@
 //! The manifest of an object's files.
 ghost use Rattle.std.specs.Prelude.{◌≡◌, IfOk};
-ghost use Rattle.dep_bag.specs.Parts.{told_manifest};
+ghost use Rattle.dep_bag.specs.Parts.{row_digests, told_manifest};
 
 use crate::paths::payload_path;
-use dep_manifest::add_line;
-use dep_types::ObjectView;
+use dep_fixity::Digests;
+use dep_manifest::{Algorithm, add_line};
+use dep_types::{FileRow, ObjectView};
 use std::alloc::{AllocError, Global};
 
 /// The manifest of an object's files, by the digests that their rows tell: no content is read.
-pub(crate) fn payload_manifest(alloc: Global, view: &ObjectView) -> Result<Vec<u8>, AllocError>
-    ensures { IfOk result (λ text. text.items ≡ told_manifest view.now) }
+pub(crate) fn payload_manifest(
+    alloc: Global,
+    view: &ObjectView,
+    algorithm: Algorithm,
+) -> Result<Vec<u8>, AllocError>
+    ensures { IfOk result (λ text. text.items ≡ told_manifest algorithm view.now) }
 {
     let mut text = Vec::new(alloc);
     for row in view.files.as_slice() {
         let path = payload_path(alloc, row)?;
-        add_line(&mut text, path.as_str().as_bytes(), &row.sha256)?;
+        let digests = row_digests(row);
+        add_line(&mut text, path.as_str().as_bytes(), algorithm, &digests)?;
     }
     Ok(text)
+}
+
+fn row_digests(row: &FileRow) -> Digests
+    ensures { result ≡ row_digests row.now }
+{
+    Digests {
+        sha256: row.sha256,
+        sha512: row.sha512,
+    }
 }

@@ -3,9 +3,14 @@ ghost use Rattle.std.specs.Prelude.{◌≡◌, IfOk, find, bytes_eq, option_map,
 ghost use Rattle.dep_bag.specs.Parts.{stored_part, told_part};
 
 use crate::manifest::payload_manifest;
-use crate::paths::{BAG_INFO, BAGIT, MANIFEST, METADATA, TAG_MANIFEST, is_payload_path};
-use crate::tag_files::{declaration, information, tag_manifest};
+use crate::paths::{
+    BAG_INFO, BAGIT, MANIFEST_SHA256, MANIFEST_SHA512, METADATA, TAG_MANIFEST_SHA256,
+    TAG_MANIFEST_SHA512, is_payload_path,
+};
+use crate::tag_files::{declaration, information};
+use crate::tag_manifests::tag_manifest;
 use dep_docs_out::bag_metadata_doc;
+use dep_manifest::Algorithm;
 use dep_types::{FileRow, ObjectView, Octets};
 use std::alloc::{AllocError, Global};
 
@@ -31,12 +36,16 @@ pub fn bag_file(
         declaration(alloc)
     } else if path == BAG_INFO.as_bytes() {
         information(alloc, view)
-    } else if path == MANIFEST.as_bytes() {
-        payload_manifest(alloc, view)
+    } else if path == MANIFEST_SHA256.as_bytes() {
+        payload_manifest(alloc, view, Algorithm::Sha256)
+    } else if path == MANIFEST_SHA512.as_bytes() {
+        payload_manifest(alloc, view, Algorithm::Sha512)
     } else if path == METADATA.as_bytes() {
         bag_metadata_doc(alloc, &view.metadata)
-    } else if path == TAG_MANIFEST.as_bytes() {
-        tag_manifest(alloc, view)
+    } else if path == TAG_MANIFEST_SHA256.as_bytes() {
+        tag_manifest(alloc, view, Algorithm::Sha256)
+    } else if path == TAG_MANIFEST_SHA512.as_bytes() {
+        tag_manifest(alloc, view, Algorithm::Sha512)
     } else {
         return Ok(stored_file(view.files.as_slice(), path));
     };

@@ -12,11 +12,15 @@ pub(crate) const BAGIT: &str = "bagit.txt";
 
 pub(crate) const BAG_INFO: &str = "bag-info.txt";
 
-pub(crate) const MANIFEST: &str = "manifest-sha256.txt";
+pub(crate) const MANIFEST_SHA256: &str = "manifest-sha256.txt";
+
+pub(crate) const MANIFEST_SHA512: &str = "manifest-sha512.txt";
 
 pub(crate) const METADATA: &str = "metadata/sword.json";
 
-pub(crate) const TAG_MANIFEST: &str = "tagmanifest-sha256.txt";
+pub(crate) const TAG_MANIFEST_SHA256: &str = "tagmanifest-sha256.txt";
+
+pub(crate) const TAG_MANIFEST_SHA512: &str = "tagmanifest-sha512.txt";
 
 /// The paths of an object's bag, in the order of its list: the tag files, then the payload by
 /// ascending file number (RFC 8493, section 2).
@@ -36,9 +40,11 @@ fn tag_file_paths(alloc: Global) -> Result<Vec<Text>, AllocError>
     let mut paths = Vec::new(alloc);
     add_path(alloc, &mut paths, BAGIT)?;
     add_path(alloc, &mut paths, BAG_INFO)?;
-    add_path(alloc, &mut paths, MANIFEST)?;
+    add_path(alloc, &mut paths, MANIFEST_SHA256)?;
+    add_path(alloc, &mut paths, MANIFEST_SHA512)?;
     add_path(alloc, &mut paths, METADATA)?;
-    add_path(alloc, &mut paths, TAG_MANIFEST)?;
+    add_path(alloc, &mut paths, TAG_MANIFEST_SHA256)?;
+    add_path(alloc, &mut paths, TAG_MANIFEST_SHA512)?;
     Ok(paths)
 }
 
@@ -85,9 +91,11 @@ fn is_tag_path(path: &[u8]) -> bool
 {
     path == BAGIT.as_bytes()
         || path == BAG_INFO.as_bytes()
-        || path == MANIFEST.as_bytes()
+        || path == MANIFEST_SHA256.as_bytes()
+        || path == MANIFEST_SHA512.as_bytes()
         || path == METADATA.as_bytes()
-        || path == TAG_MANIFEST.as_bytes()
+        || path == TAG_MANIFEST_SHA256.as_bytes()
+        || path == TAG_MANIFEST_SHA512.as_bytes()
 }
 
 fn has_payload_path(files: &[FileRow], path: &[u8]) -> bool

@@ -1,15 +1,8 @@
-//! The texts of the files of a bag that are not its payload (RFC 8493, section 2.2).
-ghost use Rattle.std.specs.Prelude.{◌≡◌, ◌++◌, ℕ, List, OnOk, IfOk, decimal, sum_by};
-ghost use Rattle.sha2.specs.Sha256.{sha256};
-ghost use Rattle.dep_manifest.specs.Manifest.{manifest_line};
+//! The texts of `bagit.txt` and `bag-info.txt` (RFC 8493, sections 2.1.1 and 2.2.2).
+ghost use Rattle.std.specs.Prelude.{◌≡◌, ◌++◌, OnOk, IfOk, sum_by};
 ghost use Rattle.dep_bag.specs.Bag.{bagit_text, info_text};
-ghost use Rattle.dep_bag.specs.Parts.{told_oxum, told_info, told_tag_manifest};
+ghost use Rattle.dep_bag.specs.Parts.{told_oxum, told_info};
 
-use crate::manifest::payload_manifest;
-use crate::paths::{BAG_INFO, BAGIT, MANIFEST, METADATA};
-use dep_docs_out::bag_metadata_doc;
-use dep_fixity::Hasher;
-use dep_manifest::add_line;
 use dep_moment::Moment;
 use dep_types::{FileRow, ObjectView};
 use itoa::Buffer;
@@ -55,32 +48,4 @@ fn octets_of(rows: &[FileRow]) -> u128
         octets += u128::from(row.size);
     }
     octets
-}
-
-/// `tagmanifest-sha256.txt`.
-pub(crate) fn tag_manifest(alloc: Global, view: &ObjectView) -> Result<Vec<u8>, AllocError>
-    ensures { IfOk result (λ text. text.items ≡ told_tag_manifest view.now) }
-{
-    let mut text = Vec::new(alloc);
-    add_file(&mut text, BAGIT, declaration(alloc))?;
-    add_file(&mut text, BAG_INFO, information(alloc, view))?;
-    add_file(&mut text, MANIFEST, payload_manifest(alloc, view))?;
-    add_file(&mut text, METADATA, bag_metadata_doc(alloc, &view.metadata))?;
-    Ok(text)
-}
-
-// Adds the line of a file with these bytes, where they could be made.
-fn add_file(
-    text: &mut Vec<u8>,
-    path: &str,
-    made: Result<Vec<u8>, AllocError>,
-) -> Result<(), AllocError>
-    ensures { (value : List ℕ) → IfOk made (λ bytes. bytes.items ≡ value)
-        → OnOk result (text.new.items ≡
-        text.old.items ++ manifest_line (record { path = path.now; value = sha256 value })) }
-{
-    let bytes = made?;
-    let mut hasher = Hasher::new();
-    hasher.update(bytes.as_slice());
-    add_line(text, path.as_bytes(), &hasher.finish().sha256)
 }

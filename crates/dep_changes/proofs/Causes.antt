@@ -14,7 +14,7 @@ use Rattle.dep_types.specs.declared.rows.FileRow.{FileRow}
 use Rattle.dep_types.specs.declared.rows.ObjectRow.{ObjectRow}
 use Rattle.dep_types.specs.declared.rows.UploadRow.{UploadRow}
 use Rattle.dep_types.specs.declared.store_fault.StoreFault.{StoreFault}
-use Rattle.dep_tables.specs.Rows.{IsStorableFile, IsStorableObject, IsStorableUpload}
+use Rattle.dep_tables.specs.Rows.{IsStorableFile, IsStorableObject, IsStorableUpload, columns_of_upload}
 use Rattle.dep_row_maps.specs.Causes.{FailsByStatement, FailsHolding, FailsSince}
 use Rattle.dep_row_maps.specs.Causes.FailsHolding.{memory, statement}
 use Rattle.dep_row_maps.specs.Stored.{texts_in}
@@ -72,12 +72,12 @@ pub never_absent : {P : Type 0} (view : View) → TellsStorableObject view → v
 never_absent view told none = absurd (let is = told.told in cc)
 
 -- the row of a new file
-pub new_row_fits : (view : View) → HasStorableNumbers view → (row : FileRow) {file object size : ℕ} {name media sha256 : List ℕ} {behalf : Option (List ℕ)} {by_reference : Bool} → IsStorable object → IsStorable file → IsStorable size
-    → row ≡ record { file = file; object = object; name = name; media = media; size = size; tag = view.next.change; deposited = view.clock; behalf = behalf; by_reference = by_reference; sha256 = sha256 } → IsStorableFile row
+pub new_row_fits : (view : View) → HasStorableNumbers view → (row : FileRow) {file object size : ℕ} {name media sha256 sha512 : List ℕ} {behalf : Option (List ℕ)} {by_reference : Bool} → IsStorable object → IsStorable file → IsStorable size
+    → row ≡ record { file = file; object = object; name = name; media = media; size = size; tag = view.next.change; deposited = view.clock; behalf = behalf; by_reference = by_reference; sha256 = sha256; sha512 = sha512 } → IsStorableFile row
 new_row_fits view numbers row object file size is = subst IsStorableFile (sym is) (record { file = file; object = object; size = size; tag = numbers.change; deposited = numbers.clock })
 
-pub whole_fits : (row : UploadRow) (u : ℕ) (it : Upload) → IsStorableUpload (upload_row u it) → row ≡ upload_row u it → IsStorableUpload row
-whole_fits row u it fits is = subst IsStorableUpload (sym is) fits
+pub whole_fits : (row : UploadRow) (u : ℕ) (it : Upload) → IsStorableUpload (columns_of_upload (upload_row u it)) → row ≡ upload_row u it → IsStorableUpload (columns_of_upload row)
+whole_fits row u it fits is = subst (λ (r : UploadRow). IsStorableUpload (columns_of_upload r)) (sym is) fits
 
 one_of : (a b : Bool) → (a || b) ≡ true → (a ≡ true) ⊎ (b ≡ true)
 one_of true b e = inl refl

@@ -11,7 +11,7 @@ use Rattle.dep_types.specs.Sound.{IsSound}
 use Rattle.dep_types.specs.State.{State, Object, File, Upload, Texts}
 use Rattle.dep_types.specs.declared.counters.Counters.{Counters}
 use Rattle.dep_types.specs.declared.store_fault.StoreFault.{StoreFault}
-use Rattle.dep_tables.specs.Rows.{IsStorableObject, IsStorableState, IsStorableUpload}
+use Rattle.dep_tables.specs.Rows.{IsStorableObject, IsStorableState, IsStorableUpload, columns_of_upload}
 use Rattle.dep_tables.specs.declared.state.StateRow.{StateRow}
 use Rattle.dep_row_maps.specs.Clauses.{FromMaps}
 use Rattle.dep_row_maps.specs.Causes.{FailsHolding, FailsSince}
@@ -74,7 +74,7 @@ module _ (s : State) (sound : IsSound s) where
       })
 
   module _ (content : List ℕ) (sizes : AreStorableSizes s content) where
-    pub upload_fits : (u : ℕ) (it : Upload) → finmap.get s.uploads u ≡ Some it → IsStorableUpload (upload_row u it)
+    pub upload_fits : (u : ℕ) (it : Upload) → finmap.get s.uploads u ≡ Some it → IsStorableUpload (columns_of_upload (upload_row u it))
     upload_fits u it there =
         let known = sound.uploads u it there in
         let its = sizes.uploads u it there in

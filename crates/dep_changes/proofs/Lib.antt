@@ -2,6 +2,7 @@ pub mod Chains
 pub mod Steps
 pub mod Staged
 pub mod Added
+pub mod Assembled
 pub mod Filled
 pub mod Accepted
 pub mod Carried

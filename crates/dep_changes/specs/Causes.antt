@@ -5,7 +5,7 @@ use Rattle.dep_types.specs.Limits.{IsStorable}
 use Rattle.dep_types.specs.State.{State, Upload, Texts}
 use Rattle.dep_types.specs.Rows.{upload_row}
 use Rattle.dep_types.specs.declared.rows.ObjectRow.{ObjectRow}
-use Rattle.dep_tables.specs.Rows.{IsStorableObject, IsStorableUpload}
+use Rattle.dep_tables.specs.Rows.{IsStorableObject, IsStorableUpload, columns_of_upload}
 use Rattle.dep_row_maps.specs.TablesAre.{metadata_at}
 use Rattle.dep_objects.specs.Texts.{HavePlaces}
 use Rattle.dep_decisions.specs.declared.decision.Source.{Source}
@@ -43,14 +43,14 @@ pub record TellsStorableUpload (view : View) : Type 0 where
   pub upload : ℕ
   pub live : LiveUpload
   pub told : view.uploads ≡ record { upload = upload; state = Live live } ∷ []
-  pub fits : IsStorableUpload live.row
+  pub fits : IsStorableUpload (columns_of_upload live.row)
 
 -- of a whole upload that is seen
 pub record IsStorableWhole (seen : Option UploadView) : Type 0 where
   pub upload : ℕ
   pub it : Upload
   pub told : seen ≡ Some (whole_view upload it)
-  pub fits : IsStorableUpload (upload_row upload it)
+  pub fits : IsStorableUpload (columns_of_upload (upload_row upload it))
 
 -- the size of a content, or those of an upload
 abbrev pub IsStorableSource : (content : List ℕ) → Option UploadView → Source → Type 0

@@ -93,6 +93,7 @@ fn new_row(
       behalf = new.now.behalf;
       by_reference = is_reference new.now.source;
       sha256 = extent.digests.sha256;
+      sha512 = extent.digests.sha512;
     }) }
     ensures cause { IfErr result (λ fault. fault ≡ Memory) }
 {
@@ -107,6 +108,7 @@ fn new_row(
         behalf: copied_behalf(change.alloc, &new.behalf)?,
         by_reference: is_reference(new.source),
         sha256: extent.digests.sha256,
+        sha512: extent.digests.sha512,
     })
 }
 
@@ -136,7 +138,7 @@ fn put_posted<T: Statements>(
         digests,
     };
     let row = new_row(change, numbers, new, extent)?;
-    put_file(tx, &row, &digests.sha512, change.content)
+    put_file(tx, &row, change.content)
 }
 
 // An upload that is whole, with the digests of its bytes.
@@ -199,7 +201,7 @@ fn put_assembled<T: Statements>(
         digests: upload.digests,
     };
     let row = new_row(change, numbers, new, extent)?;
-    assemble(tx, &upload.row, &row, &upload.digests.sha512)
+    assemble(tx, &upload.row, &row)
 }
 
 // One of the new files of an object, in their order.

@@ -44,6 +44,7 @@ pub(crate) fn open<T: Statements>(
             count: opening.count,
             segment_size: opening.segment_size,
             sha256: opening.digest.sha256,
+            sha512: opening.digest.sha512,
             last: view.clock,
         },
     )

@@ -14,7 +14,7 @@ use Rattle.dep_types.specs.declared.target.Resource.TheVariants.{Service, Object
 use Rattle.dep_types.specs.declared.target.Method.{Method}
 use Rattle.dep_types.specs.declared.target.Method.TheVariants.{Get, Head, Post, Put, Delete}
 use Rattle.dep_types.proofs.Kept.{get-insert_same}
-use Rattle.dep_fixity.specs.Fixity.{digests_of, is_kept, keeps}
+use Rattle.dep_fixity.specs.Fixity.{digests_of, keeps}
 use Rattle.dep_params.proofs.Runs.{and_both, chosen}
 use Rattle.dep_fields.specs.declared.field.Field.{Field}
 use Rattle.dep_fields.specs.declared.field.Field.TheVariants.{Absent, Bad, Value}
@@ -23,7 +23,7 @@ use Rattle.dep_fields.specs.declared.kind.Kind.TheVariants as of
 use Rattle.dep_docs_in.specs.declared.reference.Reference.{Reference}
 use Rattle.dep_decisions.specs.Kinds.{is_absent, is_completion, kind_by, kind_of, kind_without, may_complete, may_hold, takes_kind}
 use Rattle.dep_decisions.specs.Decisions.{appended_or_completed, assembled_file, decision_at, decision_with, deposit_by, deposit_of, files_of, ingests, references_by, references_in, referred_files}
-use Rattle.dep_decisions.specs.Rules.{document_refusal, has_object, document_rule, presence_rule, entries_refusal, presence_refusal, references_refusal, refusal, rows_met, unless}
+use Rattle.dep_decisions.specs.Rules.{document_refusal, has_object, document_rule, presence_rule, entries_refusal, presence_refusal, references_refusal, refusal, promised_of, rows_met, unless}
 use Rattle.dep_decisions.specs.Effects.{added, appended, at, effect, effect_of, file_from, filled, ingested_by, uploads_of, with_files, without}
 use Rattle.dep_decisions.specs.declared.operation.Operation.{Operation}
 use Rattle.dep_decisions.specs.declared.decision.NewFile.{NewFile}
@@ -317,7 +317,7 @@ module _ (config : Config) (s : State) (op : Operation) (refs : List Reference) 
       let is = referred s refs i r (document (passed accepted).1) at in
       let has = has_it r i accepted at is in
       let bytes = content_is is.upload is.was is.there in
-      let kept = and_both (is_kept is.was.sha256 (digests_of (assembled is.was)).sha256) (keeps r.digest (digests_of (assembled is.was))) is.digests in (
+      let kept = and_both (keeps (promised_of is.was) (digests_of (assembled is.was))) (keeps r.digest (digests_of (assembled is.was))) is.digests in (
         file_from s op.content (assembled_file op r is.upload),
         has.at_number,
         record {
@@ -328,7 +328,7 @@ module _ (config : Config) (s : State) (op : Operation) (refs : List Reference) 
           content = bytes;
           size = ap length bytes ∙ assembled_length s is.upload is.was (sound.uploads is.upload is.was is.there) is.complete;
           said = is.length;
-          promised = ap (λ (c : List ℕ). is_kept is.was.sha256 (digests_of c).sha256) bytes ∙ kept.0;
+          promised = ap (λ (c : List ℕ). keeps (promised_of is.was) (digests_of c)) bytes ∙ kept.0;
           digest = ap (λ (c : List ℕ). keeps r.digest (digests_of c)) bytes ∙ kept.1;
           name = refl;
           media = refl;

@@ -168,7 +168,8 @@ module _ (s t : State) (content : List ℕ) (sound : IsSound s) (later : Later s
         past = later.clock;
         counted = was.counted;
         sizes = was.sizes;
-        promised = was.promised;
+        promised_sha256 = was.promised_sha256;
+        promised_sha512 = was.promised_sha512;
         segments = λ j bytes e. elim (found x.segments k content j bytes e) [
           | inl new ↦ rw (new.0, new.1) (fits x k content fit)
           | inr old ↦ was.segments j bytes old
@@ -207,7 +208,8 @@ module _ (s : State) (content : List ℕ) (sound : IsSound s) where
     past = le_refl _;
     counted = fit.0.0;
     sizes = fit.1;
-    promised = fit.0.1;
+    promised_sha256 = fit.0.1;
+    promised_sha512 = fit.0.2;
     segments = λ k bytes e. absurd (nothing_there k bytes e);
   }
 

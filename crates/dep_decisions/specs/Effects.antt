@@ -135,6 +135,7 @@ fresh s o = record {
   count = o.count;
   segment_size = o.segment_size;
   sha256 = o.digest.sha256;
+  sha512 = o.digest.sha512;
   last = s.clock;
   segments = finmap.empty;
 }

@@ -8,10 +8,10 @@ use Rattle.dep_types.specs.declared.target.Resource.TheVariants.{Object as AnObj
 use Rattle.dep_types.specs.declared.target.Method.{Method}
 use Rattle.dep_types.specs.declared.target.Method.TheVariants.{Get, Head, Put, Delete}
 use Rattle.dep_types.specs.declared.target.Target.{Target}
-use Rattle.dep_fixity.specs.Fixity.{digests_of, is_kept, keeps}
+use Rattle.dep_fixity.specs.Fixity.{digests_of, keeps}
 use Rattle.dep_docs_in.specs.declared.reference.Reference.{Reference}
 use Rattle.dep_docs_in.specs.declared.reference.Pointed.TheVariants.{Upload as Pointing}
-use Rattle.dep_decisions.specs.Rules.{has_length}
+use Rattle.dep_decisions.specs.Rules.{has_length, promised_of}
 
 -- ---- numbers
 
@@ -72,7 +72,7 @@ deposited_object s (AFileSet n) = n
 deposited_object s resource = s.next.object
 
 -- the file is the upload that the entry points at, joined by number, with the size that was told,
--- the SHA-256 that was promised at its opening and each digest that the entry promises, and the
+-- each digest that was promised at its opening and each that the entry promises, and the
 -- upload is gone
 pub record IsDepositedFrom (s t : State) (r : Reference) (file : File) : Type 0 where
   pub upload : ℕ
@@ -82,7 +82,7 @@ pub record IsDepositedFrom (s t : State) (r : Reference) (file : File) : Type 0 
   pub content : file.content ≡ assembled was
   pub size : length file.content ≡ was.size
   pub said : IsTrue (has_length r.length was)
-  pub promised : IsTrue (is_kept was.sha256 (digests_of file.content).sha256)
+  pub promised : IsTrue (keeps (promised_of was) (digests_of file.content))
   pub digest : IsTrue (keeps r.digest (digests_of file.content))
   pub name : file.name ≡ r.name
   pub media : file.media ≡ r.media

@@ -21,7 +21,7 @@ use Rattle.dep_types.specs.declared.target.Resource.TheVariants.{Service, Object
 use Rattle.dep_types.specs.declared.target.Method.{Method}
 use Rattle.dep_types.specs.declared.target.Method.TheVariants.{Get, Head, Post, Put, Delete}
 use Rattle.dep_octets.specs.Octets.{trimmed}
-use Rattle.dep_fixity.specs.Fixity.{keeps, is_kept, digests_of}
+use Rattle.dep_fixity.specs.Fixity.{keeps, digests_of}
 use Rattle.dep_fixity.specs.declared.field.DigestList.{DigestList}
 use Rattle.dep_tags.specs.Tags.{holds}
 use Rattle.dep_fields.specs.declared.kind.Opening.{Opening}
@@ -202,11 +202,14 @@ is_binary packaging = option_map_or (bytes_eq binary) packaging true
 abbrev pub has_length : Option ℕ → state.Upload → Bool
 has_length length u = option_map_or (λ n. n == u.size) length true
 
--- the bytes have the SHA-256 that was promised at the opening, and each digest that the entry
--- promises
+-- what was promised of an upload at its opening
+abbrev pub promised_of : state.Upload → DigestList
+promised_of u = record { sha256 = u.sha256; sha512 = u.sha512 }
+
+-- the bytes have each digest that was promised at the opening, and each that the entry promises
 abbrev pub has_digests : DigestList → state.Upload → Bool
 has_digests list u =
-    is_kept u.sha256 (digests_of (assembled u)).sha256 && keeps list (digests_of (assembled u))
+    keeps (promised_of u) (digests_of (assembled u)) && keeps list (digests_of (assembled u))
 
 -- the rules on references, of which the first is that they can be read; within a rule entry by entry
 unfoldable pub entries_refusal : State → List Reference → Option Refusal

@@ -70,7 +70,7 @@ pub fn reads_change_nothing()
 
 /// What an accepted request deposits by reference stands in its object, under the next numbers in
 /// the order of the entries: the segments joined by number, with the size that the upload was
-/// opened with, the SHA-256 that was promised at its opening and every digest that its entry
+/// opened with, every digest that was promised at its opening and every digest that its entry
 /// promises; and the upload is gone.
 pub fn references_are_deposited()
     ensures { (config : Config) (s : State) (op : Operation) (refs : List Reference) (i : ℕ)

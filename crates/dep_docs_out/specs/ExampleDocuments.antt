@@ -101,7 +101,7 @@ example_title = finmap.from_sorted ((codes "dc:title", codes "T" ∷ []) ∷ [])
 -- an upload of five bytes in segments of two
 abbrev pub example_upload : UploadRow
 example_upload =
-    record { upload = 1; size = 5; count = 3; segment_size = 2; sha256 = None; last = 0 }
+    record { upload = 1; size = 5; count = 3; segment_size = 2; sha256 = None; sha512 = None; last = 0 }
 
 unfoldable pub service_text : List ℕ
 service_text = codes "{\"@context\":\"https://swordapp.github.io/swordv3/swordv3.jsonld\",\"@id\":\"http://127.0.0.1:8080/service\",\"@type\":\"ServiceDocument\",\"accept\":[\"*/*\"],\"acceptDeposits\":true,\"acceptMetadata\":[\"http://purl.org/net/sword/3.0/types/Metadata\"],\"acceptPackaging\":[\"http://purl.org/net/sword/3.0/package/Binary\"],\"byReferenceDeposit\":true,\"dc:title\":\"swordd\",\"dcterms:abstract\":\"Deposit service\",\"digest\":[\"SHA-256\",\"SHA-512\"],\"maxAssembledSize\":536870912,\"maxSegments\":1000,\"maxUploadSize\":16777216,\"onBehalfOf\":false,\"root\":\"http://127.0.0.1:8080/service\",\"staging\":\"http://127.0.0.1:8080/staging\",\"stagingMaxIdle\":3600,\"version\":\"http://purl.org/net/sword/3.0\"}"

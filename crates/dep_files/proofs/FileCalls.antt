@@ -4,7 +4,6 @@ use Rattle.std.specs.Prelude.{option_and_then}
 use Rattle.std.specs.Option.{option_map_or}
 use Rattle.std.specs.FinMap as finmap
 use Rattle.std.proofs.lemmas.List.{map-append, take_more}
-use Rattle.sha2.specs.Sha512.{sha512}
 use Rattle.dep_types.specs.State.{State, Object, File, file_at}
 use Rattle.dep_types.specs.Rows.{file_row}
 use Rattle.dep_types.specs.declared.rows.FileRow.{FileRow}
@@ -42,15 +41,15 @@ module _ (a b c : Tables) (f : ℕ) (bytes value : List ℕ) (first : b ≡ with
   pub free_of : (s : State) → TablesAre a s → IsOrdered a.files → LacksFileRow f c → (n : ℕ) → file_at s n f ≡ None
   free_of s h up free n = sym (file_is s n f) ∙ free_file a.files (files_at s.objects) (files_at s.objects) h.common.files up n f (was_free free)
 
-pub file_put : (a b c d : Tables) (s : State) (row : FileRow) (bytes value : List ℕ) (o : Object) (file : File) → TablesAre a s → IsOrdered a.files → IsOrdered a.blocks → IsOrdered a.sha512s → finmap.get s.objects row.object ≡ Some o
-    → row ≡ file_row row.object row.file file → bytes ≡ file.content → value ≡ sha512 file.content → b ≡ with_content (owner.File row.file) only_part bytes a → c ≡ with_new_sha512 (owner.File row.file) value b → d ≡ with_new_file_row row c
+pub file_put : (a b c d : Tables) (s : State) (row : FileRow) (bytes : List ℕ) (o : Object) (file : File) → TablesAre a s → IsOrdered a.files → IsOrdered a.blocks → IsOrdered a.sha512s → finmap.get s.objects row.object ≡ Some o
+    → row ≡ file_row row.object row.file file → bytes ≡ file.content → b ≡ with_content (owner.File row.file) only_part bytes a → c ≡ with_new_sha512 (owner.File row.file) row.sha512 b → d ≡ with_new_file_row row c
     → LacksFileRow row.file c → TablesAre d (with_file s row.object o row.file file)
-file_put a b c d s row bytes value o file h up blocks_up values_up there is same value_is first second third free =
-    let put = λ (r : FileRow) (content digest : List ℕ). with_new_file_row r (with_new_sha512 (owner.File row.file) digest (with_content (owner.File row.file) only_part content a)) in
-    let all : d ≡ put row bytes value = third ∙ ap (with_new_file_row row) (put_so_far a b c row.file bytes value first second) in
-    let given : put row bytes value ≡ put (file_row row.object row.file file) file.content (sha512 file.content) = (λ i. put (is i) (same i) (value_is i)) in
+file_put a b c d s row bytes o file h up blocks_up values_up there is same first second third free =
+    let put = λ (r : FileRow) (content : List ℕ). with_new_file_row r (with_new_sha512 (owner.File row.file) r.sha512 (with_content (owner.File row.file) only_part content a)) in
+    let all : d ≡ put row bytes = third ∙ ap (with_new_file_row row) (put_so_far a b c row.file bytes row.sha512 first second) in
+    let given : put row bytes ≡ put (file_row row.object row.file file) file.content = (λ i. put (is i) (same i)) in
     subst (λ (t : Tables). TablesAre t (with_file s row.object o row.file file)) (sym (all ∙ given))
-    (file_posted a s h up blocks_up values_up row.object o there row.file file (was_free a b c row.file bytes value first second free))
+    (file_posted a s h up blocks_up values_up row.object o there row.file file (was_free a b c row.file bytes row.sha512 first second free))
 
 -- ---- a file is deleted
 

@@ -2,7 +2,6 @@
 
 ghost use Rattle.std.specs.Prelude.{◌≡◌, ◌<◌, ◌^◌, ℕ, All, Some, None, OnOk, IfErr, map};
 ghost use Rattle.std.specs.FinMap as finmap;
-ghost use Rattle.sha2.specs.Sha512 as sha2;
 ghost use Rattle.dep_types.specs.State.{Object, File, file_at};
 ghost use Rattle.dep_types.specs.Rows.{file_row};
 ghost use Rattle.dep_types.specs.Sound.{IsSound};
@@ -29,20 +28,19 @@ use std::alloc::Global;
 /// The part that a content has that came whole.
 const ONLY_PART: u64 = 1;
 
-/// Adds a file to an object that is there: its row, the SHA-512 of its content (FIPS 180-4), and the
-/// content, each byte of which is written once, as one part of number 1. It is a fault of the store
-/// where the number of the file is taken, and where a number is 2^63 or more.
+/// Adds a file to an object that is there: its row, the SHA-512 that it has, and the content, each
+/// byte of which is written once, as one part of number 1. It is a fault of the store where the
+/// number of the file is taken, and where a number is 2^63 or more.
 pub fn put_file<T: Statements, C: Content>(
     tx: &mut T,
     row: &FileRow,
-    sha512: &[u8; 64],
     content: &C,
 ) -> Result<(), StoreFault>
     ensures map { FromMaps (T.state tx.old) (T.state tx.new)
         (λ s. (o : Object) (file : File)
         → finmap.get s.objects row.now.object ≡ Some o
         → row.now ≡ file_row row.now.object row.now.file file
-        → C.bytes content.now ≡ file.content → sha512.now ≡ sha2.sha512 file.content
+        → C.bytes content.now ≡ file.content
         → OnOk result (TablesAre (tables_of (T.state tx.new))
         (with_file s row.now.object o row.now.file file))) }
     ensures rows { Becomes (T.state tx.old) (T.state tx.new) result
@@ -50,7 +48,8 @@ pub fn put_file<T: Statements, C: Content>(
           files = put_row (stored_file row.now) t.files;
           blocks = put_blocks (BlockOwner.File row.now.file) only_part 0
               (blocks_of (C.bytes content.now)) t.blocks;
-          sha512s = put_next (sha512_values (BlockOwner.File row.now.file) sha512.now) t.sha512s;
+          sha512s = put_next (sha512_values (BlockOwner.File row.now.file) row.now.sha512)
+              t.sha512s;
         }) }
     ensures free { FromMaps (T.state tx.old) (T.state tx.new)
         (λ s. OnOk result ((n : ℕ) → file_at s n row.now.file ≡ None)) }
@@ -61,7 +60,7 @@ pub fn put_file<T: Statements, C: Content>(
     ensures stays { StaysWithin T.lenders T.state tx.old tx.new result }
 {
     put_blocks(tx, BlockOwner::File(row.file), ONLY_PART, content)?;
-    insert_sha512(tx, BlockOwner::File(row.file), sha512)?;
+    insert_sha512(tx, BlockOwner::File(row.file), &row.sha512)?;
     insert_file(tx, row)
 }
 

@@ -1,8 +1,12 @@
 -- What a manifest writes (RFC 8493, section 2.1.3).
 use Rattle.std.specs.Prelude.{◌≡◌, ℕ, ◌<◌, ◌==◌, List, [], ◌∷◌, ◌++◌, length, map, flat_map, codes, if◌then◌else◌}
 use Rattle.sha2.specs.Sha256.{sha256}
+use Rattle.sha2.specs.Sha512.{sha512}
 use Rattle.hex.specs.Hex.{IsBytes, encode_lower}
 use Rattle.dep_types.specs.Sinks.{Entry}
+use Rattle.dep_fixity.specs.declared.hasher.Digests.{Digests}
+use Rattle.dep_manifest.specs.declared.algorithm.Algorithm.{Algorithm}
+use Rattle.dep_manifest.specs.declared.algorithm.Algorithm.TheVariants.{Sha256, Sha512}
 
 -- a digest of manifests: how many bytes it has, and that of some bytes
 pub record Digest : Type 0 where
@@ -17,6 +21,18 @@ pub record IsDigest (d : Digest) : Type 0 where
 
 abbrev pub sha256_digest : Digest
 sha256_digest = record { size = 32; of = sha256 }
+
+abbrev pub sha512_digest : Digest
+sha512_digest = record { size = 64; of = sha512 }
+
+abbrev pub digest_by : Algorithm → Digest
+digest_by Sha256 = sha256_digest
+digest_by Sha512 = sha512_digest
+
+-- the one by this algorithm among the digests of a message
+abbrev pub digest_in : Algorithm → Digests → List ℕ
+digest_in Sha256 digests = digests.sha256
+digest_in Sha512 digests = digests.sha512
 
 abbrev pub encoded_byte : ℕ → List ℕ
 encoded_byte b =

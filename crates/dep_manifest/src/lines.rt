@@ -1,19 +1,37 @@
 //! The line of a file.
 ghost use Rattle.std.specs.Prelude.{◌≡◌, ◌++◌, OnOk};
-ghost use Rattle.dep_manifest.specs.Manifest.{encoded_path, manifest_line};
+ghost use Rattle.hex.specs.Hex.{encode_lower};
+ghost use Rattle.dep_manifest.specs.Manifest.{encoded_path, manifest_line, digest_in};
 
-use dep_fixity::to_hex;
+use crate::algorithm::Algorithm;
+use dep_fixity::{Digests, to_hex, to_hex512};
 use std::alloc::AllocError;
 
-/// Adds the line of a file: its SHA-256 in hexadecimal digits, two blanks, and its path. It fails for want of memory alone.
-pub fn add_line(text: &mut Vec<u8>, path: &[u8], digest: &[u8; 32]) -> Result<(), AllocError>
-    ensures { OnOk result (text.new.items ≡
-        text.old.items ++ manifest_line (record { path = path.now; value = digest.now })) }
+/// Adds the line of a file: its digest by an algorithm in hexadecimal digits, two blanks, and its path. It fails for want of memory alone.
+pub fn add_line(
+    text: &mut Vec<u8>,
+    path: &[u8],
+    algorithm: Algorithm,
+    digests: &Digests,
+) -> Result<(), AllocError>
+    ensures { OnOk result (text.new.items ≡ text.old.items
+        ++ manifest_line (record { path = path.now; value = digest_in algorithm digests.now })) }
 {
-    text.extend_from_slice(&to_hex(digest))?;
+    add_digest(text, algorithm, digests)?;
     text.extend_from_slice(b"  ")?;
     add_encoded(text, path)?;
     text.extend_from_slice(b"\n")
+}
+
+// Adds a digest in hexadecimal digits.
+fn add_digest(text: &mut Vec<u8>, algorithm: Algorithm, digests: &Digests) -> Result<(), AllocError>
+    ensures { OnOk result (text.new.items ≡
+        text.old.items ++ encode_lower (digest_in algorithm digests.now)) }
+{
+    match algorithm {
+        Algorithm::Sha256 => text.extend_from_slice(&to_hex(&digests.sha256)),
+        Algorithm::Sha512 => text.extend_from_slice(&to_hex512(&digests.sha512)),
+    }
 }
 
 // Adds a path as a manifest writes it.

@@ -23,7 +23,7 @@ use Rattle.dep_row_maps.proofs.Files.{files-drop, files-put, files-without, one_
 use Rattle.dep_row_maps.proofs.FilesOwn.{own-put, own-dropped, none_of, files_there, files_now, files_else, other_file, no_upload}
 use Rattle.dep_row_maps.proofs.Lens.{tied_not}
 use Rattle.dep_row_maps.proofs.Owners.{owners-delete, with_at}
-use Rattle.dep_row_maps.proofs.Sha512s.{sha512s-delete, with_values, values_replaced}
+use Rattle.dep_row_maps.proofs.Sha512s.{sha512s-delete, with_values, values_of, values_replaced}
 use Rattle.dep_row_maps.proofs.Whole.{files_changed, texts_moved}
 
 -- ---- all files of an object go
@@ -173,4 +173,4 @@ file_replaced t s h up values_up n o there f was file at blocks parts are conten
       blocks = are;
       files_parts = own-put HasContent finmap.empty s.objects n o there h.common.parts parts f file free content (λ g apart. others (owner.File g) (other_file g f apart)) h.common.files_parts;
       uploads_parts = λ u. others (owner.Upload u) (no_upload u f) ∙ h.common.uploads_parts u;
-    }) (values_replaced t s h n o there f values_up file free)
+    }) (values_replaced t.sha512s s.objects s.uploads (values_of t s h) n o there f values_up file free)

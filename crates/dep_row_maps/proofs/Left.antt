@@ -39,23 +39,23 @@ less Less h = refl
 less Equal h = absurd h
 less Greater h = absurd h
 
-passed : (q : ℕ) (e : Entry) (es : List Entry) → (q ≡ e.0 → ⊥) → entries.find nat_cmp q (e ∷ es) ≡ entries.find nat_cmp q es
+passed : {X : Type 0} (q : ℕ) (e : ℕ × X) (es : List (ℕ × X)) → (q ≡ e.0 → ⊥) → entries.find nat_cmp q (e ∷ es) ≡ entries.find nat_cmp q es
 passed q e es apart = ap (λ b. cond b (Some e.1) (entries.find nat_cmp q es)) (tied_not q e.0 apart)
 
-below_has : (x : ℕ) (es : List Entry) (e : Entry) → T (entries.below_all nat_cmp x es) → Has es e → (x ≡ e.0 → ⊥)
+below_has : {X : Type 0} (x : ℕ) (es : List (ℕ × X)) (e : ℕ × X) → T (entries.below_all nat_cmp x es) → Has es e → (x ≡ e.0 → ⊥)
 below_has x [] e h there = absurd there
 below_has x (y ∷ es) e h (inl same) = λ tie.
     let parts = both (is_lt (nat_cmp x y.0)) (entries.below_all nat_cmp x es) h in
     let order = number_order x y.0 (less (nat_cmp x y.0) parts.0) in
-    let also : e.0 ≡ y.0 = ap (λ (p : Entry). p.0) same in
+    let also : e.0 ≡ y.0 = ap (λ p. p.0) same in
     omega (arith, order, tie, also)
 below_has x (y ∷ es) e h (inr later) = below_has x es e (both (is_lt (nat_cmp x y.0)) (entries.below_all nat_cmp x es) h).1 later
 
 -- an entry is found
-entry_found : (es : List Entry) → T (entries.is_sorted nat_cmp es) → (e : Entry) → Has es e → entries.find nat_cmp e.0 es ≡ Some e.1
+pub entry_found : {X : Type 0} (es : List (ℕ × X)) → T (entries.is_sorted nat_cmp es) → (e : ℕ × X) → Has es e → entries.find nat_cmp e.0 es ≡ Some e.1
 entry_found [] sorted e there = absurd there
 entry_found (x ∷ es) sorted e (inl same) =
-    subst (λ (y : Entry). entries.find nat_cmp y.0 (x ∷ es) ≡ Some y.1) (sym same) (ap (λ b. cond b (Some x.1) (entries.find nat_cmp x.0 es)) (ap is_eq (tied_itself nat_cmp_total x.0)))
+    subst (λ y. entries.find nat_cmp y.0 (x ∷ es) ≡ Some y.1) (sym same) (ap (λ b. cond b (Some x.1) (entries.find nat_cmp x.0 es)) (ap is_eq (tied_itself nat_cmp_total x.0)))
 entry_found (x ∷ es) sorted e (inr later) =
     let parts = both (entries.below_all nat_cmp x.0 es) (entries.is_sorted nat_cmp es) sorted in
     passed e.0 x es (λ tie. below_has x.0 es e parts.0 later (sym tie)) ∙ entry_found es parts.1 e later

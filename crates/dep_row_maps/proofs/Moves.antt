@@ -22,7 +22,7 @@ use Rattle.dep_row_maps.proofs.Contents.{part_moved}
 use Rattle.dep_row_maps.proofs.Pieces.{assembled-joined}
 use Rattle.dep_row_maps.proofs.Lens.{get_here, get_there, get_gone, get_left}
 use Rattle.dep_row_maps.proofs.FilesOwn.{own-put, none_of, files_now, files_else, files_there, no_upload, no_file, other_file, other_upload}
-use Rattle.dep_row_maps.proofs.Sha512s.{with_values, values_put}
+use Rattle.dep_row_maps.proofs.Sha512s.{with_values, values_assembled}
 use Rattle.dep_row_maps.proofs.Whole.{files_changed, texts_moved, segments_there, segments_gone, segments_left, left_parts}
 use Rattle.dep_row_maps.specs.TablesAre.{Parts}
 use Rattle.dep_tables.specs.declared.owner.BlockOwner.{BlockOwner}
@@ -118,7 +118,7 @@ file_assembled_by_parts t s h up values_up n o there f file free u it at bounds 
       blocks = done.1;
       files_parts = own-put HasContent finmap.empty s.objects n o there h.common.parts done.0 f file (λ m apart. nowhere m) joins (λ g apart. done.2.others (owner.File g) (no_file g u) (other_file g f apart)) h.common.files_parts;
       uploads_parts = left_parts s.uploads u h.common.parts done.0 gone (λ q apart. done.2.others (owner.Upload q) (other_upload q u apart) (no_upload q f)) h.common.uploads_parts;
-    }) (values_put t s h n o there f values_up file nowhere)
+    }) (values_assembled t s h n o there f values_up file nowhere u)
   where
     place : (k : ℕ) → ((1 ≤ k) × (k < 1 + it.count)) ⊎ ((k < 1) ⊎ (1 + it.count ≤ k))
     place k = elim (cases_lt k 1) [ inl low ↦ inr (inl low) | inr high ↦ elim (cases_lt k (1 + it.count)) [ inl within ↦ inl (high, within) | inr above ↦ inr (inr above) ] ]

@@ -1,30 +1,43 @@
 -- The rows of `sha512s` against the value of each owner.
-use Rattle.std.proofs.Common.{◌≡◌, ◌≢◌, ℕ, ◌≤◌, not, List, [], ◌∷◌, length, map, filter, Option, Some, None, option_map, refl, sym, ap, subst, ◌∙◌, arith}
+use Rattle.std.proofs.Common.{◌≡◌, ◌≢◌, ◌⊎◌, inl, inr, ℕ, ◌≤◌, not, List, [], ◌∷◌, ◌++◌, length, map, filter, Option, Some, None, option_map, option_and_then, Less, refl, sym, ap, ap₂, subst, ◌∙◌, arith}
+use Rattle.std.specs.List.{AllByRecursion, flat_map}
+use Rattle.std.proofs.lemmas.Cmp.{nat_cmp_total, on_total}
+use Rattle.std.proofs.lemmas.List.{map-append}
 use Rattle.std.specs.Option.{option_to_list}
 use Rattle.std.specs.List.Sorted.{IsPermutation}
-use Rattle.std.proofs.lemmas.List.Sorted.{IsPermutation-refl}
+use Rattle.std.proofs.lemmas.List.Sorted.{IsPermutation-refl, IsPermutation-sym}
 use Rattle.std.specs.FinMap as finmap
 use Rattle.sha2.specs.Sha512.{sha512}
 use Rattle.sqlite.specs.declared.types.Value.{Value}
 use Rattle.sqlite.specs.declared.types.Value.TheVariants.{Int, Blob}
-use Rattle.sqlite_value.specs.Order.{Row}
+use Rattle.sqlite_value.specs.Order.{Row, column}
+use Rattle.sqlite_value.proofs.OrderLemmas.{value_cmp_total}
+use Rattle.sqlite.specs.Query.{or_nulls}
+use Rattle.sqlite_rules.proofs.ListLemmas.{all_from}
 use Rattle.sqlite_trees.proofs.TreeLemmas.{IsShaped-filter}
 use Rattle.sqlite_trees.specs.declared.store.Shape.TheVariants as shape
 use Rattle.dep_types.specs.Maps.{Numbered}
-use Rattle.dep_types.specs.State.{State, Object, File}
-use Rattle.dep_statements.specs.Rows.{IsOrdered, put_next}
-use Rattle.dep_statements.proofs.Sorted.{short_permutation}
-use Rattle.dep_tables.specs.Rows.{sha512_values, is_sha512_of, value_in}
+use Rattle.dep_types.specs.State.{State, Object, File, Upload}
+use Rattle.dep_types.specs.Rows.{file_row}
+use Rattle.dep_statements.specs.Rows.{IsOrdered, put_next, columns_from, left_join, InOrder}
+use Rattle.dep_statements.proofs.Sorted.{short_permutation, sorted_is}
+use Rattle.dep_tables.specs.Edits.{with_sha512s}
+use Rattle.dep_tables.specs.Rows.{sha512_values, is_sha512_of, is_sha512_of_row, value_in, file_values, shown_file, by_file}
 use Rattle.dep_tables.specs.Tables.{Tables}
 use Rattle.dep_tables.specs.Versions.{our_version}
 use Rattle.dep_tables.specs.declared.owner.BlockOwner.{BlockOwner}
 use Rattle.dep_tables.specs.declared.owner.BlockOwner.TheVariants as owner
-use Rattle.dep_row_maps.specs.Stored.{shown_sha512, sha512_rows}
-use Rattle.dep_row_maps.specs.TablesAre.{TablesAre, TablesAreOf, Sha512s, Sha512sAre, HasSha512, AreFilesSha512s, AreUploadsSha512s, files_at}
+use Rattle.dep_row_maps.specs.Owned.{spread}
+use Rattle.dep_row_maps.specs.Stored.{file_stored, is_file_of, shown_sha512, sha512_rows}
+use Rattle.dep_row_maps.specs.TablesAre.{TablesAre, TablesAreOf, Sha512s, Sha512sAre, HasSha512, AreFilesSha512s, AreUploadsSha512s, files_at, promised_at}
 use Rattle.dep_row_maps.specs.Laws.{TellsSha512, Sha512Read}
-use Rattle.dep_row_maps.proofs.Blocks.{one_owner, same_owner, is_owner}
+use Rattle.dep_row_maps.proofs.Blocks.{one_owner, same_owner, is_owner, number_below, number_order}
+use Rattle.dep_row_maps.proofs.Spreads.{spread_rises}
+use Rattle.dep_row_maps.proofs.Left.{entry_found}
 use Rattle.dep_row_maps.proofs.Owners.{owners-put, owners-delete, with_at}
-use Rattle.dep_row_maps.proofs.FilesOwn.{own-moved, own-put, own-removed, other_file, no_upload}
+use Rattle.dep_row_maps.proofs.Files.{same_number}
+use Rattle.dep_row_maps.proofs.FilesOwn.{own-moved, own-alike, own-put, own-removed, other_file, other_upload, no_upload, no_file}
+use Rattle.dep_row_maps.proofs.Lens.{get_here, get_there, get_gone, get_left}
 
 module _ (rows : List Row) (values now : Sha512s) (are : Sha512sAre rows values) where
   -- a value is put in for an owner that has none
@@ -38,16 +51,16 @@ module _ (rows : List Row) (values now : Sha512s) (are : Sha512sAre rows values)
   sha512s-delete o none others =
       owners-delete shown_sha512 is_sha512_of one_owner same_owner rows (λ x. sha512_rows (values x)) (λ x. sha512_rows (now x)) are o (ap sha512_rows none) (λ x apart. ap sha512_rows (others x apart))
 
--- ---- the values of the files
+-- ---- the values of the files, and of the promises
 
--- the rows have a value for each file of the objects, and no other
-pub record AreValuesOf (rows : List Row) (objects : Numbered Object) : Type 0 where
+-- the rows have a value for each file of the objects and each promise of the uploads, and no other
+pub record AreValuesOf (rows : List Row) (objects : Numbered Object) (staged : Numbered Upload) : Type 0 where
   pub values : Sha512s
   pub are : Sha512sAre rows values
   pub files : AreFilesSha512s objects values
-  pub uploads : AreUploadsSha512s values
+  pub uploads : AreUploadsSha512s staged values
 
-pub with_values : (t : Tables) (s : State) → TablesAreOf our_version t s → AreValuesOf t.sha512s s.objects → TablesAre t s
+pub with_values : (t : Tables) (s : State) → TablesAreOf our_version t s → AreValuesOf t.sha512s s.objects s.uploads → TablesAre t s
 with_values t s common its = record {
   common = common;
   values = its.values;
@@ -56,53 +69,133 @@ with_values t s common its = record {
   uploads_sha512s = its.uploads;
 }
 
--- none change where the objects have the same files
-pub values_stay : (t now : Tables) (s new : State) → TablesAre t s → TablesAreOf our_version now new → now.sha512s ≡ t.sha512s → ((q : ℕ) → files_at new.objects q ≡ files_at s.objects q) → TablesAre now new
-values_stay t now s new h common same files = record {
+pub values_of : (t : Tables) (s : State) → TablesAre t s → AreValuesOf t.sha512s s.objects s.uploads
+values_of t s h = record { values = h.values; are = h.sha512s; files = h.files_sha512s; uploads = h.uploads_sha512s }
+
+-- none change where the objects have the same files, and the uploads the same promises
+pub values_stay : (t now : Tables) (s new : State) → TablesAre t s → TablesAreOf our_version now new → now.sha512s ≡ t.sha512s → ((q : ℕ) → files_at new.objects q ≡ files_at s.objects q)
+    → ((u : ℕ) → promised_at new.uploads u ≡ promised_at s.uploads u) → TablesAre now new
+values_stay t now s new h common same files promises = record {
   common = common;
   values = h.values;
   sha512s = subst (λ rows. Sha512sAre rows h.values) (sym same) h.sha512s;
   files_sha512s = own-moved HasSha512 None s.objects new.objects h.values files h.files_sha512s;
-  uploads_sha512s = h.uploads_sha512s;
+  uploads_sha512s = λ u. h.uploads_sha512s u ∙ sym (promises u);
 }
 
-module _ (t : Tables) (s : State) (h : TablesAre t s) (n : ℕ) (o : Object) (there : finmap.get s.objects n ≡ Some o) (f : ℕ) where
-  -- that of a file that is put in
-  pub values_put : IsOrdered t.sha512s → (file : File) → ((m : ℕ) → finmap.get (files_at s.objects m) f ≡ None)
-      → AreValuesOf (put_next (sha512_values (owner.File f) (sha512 file.content)) t.sha512s) (finmap.insert s.objects n (record o { files = finmap.insert o.files f file }))
-  values_put up file free =
-      let now = with_at same_owner h.values (owner.File f) (Some (sha512 file.content)) in
-      record {
-        values = now.0;
-        are = sha512s-put t.sha512s h.values now.0 h.sha512s up (owner.File f) (sha512 file.content) (h.files_sha512s.of_none f free) now.1 now.2;
-        files = own-put HasSha512 None s.objects n o there h.values now.0 f file (λ m apart. free m) now.1 (λ g apart. now.2 (owner.File g) (other_file g f apart)) h.files_sha512s;
-        uploads = λ u. now.2 (owner.Upload u) (no_upload u f) ∙ h.uploads_sha512s u;
-      }
+-- ---- the promise under a number
 
-  -- that of a file that goes
-  pub values_removed : ((m : ℕ) → m ≢ n → finmap.get (files_at s.objects m) f ≡ None) → AreValuesOf (filter (λ r. not (is_sha512_of (owner.File f) r)) t.sha512s) (finmap.insert s.objects n (record o { files = finmap.remove o.files f }))
-  values_removed free =
-      let now = with_at same_owner h.values (owner.File f) None in
-      record {
-        values = now.0;
-        are = sha512s-delete t.sha512s h.values now.0 h.sha512s (owner.File f) now.1 now.2;
-        files = own-removed HasSha512 None s.objects n o there h.values now.0 f free now.1 (λ g apart. now.2 (owner.File g) (other_file g f apart)) h.files_sha512s;
-        uploads = λ u. now.2 (owner.Upload u) (no_upload u f) ∙ h.uploads_sha512s u;
-      }
+abbrev promise_in : Upload → Option (List ℕ)
+promise_in it = it.sha512
 
-  -- that of a file that goes, and of another that takes its number
-  pub values_replaced : IsOrdered t.sha512s → (file : File) → ((m : ℕ) → m ≢ n → finmap.get (files_at s.objects m) f ≡ None)
-      → AreValuesOf (put_next (sha512_values (owner.File f) (sha512 file.content)) (filter (λ r. not (is_sha512_of (owner.File f) r)) t.sha512s)) (finmap.insert s.objects n (record o { files = finmap.insert o.files f file }))
-  values_replaced up file free =
-      let mid = with_at same_owner h.values (owner.File f) None in
-      let now = with_at same_owner mid.0 (owner.File f) (Some (sha512 file.content)) in
-      record {
-        values = now.0;
-        are = sha512s-put (filter (λ r. not (is_sha512_of (owner.File f) r)) t.sha512s) mid.0 now.0 (sha512s-delete t.sha512s h.values mid.0 h.sha512s (owner.File f) mid.1 mid.2)
-            (IsShaped-filter shape.Table _ t.sha512s up) (owner.File f) (sha512 file.content) mid.1 now.1 now.2;
-        files = own-put HasSha512 None s.objects n o there h.values now.0 f file free now.1 (λ g apart. now.2 (owner.File g) (other_file g f apart) ∙ mid.2 (owner.File g) (other_file g f apart)) h.files_sha512s;
-        uploads = λ u. now.2 (owner.Upload u) (no_upload u f) ∙ mid.2 (owner.Upload u) (no_upload u f) ∙ h.uploads_sha512s u;
-      }
+module _ (staged : Numbered Upload) (u : ℕ) (it : Upload) where
+  pub promise_there : finmap.get staged u ≡ Some it → promised_at staged u ≡ it.sha512
+  promise_there there = ap (option_and_then promise_in) there
+
+  promise_here : promised_at (finmap.insert staged u it) u ≡ it.sha512
+  promise_here = ap (option_and_then promise_in) (get_here staged u it)
+
+  other_promises : (q : ℕ) → q ≢ u → promised_at (finmap.insert staged u it) q ≡ promised_at staged q
+  other_promises q apart = ap (option_and_then promise_in) (get_there staged u it q apart)
+
+  -- an upload comes in the place of one of the same promise
+  pub same_promises : it.sha512 ≡ promised_at staged u → (q : ℕ) → promised_at (finmap.insert staged u it) q ≡ promised_at staged q
+  same_promises is q = go (same_number q u)
+    where
+      go : (q ≡ u) ⊎ (q ≢ u) → promised_at (finmap.insert staged u it) q ≡ promised_at staged q
+      go (inl e) = ap (promised_at (finmap.insert staged u it)) e ∙ promise_here ∙ is ∙ ap (promised_at staged) (sym e)
+      go (inr apart) = other_promises q apart
+
+module _ (rows : List Row) (objects : Numbered Object) (staged : Numbered Upload) (h : AreValuesOf rows objects staged) where
+  -- ---- of a file
+
+  module _ (n : ℕ) (o : Object) (there : finmap.get objects n ≡ Some o) (f : ℕ) where
+    -- that of a file that is put in
+    pub values_put : IsOrdered rows → (file : File) → ((m : ℕ) → finmap.get (files_at objects m) f ≡ None)
+        → AreValuesOf (put_next (sha512_values (owner.File f) (sha512 file.content)) rows) (finmap.insert objects n (record o { files = finmap.insert o.files f file })) staged
+    values_put up file free =
+        let now = with_at same_owner h.values (owner.File f) (Some (sha512 file.content)) in
+        record {
+          values = now.0;
+          are = sha512s-put rows h.values now.0 h.are up (owner.File f) (sha512 file.content) (h.files.of_none f free) now.1 now.2;
+          files = own-put HasSha512 None objects n o there h.values now.0 f file (λ m apart. free m) now.1 (λ g apart. now.2 (owner.File g) (other_file g f apart)) h.files;
+          uploads = λ u. now.2 (owner.Upload u) (no_upload u f) ∙ h.uploads u;
+        }
+
+    -- that of a file that goes
+    pub values_removed : ((m : ℕ) → m ≢ n → finmap.get (files_at objects m) f ≡ None)
+        → AreValuesOf (filter (λ r. not (is_sha512_of (owner.File f) r)) rows) (finmap.insert objects n (record o { files = finmap.remove o.files f })) staged
+    values_removed free =
+        let now = with_at same_owner h.values (owner.File f) None in
+        record {
+          values = now.0;
+          are = sha512s-delete rows h.values now.0 h.are (owner.File f) now.1 now.2;
+          files = own-removed HasSha512 None objects n o there h.values now.0 f free now.1 (λ g apart. now.2 (owner.File g) (other_file g f apart)) h.files;
+          uploads = λ u. now.2 (owner.Upload u) (no_upload u f) ∙ h.uploads u;
+        }
+
+    -- that of a file that goes, and of another that takes its number
+    pub values_replaced : IsOrdered rows → (file : File) → ((m : ℕ) → m ≢ n → finmap.get (files_at objects m) f ≡ None)
+        → AreValuesOf (put_next (sha512_values (owner.File f) (sha512 file.content)) (filter (λ r. not (is_sha512_of (owner.File f) r)) rows)) (finmap.insert objects n (record o { files = finmap.insert o.files f file })) staged
+    values_replaced up file free =
+        let mid = with_at same_owner h.values (owner.File f) None in
+        let now = with_at same_owner mid.0 (owner.File f) (Some (sha512 file.content)) in
+        record {
+          values = now.0;
+          are = sha512s-put (filter (λ r. not (is_sha512_of (owner.File f) r)) rows) mid.0 now.0 (sha512s-delete rows h.values mid.0 h.are (owner.File f) mid.1 mid.2)
+              (IsShaped-filter shape.Table _ rows up) (owner.File f) (sha512 file.content) mid.1 now.1 now.2;
+          files = own-put HasSha512 None objects n o there h.values now.0 f file free now.1 (λ g apart. now.2 (owner.File g) (other_file g f apart) ∙ mid.2 (owner.File g) (other_file g f apart)) h.files;
+          uploads = λ u. now.2 (owner.Upload u) (no_upload u f) ∙ mid.2 (owner.Upload u) (no_upload u f) ∙ h.uploads u;
+        }
+
+  -- ---- of an upload
+
+  module _ (u : ℕ) where
+    -- only this upload's promise is another
+    promises_now : (now : Sha512s) (new : Numbered Upload) → now (owner.Upload u) ≡ promised_at new u → ((q : BlockOwner) → q ≢ owner.Upload u → now q ≡ h.values q) → ((q : ℕ) → q ≢ u → promised_at new q ≡ promised_at staged q)
+        → AreUploadsSha512s new now
+    promises_now now new here others promises q = go (same_number q u)
+      where
+        go : (q ≡ u) ⊎ (q ≢ u) → now (owner.Upload q) ≡ promised_at new q
+        go (inl is) = ap (λ x. now (owner.Upload x)) is ∙ here ∙ ap (promised_at new) (sym is)
+        go (inr apart) = others (owner.Upload q) (other_upload q u apart) ∙ h.uploads q ∙ sym (promises q apart)
+
+    -- that of an upload that is put in
+    pub promise_put : IsOrdered rows → (it : Upload) (value : List ℕ) → it.sha512 ≡ Some value → promised_at staged u ≡ None → AreValuesOf (put_next (sha512_values (owner.Upload u) value) rows) objects (finmap.insert staged u it)
+    promise_put up it value is none =
+        let now = with_at same_owner h.values (owner.Upload u) (Some value) in
+        record {
+          values = now.0;
+          are = sha512s-put rows h.values now.0 h.are up (owner.Upload u) value (h.uploads u ∙ none) now.1 now.2;
+          files = own-alike HasSha512 None objects h.values now.0 (λ f. now.2 (owner.File f) (no_file f u)) h.files;
+          uploads = promises_now now.0 (finmap.insert staged u it) (now.1 ∙ sym is ∙ sym (promise_here staged u it)) now.2 (other_promises staged u it);
+        }
+
+    -- an upload of which none was promised is put in
+    pub promise_none : (it : Upload) → it.sha512 ≡ None → promised_at staged u ≡ None → AreValuesOf rows objects (finmap.insert staged u it)
+    promise_none it is none = record {
+      values = h.values;
+      are = h.are;
+      files = h.files;
+      uploads = λ q. h.uploads q ∙ sym (same_promises staged u it (is ∙ sym none) q);
+    }
+
+    -- that of an upload that goes
+    pub promise_removed : AreValuesOf (filter (λ r. not (is_sha512_of (owner.Upload u) r)) rows) objects (finmap.remove staged u)
+    promise_removed =
+        let now = with_at same_owner h.values (owner.Upload u) None in
+        record {
+          values = now.0;
+          are = sha512s-delete rows h.values now.0 h.are (owner.Upload u) now.1 now.2;
+          files = own-alike HasSha512 None objects h.values now.0 (λ f. now.2 (owner.File f) (no_file f u)) h.files;
+          uploads = promises_now now.0 (finmap.remove staged u) (now.1 ∙ sym (ap (option_and_then promise_in) (get_gone staged u))) now.2 (λ q apart. ap (option_and_then promise_in) (get_left staged u q apart));
+        }
+
+-- that of an upload that goes, and of a file that is put in
+pub values_assembled : (t : Tables) (s : State) → TablesAre t s → (n : ℕ) (o : Object) → finmap.get s.objects n ≡ Some o → (f : ℕ) → IsOrdered t.sha512s → (file : File) → ((m : ℕ) → finmap.get (files_at s.objects m) f ≡ None) → (u : ℕ)
+    → AreValuesOf (put_next (sha512_values (owner.File f) (sha512 file.content)) (filter (λ r. not (is_sha512_of (owner.Upload u) r)) t.sha512s)) (finmap.insert s.objects n (record o { files = finmap.insert o.files f file })) (finmap.remove s.uploads u)
+values_assembled t s h n o there f up file free u =
+    values_put (filter (λ r. not (is_sha512_of (owner.Upload u) r)) t.sha512s) s.objects (finmap.remove s.uploads u) (promise_removed t.sha512s s.objects s.uploads (values_of t s h) u) n o there f (IsShaped-filter shape.Table _ t.sha512s up) file free
 
 -- ---- reading
 
@@ -136,3 +229,52 @@ sha512_read t s h o found is = tells o (sha512_found t.sha512s h.values h.sha512
     tells : (q : BlockOwner) → found ≡ h.values q → TellsSha512 s q found
     tells (owner.File f) its = (λ n file there. its ∙ h.files_sha512s.of_files n f file there, λ none. its ∙ h.files_sha512s.of_none f none)
     tells (owner.Upload u) its = its ∙ h.uploads_sha512s u
+
+-- ---- the files of an object, with their values
+
+-- the value that an owner has stands in its one row
+row_of_value : (rows : List Row) (values : Sha512s) → Sha512sAre rows values → (o : BlockOwner) (value : List ℕ) → values o ≡ Some value → map shown_sha512 (filter (is_sha512_of o) rows) ≡ (Blob value ∷ []) ∷ []
+row_of_value rows values are o value has =
+    let those = map shown_sha512 (filter (is_sha512_of o) rows) in
+    short_permutation (sha512_rows (values o)) those (one_value (values o)) (IsPermutation-sym those (sha512_rows (values o)) (are.of_each o)) ∙ ap sha512_rows has
+
+pub value_of_file : (t : Tables) (s : State) (h : TablesAre t s) (n f : ℕ) (file : File) → finmap.get (files_at s.objects n) f ≡ Some file
+    → map shown_sha512 (filter (is_sha512_of (owner.File f)) t.sha512s) ≡ (Blob (sha512 file.content) ∷ []) ∷ []
+value_of_file t s h n f file there = row_of_value t.sha512s h.values h.sha512s (owner.File f) (sha512 file.content) (h.files_sha512s.of_files n f file there)
+
+-- a file's row beside the one row of its value
+pub one_beside : (row : Row) (those : List Row) (value : List ℕ) → map shown_sha512 those ≡ (Blob value ∷ []) ∷ []
+    → map shown_file (map (λ other. (row, other)) (or_nulls those)) ≡ ((column row 0 ∷ columns_from 2 9 row) ++ Blob value ∷ []) ∷ []
+one_beside row [] value is = absurd (cc)
+one_beside row (r ∷ []) value is = let same : value_in r ≡ Blob value = cc in ap (λ v. ((column row 0 ∷ columns_from 2 9 row) ++ v ∷ []) ∷ []) same
+one_beside row (r ∷ q ∷ rows) value is = absurd (cc)
+
+abbrev one_file : ℕ → ℕ → File → List Row
+one_file n f file = file_values (file_row n f file) ∷ []
+
+-- each file's row beside that of its value
+files_beside : (n : ℕ) (rows : List Row) (es : List (ℕ × File)) → AllByRecursion (λ e. map shown_sha512 (filter (is_sha512_of (owner.File e.0)) rows) ≡ (Blob (sha512 e.1.content) ∷ []) ∷ []) es
+    → map shown_file (left_join is_sha512_of_row (map (λ e. file_stored n e.0 e.1) es) rows) ≡ flat_map (λ e. one_file n e.0 e.1) es
+files_beside n rows [] each = refl
+files_beside n rows (e ∷ es) each =
+    let file = file_stored n e.0 e.1 in
+    let those = filter (is_sha512_of (owner.File e.0)) rows in
+    map-append shown_file (map (λ row. (file, row)) (or_nulls those)) (left_join is_sha512_of_row (map (λ x. file_stored n x.0 x.1) es) rows)
+    ∙ ap₂ ◌++◌ (one_beside file those (sha512 e.1.content) each.0) (files_beside n rows es each.1)
+
+module _ (t : Tables) (s : State) (h : TablesAre t s) (n : ℕ) where
+  abbrev files : List (ℕ × File)
+  files = finmap.entries (files_at s.objects n)
+
+  each_has : AllByRecursion (λ e. map shown_sha512 (filter (is_sha512_of (owner.File e.0)) t.sha512s) ≡ (Blob (sha512 e.1.content) ∷ []) ∷ []) files
+  each_has = all_from _ files (λ e there.
+      value_of_file t s h n e.0 e.1 (finmap.get-entries (files_at s.objects n) e.0 ∙ entry_found files (finmap.entries_sorted (files_at s.objects n)) e there))
+
+  -- the answer by the number of the file is the files in their order
+  pub files-sorted : (found : List Row) → InOrder by_file (map shown_file (with_sha512s t (filter (is_file_of n) t.files))) found → found ≡ spread (one_file n) (files_at s.objects n)
+  files-sorted found read =
+      let shown : map shown_file (with_sha512s t (filter (is_file_of n) t.files)) ≡ spread (one_file n) (files_at s.objects n) =
+      ap (λ rows. map shown_file (with_sha512s t rows)) (h.common.files.of_each n) ∙ files_beside n t.sha512s files each_has in
+      sorted_is by_file (on_total (λ r. column r 0) value_cmp_total) (spread (one_file n) (files_at s.objects n)) found
+      (spread_rises nat_cmp_total finmap.nat_cmp-IsAntisymmetric (one_file n) (λ a b. by_file a b ≡ Less) (λ f file. (tt, tt)) (λ a b x y lower. ((number_below a b (number_order a b lower), tt), tt)) (files_at s.objects n))
+      (subst (λ rows. IsPermutation rows found) shown read.same) read.sorted

@@ -21,7 +21,7 @@ use Rattle.sqlite_trees.proofs.TreeLemmas.{IsShaped-put_row, IsShaped-filter, al
 use Rattle.sqlite_rules.specs.Edit.{next_rowid}
 use Rattle.dep_types.specs.Maps.{Numbered}
 use Rattle.dep_types.specs.Sound.{IsSound}
-use Rattle.dep_types.specs.State.{State, Object, File}
+use Rattle.dep_types.specs.State.{State, Object, File, Upload}
 use Rattle.dep_statements.specs.Rows.{IsOrdered, put_next, is_after, replaced}
 use Rattle.dep_statements.proofs.Keys.{found_row}
 use Rattle.dep_tables.specs.Rows.{stored_format, sha512_values, is_sha512_of}
@@ -32,7 +32,7 @@ use Rattle.dep_tables.specs.declared.sha512s.FileSha512.{FileSha512}
 use Rattle.dep_row_maps.specs.Keyed.{rows_of}
 use Rattle.dep_row_maps.specs.Owned.{put_each, owned, HaveOwners}
 use Rattle.dep_row_maps.specs.Stored.{file_stored, is_file_of, shown_sha512, sha512_rows}
-use Rattle.dep_row_maps.specs.TablesAre.{FilesAre, Sha512s, files_at}
+use Rattle.dep_row_maps.specs.TablesAre.{FilesAre, Sha512s, files_at, promised_at}
 use Rattle.dep_row_maps.specs.Sha512s.{value_rows, AreOfContents, TablesUpgraded}
 use Rattle.dep_row_maps.proofs.Puts.{put_next-last}
 use Rattle.dep_row_maps.proofs.Blocks.{one_owner, is_owner}
@@ -211,16 +211,17 @@ module _ (objects : Numbered Object) (rows : List Row) (are : FilesAre rows (fil
         let nowhere : filter (has_rowid (pos f)) rows ≡ [] = none_found (has_rowid (pos f)) rows (no_row rows (files_at objects) are up f none) in
         ap first_value (none_along f behind vs numbered (filters_swap (has_rowid (pos f)) (is_after 0) rows ∙ ap (filter (is_after 0)) nowhere))
 
-    -- each file has the value of its content, and there are no other values
-    pub values_are : ((n f : ℕ) (file : File) → finmap.get (files_at objects n) f ≡ Some file → 1 ≤ f) → AreValuesOf (put_each (value_rows vs) []) objects
-    values_are least = record {
+    -- each file has the value of its content, and where nothing was promised there are no other values
+    pub values_are : ((n f : ℕ) (file : File) → finmap.get (files_at objects n) f ≡ Some file → 1 ≤ f) → (staged : Numbered Upload) → ((u : ℕ) → promised_at staged u ≡ None)
+        → AreValuesOf (put_each (value_rows vs) []) objects staged
+    values_are least staged unpromised = record {
       values = value;
       are = record {
         of_each = λ o. subst (IsPermutation (owned shown_sha512 (is_sha512_of o) (put_each (value_rows vs) []))) (values_in o vs [] (tt, tt) ∙ sym (few o)) (IsPermutation-refl (owned shown_sha512 (is_sha512_of o) (put_each (value_rows vs) [])));
         owners = all_of_files vs [] tt;
       };
       files = record { of_files = λ n f file there. of_file n f file there (least n f file there); of_none = of_none };
-      uploads = λ u. ap first_value (none_of_upload u vs);
+      uploads = λ u. ap first_value (none_of_upload u vs) ∙ sym (unpromised u);
     }
 
 -- ---- the version
@@ -247,16 +248,16 @@ least_number s sound n f file there = go (finmap.get s.objects n) refl there
 
 pub tables_upgraded : TablesUpgraded
 tables_upgraded t s h sound up values numbered each = with_values _ _ (record {
-  format = version_set t.format older_version h.format;
-  state = h.state;
-  objects = h.objects;
-  metadata = h.metadata;
-  files = h.files;
-  uploads = h.uploads;
-  segments = h.segments;
-  timed_out = h.timed_out;
-  parts = h.parts;
-  blocks = h.blocks;
-  files_parts = h.files_parts;
-  uploads_parts = h.uploads_parts;
-}) (values_are s.objects t.files h.files up values numbered each (least_number s sound))
+  format = version_set t.format older_version h.common.format;
+  state = h.common.state;
+  objects = h.common.objects;
+  metadata = h.common.metadata;
+  files = h.common.files;
+  uploads = h.common.uploads;
+  segments = h.common.segments;
+  timed_out = h.common.timed_out;
+  parts = h.common.parts;
+  blocks = h.common.blocks;
+  files_parts = h.common.files_parts;
+  uploads_parts = h.common.uploads_parts;
+}) (values_are s.objects t.files h.common.files up values numbered each (least_number s sound) s.uploads h.unpromised)

@@ -85,9 +85,6 @@ pub data FailsByStatement (at new : db.State) (fault : StoreFault) : Type 0 wher
   upload_found : (params : Row)
       → FailsToReadNumbers (AtMostOne IsUploadRow) text.find_upload_text params at new fault
       → FailsByStatement at new fault
-  upload_next : (params : Row)
-      → FailsToReadNumbers (AtMostOne IsNumberRow) text.next_upload_text params at new fault
-      → FailsByStatement at new fault
   upload_left : (params : Row)
       → FailsToReadNumbers (AtMostOne IsLeftRow) text.left_before_text params at new fault
       → FailsByStatement at new fault

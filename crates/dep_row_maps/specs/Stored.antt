@@ -7,7 +7,7 @@ use Rattle.dep_types.specs.Maps.{Numbered}
 use Rattle.dep_types.specs.State.{State, Object, File, Upload, Texts}
 use Rattle.dep_types.specs.Rows.{object_row, file_row, upload_row}
 use Rattle.dep_statements.specs.Rows.{has_number, put_next}
-use Rattle.dep_tables.specs.Rows.{stored_state, stored_object, stored_file, stored_upload, metadata_values, segment_values, block_values, is_part_of, moved_to, value_in}
+use Rattle.dep_tables.specs.Rows.{stored_state, stored_object, stored_file, stored_upload, columns_of_upload, metadata_values, segment_values, block_values, is_part_of, moved_to, value_in}
 use Rattle.dep_tables.specs.declared.owner.BlockOwner.TheVariants as owner
 use Rattle.dep_tables.specs.declared.state.StateRow.{StateRow}
 use Rattle.dep_tables.specs.declared.metadata.MetadataRow.{MetadataRow}
@@ -33,7 +33,7 @@ abbrev pub file_stored : (n f : ℕ) → File → Row
 file_stored n f file = stored_file (file_row n f file)
 
 abbrev pub upload_stored : ℕ → Upload → Row
-upload_stored u it = stored_upload (upload_row u it)
+upload_stored u it = stored_upload (columns_of_upload (upload_row u it))
 
 -- whose a row of `metadata` and of `segments` is; a row of `files`
 abbrev pub is_of : ℕ → Row → Bool

@@ -3,9 +3,11 @@ use Rattle.std.specs.Prelude.{ℕ, ◌==◌, ◌&&◌, ◌||◌, not, Bool, true
 use Rattle.std.specs.List.{list_any}
 use Rattle.std.specs.Option.{option_map_or}
 use Rattle.dep_types.specs.Maps.{first_of}
+use Rattle.dep_types.specs.declared.rows.UploadRow.{UploadRow}
 use Rattle.dep_types.specs.declared.refusal.Refusal.{Refusal}
 use Rattle.dep_types.specs.declared.refusal.Refusal.TheVariants.{BadRequest, ByReferenceNotAllowed, ContentMalformed, DigestMismatch, PackagingFormatNotAcceptable}
-use Rattle.dep_fixity.specs.Fixity.{is_kept, keeps}
+use Rattle.dep_fixity.specs.Fixity.{keeps}
+use Rattle.dep_fixity.specs.declared.field.DigestList.{DigestList}
 use Rattle.dep_fixity.specs.declared.hasher.Digests.{Digests}
 use Rattle.dep_docs_in.specs.declared.reference.Reference.{Reference}
 use Rattle.dep_docs_in.specs.declared.reference.Pointed.{Pointed}
@@ -37,8 +39,12 @@ abbrev pub if_live : (LiveUpload → Bool) → UploadState → Bool
 if_live test (Live l) = test l
 if_live test _ = true
 
+-- what was promised of an upload at its opening, as its row tells it
+abbrev pub promised_in : UploadRow → DigestList
+promised_in row = record { sha256 = row.sha256; sha512 = row.sha512 }
+
 abbrev pub has_digests_seen : Reference → LiveUpload → Digests → Bool
-has_digests_seen r l digests = is_kept l.row.sha256 digests.sha256 && keeps r.digest digests
+has_digests_seen r l digests = keeps (promised_in l.row) digests && keeps r.digest digests
 
 -- the digests are told where no segment is missing
 abbrev pub whole_upload_rule : UploadState → Option Refusal

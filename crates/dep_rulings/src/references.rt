@@ -2,17 +2,16 @@
 ghost use Rattle.std.specs.Prelude.{◌≡◌, IfOk, OnErr, IsTrue, Some, map};
 ghost use Rattle.std.specs.List.{list_any};
 ghost use Rattle.std.specs.Option.{option_copied};
-ghost use Rattle.dep_fixity.specs.Fixity.{is_kept};
 ghost use Rattle.dep_decisions.specs.Rules.{stands_twice};
 ghost use Rattle.dep_decisions.specs.declared.purpose.Purpose.TheVariants as of;
 ghost use Rattle.dep_rulings.specs.Memory.{are_taken, is_held};
 ghost use Rattle.dep_rulings.specs.Seen.{state_refusal};
-ghost use Rattle.dep_rulings.specs.Walks.{upload_digest_rule, entries_seen, is_other_packaging, upload_length_rule, packaging_refusal, points_elsewhere, references_seen, repeat_refusal, rule_of, target_refusal, walk, whole_upload_rule};
+ghost use Rattle.dep_rulings.specs.Walks.{upload_digest_rule, entries_seen, is_other_packaging, upload_length_rule, packaging_refusal, points_elsewhere, promised_in, references_seen, repeat_refusal, rule_of, target_refusal, walk, whole_upload_rule};
 
 use crate::view::{UploadState, UploadView};
 use dep_decisions::is_binary;
 use dep_docs_in::{Pointed, Reference, References};
-use dep_fixity::check;
+use dep_fixity::{DigestList, check};
 use dep_types::{Refusal, UploadRow};
 use std::alloc::{AllocError, Global};
 use std::collections::BTreeSet;
@@ -25,7 +24,7 @@ pub(crate) enum UploadRule {
     IsWhole,
     /// It has the length that the entry tells.
     HasLength,
-    /// It has the SHA-256 that was promised at its opening, and the digests that the entry promises.
+    /// It has the digests that were promised at its opening, and those that the entry promises.
     HasDigests,
 }
 
@@ -237,7 +236,7 @@ fn digest_row(reference: &Reference, state: &UploadState) -> Option<Refusal>
     match upload.digests {
         None => None,
         Some(digests) => {
-            if is_promised(&upload.row, digests.sha256) && check(&reference.digest, &digests) {
+            if check(&promised_in(&upload.row), &digests) && check(&reference.digest, &digests) {
                 None
             } else {
                 Some(Refusal::DigestMismatch)
@@ -246,12 +245,12 @@ fn digest_row(reference: &Reference, state: &UploadState) -> Option<Refusal>
     }
 }
 
-// Whether the SHA-256 is the one that was promised at the opening, if one was.
-fn is_promised(row: &UploadRow, sha256: [u8; 32]) -> bool
-    ensures { result ≡ is_kept row.now.sha256 sha256 }
+// What was promised at the opening.
+fn promised_in(row: &UploadRow) -> DigestList
+    ensures { result ≡ promised_in row.now }
 {
-    match row.sha256 {
-        Some(promised) => promised == sha256,
-        None => true,
+    DigestList {
+        sha256: row.sha256,
+        sha512: row.sha512,
     }
 }

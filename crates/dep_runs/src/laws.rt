@@ -171,7 +171,7 @@ pub fn files_stay()
 {}
 
 /// The file that an accepted deposit by reference makes of an upload stands under the next number
-/// once its step is made, with the upload's segments joined, their size, the SHA-256 that was
+/// once its step is made, with the upload's segments joined, their size, every digest that was
 /// promised at the upload's opening and every digest that its entry promises; and it stays so.
 pub fn deposited_files_stay()
     ensures { (config : Config) (first : State) (records : List Record) (w : World)

@@ -245,14 +245,20 @@ gains_if : {A E : Type 0} (r : Result A E) (old new : Database) → AreFree old.
 gains_if (Ok x) old new free after = record { free = free; made = after }
 gains_if (Err e) old new free after = tt
 
+-- where the tables and the indexes were made, their names were free
+pub free_before : (old mid named : Database) → AddsAll our_tables old mid → AddsIndexes mid named → AreFree old.schema
+free_before old mid named added both =
+    let all = free_all our_tables old mid added in
+    let indexes = free_indexes mid named both in
+    record { tables = all.0; files_index = all.1 files_index.name indexes.0; uploads_index = all.1 uploads_index.name indexes.1 }
+
 pub gains : {A E : Type 0} (r : Result A E) (old mid named new : Database) → AddsAll our_tables old mid → AddsIndexes mid named
     → ((others : Schema) → AreFree others → named.schema ≡ with_ours others
     → OnOk r ((next : Database) × Puts (next_tree others) (stored_format our_version) named next × Puts (next_tree (created others format_table)) (stored_state first_state) next new))
     → OnOk r (GainsOurs old new)
 gains r old mid named new added both rows =
     let all = free_all our_tables old mid added in
-    let indexes = free_indexes mid named both in
-    let free : AreFree old.schema = record { tables = all.0; files_index = all.1 files_index.name indexes.0; uploads_index = all.1 uploads_index.name indexes.1 } in
+    let free = free_before old mid named added both in
     gains_if r old new free (λ has.
     ok_then r (rows old.schema free (indexed_schema old.schema all.0 mid named (plainly_made old mid has added).schema both)) (λ put. stands_beside old mid named put.0 new added both has put.1 put.2))
 

@@ -1,9 +1,11 @@
--- A query of a table that is not there.
-use Rattle.std.proofs.Common.{◌≡◌, ℕ, suc, List, [], ◌∷◌, None, Ok, Err, codes, refl}
+-- The query for the version over any schema: where `format` is not there, and that it only reads.
+use Rattle.std.proofs.Common.{◌≡◌, ℕ, suc, Bool, true, false, if◌then◌else◌, List, [], ◌∷◌, None, Ok, Err, codes, refl, sym, ap, subst, ◌∙◌}
 use Rattle.sqlite_tied.specs.Compute.{everything}
 use Rattle.sqlite.specs.Schema.{Schema}
 use Rattle.sqlite.specs.Term.{Term}
-use Rattle.sqlite.specs.Listing.{understood, listing_schema}
+use Rattle.sqlite.specs.Command.{Command}
+use Rattle.sqlite.specs.Listing.{understood, reads_listing, listing_schema, if_select}
+use Rattle.sqlite.proofs.Callers.{IsPlain}
 use Rattle.sqlite_schema.specs.declared.program.Table.{Table as Let}
 use Rattle.sqlite_schema.specs.Names.{table_named, view_named}
 use Rattle.sqlite_ast.specs.declared.Statement.TheVariants as written
@@ -13,12 +15,13 @@ use Rattle.sqlite_ast.specs.declared.Core.{Core, out-Core}
 use Rattle.sqlite_ast.specs.declared.Source.{Source, out-Source}
 use Rattle.sqlite_ast.specs.declared.Origin.TheVariants as origin
 use Rattle.sqlite_syntax.specs.declared.statement.Parsed.{Parsed}
+use Rattle.sqlite_resolve.specs.declared.compiled.Compiled.{Compiled}
 use Rattle.sqlite_resolve.specs.declared.error.CompileError.TheVariants.{NoSuchTable}
-use Rattle.sqlite_resolve.specs.Lowering.{take_slot}
+use Rattle.sqlite_resolve.specs.Lowering.{Checked, and_then, take_slot}
 use Rattle.sqlite_resolve.specs.Body.{table_in, bound, bounds, body}
 use Rattle.sqlite_resolve.specs.Select.{constant_or, parts, named, paging}
 use Rattle.sqlite_resolve.specs.Program.{Building, Shown, source, sources, viewing, single, alone, whole, with, level, query_to, query}
-use Rattle.sqlite_resolve.specs.Compile.{first, read, command, returning, timed, meaning, planned, compiled}
+use Rattle.sqlite_resolve.specs.Compile.{first, read, command, returning, timed, meaning, planned, compiled, with_command}
 use Rattle.dep_schema.specs.Texts.{find_format_text}
 
 -- the whole query is one table by its name
@@ -69,12 +72,12 @@ module _ (schema : Schema) (name : List ℕ) (no_table : table_named schema name
       unfolding compiled planned meaning command returning timed
       compiled_none = rw (parsed_is, statement_is, read_none) refl
 
-find_reads : (p : Parsed) × (s : Select) × (first find_format_text ≡ Ok p) × (p.statement ≡ written.Select s) × IsSimple s (codes "format")
+find_reads : (p : Parsed) × (s : Select) × (first find_format_text ≡ Ok p) × (p.statement ≡ written.Select s) × (p.formats ≡ []) × IsSimple s (codes "format")
 unfolding everything
-find_reads = (_, _, refl, refl, record { with_is = refl; limit_is = refl; offset_is = refl; others_is = refl; source_of = _; from_is = refl; origin_is = refl })
+find_reads = (_, _, refl, refl, refl, record { with_is = refl; limit_is = refl; offset_is = refl; others_is = refl; source_of = _; from_is = refl; origin_is = refl })
 
 finds_none : (schema : Schema) → table_named schema (codes "format") ≡ None → view_named schema (codes "format") ≡ None → compiled schema find_format_text ≡ Err NoSuchTable
-finds_none schema no_table no_view = compiled_none schema (codes "format") no_table no_view find_reads.1 find_reads.4 find_format_text find_reads.0 find_reads.2 find_reads.3
+finds_none schema no_table no_view = compiled_none schema (codes "format") no_table no_view find_reads.1 find_reads.5 find_format_text find_reads.0 find_reads.2 find_reads.3
 
 unlisted : compiled listing_schema find_format_text ≡ Err NoSuchTable
 unfolding listing_schema everything
@@ -83,3 +86,25 @@ unlisted = refl
 pub find_missing : (schema : Schema) → table_named schema (codes "format") ≡ None → view_named schema (codes "format") ≡ None → understood schema find_format_text ≡ Err NoSuchTable
 unfolding understood
 find_missing schema no_table no_view = rw (finds_none schema no_table no_view, unlisted) refl
+
+-- ---- it is a query, or is not understood
+
+module _ (schema : Schema) (text : List ℕ) (p : Parsed) (s : Select) (parsed_is : first text ≡ Ok p) (statement_is : p.statement ≡ written.Select s) (formats_is : p.formats ≡ []) where
+  compiled_plain : (c : Compiled) → compiled schema text ≡ Ok c → IsPlain (Ok c)
+  unfolding compiled planned meaning command returning timed
+  compiled_plain c is = by_command (read schema s) (sym (rw (parsed_is, statement_is) refl) ∙ is)
+    where
+      by_command : (r : Checked Command) → and_then (and_then (and_then r (λ made. Ok (made, None))) (λ found. Ok (p.formats, found))) (λ plan. Ok (with_command p plan)) ≡ Ok c → IsPlain (Ok c)
+      by_command (Ok made) is = let same : with_command p (p.formats, (made, None)) ≡ c = cc in subst (λ x. IsPlain (Ok x)) same (refl, formats_is)
+      by_command (Err e) is = absurd (cc)
+
+find_compiled_plain : (schema : Schema) (c : Compiled) → compiled schema find_format_text ≡ Ok c → IsPlain (Ok c)
+find_compiled_plain schema = compiled_plain schema find_format_text find_reads.0 find_reads.1 find_reads.2 find_reads.3 find_reads.4
+
+pub find_plain : (schema : Schema) (c : Compiled) → understood schema find_format_text ≡ Ok c → IsPlain (understood schema find_format_text)
+unfolding understood
+find_plain schema c is = subst IsPlain (sym is) (by_listing (reads_listing schema find_format_text) is)
+  where
+    by_listing : (b : Bool) → (if b then if_select (compiled listing_schema find_format_text) else compiled schema find_format_text) ≡ Ok c → IsPlain (Ok c)
+    by_listing true h = absurd (let none = sym (ap if_select unlisted) ∙ h in cc)
+    by_listing false h = find_compiled_plain schema c h

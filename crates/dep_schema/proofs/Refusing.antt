@@ -281,9 +281,9 @@ module _ {S : Type 0} (g : Ghosts S) (old new : Lent S) (fault : StoreFault) whe
   lent_fails (inl it) = inl (record { at = it.at.tx.now.conn.now; since = it.since; by = it.by })
   lent_fails (inr (made, adds, kept, inl (inl failed))) = inr (made.tx.now.conn.now, adds, kept, inl (inl failed))
   lent_fails (inr (made, adds, kept, inl (inr it))) = inr (made.tx.now.conn.now, adds, kept, inl (inr (record { at = it.at.tx.now.conn.now; since = it.since; by = it.by })))
-  lent_fails (inr (made, adds, kept, inr (found, indexes, since, inl failed))) = inr (made.tx.now.conn.now, adds, kept, inr (found.tx.now.conn.now, indexes, since, inl failed))
-  lent_fails (inr (made, adds, kept, inr (found, indexes, since, inr it))) =
-      inr (made.tx.now.conn.now, adds, kept, inr (found.tx.now.conn.now, indexes, since, inr (record { at = it.at.tx.now.conn.now; since = it.since; by = it.by })))
+  lent_fails (inr (made, adds, kept, inr (free, found, indexes, since, inl failed))) = inr (made.tx.now.conn.now, adds, kept, inr (free, found.tx.now.conn.now, indexes, since, inl failed))
+  lent_fails (inr (made, adds, kept, inr (free, found, indexes, since, inr it))) =
+      inr (made.tx.now.conn.now, adds, kept, inr (free, found.tx.now.conn.now, indexes, since, inr (record { at = it.at.tx.now.conn.now; since = it.since; by = it.by })))
 
 -- a commit that failed in a transaction that went on failed in the store
 pub failed_only : (old new : State) (e : Error) → IsTrue old.in_transaction → FailsToCommit old new e → Fails old new ⊥ e

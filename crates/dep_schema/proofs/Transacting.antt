@@ -50,7 +50,7 @@ leaves_still old new s settled stands survives clean trees h =
     (s, inl (stands.tables, left_still old new stands.tables settled stands.stands survives clean trees h, stands.means), refl)
 
 -- a commit that fails in a transaction has ended it as it began
-undone_by_commit : (inside new : db.State) (e : Error) → IsTrue inside.in_transaction → FailsToCommit inside new e → IsRolledBack inside new
+pub undone_by_commit : (inside new : db.State) (e : Error) → IsTrue inside.in_transaction → FailsToCommit inside new e → IsRolledBack inside new
 undone_by_commit inside new e within (inl fails) = fails.3
 undone_by_commit inside new e within (inr (_, ended, _)) = absurd (let it = (sym within) ∙ ended in cc)
 

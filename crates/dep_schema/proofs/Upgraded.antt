@@ -1,22 +1,26 @@
 -- What the statements of an upgrade make of the tables of version 1.
-use Rattle.std.proofs.Common.{◌≡◌, inl, inr, ◌<◌, ◌+◌, ℕ, List, [], ◌∷◌, ◌++◌, take, get_or, length, Ok, refl, sym, ap, subst, ◌∙◌}
+use Rattle.std.proofs.Common.{◌≡◌, inl, inr, ◌<◌, ◌+◌, ◌^◌, ℕ, true, false, IsTrue, List, [], ◌∷◌, ◌++◌, take, get_or, length, Result, Ok, Err, refl, sym, ap, subst, ◌∙◌}
+use Rattle.std.proofs.Math.Decide.{dec_lt}
 use Rattle.std.proofs.lemmas.List.{take_more, map-append}
 use Rattle.std.proofs.lemmas.List.Elements.{Contains-get_or}
 use Rattle.sqlite_tied.specs.Compute.{everything}
 use Rattle.sqlite.specs.Order.{Row}
 use Rattle.sqlite.specs.Schema.{Schema}
-use Rattle.sqlite.specs.State.{State, HasCleanDisk}
+use Rattle.sqlite.specs.Effect.{Database}
+use Rattle.sqlite.specs.State.{State, HasCleanDisk, IsRolledBack, Survives}
+use Rattle.sqlite.specs.Tree.{Trees}
 use Rattle.sqlite.specs.Held.{Held, state}
 use Rattle.sqlite.specs.Steps.{FailsToCommit}
 use Rattle.sqlite.specs.declared.error.Error.{Error}
 use Rattle.sqlite.specs.declared.transaction.Transaction.{Transaction}
 use Rattle.sqlite.proofs.Callers.{survives_begin}
+use Rattle.sqlite.proofs.StateLemmas.{survives_then}
 use Rattle.sqlite_trees.specs.declared.store.Store.{Ghosts}
 use Rattle.sqlite_catalog.specs.Listing.{IsSound}
 use Rattle.sqlite_catalog.specs.Change.{created, next_tree, KeepsRows}
 use Rattle.dep_statements.specs.Rows.{IsOrdered, put_next}
 use Rattle.dep_statements.specs.Adding.{HasCounters, AreFreeFor, Adds}
-use Rattle.dep_tables.specs.Schema.{our_schema, our_tables, older_schema, sha512s_table}
+use Rattle.dep_tables.specs.Schema.{our_schema, our_tables, older_schema, sha512s_table, files_index, uploads_index}
 use Rattle.dep_tables.specs.Rows.{sha512_values}
 use Rattle.dep_tables.specs.Texts.{insert_sha512_text}
 use Rattle.dep_tables.specs.Faults.{fault_for}
@@ -25,20 +29,23 @@ use Rattle.dep_tables.specs.declared.sha512s.FileSha512.{FileSha512}
 use Rattle.dep_tables.specs.Tables.{Tables, tables_of, IsOlder}
 use Rattle.dep_tables.specs.Clauses.{CommitsNothing, FailsToRun}
 use Rattle.dep_types.specs.declared.store_fault.StoreFault.{StoreFault}
+use Rattle.dep_types.specs.declared.store_fault.StoreFault.TheVariants.{Store}
 use Rattle.dep_row_maps.specs.Causes.{FailsSince}
-use Rattle.dep_row_maps.proofs.Causes.{fails_then, fails_later}
+use Rattle.dep_row_maps.proofs.Causes.{fails_then}
 use Rattle.dep_row_maps.specs.Owned.{put_each}
 use Rattle.dep_row_maps.specs.Sha512s.{value_rows}
-use Rattle.dep_schema.specs.Beside.{with_tables, AddsIndexes}
-use Rattle.dep_schema.specs.Standing.{Sees, no_schema}
-use Rattle.dep_schema.specs.OpenFaults.{FailsToIndex, begun}
-use Rattle.dep_schema.specs.Texts.{index_uploads_text}
-use Rattle.dep_schema.specs.Upgrading.{with_no_sha512s, with_sha512s, FailsToExtend, FailsToPut, FailsToRewrite, FailsToUpgrade}
+use Rattle.dep_schema.specs.Beside.{with_tables, AddsIndexes, AreNewNamesFree}
+use Rattle.dep_schema.specs.Standing.{Sees, IsBack, no_schema}
+use Rattle.dep_schema.specs.OpenFaults.{begun}
+use Rattle.dep_schema.specs.Upgrading.{with_no_sha512s, with_sha512s, FailsToPut, FailsToRewrite, FailsToUpgrade}
+use Rattle.dep_schema.specs.Upgrading.FailsToPut.{no_number, not_put}
 use Rattle.dep_schema.specs.declared.lending.Lent.{Lent}
 use Rattle.dep_schema.proofs.Asking.{LentStays}
-use Rattle.dep_schema.proofs.Refusing.{failed_only}
-use Rattle.dep_schema.proofs.Transacting.{still_inside}
-use Rattle.dep_schema.proofs.Placed.{indexed_schema, indexed_sound, indexed_rows}
+use Rattle.dep_schema.proofs.Prepared.{left as back}
+use Rattle.dep_schema.proofs.Refusing.{failed_only, clean_last}
+use Rattle.dep_schema.proofs.Transacting.{still_inside, Works, undone_by_commit}
+use Rattle.dep_schema.proofs.Transactions.{commits}
+use Rattle.dep_schema.proofs.Placed.{indexed_schema, indexed_sound, indexed_rows, free_indexes}
 use Rattle.dep_schema.proofs.BesideRows.{empty_ours}
 
 -- with `sha512s` behind them, the tables of version 1 are those of version 2, which have no index yet
@@ -110,11 +117,16 @@ extends old mid new older added both =
       };
     }
 
--- where an index was not made, the table was
-pub extend_fails : {T : Type 0} (state : T → State) (old mid new : T) → CommitsNothing (state old) (state mid) → (fault : StoreFault) → FailsToIndex state mid new fault → FailsSince state FailsToExtend old new fault
-extend_fails state old mid new since fault (inl failed) = fails_then state old mid new since FailsToExtend fault (inr (inl failed))
-extend_fails state old mid new since fault (inr it) =
-    fails_later state old mid new since (λ at now fault. FailsToRun index_uploads_text [] at now fault) FailsToExtend (λ at now fault by. inr (inr by)) fault (record { at = it.at; since = it.since; by = it.by.1 })
+-- where both were made, the names were free
+pub free_new : (old mid new : Database) → Adds sha512s_table old mid → AddsIndexes mid new → AreNewNamesFree old.schema
+free_new old mid new added both =
+    let indexes = free_indexes mid new both in
+    record { table = added.free; files_index = added.keeps files_index.name indexes.0; uploads_index = added.keeps uploads_index.name indexes.1 }
+
+-- they are not in the tables of version 2
+pub new_not_free : AreNewNamesFree our_schema → ⊥
+unfolding everything
+new_not_free free = let no : true ≡ false = free.table in absurd (cc)
 
 put_each-append : (xs ys rows : List Row) → put_each (xs ++ ys) rows ≡ put_each ys (put_each xs rows)
 put_each-append [] ys rows = refl
@@ -134,28 +146,76 @@ one_more_value old mid new values k d within was now =
 
 -- ---- why an upgrade fails
 
+pub told_fault : {A : Type 0} {fault other : StoreFault} → ◌≡◌ {A = Result A StoreFault} (Err fault) (Err other) → fault ≡ other
+told_fault is = cc
+
 module _ {T : Type 0} (state : T → State) (values : List FileSha512) where
+  abbrev Unput : FileSha512 → State → State → StoreFault → Type 0
+  Unput v = FailsToRun insert_sha512_text (sha512_values (owner.File v.file) v.value)
+
   -- a value is not put in
   pub put_fails : (old mid new : T) → CommitsNothing (state old) (state mid) → (k : ℕ) (d : FileSha512) → k < length values
-      → (fault : StoreFault) → FailsToRun insert_sha512_text (sha512_values (owner.File (get_or values k d).file) (get_or values k d).value) (state mid) (state new) fault
+      → (fault : StoreFault) → ((get_or values k d).file < 2 ^ 63 → Unput (get_or values k d) (state mid) (state new) fault) → (¬ ((get_or values k d).file < 2 ^ 63) → fault ≡ Store)
       → FailsSince state (FailsToPut values) old new fault
-  put_fails old mid new since k d within fault failed = fails_then state old mid new since (FailsToPut values) fault (get_or values k d, Contains-get_or values k d within, failed)
+  put_fails old mid new since k d within fault ran refused =
+      let v = get_or values k d in
+      let among = Contains-get_or values k d within in
+      fails_then state old mid new since (FailsToPut values) fault (elim (dec_lt v.file (2 ^ 63)) [
+        | yes below ↦ not_put v among (ran below)
+        | no above ↦ no_number v among above (refused above)
+      ])
+
+module _ {S : Type 0} (g : Ghosts S) (values : List FileSha512) where
+  abbrev lent_state : Lent S → State
+  lent_state lent = state g lent.tx.now.conn.now
+
+  -- a transaction that is lent is one of its connection
+  lent_rewrites : (first inside : Lent S) (fault : StoreFault) → FailsToRewrite lent_state first inside values fault → FailsToRewrite (state g) first.tx.now.conn.now inside.tx.now.conn.now values fault
+  lent_rewrites first inside fault (inl (inl failed)) = inl (inl failed)
+  lent_rewrites first inside fault (inl (inr (made, adds, kept, inl failed))) = inl (inr (made.tx.now.conn.now, adds, kept, inl failed))
+  lent_rewrites first inside fault (inl (inr (made, adds, kept, inr it))) =
+      inl (inr (made.tx.now.conn.now, adds, kept, inr (record { at = it.at.tx.now.conn.now; since = it.since; by = it.by })))
+  lent_rewrites first inside fault (inr (free, it)) = inr (free, record { at = it.at.tx.now.conn.now; since = it.since; by = it.by })
 
 module _ {S : Type 0} (g : Ghosts S) (values : List FileSha512) (old : Held S) (first inside : Lent S) (last : Transaction S) (is : first.tx.now.conn.now ≡ begun old) (left : inside.tx.now ≡ last) where
   -- a statement failed, and the transaction was given up
-  pub statement_failed : (new : Held S) (fault : StoreFault) → FailsSince (λ (lent : Lent S). state g lent.tx.now.conn.now) (FailsToRewrite values) first inside fault
+  pub statement_failed : (new : Held S) (fault : StoreFault) → FailsToRewrite (λ (lent : Lent S). state g lent.tx.now.conn.now) first inside values fault
       → CommitsNothing (state g last.conn.now) (state g new) → FailsToUpgrade g old new values fault
   statement_failed new fault it given =
       inl (
         last.conn.now,
-        subst (λ (h : Held S). FailsSince (state g) (FailsToRewrite values) h last.conn.now fault) is
-            (subst (λ (tx : Transaction S). FailsSince (state g) (FailsToRewrite values) first.tx.now.conn.now tx.conn.now fault) left (record { at = it.at.tx.now.conn.now; since = it.since; by = it.by })),
+        subst (λ (h : Held S). FailsToRewrite (state g) h last.conn.now values fault) is
+            (subst (λ (tx : Transaction S). FailsToRewrite (state g) first.tx.now.conn.now tx.conn.now values fault) left (lent_rewrites g values first inside fault it)),
         given,
       )
 
   -- its commit failed
   pub commit_failed : {A E : Type 0} {x : A} (new : Held S) (e : Error) → LentStays {A = A} {E = E} g first inside (Ok x) → HasCleanDisk (state g last.conn.now)
-      → FailsToCommit (state g last.conn.now) (state g new) e → FailsToUpgrade g old new values (fault_for e)
-  commit_failed new e stays clean failed =
+      → AreNewNamesFree (state g old).now.schema → FailsToCommit (state g last.conn.now) (state g new) e → FailsToUpgrade g old new values (fault_for e)
+  commit_failed new e stays clean free failed =
       let since = subst (λ (h : Held S). CommitsNothing (state g h) (state g last.conn.now)) is (subst (λ (tx : Transaction S). CommitsNothing (state g first.tx.now.conn.now) (state g tx.conn.now)) left stays.survives) in
-      inr (last.conn.now, e, survives_begin g old (state g last.conn.now) (λ _. ⊥) since, failed_only (state g last.conn.now) (state g new) e (still_inside g old stays is left clean) failed, refl)
+      inr (last.conn.now, e, free, survives_begin g old (state g last.conn.now) (λ _. ⊥) since, failed_only (state g last.conn.now) (state g new) e (still_inside g old stays is left clean) failed, refl)
+
+-- ---- what it leaves, whatever tables there are
+
+module _ {S : Type 0} (g : Ghosts S) (old inside new : Held S) (work : Works g old inside new) (last : Held S) (same : new ≡ last) where
+  -- given up, it is back at the last commit
+  pub upgrade_back : CommitsNothing (state g inside) (state g new) → (HasCleanDisk (state g new) → IsRolledBack (state g inside) (state g new)) → IsTrue (state g last).is_open → IsBack (state g old) (state g last)
+  upgrade_back survives undone = subst (λ (h : Held S). IsTrue (state g h).is_open → IsBack (state g old) (state g h)) same
+      (λ is_open. back g old inside new work.kept survives.clean undone (work.shut is_open) is_open)
+
+  -- a commit that failed has ended so too
+  pub commit_back : (e : Error) → Survives (state g inside) (state g new) (λ trees. trees ≡ (state g inside).now.trees) → (HasCleanDisk (state g inside) → IsTrue (state g inside).in_transaction)
+      → (HasCleanDisk (state g new) → FailsToCommit (state g inside) (state g new) e) → IsTrue (state g last).is_open → IsBack (state g old) (state g last)
+  commit_back e survives goes_on fails = subst (λ (h : Held S). IsTrue (state g h).is_open → IsBack (state g old) (state g h)) same
+      (λ is_open. back g old inside new work.kept survives.clean (λ clean. undone_by_commit (state g inside) (state g new) e (goes_on (clean_last (state g inside) (state g new) _ survives clean)) (fails clean)) (work.shut is_open) is_open)
+
+  -- a crash before a commit leaves what it left before
+  pub crash_given_up : (P : Trees → Type 0) → CommitsNothing (state g inside) (state g new) → Survives (state g old) (state g last) P
+  crash_given_up P survives = subst (λ (h : Held S). Survives (state g old) (state g h) P) same
+      (survives_begin g old (state g new) P (survives_then (state g (begun old)) (state g inside) (state g new) (λ _. ⊥) (λ _. ⊥) P (λ _ db none. absurd none) (λ _ db none. absurd none) work.survives survives))
+
+  -- and one in it perhaps what it committed
+  pub crash_committing : (P : Trees → Type 0) → Survives (state g inside) (state g new) (λ trees. trees ≡ (state g inside).now.trees) → (HasCleanDisk (state g inside) → P (state g inside).now.trees)
+      → Survives (state g old) (state g last) P
+  crash_committing P survives made = subst (λ (h : Held S). Survives (state g old) (state g h) P) same (commits g old (state g inside) (state g new) P work.survives survives made)

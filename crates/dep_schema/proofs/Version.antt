@@ -3,13 +3,14 @@ use Rattle.std.proofs.Common.{◌≡◌, IsTrue, ◌↔◌, ◌⊎◌, inl, inr,
 use Rattle.std.specs.List.Sorted.{IsPermutation}
 use Rattle.std.proofs.lemmas.List.Sorted.{IsPermutation-sym}
 use Rattle.sqlite_tied.specs.Compute.{everything}
-use Rattle.sqlite.specs.Listing.{understood, reads_listing}
+use Rattle.sqlite.specs.Listing.{understood, reads_listing, IsSourceOf}
 use Rattle.sqlite.specs.Command.TheVariants.{Select}
 use Rattle.sqlite.specs.declared.types.Value.TheVariants.{Int}
 use Rattle.sqlite.specs.Order.{Row, column}
 use Rattle.sqlite.specs.Term.{Term, col}
-use Rattle.sqlite.proofs.StateLemmas.{survives_then}
-use Rattle.sqlite.specs.State.{State, HasCleanDisk, Survives, Shown, IsUnchanged, FailsToQuery, IsTooLate, store_error}
+use Rattle.sqlite.specs.Clock.{timed}
+use Rattle.sqlite.proofs.StateLemmas.{survives_then, unchanged}
+use Rattle.sqlite.specs.State.{State, HasCleanDisk, Survives, Shown, ShowsRows, IsUnchanged, FailsToQuery, IsTooLate, store_error}
 use Rattle.sqlite.specs.declared.error.Error.{Error}
 use Rattle.sqlite.specs.declared.error.Error.TheVariants.{SqlInputError}
 use Rattle.sqlite_trees.specs.declared.error.StoreError.{StoreError}
@@ -28,11 +29,11 @@ use Rattle.sqlite.specs.Effect.{Database}
 use Rattle.sqlite.specs.Schema.{Schema}
 use Rattle.dep_statements.specs.Adding.{HasCounters}
 use Rattle.dep_schema.specs.Beside.{LacksFormat}
-use Rattle.dep_schema.proofs.Missing.{find_missing}
+use Rattle.dep_schema.proofs.Missing.{find_missing, find_plain}
 use Rattle.dep_tables.specs.Tables.{tables_of, IsKnownSchema, IsKnown}
 use Rattle.dep_tables.specs.Versions.{our_version, older_version, HasVersion}
 use Rattle.dep_schema.specs.Standing.{no_schema, HasKnownVersion, Sees, Holds, IsBeside, GainsOurs, StandsBeside, CommitsBySchema, first_tables}
-use Rattle.dep_schema.specs.OpenFaults.{open_fault_for, AreVersion, AreKnownVersion}
+use Rattle.dep_schema.specs.OpenFaults.{open_fault_for, AreVersion, AreKnownVersion, ShowsVersion, TellsVersion}
 use Rattle.dep_types.specs.declared.store_fault.StoreFault.{StoreFault}
 use Rattle.dep_types.specs.declared.store_fault.StoreFault.TheVariants.{Store, Memory}
 use Rattle.dep_schema.specs.declared.opening.OpenFault.{OpenFault}
@@ -105,8 +106,30 @@ told_known version format rows same is = (Int (pos 1) ∷ Int (pos version) ∷ 
 pub found_version : (version : ℕ) (old new : State) (rows : List Row) → IsKnown old → Shown find_format_text [] old new rows → AreVersion (pos version) rows ↔ HasVersion version (tables_of old)
 found_version version old new rows known h = (known_told version (tables_of old).format rows (finds_rows old new rows known h), told_known version (tables_of old).format rows (finds_rows old new rows known h))
 
-pub find_stays : (old new : State) (rows : List Row) → IsKnown old → Shown find_format_text [] old new rows → IsUnchanged old new
-find_stays old new rows (its, known, ours) h = shown_unchanged find_format_text [] old new (subst (λ s. IsPlain (understood s find_format_text)) (sym ours.schema) (finds_in its known).plain) rows h
+-- it changes nothing, whatever tables there are
+pub find_stays : (old new : State) (rows : List Row) → Shown find_format_text [] old new rows → IsUnchanged old new
+unfolding Shown
+find_stays old new rows h = shown_unchanged find_format_text [] old new (find_plain old.now.schema h.0 h.1.is) rows h
+
+pub not_older : our_version ≡ older_version → ⊥
+not_older is = omega (arith, is)
+
+-- what it shows in a transaction it would show before
+pub shows_again : (start old new : State) → start.now ≡ old.now → (IsTrue start.is_open → IsTrue old.is_open) → (version : ℕ) → ShowsVersion start new version → TellsVersion old version
+unfolding Shown
+shows_again start old new same opened version (rows, h, are) =
+    let bare = subst IsPlain h.1.is (find_plain start.now.schema h.0 h.1.is) in
+    let given = timed [] h.0.formats h.1.now in
+    let it = subst (ShowsRows start new find_format_text h.0 given rows) bare.0 h.2 in (
+      rows,
+      (
+        h.0,
+        record { is = subst (λ (d : Database). understood d.schema find_format_text ≡ Ok h.0) same h.1.is; whole = h.1.whole; given = h.1.given; now = h.1.now },
+        subst (ShowsRows old old find_format_text h.0 given rows) (sym bare.0)
+            (it.0, subst (λ (d : Database). IsSourceOf (reads_listing d.schema find_format_text) d it.0) same it.1, it.2, unchanged old (opened it.3.0.was_open)),
+      ),
+      are,
+    )
 
 -- neither of the two versions that are known is shown
 pub none_known : (rows : List Row) → (AreVersion (pos our_version) rows → ⊥) → (AreVersion (pos older_version) rows → ⊥) → AreKnownVersion rows → ⊥

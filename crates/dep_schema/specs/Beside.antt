@@ -8,7 +8,7 @@ use Rattle.sqlite_schema.specs.Names.{table_named, view_named}
 use Rattle.sqlite_catalog.specs.Change.{next_tree, indexed, is_used}
 use Rattle.dep_statements.specs.Adding.{AreFreeFor, created_all}
 use Rattle.dep_statements.specs.Indexes.{Indexes}
-use Rattle.dep_tables.specs.Schema.{our_tables, files_table, files_index, uploads_table, uploads_index}
+use Rattle.dep_tables.specs.Schema.{our_tables, sha512s_table, files_table, files_index, uploads_table, uploads_index}
 
 -- no table and no view is named `format`
 pub record LacksFormat (schema : Schema) : Type 0 where
@@ -18,6 +18,12 @@ pub record LacksFormat (schema : Schema) : Type 0 where
 -- no table, index or view has one of our names
 pub record AreFree (schema : Schema) : Type 0 where
   pub tables : AreFreeFor our_tables schema
+  pub files_index : is_used schema files_index.name ≡ false
+  pub uploads_index : is_used schema uploads_index.name ≡ false
+
+-- the same of the names that version 2 has beside those of version 1
+pub record AreNewNamesFree (schema : Schema) : Type 0 where
+  pub table : is_used schema sha512s_table.name ≡ false
   pub files_index : is_used schema files_index.name ≡ false
   pub uploads_index : is_used schema uploads_index.name ≡ false
 

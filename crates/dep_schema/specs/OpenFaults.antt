@@ -19,7 +19,7 @@ use Rattle.dep_tables.specs.Faults.{fault_for}
 use Rattle.dep_tables.specs.Schema.{our_tables}
 use Rattle.dep_tables.specs.Tables.{tables_of}
 use Rattle.dep_tables.specs.Versions.{our_version, IsKnownVersion}
-use Rattle.dep_schema.specs.Beside.{AddsIndexes}
+use Rattle.dep_schema.specs.Beside.{AreFree, AddsIndexes, LacksFormat}
 use Rattle.dep_schema.specs.Standing.{HasKnownVersion}
 use Rattle.dep_schema.specs.Texts.{create_texts, index_files_text, index_uploads_text, find_format_text, add_format_text, add_state_text}
 use Rattle.dep_schema.specs.declared.opening.OpenFault.{OpenFault}
@@ -97,6 +97,10 @@ module _ (old new : State) where
       ((fault ≡ open_fault.UnknownVersion) × (HasKnownVersion (tables_of old) → ⊥))
       ⊎ GivesOut fault
 
+-- the query for the version would show this one
+abbrev pub TellsVersion : State → ℕ → Type 0
+TellsVersion s = ShowsVersion s s
+
 module _ {T : Type 0} (state : T → State) (old new : T) where
   -- one of the texts that make the tables failed, once those before it had made theirs
   abbrev pub FailsToCreate : StoreFault → Type 0
@@ -121,14 +125,16 @@ module _ {T : Type 0} (state : T → State) (old new : T) where
       × FailsToRun add_state_text [] at now fault) old new fault
 
 module _ {T : Type 0} (state : T → State) (old new : T) where
-  -- why no tables are made: a statement failed, as where a name is taken
+  -- why no tables are made: a statement failed, as where a name is taken; those that add the rows are run only where
+  -- the names were free
   abbrev pub FailsToMake : StoreFault → Type 0
   FailsToMake fault =
       FailsToCreate state old new fault
       ⊎ ((made : T) × AddsAll our_tables (state old).now (state made).now
       × CommitsNothing (state old) (state made)
       × (FailsToIndex state made new fault
-      ⊎ ((found : T) × AddsIndexes (state made).now (state found).now
+      ⊎ (AreFree (state old).now.schema × (found : T)
+      × AddsIndexes (state made).now (state found).now
       × CommitsNothing (state made) (state found) × FailsToAddRows state found new fault)))
 
 -- ---- over a connection, from the beginning of the transaction on
@@ -147,12 +153,14 @@ begun h = record h { in_transaction = true }
 
 module _ {S : Type 0} (g : Ghosts S) (old new : Held S) where
   -- why an open fails: no tables are found or made, and its transaction is given up; or the store
-  -- failed to commit it
+  -- failed to commit it, where our names were free if there was no `format`
   abbrev pub FailsToOpen : OpenFault → Type 0
   FailsToOpen fault =
       ((last : Held S) × FailsToFindOrMake g (begun old) last fault
       × CommitsNothing (state g last) (state g new))
-      ⊎ ((last : Held S) × (e : Error) × CommitsNothing (state g old) (state g last)
+      ⊎ ((last : Held S) × (e : Error)
+      × (LacksFormat (state g old).now.schema → AreFree (state g old).now.schema)
+      × CommitsNothing (state g old) (state g last)
       × Fails (state g last) (state g new) ⊥ e × TellsError e fault)
 
 module _ {S : Type 0} (g : Ghosts S) (old : Held S) (version : ℕ) where

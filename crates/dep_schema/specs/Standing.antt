@@ -131,6 +131,13 @@ pub record CommitsOpen (s : State) (trees : Trees) : Type 0 where
 abbrev pub IsBack : State → State → Type 0
 IsBack old new = (new.now ≡ old.committed) × (new.committed ≡ old.committed)
 
+-- between transactions, with the store open and what the connection saw
+pub record IsStill (old new : State) : Type 0 where
+  pub was_open : IsTrue old.is_open
+  pub is_open : IsTrue new.is_open
+  pub now : new.now ≡ old.now
+  pub committed : new.committed ≡ old.now
+
 -- there is some table, and where the tables are of one of our versions they have no version that is known
 abbrev pub HasOtherVersion : State → Type 0
 HasOtherVersion s = (s.now.schema ≡ no_schema → ⊥)

@@ -19,6 +19,10 @@ use crate::indexing::create_indexes;
 use dep_tables::Statements;
 use dep_types::StoreFault;
 
+/// The text that makes the table which version 2 has beside those of version 1.
+pub(crate) const SHA512S: &str =
+    "CREATE TABLE sha512s (kind INTEGER NOT NULL, owner INTEGER NOT NULL, value BLOB NOT NULL, PRIMARY KEY (kind, owner)) STRICT";
+
 /// The texts that make the tables, in the order of their trees.
 const TABLES: [&str; 10] = [
     // The version of the tables.
@@ -40,7 +44,7 @@ const TABLES: [&str; 10] = [
     // The bytes of contents, in blocks.
     "CREATE TABLE blocks (kind INTEGER NOT NULL, owner INTEGER NOT NULL, part INTEGER NOT NULL, place INTEGER NOT NULL, bytes BLOB NOT NULL, PRIMARY KEY (kind, owner, part, place)) STRICT",
     // The SHA-512 of each file, and those that uploads promised.
-    "CREATE TABLE sha512s (kind INTEGER NOT NULL, owner INTEGER NOT NULL, value BLOB NOT NULL, PRIMARY KEY (kind, owner)) STRICT",
+    SHA512S,
 ];
 
 /// Version 2.

@@ -6,9 +6,9 @@ ghost use Rattle.sqlite.specs.Order.{column};
 ghost use Rattle.sqlite.specs.State.{HasCleanDisk, IsUnchanged, Survives};
 ghost use Rattle.sqlite.specs.Held.{state};
 ghost use Rattle.dep_tables.specs.Tables.{Tables, tables_of, IsOf, IsKnownSchema, IsKnown};
-ghost use Rattle.dep_tables.specs.Versions.{our_version, IsKnownVersion, HasVersion};
+ghost use Rattle.dep_tables.specs.Versions.{our_version, older_version, IsKnownVersion, HasVersion};
 ghost use Rattle.sqlite.specs.Schema.{Schema as Listed};
-ghost use Rattle.dep_schema.specs.Standing.{no_schema, HasKnownVersion, HoldsOf, HoldsNone, Sees, Stands, StandsOf, IsOpenable, CommitsBySchema, CommitsOpen, IsBack, HasOtherVersion, GainsOurs, StandsBeside, StaysOn, first_tables};
+ghost use Rattle.dep_schema.specs.Standing.{no_schema, HasKnownVersion, HoldsOf, HoldsNone, Sees, Stands, StandsOf, IsOpenable, CommitsBySchema, CommitsOpen, IsBack, IsStill, HasOtherVersion, GainsOurs, StandsBeside, StaysOn, first_tables};
 ghost use Rattle.dep_statements.specs.Adding.{HasCounters};
 ghost use Rattle.dep_schema.specs.Beside.{LacksFormat, AreFree};
 ghost use Rattle.dep_schema.specs.OpenFaults.{open_fault_number, told_by, AreVersion, ShowsVersion, ShowsNone, FailsToFind, ShowsOrMakes, FailsToFindOrMake, begun, FailsToOpen, RefusesKnown};
@@ -136,12 +136,8 @@ fn find_format<S: Alter>(tx: &mut Transaction<'_, S>) -> Result<Option<u64>, Ope
     ensures lacking { HasCleanDisk (state S.Store tx.new.conn.now)
         → LacksFormat (state S.Store tx.old.conn.now).now.schema
         → MatchResult result (λ found. found ≡ None) (λ fault. fault ≢ OpenFault.UnknownVersion) }
+    // Whatever tables there are, it only reads.
     ensures same { HasCleanDisk (state S.Store tx.new.conn.now)
-        → IsKnown (state S.Store tx.old.conn.now)
-        ⊎ ((state S.Store tx.old.conn.now).now.schema ≡ no_schema)
-        → OnOk result (IsUnchanged (state S.Store tx.old.conn.now) (state S.Store tx.new.conn.now)) }
-    ensures left { HasCleanDisk (state S.Store tx.new.conn.now)
-        → LacksFormat (state S.Store tx.old.conn.now).now.schema
         → OnOk result (IsUnchanged (state S.Store tx.old.conn.now) (state S.Store tx.new.conn.now)) }
     ensures told { HasCleanDisk (state S.Store tx.new.conn.now) → MatchResult result
         (λ found. MatchOption found
@@ -191,6 +187,10 @@ fn find_or_make<S: Alter>(tx: &mut Transaction<'_, S>) -> Result<u64, OpenFault>
     ensures made { HasCleanDisk (state S.Store tx.new.conn.now)
         → LacksFormat (state S.Store tx.old.conn.now).now.schema
         → IfOk result (λ version. version ≡ our_version) }
+    // What has version 1 is left as it is.
+    ensures still { HasCleanDisk (state S.Store tx.new.conn.now)
+        → IfOk result (λ version. version ≡ older_version
+        → (state S.Store tx.new.conn.now).now ≡ (state S.Store tx.old.conn.now).now) }
     ensures known { IfOk result IsKnownVersion }
     ensures stays { StaysOn S.Store tx.old.conn tx.new.conn result }
 {
@@ -215,6 +215,9 @@ fn prepare<S: Alter>(connection: &mut Connection<S>) -> Result<u64, OpenFault>
     ensures made { HasCleanDisk (state S.Store connection.new)
         → LacksFormat (state S.Store connection.old).now.schema
         → IfOk result (λ version. version ≡ our_version) }
+    ensures still { HasCleanDisk (state S.Store connection.new)
+        → IfOk result (λ version. version ≡ older_version
+        → IsStill (state S.Store connection.old) (state S.Store connection.new)) }
     ensures known { IfOk result IsKnownVersion }
     ensures version { HasCleanDisk (state S.Store connection.new)
         → result ≡ Err OpenFault.UnknownVersion
@@ -272,6 +275,10 @@ pub fn open<S: Alter>(
     // A database without a table `format`, such as an empty one, has version 2 then.
     ensures made { IfOk result (λ schema. HasCleanDisk (state S.Store schema.connection)
         → LacksFormat (state S.Store connection).now.schema → schema.found ≡ our_version) }
+    // One of version 1 is left as it is, whatever tables it has.
+    ensures still { IfOk result (λ schema. HasCleanDisk (state S.Store schema.connection)
+        → schema.found ≡ older_version
+        → IsStill (state S.Store connection) (state S.Store schema.connection)) }
     ensures known { IfOk result (λ schema. IsKnownVersion schema.found) }
     ensures free { IfOk result (λ schema. HasCleanDisk (state S.Store schema.connection)
         → LacksFormat (state S.Store connection).now.schema

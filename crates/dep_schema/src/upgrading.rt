@@ -1,7 +1,7 @@
 //! The tables of version 1 become those of version 2, in one transaction.
 
-ghost use Rattle.std.specs.Prelude.{◌≡◌, ⊤, false, [], IsTrue, OnOk, IfErr};
-ghost use Rattle.sqlite.specs.State.{HasCleanDisk};
+ghost use Rattle.std.specs.Prelude.{◌≡◌, ⊤, false, [], IsTrue, OnOk, OnErr, IfErr};
+ghost use Rattle.sqlite.specs.State.{HasCleanDisk, Survives};
 ghost use Rattle.sqlite.specs.Held.{state};
 ghost use Rattle.dep_statements.specs.Adding.{Adds};
 ghost use Rattle.dep_tables.specs.Schema.{our_schema, older_schema, sha512s_table};
@@ -10,13 +10,15 @@ ghost use Rattle.dep_tables.specs.Clauses.{StaysWithin, FailsToRun};
 ghost use Rattle.dep_row_maps.specs.Causes.{FailsByOne};
 ghost use Rattle.dep_row_maps.specs.Clauses.{Becomes};
 ghost use Rattle.dep_row_maps.specs.Sha512s.{upgraded};
-ghost use Rattle.dep_schema.specs.Standing.{Sees, Turns};
+ghost use Rattle.dep_schema.specs.Beside.{AreNewNamesFree};
+ghost use Rattle.dep_schema.specs.Standing.{Sees, Turns, IsBack};
 ghost use Rattle.dep_schema.specs.Texts.{create_sha512s_text};
 ghost use Rattle.dep_schema.specs.Transactions.{TransactsTo};
-ghost use Rattle.dep_schema.specs.Upgrading.{with_no_sha512s, with_sha512s, AreStorable, FailsToExtend, FailsToPut, FailsToRewrite, FailsToUpgrade};
+ghost use Rattle.dep_schema.specs.Upgrading.{with_no_sha512s, with_sha512s, FailsToExtend, FailsToPut, FailsToRewrite, FailsToUpgrade};
 
 use crate::indexing::create_indexes;
 use crate::lending::Lent;
+use crate::making::SHA512S;
 use dep_tables::{BlockOwner, FileSha512, Statements, fault_of, insert_sha512, write_version};
 use dep_types::StoreFault;
 use sqlite::{Alter, Connection};
@@ -28,10 +30,7 @@ fn create_sha512s<T: Statements>(tx: &mut T) -> Result<(), StoreFault>
         → IfErr result (FailsToRun create_sha512s_text [] (T.state tx.old) (T.state tx.new)) }
     ensures stays { StaysWithin T.lenders T.state tx.old tx.new result }
 {
-    tx.run(
-        "CREATE TABLE sha512s (kind INTEGER NOT NULL, owner INTEGER NOT NULL, value BLOB NOT NULL, PRIMARY KEY (kind, owner)) STRICT",
-        &[],
-    )
+    tx.run(SHA512S, &[])
 }
 
 /// What version 2 has beside the tables of version 1: the table `sha512s`, empty, and the indexes.
@@ -39,7 +38,10 @@ fn extend_schema<T: Statements>(tx: &mut T) -> Result<(), StoreFault>
     ensures ok { HasCleanDisk (T.state tx.new) → IsTrue (T.state tx.old).in_transaction
         → IsOlder (T.state tx.old)
         → OnOk result (Sees (T.state tx.new) (with_no_sha512s (tables_of (T.state tx.old)))) }
-    ensures cause { FailsByOne T.state tx.old tx.new result ⊤ FailsToExtend }
+    ensures free { Turns (T.state tx.old) (T.state tx.new) result
+        (λ old _. AreNewNamesFree old.schema) }
+    ensures cause { HasCleanDisk (T.state tx.new) → IsTrue (T.state tx.old).in_transaction
+        → IfErr result (FailsToExtend T.state tx.old tx.new) }
     ensures stays { StaysWithin T.lenders T.state tx.old tx.new result }
 {
     create_sha512s(tx)?;
@@ -49,8 +51,7 @@ fn extend_schema<T: Statements>(tx: &mut T) -> Result<(), StoreFault>
 /// The values of files, one after another.
 fn insert_values<T: Statements>(tx: &mut T, values: &[FileSha512]) -> Result<(), StoreFault>
     ensures ok { Becomes (T.state tx.old) (T.state tx.new) result (with_sha512s values.now) }
-    ensures cause { FailsByOne T.state tx.old tx.new result (AreStorable values.now)
-        (FailsToPut values.now) }
+    ensures cause { FailsByOne T.state tx.old tx.new result ⊤ (FailsToPut values.now) }
     ensures stays { StaysWithin T.lenders T.state tx.old tx.new result }
 {
     'values: for value in values {
@@ -64,8 +65,10 @@ fn upgrade_tables<T: Statements>(tx: &mut T, values: &[FileSha512]) -> Result<()
     ensures ok { HasCleanDisk (T.state tx.new) → IsTrue (T.state tx.old).in_transaction
         → IsOlder (T.state tx.old)
         → OnOk result (Sees (T.state tx.new) (upgraded values.now (tables_of (T.state tx.old)))) }
-    ensures cause { FailsByOne T.state tx.old tx.new result (AreStorable values.now)
-        (FailsToRewrite values.now) }
+    ensures free { Turns (T.state tx.old) (T.state tx.new) result
+        (λ old _. AreNewNamesFree old.schema) }
+    ensures cause { HasCleanDisk (T.state tx.new) → IsTrue (T.state tx.old).in_transaction
+        → IfErr result (FailsToRewrite T.state tx.old tx.new values.now) }
     ensures stays { StaysWithin T.lenders T.state tx.old tx.new result }
 {
     extend_schema(tx)?;
@@ -85,8 +88,15 @@ pub fn upgrade<S: Alter>(
         (state S.Store connection.old) (state S.Store connection.new) result
         (λ t _ after. after ≡ upgraded values.now t) }
     ensures mode { (state S.Store connection.new).in_transaction ≡ false }
-    ensures cause { HasCleanDisk (state S.Store connection.new) → AreStorable values.now
+    // Whatever tables there are, it goes through only where the names that it adds are free.
+    ensures free { HasCleanDisk (state S.Store connection.new)
+        → OnOk result (AreNewNamesFree (state S.Store connection.old).now.schema) }
+    ensures cause { HasCleanDisk (state S.Store connection.new)
         → IfErr result (FailsToUpgrade S.Store connection.old connection.new values.now) }
+    ensures left { IsTrue (state S.Store connection.new).is_open
+        → OnErr result (IsBack (state S.Store connection.old) (state S.Store connection.new)) }
+    ensures crash { Survives (state S.Store connection.old) (state S.Store connection.new)
+        (λ _. AreNewNamesFree (state S.Store connection.old).now.schema) }
 {
     let mut tx = connection.transaction();
     upgrade_tables(&mut Lent { tx: &mut tx }, values)?;

@@ -4,19 +4,26 @@ use Rattle.sqlite.specs.State as db
 use Rattle.dep_types.specs.Maps.{Numbered}
 use Rattle.dep_types.specs.State.{State, Upload, clock_at}
 use Rattle.dep_types.specs.declared.config.Config.{Config}
+use Rattle.dep_types.specs.declared.rows.UploadRow.{UploadRow}
 use Rattle.dep_types.specs.declared.store_fault.StoreFault.{StoreFault}
 use Rattle.dep_row_maps.specs.Causes.{FailsByStatement}
-use Rattle.dep_row_maps.specs.Causes.FailsByStatement.{state_read, state_written, timed_out_added, upload_left, upload_deleted, segments_deleted, segments_read, blocks_deleted, block_read}
-use Rattle.dep_staging.specs.Causes.{FailsToDrop, FailsToExpire, FailsToExpireAll, FailsToTick, FailsToHash}
-use Rattle.dep_staging.specs.Causes.FailsToDrop.{blocks, segments, row}
+use Rattle.dep_row_maps.specs.Causes.FailsByStatement.{state_read, state_written, timed_out_added, upload_added, upload_left, upload_deleted, segments_deleted, segments_read, blocks_deleted, block_read, sha512_added, sha512_deleted}
+use Rattle.dep_staging.specs.Causes.{FailsToDrop, FailsToOpen, FailsToExpire, FailsToExpireAll, FailsToTick, FailsToHash}
+use Rattle.dep_staging.specs.Causes.FailsToDrop.{blocks, promise, segments, row}
+use Rattle.dep_staging.specs.Causes.FailsToOpen.{row as columns, promise as promised}
 use Rattle.dep_staging.specs.Causes.FailsToExpire.{drop, number}
 use Rattle.dep_staging.specs.Causes.FailsToExpireAll.{looked, ended}
 use Rattle.dep_staging.specs.Causes.FailsToTick.{read, written, expired}
 use Rattle.dep_staging.specs.Causes.FailsToHash.{segments as rows, block}
 
 module _ (at now : db.State) (fault : StoreFault) where
+  pub open_among : (opened : UploadRow) → FailsToOpen opened at now fault → FailsByStatement at now fault
+  open_among opened (columns failed) = upload_added _ failed
+  open_among opened (promised value is failed) = sha512_added _ failed
+
   pub drop_among : (u : ℕ) → FailsToDrop u at now fault → FailsByStatement at now fault
   drop_among u (blocks failed) = blocks_deleted _ failed
+  drop_among u (promise failed) = sha512_deleted _ failed
   drop_among u (segments failed) = segments_deleted _ failed
   drop_among u (row failed) = upload_deleted _ failed
 

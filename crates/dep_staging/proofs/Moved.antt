@@ -5,7 +5,6 @@ use Rattle.std.specs.List.{range_with_len}
 use Rattle.std.proofs.lemmas.List.{map-id}
 use Rattle.std.proofs.lemmas.List.FromFn.{map-range_with_len_more}
 use Rattle.std.specs.FinMap as finmap
-use Rattle.sha2.specs.Sha512.{sha512}
 use Rattle.sqlite_value.specs.Order.{Row}
 use Rattle.dep_types.specs.State.{State, Object, File, Upload}
 use Rattle.dep_types.specs.Rows.{upload_row, file_row}
@@ -13,11 +12,12 @@ use Rattle.dep_types.specs.Uploads.{assembled}
 use Rattle.dep_types.specs.declared.rows.UploadRow.{UploadRow}
 use Rattle.dep_types.specs.declared.rows.FileRow.{FileRow}
 use Rattle.dep_statements.specs.Rows.{IsOrdered, row_at}
-use Rattle.dep_tables.specs.Edits.{LacksFileRow, with_new_file_row, with_new_sha512, without_segment_rows, without_upload_row}
+use Rattle.dep_tables.specs.Edits.{LacksFileRow, with_new_file_row, with_new_sha512, without_segment_rows, without_sha512, without_upload_row}
 use Rattle.dep_tables.specs.Rows.{is_part_of, moved_to}
 use Rattle.dep_tables.specs.Tables.{Tables}
 use Rattle.dep_tables.specs.declared.owner.BlockOwner.{BlockOwner}
 use Rattle.dep_tables.specs.declared.owner.BlockOwner.TheVariants as owner
+use Rattle.dep_row_maps.specs.Laws.{without_upload_rows}
 use Rattle.dep_row_maps.specs.Stored.{move_parts}
 use Rattle.dep_row_maps.specs.TablesAre.{TablesAre}
 use Rattle.dep_row_maps.proofs.Moves.{file_assembled_by_parts}
@@ -44,22 +44,24 @@ one_more a b c u f n so_far next =
     ∙ ap (λ k. moved (owner.Upload u) (owner.File f) k (move_parts (owner.Upload u) (owner.File f) (range_with_len 1 n) a.blocks)) (sym number) in
     next ∙ ap (λ (t : Tables). record t { blocks = moved (owner.Upload u) (owner.File f) (n + 1) t.blocks }) so_far ∙ ap (λ rows. record a { blocks = rows }) (sym pushed)
 
-module _ (a b c d e now : Tables) (upload : UploadRow) (row : FileRow) (value : List ℕ)
-    (first : b ≡ record a { blocks = move_parts (owner.Upload upload.upload) (owner.File row.file) (range_with_len 1 upload.count) a.blocks }) (second : c ≡ without_segment_rows upload.upload b) (third : d ≡ without_upload_row upload.upload c)
-    (fourth : e ≡ with_new_sha512 (owner.File row.file) value d) (fifth : now ≡ with_new_file_row row e) where
-  abbrev made_of : FileRow → List ℕ → ℕ → Tables
-  made_of r digest count =
-      with_new_file_row r (with_new_sha512 (owner.File row.file) digest (without_upload_row upload.upload (without_segment_rows upload.upload
-      (record a { blocks = move_parts (owner.Upload upload.upload) (owner.File row.file) (range_with_len 1 count) a.blocks }))))
+module _ (a b c d e f now : Tables) (upload : UploadRow) (row : FileRow)
+    (first : b ≡ record a { blocks = move_parts (owner.Upload upload.upload) (owner.File row.file) (range_with_len 1 upload.count) a.blocks }) (second : c ≡ without_sha512 (owner.Upload upload.upload) b) (third : d ≡ without_segment_rows upload.upload c)
+    (fourth : e ≡ without_upload_row upload.upload d) (fifth : f ≡ with_new_sha512 (owner.File row.file) row.sha512 e) (sixth : now ≡ with_new_file_row row f) where
+  abbrev left_of : ℕ → Tables
+  left_of count = without_upload_rows upload.upload (record a { blocks = move_parts (owner.Upload upload.upload) (owner.File row.file) (range_with_len 1 count) a.blocks })
 
-  made_so_far : e ≡ with_new_sha512 (owner.File row.file) value (without_upload_row upload.upload (without_segment_rows upload.upload
-      (record a { blocks = move_parts (owner.Upload upload.upload) (owner.File row.file) (range_with_len 1 upload.count) a.blocks })))
-  made_so_far = fourth ∙ ap (with_new_sha512 (owner.File row.file) value) (third ∙ ap (without_upload_row upload.upload) (second ∙ ap (without_segment_rows upload.upload) first))
+  abbrev made_of : FileRow → ℕ → Tables
+  made_of r count = with_new_file_row r (with_new_sha512 (owner.File row.file) r.sha512 (left_of count))
+
+  made_so_far : f ≡ with_new_sha512 (owner.File row.file) row.sha512 (left_of upload.count)
+  made_so_far =
+      fifth ∙ ap (with_new_sha512 (owner.File row.file) row.sha512)
+      (fourth ∙ ap (without_upload_row upload.upload) (third ∙ ap (without_segment_rows upload.upload) (second ∙ ap (without_sha512 (owner.Upload upload.upload)) first)))
 
   pub made : (s : State) (o : Object) (it : Upload) (file : File) → TablesAre a s → IsOrdered a.files → IsOrdered a.sha512s → finmap.get s.objects row.object ≡ Some o → finmap.get s.uploads upload.upload ≡ Some it → HasItsSegments it
-      → upload ≡ upload_row upload.upload it → row ≡ file_row row.object row.file file → file.content ≡ assembled it → value ≡ sha512 file.content → LacksFileRow row.file e → TablesAre now (deposited s row.object o row.file file upload.upload)
-  made s o it file h up values_up there held whole upload_is row_is content value_is free =
+      → upload ≡ upload_row upload.upload it → row ≡ file_row row.object row.file file → file.content ≡ assembled it → LacksFileRow row.file f → TablesAre now (deposited s row.object o row.file file upload.upload)
+  made s o it file h up values_up there held whole upload_is row_is content free =
       let counted : upload.count ≡ it.count = ap (λ (r : UploadRow). r.count) upload_is in
-      let given : made_of row value upload.count ≡ made_of (file_row row.object row.file file) (sha512 file.content) it.count = (λ i. made_of (row_is i) (value_is i) (counted i)) in
-      subst (λ (t : Tables). TablesAre t (deposited s row.object o row.file file upload.upload)) (sym (fifth ∙ ap (with_new_file_row row) made_so_far ∙ given))
+      let given : made_of row upload.count ≡ made_of (file_row row.object row.file file) it.count = (λ i. made_of (row_is i) (counted i)) in
+      subst (λ (t : Tables). TablesAre t (deposited s row.object o row.file file upload.upload)) (sym (sixth ∙ ap (with_new_file_row row) made_so_far ∙ given))
       (file_assembled_by_parts a s h up values_up row.object o there row.file file (sym (ap (λ (t : Tables). row_at t.files row.file) made_so_far) ∙ free) upload.upload it held whole.within whole.complete content)

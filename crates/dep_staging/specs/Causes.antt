@@ -6,10 +6,11 @@ use Rattle.sqlite.specs.declared.types.Value.TheVariants.{Int}
 use Rattle.dep_types.specs.Maps.{Numbered}
 use Rattle.dep_types.specs.State.{State, Upload, clock_at, expires, tick}
 use Rattle.dep_types.specs.declared.config.Config.{Config}
+use Rattle.dep_types.specs.declared.rows.UploadRow.{UploadRow}
 use Rattle.dep_types.specs.declared.store_fault.StoreFault.{StoreFault}
 use Rattle.dep_tables.specs.Clauses.{AtMostOne, FailsToRead, FailsToReadNumbers, FailsToRun, JustOne}
-use Rattle.dep_tables.specs.Rows.{IsBytesRow, IsLeftRow, IsSegmentRow, IsStateRow, key_values, owner_values, state_values}
-use Rattle.dep_tables.specs.Texts.{delete_blocks_text, delete_segments_text, delete_upload_text, insert_timed_out_text, left_before_text, read_block_text, read_state_text, segments_of_text, write_state_text}
+use Rattle.dep_tables.specs.Rows.{IsBytesRow, IsLeftRow, IsSegmentRow, IsStateRow, columns_of_upload, key_values, owner_values, sha512_values, state_values, upload_values}
+use Rattle.dep_tables.specs.Texts.{delete_blocks_text, delete_segments_text, delete_sha512_text, delete_upload_text, insert_sha512_text, insert_timed_out_text, insert_upload_text, left_before_text, read_block_text, read_state_text, segments_of_text, write_state_text}
 use Rattle.dep_tables.specs.declared.owner.BlockOwner.TheVariants as owner
 use Rattle.dep_tables.specs.declared.segments.SegmentRow.{SegmentRow}
 use Rattle.dep_row_maps.specs.Stored.{block_key, state_row}
@@ -29,9 +30,20 @@ pub record HasStorableSegments (s : State) (u : ℕ) : Type 0 where
   pub segments : (k : ℕ) (bytes : List ℕ) → map.get (segments_at s.uploads u) k ≡ Some bytes
       → k < 2 ^ 63
 
+-- one of the statements that open an upload
+pub data FailsToOpen (opened : UploadRow) (at new : db.State) (fault : StoreFault) : Type 0 where
+  row : FailsToRun insert_upload_text (upload_values (columns_of_upload opened)) at new fault
+      → FailsToOpen opened at new fault
+  promise : (value : List ℕ) → opened.sha512 ≡ Some value
+      → FailsToRun insert_sha512_text (sha512_values (owner.Upload opened.upload) value)
+      at new fault
+      → FailsToOpen opened at new fault
+
 -- one of the statements that delete an upload
 pub data FailsToDrop (u : ℕ) (at new : db.State) (fault : StoreFault) : Type 0 where
   blocks : FailsToRun delete_blocks_text (owner_values (owner.Upload u)) at new fault
+      → FailsToDrop u at new fault
+  promise : FailsToRun delete_sha512_text (owner_values (owner.Upload u)) at new fault
       → FailsToDrop u at new fault
   segments : FailsToRun delete_segments_text (Int (pos u) ∷ []) at new fault
       → FailsToDrop u at new fault

@@ -3,13 +3,12 @@
 ghost use Rattle.std.specs.Prelude.{◌≡◌, ◌≤◌, ◌<◌, ◌^◌, ℕ, List, Some, OnOk, IsTrue};
 ghost use Rattle.std.specs.List.{range_with_len};
 ghost use Rattle.std.specs.FinMap as finmap;
-ghost use Rattle.sha2.specs.Sha512 as sha2;
 ghost use Rattle.dep_types.specs.State.{Object, File, Upload};
 ghost use Rattle.dep_types.specs.Rows.{upload_row, file_row};
 ghost use Rattle.dep_types.specs.Uploads.{assembled, is_complete};
 ghost use Rattle.dep_tables.specs.Tables.{tables_of};
 ghost use Rattle.dep_tables.specs.Clauses.{StaysWithin};
-ghost use Rattle.dep_tables.specs.Rows.{IsStorableFile, IsStorableUpload};
+ghost use Rattle.dep_tables.specs.Rows.{IsStorableFile, IsStorableUpload, columns_of_upload};
 ghost use Rattle.dep_tables.specs.declared.owner.BlockOwner.TheVariants as owner;
 ghost use Rattle.dep_row_maps.specs.Stored.{move_parts};
 ghost use Rattle.dep_row_maps.specs.TablesAre.{TablesAre};
@@ -18,7 +17,8 @@ ghost use Rattle.dep_row_maps.specs.Causes.{FailsByOne, FailsByStatement};
 ghost use Rattle.dep_staging.specs.Assembling.{HasItsSegments, deposited};
 
 use dep_tables::{
-    BlockOwner, Statements, delete_segments, delete_upload, insert_file, insert_sha512, move_part,
+    BlockOwner, Statements, delete_segments, delete_sha512, delete_upload, insert_file,
+    insert_sha512, move_part,
 };
 use dep_types::{FileRow, StoreFault, UploadRow};
 
@@ -45,14 +45,12 @@ fn move_parts<T: Statements>(
 }
 
 /// Makes a file of an upload each of whose segments was received: its bytes become the file's, part
-/// by part, and the upload goes with its segments. The SHA-512 is that of the file's content
-/// (FIPS 180-4). It is a fault of the store where the number of the file is taken, and where a
-/// number is 2^63 or more.
+/// by part, and the upload goes with its segments and what was promised of it. It is a fault of the
+/// store where the number of the file is taken, and where a number is 2^63 or more.
 pub fn assemble<T: Statements>(
     tx: &mut T,
     upload: &UploadRow,
     row: &FileRow,
-    sha512: &[u8; 64],
 ) -> Result<(), StoreFault>
     ensures map { FromMaps (T.state tx.old) (T.state tx.new)
         (λ s. (o : Object) (it : Upload) (file : File)
@@ -60,18 +58,19 @@ pub fn assemble<T: Statements>(
         → finmap.get s.uploads upload.now.upload ≡ Some it → HasItsSegments it
         → upload.now ≡ upload_row upload.now.upload it
         → row.now ≡ file_row row.now.object row.now.file file → file.content ≡ assembled it
-        → sha512.now ≡ sha2.sha512 file.content
         → OnOk result (TablesAre (tables_of (T.state tx.new))
         (deposited s row.now.object o row.now.file file upload.now.upload))) }
     ensures ours { KeepsOurs (T.state tx.old) (T.state tx.new) result }
     ensures cause { FailsByOne T.state tx.old tx.new result
-        (IsStorableUpload upload.now × IsStorableFile row.now) FailsByStatement }
+        (IsStorableUpload (columns_of_upload upload.now) × IsStorableFile row.now)
+        FailsByStatement }
     ensures err { FailsUncommitted (T.state tx.old) (T.state tx.new) result }
     ensures stays { StaysWithin T.lenders T.state tx.old tx.new result }
 {
     move_parts(tx, upload.upload, upload.count, row.file)?;
+    delete_sha512(tx, BlockOwner::Upload(upload.upload))?;
     delete_segments(tx, upload.upload)?;
     delete_upload(tx, upload.upload)?;
-    insert_sha512(tx, BlockOwner::File(row.file), sha512)?;
+    insert_sha512(tx, BlockOwner::File(row.file), &row.sha512)?;
     insert_file(tx, row)
 }

@@ -1,7 +1,9 @@
 //! What is known at the number of an upload.
 
-ghost use Rattle.std.specs.Prelude.{◌≡◌, ◌<◌, ◌^◌, pos, [], ◌∷◌};
+ghost use Rattle.std.specs.Prelude.{◌≡◌, ◌<◌, ◌^◌, pos, [], ◌∷◌, option_map};
+ghost use Rattle.std.specs.FinMap as finmap;
 ghost use Rattle.sqlite.specs.declared.types.Value.TheVariants.{Int};
+ghost use Rattle.dep_types.specs.Rows.{upload_row};
 ghost use Rattle.dep_tables.specs.Clauses.{AtMostOne, ReadsOnly, RefusesNumbers, FailsReading, FailsByReadingNumbers, StaysWithin};
 ghost use Rattle.dep_tables.specs.Rows.{IsNumberRow};
 ghost use Rattle.dep_tables.specs.Texts.{find_timed_out_text};
@@ -10,7 +12,9 @@ ghost use Rattle.dep_row_maps.specs.Causes.{FailsByOne, FailsByStatement};
 ghost use Rattle.dep_files.specs.Reading.{Tells};
 ghost use Rattle.dep_staging.specs.Found.{IsFound, gone_upload};
 
-use dep_tables::{SegmentRow, Statements, find_timed_out, find_upload, segments_of};
+use dep_tables::{
+    BlockOwner, SegmentRow, Statements, find_sha512, find_timed_out, find_upload, segments_of,
+};
 use dep_types::{StoreFault, UploadRow};
 use std::alloc::Global;
 
@@ -32,6 +36,30 @@ pub enum FoundUpload {
     TimedOut,
     /// The number was not given yet, or its upload is gone.
     Unknown,
+}
+
+// The row of an upload, with the SHA-512 that was promised of it.
+fn find_row<T: Statements>(tx: &mut T, upload: u64) -> Result<Option<UploadRow>, StoreFault>
+    ensures map { Tells (T.state tx.old) (T.state tx.new) result
+        (λ s found. found ≡ option_map (upload_row upload) (finmap.get s.uploads upload)) }
+    ensures same { ReadsOnly (T.state tx.old) (T.state tx.new) result }
+    ensures numbers { RefusesNumbers (T.state tx.old) (T.state tx.new) result (upload < 2 ^ 63) }
+    ensures cause { FailsByOne T.state tx.old tx.new result (upload < 2 ^ 63) FailsByStatement }
+    ensures err { FailsReading (T.state tx.old) (T.state tx.new) result }
+    ensures stays { StaysWithin T.lenders T.state tx.old tx.new result }
+{
+    let Some(columns) = find_upload(tx, upload)? else {
+        return Ok(None);
+    };
+    Ok(Some(UploadRow {
+        upload: columns.upload,
+        size: columns.size,
+        count: columns.count,
+        segment_size: columns.segment_size,
+        sha256: columns.sha256,
+        sha512: find_sha512(tx, BlockOwner::Upload(upload))?,
+        last: columns.last,
+    }))
 }
 
 fn load_gone<T: Statements>(tx: &mut T, upload: u64) -> Result<FoundUpload, StoreFault>
@@ -67,7 +95,7 @@ pub fn load_upload<T: Statements>(
     ensures err { FailsReading (T.state tx.old) (T.state tx.new) result }
     ensures stays { StaysWithin T.lenders T.state tx.old tx.new result }
 {
-    match find_upload(tx, upload)? {
+    match find_row(tx, upload)? {
         Some(row) => Ok(FoundUpload::Live(StagedUpload {
             row,
             received: segments_of(tx, alloc, upload)?,

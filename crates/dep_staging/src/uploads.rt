@@ -5,21 +5,21 @@ ghost use Rattle.std.specs.FinMap as finmap;
 ghost use Rattle.dep_types.specs.State.{Upload};
 ghost use Rattle.dep_types.specs.Rows.{upload_row};
 ghost use Rattle.dep_tables.specs.Tables.{tables_of};
-ghost use Rattle.dep_tables.specs.Clauses.{FailsByRunning, FailsWhole, StaysWithin, RefusesNumbers};
-ghost use Rattle.dep_tables.specs.Rows.{IsStorableUpload, upload_values};
-ghost use Rattle.dep_tables.specs.Texts.{insert_upload_text};
+ghost use Rattle.dep_tables.specs.Clauses.{StaysWithin, RefusesNumbers};
+ghost use Rattle.dep_tables.specs.Rows.{IsStorableUpload, columns_of_upload};
 ghost use Rattle.dep_row_maps.specs.TablesAre.{TablesAre, with_upload};
 ghost use Rattle.dep_row_maps.specs.Clauses.{FromMaps, KeepsOurs, FailsUncommitted};
 ghost use Rattle.dep_row_maps.specs.Causes.{FailsByOne};
-ghost use Rattle.dep_staging.specs.Causes.{FailsToDrop};
+ghost use Rattle.dep_staging.specs.Causes.{FailsToDrop, FailsToOpen};
 
 use dep_tables::{
-    BlockOwner, Statements, delete_blocks, delete_segments, delete_upload, insert_upload,
+    BlockOwner, Statements, UploadColumns, delete_blocks, delete_segments, delete_sha512,
+    delete_upload, insert_sha512, insert_upload,
 };
 use dep_types::{StoreFault, UploadRow};
 
-/// Opens an upload that has no segment yet. It is a fault of the store where its number is taken,
-/// and where a number is 2^63 or more.
+/// Opens an upload that has no segment yet, and keeps the SHA-512 that was promised of it. It is a
+/// fault of the store where its number is taken, and where a number is 2^63 or more.
 pub fn open_upload<T: Statements>(tx: &mut T, row: &UploadRow) -> Result<(), StoreFault>
     ensures map { FromMaps (T.state tx.old) (T.state tx.new)
         (λ s. (it : Upload) → row.now ≡ upload_row row.now.upload it → it.segments ≡ finmap.empty
@@ -27,17 +27,21 @@ pub fn open_upload<T: Statements>(tx: &mut T, row: &UploadRow) -> Result<(), Sto
         × TablesAre (tables_of (T.state tx.new)) (with_upload s row.now.upload it))) }
     ensures ours { KeepsOurs (T.state tx.old) (T.state tx.new) result }
     ensures numbers { RefusesNumbers (T.state tx.old) (T.state tx.new) result
-        (IsStorableUpload row.now) }
-    ensures cause { FailsByRunning (T.state tx.old) (T.state tx.new) result
-        (IsStorableUpload row.now) insert_upload_text (upload_values row.now) }
-    ensures err { FailsWhole (T.state tx.old) (T.state tx.new) result }
+        (IsStorableUpload (columns_of_upload row.now)) }
+    ensures cause { FailsByOne T.state tx.old tx.new result
+        (IsStorableUpload (columns_of_upload row.now)) (FailsToOpen row.now) }
+    ensures err { FailsUncommitted (T.state tx.old) (T.state tx.new) result }
     ensures stays { StaysWithin T.lenders T.state tx.old tx.new result }
 {
-    insert_upload(tx, row)
+    insert_upload(tx, &UploadColumns::of_row(row))?;
+    match &row.sha512 {
+        Some(value) => insert_sha512(tx, BlockOwner::Upload(row.upload), value),
+        None => Ok(()),
+    }
 }
 
-/// Drops an upload with its segments and their bytes, if there is one of this number. A number of
-/// 2^63 or more is a fault of the store.
+/// Drops an upload with its segments, their bytes and the SHA-512 that was promised of it, if there
+/// is one of this number. A number of 2^63 or more is a fault of the store.
 pub fn drop_upload<T: Statements>(tx: &mut T, upload: u64) -> Result<(), StoreFault>
     ensures map { FromMaps (T.state tx.old) (T.state tx.new)
         (λ s. OnOk result (TablesAre (tables_of (T.state tx.new))
@@ -49,6 +53,7 @@ pub fn drop_upload<T: Statements>(tx: &mut T, upload: u64) -> Result<(), StoreFa
     ensures stays { StaysWithin T.lenders T.state tx.old tx.new result }
 {
     delete_blocks(tx, BlockOwner::Upload(upload))?;
+    delete_sha512(tx, BlockOwner::Upload(upload))?;
     delete_segments(tx, upload)?;
     delete_upload(tx, upload)
 }

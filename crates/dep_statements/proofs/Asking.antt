@@ -1,39 +1,74 @@
--- What a query of one table answers.
-use Rattle.std.proofs.Common.{◌≡◌, ℕ, List, [], ◌∷◌, ◌++◌, map, filter, flat_map, Bool, true, false, if◌then◌else◌, refl, ap, subst, ◌∙◌}
+-- What a query of one table answers, or of two.
+use Rattle.std.proofs.Common.{◌≡◌, ℕ, List, [], ◌∷◌, ◌++◌, map, filter, flat_map, Bool, true, false, if◌then◌else◌, refl, sym, ap, ap₂, subst, ◌∙◌}
+use Rattle.std.proofs.lemmas.List.{map-append}
 use Rattle.std.specs.List.Sorted.{IsPermutation, IsSorted}
 use Rattle.sqlite.specs.declared.types.Value.TheVariants.{Null}
 use Rattle.sqlite_value.specs.declared.keys.Key.{Key}
 use Rattle.sqlite.specs.Order.{Row}
 use Rattle.sqlite.specs.Tree.{Trees}
 use Rattle.sqlite.specs.Term.{Term, Env}
-use Rattle.sqlite.specs.Query.{Query, IsAnswer, output, output_cmp, page, Output}
+use Rattle.sqlite.specs.Query.{Query, Join, IsAnswer, matches, inner, left, end, output, output_cmp, page, Output}
+use Rattle.sqlite.specs.Query.{or_nulls}
 use Rattle.sqlite.specs.Program.{overlay}
 use Rattle.sqlite.specs.Effect.{Database, Answers}
-use Rattle.dep_statements.specs.Query.{one_table, plainly, passes}
+use Rattle.dep_statements.specs.Query.{plain_query, one_table, left_tables, plainly, passes, pass_together}
 
--- the rows that pass, each beside the parameters
-abbrev beside : Row → List Row → List Env
-beside params = map (λ r. params ∷ r ∷ [])
-
-kept : (params : Row) (r : Row) (more : List Row) (all : List Env) (b : Bool) → all ≡ beside params more → (if b then (params ∷ r ∷ []) ∷ [] else []) ++ all ≡ beside params (if b then r ∷ more else more)
-kept params r more all true e = ap (λ xs. (params ∷ r ∷ []) ∷ xs) e
-kept params r more all false e = e
-
-each : (params : Row) (tests : List Term) (rows : List Row)
-    → flat_map (λ r. if passes params tests r then (params ∷ r ∷ []) ∷ [] else []) rows ≡ beside params (filter (passes params tests) rows)
-each params tests [] = refl
-each params tests (r ∷ rows) = kept params r (filter (passes params tests) rows) _ (passes params tests r) (each params tests rows)
-
--- the rows of the table that pass are put in an order that ORDER BY allows, shown and cut
-pub record Picks (q : Query) (params : Row) (found rows : List Row) : Type 0 where
+-- What is found, each as an environment: it is put in an order that ORDER BY allows, shown and cut.
+pub record PicksBy {X : Type 0} (q : Query) (params : Row) (env : X → Env) (found : List X) (rows : List Row) : Type 0 where
   pub ordered : List Output
-  pub same : IsPermutation (map (λ r. output q (params ∷ r ∷ [])) found) ordered
+  pub same : IsPermutation (map (λ x. output q (env x)) found) ordered
   pub sorted : IsSorted (output_cmp q) ordered
   pub shown : rows ≡ page q params (map (λ o. o.1) ordered)
+
+-- rows of one table, each beside the parameters; pairs of rows of two
+abbrev beside : Row → Row → Env
+beside params r = params ∷ r ∷ []
+
+abbrev pub both_beside : Row → Row × Row → Env
+both_beside params e = params ∷ e.0 ∷ e.1 ∷ []
+
+abbrev pub passing_pairs : Row → List Term → (Row → List Row) → List Row → List (Row × Row)
+passing_pairs params tests those firsts = flat_map (λ r. map (λ s. (r, s)) (filter (pass_together params tests r) (those r))) firsts
+
+-- those that LEFT JOIN puts beside a row
+abbrev pub joined_to : Row → List Term → List Row → Row → List Row
+joined_to params on seconds r = or_nulls (filter (pass_together params on r) seconds)
+
+abbrev pub Picks : Query → Row → List Row → List Row → Type 0
+Picks q params = PicksBy q params (beside params)
 
 map_map : {A B C : Type 0} (f : A → B) (g : B → C) (xs : List A) → map g (map f xs) ≡ map (λ x. g (f x)) xs
 map_map f g [] = refl
 map_map f g (x ∷ xs) = ap (λ ys. g (f x) ∷ ys) (map_map f g xs)
+
+-- what passes, element by element
+chosen : {A B : Type 0} (p : A → Bool) (f : A → B) (xs : List A) → flat_map (λ x. if p x then f x ∷ [] else []) xs ≡ map f (filter p xs)
+chosen p f [] = refl
+chosen p f (x ∷ xs) = go (p x) (chosen p f xs)
+  where
+    go : (b : Bool) → flat_map (λ y. if p y then f y ∷ [] else []) xs ≡ map f (filter p xs)
+        → (if b then f x ∷ [] else []) ++ flat_map (λ y. if p y then f y ∷ [] else []) xs ≡ map f (if b then x ∷ filter p xs else filter p xs)
+    go true e = ap (λ ys. f x ∷ ys) e
+    go false e = e
+
+module _ (params : Row) (tests : List Term) (those : Row → List Row) where
+  -- each row of the first table, with those of its own that pass beside it
+  pairs : (firsts : List Row) → flat_map (λ r. flat_map (λ s. if pass_together params tests r s then (params ∷ r ∷ s ∷ []) ∷ [] else []) (those r)) firsts
+      ≡ map (both_beside params) (passing_pairs params tests those firsts)
+  pairs [] = refl
+  pairs (r ∷ firsts) =
+      let passing = filter (pass_together params tests r) (those r) in
+      ap₂ ◌++◌ (chosen (pass_together params tests r) (λ s. params ∷ r ∷ s ∷ []) (those r) ∙ sym (map_map (λ s. (r, s)) (both_beside params) passing)) (pairs firsts)
+      ∙ sym (map-append (both_beside params) (map (λ s. (r, s)) passing) (passing_pairs params tests those firsts))
+
+module _ (from : Join) (tests shows : List Term) (order : List (Term × Key)) (limit : Term) where
+  abbrev plain : Query
+  plain = plain_query from tests shows order limit
+
+  picks_by : {X : Type 0} (env : X → Env) (found : List X) (db : Trees) (params : Row) (rows : List Row) → matches db tests from (params ∷ []) ≡ map env found → IsAnswer plain db params rows → PicksBy plain params env found rows
+  picks_by env found db params rows matched a =
+      let shown : a.kept ≡ map (λ x. output plain (env x)) found = a.distinct ∙ ap (map (output plain)) (a.grouped ∙ matched) ∙ map_map env (output plain) found in
+      record { ordered = a.ordered; same = subst (λ k. IsPermutation k a.ordered) shown a.same; sorted = a.sorted; shown = a.shown }
 
 module _ (tree : ℕ) (tests shows : List Term) (order : List (Term × Key)) (limit : Term) where
   abbrev q : Query
@@ -41,10 +76,20 @@ module _ (tree : ℕ) (tests shows : List Term) (order : List (Term × Key)) (li
 
   pub picks : (trees : Trees) (params : Row) (rows : List Row) → overlay trees [] tree ≡ trees tree → IsAnswer q (overlay trees []) params rows → Picks q params (filter (passes params tests) (trees tree)) rows
   picks trees params rows own a =
-      let staged : a.staged ≡ beside params (filter (passes params tests) (trees tree)) = a.grouped ∙ each params tests (overlay trees [] tree) ∙ ap (λ all. beside params (filter (passes params tests) all)) own in
-      let shown : a.kept ≡ map (λ r. output q (params ∷ r ∷ [])) (filter (passes params tests) (trees tree)) =
-      a.distinct ∙ ap (map (output q)) staged ∙ map_map (λ r. params ∷ r ∷ []) (output q) (filter (passes params tests) (trees tree)) in
-      record { ordered = a.ordered; same = subst (λ k. IsPermutation k a.ordered) shown a.same; sorted = a.sorted; shown = a.shown }
+      picks_by (inner tree end) tests shows order limit (beside params) (filter (passes params tests) (trees tree)) (overlay trees []) params rows
+      (chosen (passes params tests) (beside params) (overlay trees [] tree) ∙ ap (λ all. map (beside params) (filter (passes params tests) all)) own) a
 
   pub answers : (db : Database) (params : Row) (rows : List Row) → overlay db.trees [] tree ≡ db.trees tree → Answers db (plainly q) params rows → Picks q params (filter (passes params tests) (db.trees tree)) rows
   answers db params rows own h = picks db.trees params rows own (h.answer Null)
+
+-- of two tables
+module _ (first second : ℕ) (on tests shows : List Term) (order : List (Term × Key)) (limit : Term) where
+  abbrev both : Query
+  both = left_tables first second on tests shows order limit
+
+  pub answers_both : (db : Database) (params : Row) (rows : List Row) → overlay db.trees [] first ≡ db.trees first → overlay db.trees [] second ≡ db.trees second → Answers db (plainly both) params rows
+      → PicksBy both params (both_beside params) (passing_pairs params tests (joined_to params on (db.trees second)) (db.trees first)) rows
+  answers_both db params rows own other h =
+      picks_by (inner first (left second on end)) tests shows order limit (both_beside params) (passing_pairs params tests (joined_to params on (db.trees second)) (db.trees first)) (overlay db.trees []) params rows
+      (pairs params tests (joined_to params on (overlay db.trees [] second)) (overlay db.trees [] first)
+      ∙ ap₂ (λ ones others. map (both_beside params) (passing_pairs params tests (joined_to params on others) ones)) own other) (h.answer Null)

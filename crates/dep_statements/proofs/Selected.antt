@@ -9,7 +9,7 @@ use Rattle.sqlite.specs.Term.{Term, lit}
 use Rattle.sqlite.specs.Tree.{Trees}
 use Rattle.sqlite.specs.Schema.{Schema}
 use Rattle.sqlite.specs.Command.TheVariants.{Select}
-use Rattle.sqlite.specs.Query.{output, output_cmp, Output, IsSureAnswer}
+use Rattle.sqlite.specs.Query.{Query, output, output_cmp, Output, IsSureAnswer}
 use Rattle.sqlite.specs.Listing.{understood, reads_listing}
 use Rattle.sqlite.specs.Program.{overlay}
 use Rattle.sqlite.specs.State.{State, Shown, Begins, IsUnchanged}
@@ -27,12 +27,16 @@ use Rattle.dep_statements.proofs.Statements.{selected}
 abbrev pub first_only : Term
 first_only = lit (Int (pos 1))
 
--- how a text asks one table
-pub record Asks (schema : Schema) (sql : List ℕ) (tree : ℕ) (tests shows : List Term) (order : List (Term × Key)) (limit : Term) : Type 0 where
+-- how a text asks
+pub record AsksBy (schema : Schema) (sql : List ℕ) (q : Query) : Type 0 where
   pub names : List (List ℕ)
-  pub is : command_of (understood schema sql) ≡ Select (plainly (one_table tree tests shows order limit)) names
+  pub is : command_of (understood schema sql) ≡ Select (plainly q) names
   pub unlisted : reads_listing schema sql ≡ false
   pub plain : IsPlain (understood schema sql)
+
+-- one table
+abbrev pub Asks : Schema → List ℕ → ℕ → List Term → List Term → List (Term × Key) → Term → Type 0
+Asks schema sql tree tests shows order limit = AsksBy schema sql (one_table tree tests shows order limit)
 
 module _ (schema : Schema) (sql : List ℕ) (params : Row) (old : State) (ours : old.now.schema ≡ schema) (tree : ℕ) (own : (trees : Trees) → overlay trees [] tree ≡ trees tree) (tests shows : List Term) where
   abbrev rows : List Row

@@ -63,7 +63,8 @@ pub fn open_hub<S: Alter, W: Watch>(
     ensures config { IfOk result (λ hub. hub.config ≡ config) }
     ensures checked { IfOk result (λ _. IsChecked config) }
     ensures next { IfOk result (λ hub. hub.next ≡ 0) }
-    // A database that is not opened is handed back as it was, in the version that it had.
+    // A database that is not opened is handed back as it was, in the version that it had, unless version 1 is told of other
+    // tables than ours.
     ensures left { IfErr result (λ e. (fault : OpenFault) → e.0 ≡ StartFault.Open fault
         → IsTrue (state S.Store e.1).is_open
         → Keeps (state S.Store connection) (state S.Store e.1)) }

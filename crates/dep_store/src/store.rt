@@ -15,12 +15,13 @@ ghost use Rattle.dep_types.specs.Streams.{IsStreamed};
 ghost use Rattle.sqlite.specs.Tree.{Trees};
 ghost use Rattle.dep_tables.specs.Tables.{Tables};
 ghost use Rattle.dep_tables.specs.Edits.{IsObjectAfter};
-ghost use Rattle.dep_tables.specs.Versions.{our_version, older_version, HasVersion};
+ghost use Rattle.dep_tables.specs.Versions.{our_version, HasVersion};
 ghost use Rattle.dep_schema.specs.Standing.{Holds, HoldsOlder, HoldsNone, IsOpenable, Stands};
 ghost use Rattle.dep_store.specs.Auditing.{IsObjectAudited};
 ghost use Rattle.dep_schema.specs.States.{StandsFor, IsLeftAs, Leaves};
 ghost use Rattle.dep_schema.specs.Performing.{Performs};
-ghost use Rattle.dep_upgrading.specs.Migrating.{IsUpgraded, Keeps, OpenLeaves, Stood};
+ghost use Rattle.dep_upgrading.specs.Causes.{FailsToOpenTables, FindsOrUpgrades};
+ghost use Rattle.dep_upgrading.specs.Migrating.{Keeps, OpenLeaves, OpensOlder, Stood};
 ghost use Rattle.dep_store.specs.Shut.{LeavesNoMore};
 
 use crate::auditing::audit_object;
@@ -80,21 +81,25 @@ impl<S: Alter> Store<S> {
             → StandsFor (state S.Store store) s) }
         ensures refused { IfErr result (λ e. HasCleanDisk (state S.Store e.1)
             → e.0 ≡ OpenFault.UnknownVersion → IsOpenable (state S.Store connection) → ⊥) }
-        // So it is of tables that stand for no state: those of version 2 stay, and those of version 1 get the SHA-512 of
-        // each file's bytes as they stand.
+        // So it is of tables that stand for no state, whatever version their row tells: those of version 2 stay, and those
+        // of version 1 get the SHA-512 of each file's bytes as they stand.
         ensures tables { IfOk result (λ store. HasCleanDisk (state S.Store store)
-            → (t : Tables) → Holds (state S.Store connection).now.trees t → HasVersion our_version t
-            → Stands (state S.Store store) t) }
+            → (t : Tables) → Holds (state S.Store connection).now.trees t
+            → HasVersion our_version t × Stands (state S.Store store) t) }
         ensures older { IfOk result (λ store. HasCleanDisk (state S.Store store)
             → (t : Tables) → HoldsOlder (state S.Store connection).now.trees t
-            → HasVersion older_version t
-            → (after : Tables) × Stands (state S.Store store) after × IsUpgraded t after) }
+            → OpensOlder t (state S.Store store)) }
+        // An Ok has a cause, and so has a fault.
+        ensures told { MatchResult result
+            (λ store. HasCleanDisk (state S.Store store) → FindsOrUpgrades S.Store connection)
+            (λ e. HasCleanDisk (state S.Store e.1) → FailsToOpenTables S.Store connection e.1 e.0) }
         // What a store left is never of a version that is not known.
         ensures known { IfErr result (λ e. HasCleanDisk (state S.Store e.1)
             → IsTrue (state S.Store connection).is_open
             → (s : State) → IsLeftAs (state S.Store connection).now.trees s
             → e.0 ≡ OpenFault.UnknownVersion → ⊥) }
-        // A fault that leaves the store open leaves the database as it was, in the version that it had.
+        // A fault that leaves the store open leaves tables of ours as they were, in the version that they had, and any others
+        // of which version 1 is not told.
         ensures left { IfErr result (λ e. IsTrue (state S.Store e.1).is_open
             → Keeps (state S.Store connection) (state S.Store e.1)) }
         ensures stood { IfErr result (λ e. IsTrue (state S.Store e.1).is_open

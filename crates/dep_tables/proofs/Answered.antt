@@ -16,9 +16,14 @@ map_id : (rows : List Row) → map (λ r. r) rows ≡ rows
 map_id [] = refl
 map_id (r ∷ rows) = ap (λ xs. r ∷ xs) (map_id rows)
 
-module _ {R : Type 0} (values : R → Row) (width : ℕ) (see : Row → Row) (whole : (r : Row) → columns_from 0 width (see r) ≡ see r) where
+at_most : {R : Type 0} (found : Option R) → length (option_to_list found) ≤ 1
+at_most None = omega arith
+at_most (Some x) = omega arith
+
+-- of what is stored: rows, or pairs of them
+module _ {R S : Type 0} (values : R → Row) (width : ℕ) (see : S → Row) (whole : (r : S) → columns_from 0 width (see r) ≡ see r) where
   -- rows that are shown of stored ones, in any order, have no more columns
-  pub no_wider : (stored rows : List Row) → IsPermutation (map see stored) rows → map (columns_from 0 width) rows ≡ rows
+  pub no_wider : (stored : List S) (rows : List Row) → IsPermutation (map see stored) rows → map (columns_from 0 width) rows ≡ rows
   no_wider stored rows same = map_same (columns_from 0 width) (λ r. r) rows (all_from _ rows each) ∙ map_id rows
     where
       each : (row : Row) → Has rows row → columns_from 0 width row ≡ row
@@ -27,21 +32,28 @@ module _ {R : Type 0} (values : R → Row) (width : ℕ) (see : Row → Row) (wh
           ap (columns_from 0 width) from.2 ∙ whole from.0 ∙ sym from.2
 
   -- rows in an order
-  pub read_in_order : (cmp : Row → Row → Ordering) (stored rows : List Row) (read : List R) → InOrder cmp (map see stored) rows → map values read ≡ map (columns_from 0 width) rows → InOrder cmp (map see stored) (map values read)
+  pub read_in_order : (cmp : Row → Row → Ordering) (stored : List S) (rows : List Row) (read : List R) → InOrder cmp (map see stored) rows → map values read ≡ map (columns_from 0 width) rows → InOrder cmp (map see stored) (map values read)
   read_in_order cmp stored rows read h is = subst (InOrder cmp (map see stored)) (sym (is ∙ no_wider stored rows h.same)) h
 
-  each_whole : (stored : List Row) → map (columns_from 0 width) (map see stored) ≡ map see stored
+  -- at most one was read, so at most one was there
+  pub read_at_most : (found : Option R) (stored : List S) (rows : List Row) → IsPermutation (map see stored) rows → map values (option_to_list found) ≡ map (columns_from 0 width) rows → map values (option_to_list found) ≡ map see stored
+  read_at_most found stored rows same is =
+      let all : map values (option_to_list found) ≡ rows = is ∙ no_wider stored rows same in
+      let few : length rows ≤ 1 = omega (arith, ap length all, length-map (option_to_list found) values, at_most found) in
+      all ∙ sym (short_permutation rows (map see stored) few (IsPermutation-sym (map see stored) rows same))
+
+  each_whole : (stored : List S) → map (columns_from 0 width) (map see stored) ≡ map see stored
   each_whole [] = refl
   each_whole (r ∷ stored) = rw (whole r, each_whole stored) refl
 
-  pub read_each : (stored rows : List Row) (read : List R) → rows ≡ map see stored → map values read ≡ map (columns_from 0 width) rows → map values read ≡ map see stored
+  pub read_each : (stored : List S) (rows : List Row) (read : List R) → rows ≡ map see stored → map values read ≡ map (columns_from 0 width) rows → map values read ≡ map see stored
   read_each stored rows read shown is = is ∙ ap (map (columns_from 0 width)) shown ∙ each_whole stored
 
   -- at most one row
-  pub read_one : (found : Option R) (there : Option Row) (rows : List Row) → rows ≡ map see (option_to_list there) → map values (option_to_list found) ≡ map (columns_from 0 width) rows → option_map values found ≡ option_map see there
+  pub read_one : (found : Option R) (there : Option S) (rows : List Row) → rows ≡ map see (option_to_list there) → map values (option_to_list found) ≡ map (columns_from 0 width) rows → option_map values found ≡ option_map see there
   read_one found there rows shown is = go found there (read_each (option_to_list there) rows (option_to_list found) shown is)
     where
-      go : (found : Option R) (there : Option Row) → map values (option_to_list found) ≡ map see (option_to_list there) → option_map values found ≡ option_map see there
+      go : (found : Option R) (there : Option S) → map values (option_to_list found) ≡ map see (option_to_list there) → option_map values found ≡ option_map see there
       go None None e = refl
       go None (Some row) e = absurd (cc)
       go (Some r) None e = absurd (cc)
@@ -50,10 +62,6 @@ module _ {R : Type 0} (values : R → Row) (width : ℕ) (see : Row → Row) (wh
 take_none : {X : Type 0} (xs : List X) → take 0 xs ≡ []
 take_none [] = refl
 take_none (x ∷ xs) = refl
-
-at_most : {R : Type 0} (found : Option R) → length (option_to_list found) ≤ 1
-at_most None = omega arith
-at_most (Some x) = omega arith
 
 -- the first of rows in an order
 module _ {R : Type 0} (values : R → Row) (width : ℕ) (see : Row → Row) (whole : (r : Row) → columns_from 0 width (see r) ≡ see r) where

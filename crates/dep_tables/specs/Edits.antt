@@ -4,20 +4,21 @@ use Rattle.std.specs.List.{list_any}
 use Rattle.std.specs.Option.{option_to_list}
 use Rattle.sqlite.specs.declared.types.Value.{Value}
 use Rattle.sqlite.specs.declared.types.Value.TheVariants.{Int}
+use Rattle.sqlite.specs.Order.{Row}
 use Rattle.sqlite_trees.specs.Tree.{put_row, without_rowid, rowid}
-use Rattle.dep_statements.specs.Rows.{row_at, replaced, is_after, is_below_number, has_number, put_next, InOrder, IsFirst}
+use Rattle.dep_statements.specs.Rows.{row_at, replaced, is_after, is_below_number, has_number, put_next, left_join, InOrder, IsFirst}
 use Rattle.dep_types.specs.declared.rows.ObjectRow.{ObjectRow}
 use Rattle.dep_types.specs.declared.rows.FileRow.{FileRow}
-use Rattle.dep_types.specs.declared.rows.UploadRow.{UploadRow}
 use Rattle.dep_tables.specs.declared.state.StateRow.{StateRow}
 use Rattle.dep_tables.specs.declared.metadata.MetadataRow.{MetadataRow}
 use Rattle.dep_tables.specs.declared.segments.SegmentRow.{SegmentRow}
 use Rattle.dep_tables.specs.declared.uploads.LeftUpload.{LeftUpload}
+use Rattle.dep_tables.specs.declared.uploads.UploadColumns.{UploadColumns}
 use Rattle.dep_tables.specs.declared.owner.BlockOwner.{BlockOwner}
 use Rattle.dep_tables.specs.declared.owner.BlockOwner.TheVariants.{File, Upload}
 use Rattle.dep_tables.specs.declared.owner.BlockKey.{BlockKey}
 use Rattle.dep_tables.specs.declared.owner.BlockPlace.{BlockPlace}
-use Rattle.dep_tables.specs.Rows.{stored_format, sha512_values, is_sha512_of, value_in, stored_state, state_values, shown_state, stored_object, object_values, shown_object, metadata_values, shown_metadata, has_metadata_key, by_name_and_place, stored_file, file_values, shown_file, stored_upload, upload_values, shown_upload, segment_values, shown_segment, has_segment_key, by_number, stored_number, block_values, bytes_in, shown_place, place_values, is_block, is_block_of, is_part_of, is_later_block, moved_to, by_part_and_place, left_values, shown_left, by_last_and_upload}
+use Rattle.dep_tables.specs.Rows.{stored_format, sha512_values, is_sha512_of, is_sha512_of_row, value_in, stored_state, state_values, shown_state, stored_object, object_values, shown_object, metadata_values, shown_metadata, has_metadata_key, by_name_and_place, stored_file, file_values, shown_file, by_file, stored_upload, upload_values, shown_upload, segment_values, shown_segment, has_segment_key, by_number, stored_number, block_values, bytes_in, shown_place, place_values, is_block, is_block_of, is_part_of, is_later_block, moved_to, by_part_and_place, left_values, shown_left, by_last_and_upload}
 use Rattle.dep_tables.specs.Tables.{Tables}
 use Rattle.dep_tables.specs.Versions.{our_version}
 
@@ -87,19 +88,26 @@ without_file_rows object t = record t { files = filter (λ r. not (has_number 2 
 abbrev pub LacksFileRow : ℕ → Tables → Type 0
 LacksFileRow file t = row_at t.files file ≡ None
 
+-- rows of `files`, each beside the row of its SHA-512
+abbrev pub with_sha512s : Tables → List Row → List (Row × Row)
+with_sha512s t files = left_join is_sha512_of_row files t.sha512s
+
 abbrev pub IsFileRowAt : ℕ → Tables → Option FileRow → Type 0
-IsFileRowAt file t found = option_map file_values found ≡ option_map shown_file (row_at t.files file)
+IsFileRowAt file t found =
+    map file_values (option_to_list found)
+    ≡ map shown_file (with_sha512s t (option_to_list (row_at t.files file)))
 
 abbrev pub AreFileRowsOf : ℕ → Tables → List FileRow → Type 0
 AreFileRowsOf object t found =
-    map file_values found ≡ map shown_file (filter (has_number 2 object) t.files)
+    InOrder by_file (map shown_file (with_sha512s t (filter (has_number 2 object) t.files)))
+    (map file_values found)
 
 -- ---- uploads
 
-abbrev pub with_new_upload_row : UploadRow → Tables → Tables
+abbrev pub with_new_upload_row : UploadColumns → Tables → Tables
 with_new_upload_row row t = record t { uploads = put_row (stored_upload row) t.uploads }
 
-abbrev pub with_upload_row : UploadRow → Tables → Tables
+abbrev pub with_upload_row : UploadColumns → Tables → Tables
 with_upload_row row t = record t { uploads = replaced (stored_upload row) t.uploads }
 
 abbrev pub without_upload_row : ℕ → Tables → Tables
@@ -108,13 +116,9 @@ without_upload_row upload t = record t { uploads = without_rowid (pos upload) t.
 abbrev pub LacksUploadRow : ℕ → Tables → Type 0
 LacksUploadRow upload t = row_at t.uploads upload ≡ None
 
-abbrev pub IsUploadRowAt : ℕ → Tables → Option UploadRow → Type 0
+abbrev pub IsUploadRowAt : ℕ → Tables → Option UploadColumns → Type 0
 IsUploadRowAt upload t found =
     option_map upload_values found ≡ option_map shown_upload (row_at t.uploads upload)
-
-abbrev pub IsUploadAfter : ℕ → Tables → Option ℕ → Type 0
-IsUploadAfter after t found =
-    option_map (λ n. Int (pos n)) found ≡ option_map rowid (find (is_after after) t.uploads)
 
 -- of those that were last written to before this moment, the one that was left the longest
 abbrev pub IsLeftBefore : ℕ → Tables → Option LeftUpload → Type 0

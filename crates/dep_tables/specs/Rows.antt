@@ -1,6 +1,6 @@
 -- Rows of the tables as they are stored, where the column of a key is NULL, and as they are given and shown.
 -- Is..Row says that a row, as a query shows it, has the columns of one that was given.
-use Rattle.std.specs.Prelude.{◌≡◌, ◌⊎◌, ℕ, ◌<◌, ◌^◌, pos, Bool, if◌then◌else◌, ◌&&◌, ◌||◌, List, [], ◌∷◌, length, get_or, IsUtf8}
+use Rattle.std.specs.Prelude.{◌≡◌, ◌⊎◌, ℕ, ◌<◌, ◌^◌, pos, Bool, if◌then◌else◌, ◌&&◌, ◌||◌, List, [], ◌∷◌, ◌++◌, length, get_or, IsUtf8}
 use Rattle.std.specs.declared.cmp.Ordering.{Ordering}
 use Rattle.std.specs.Ordering.{ordering_then, is_eq}
 use Rattle.sqlite.specs.declared.types.Value.{Value}
@@ -8,6 +8,7 @@ use Rattle.sqlite.specs.declared.types.Value.TheVariants.{Null, Int, Text, Blob}
 use Rattle.sqlite.specs.Order.{Row, column}
 use Rattle.sqlite.specs.Values.{or_null}
 use Rattle.sqlite_value.specs.Order.{value_cmp}
+use Rattle.sqlite_trees.specs.Tree.{rowid}
 use Rattle.dep_statements.specs.Rows.{has_number, exceeds_number, columns_from}
 use Rattle.dep_types.specs.declared.rows.ObjectRow.{ObjectRow}
 use Rattle.dep_types.specs.declared.rows.FileRow.{FileRow}
@@ -18,6 +19,7 @@ use Rattle.dep_tables.specs.declared.state.StateRow.{StateRow}
 use Rattle.dep_tables.specs.declared.metadata.MetadataRow.{MetadataRow}
 use Rattle.dep_tables.specs.declared.segments.SegmentRow.{SegmentRow}
 use Rattle.dep_tables.specs.declared.uploads.LeftUpload.{LeftUpload}
+use Rattle.dep_tables.specs.declared.uploads.UploadColumns.{UploadColumns}
 use Rattle.dep_tables.specs.declared.owner.BlockOwner.{BlockOwner}
 use Rattle.dep_tables.specs.declared.owner.BlockOwner.TheVariants.{File, Upload}
 use Rattle.dep_tables.specs.declared.owner.BlockKey.{BlockKey}
@@ -165,14 +167,23 @@ file_columns r =
     Int (pos r.object) ∷ Text r.name ∷ Text r.media ∷ Int (pos r.size) ∷ Int (pos r.tag)
     ∷ Int (pos r.deposited) ∷ or_null Text r.behalf ∷ flag r.by_reference ∷ Blob r.sha256 ∷ []
 
+-- what its row is given; what is read of it, with the SHA-512 beside it
+abbrev pub file_row_values : FileRow → Row
+file_row_values r = Int (pos r.file) ∷ file_columns r
+
 abbrev pub file_values : FileRow → Row
-file_values r = Int (pos r.file) ∷ file_columns r
+file_values r = file_row_values r ++ Blob r.sha512 ∷ []
 
 abbrev pub stored_file : FileRow → Row
 stored_file r = Int (pos r.file) ∷ Null ∷ file_columns r
 
-abbrev pub shown_file : Row → Row
-shown_file stored = column stored 0 ∷ columns_from 2 9 stored
+-- the value in a row of `sha512s`
+abbrev pub value_in : Row → Value
+value_in stored = column stored 3
+
+-- of a stored row and the stored row of its SHA-512
+abbrev pub shown_file : Row × Row → Row
+shown_file both = (column both.0 0 ∷ columns_from 2 9 both.0) ++ value_in both.1 ∷ []
 
 pub record IsStorableFile (r : FileRow) : Type 0 where
   pub file : r.file < 2 ^ 63
@@ -182,28 +193,45 @@ pub record IsStorableFile (r : FileRow) : Type 0 where
   pub deposited : r.deposited < 2 ^ 63
 
 abbrev pub file_kinds : List ColumnKind
-file_kinds = kind.Number ∷ kind.Number ∷ kind.Text ∷ kind.Text ∷ kind.Number ∷ kind.Number ∷ kind.Number ∷ kind.TextOrNull ∷ kind.Flag ∷ kind.Sha256 ∷ []
+file_kinds =
+    kind.Number ∷ kind.Number ∷ kind.Text ∷ kind.Text ∷ kind.Number ∷ kind.Number ∷ kind.Number
+    ∷ kind.TextOrNull ∷ kind.Flag ∷ kind.Sha256 ∷ kind.Sha512 ∷ []
 
 abbrev pub IsFileRow : Row → Type 0
 IsFileRow = HasKinds file_kinds
 
+-- by number, of rows as they are shown
+abbrev pub by_file : Row → Row → Ordering
+by_file a b = value_cmp (column a 0) (column b 0)
+
 -- ---- uploads
 
-abbrev pub upload_columns : UploadRow → Row
+-- what the row of an upload has of it
+abbrev pub columns_of_upload : UploadRow → UploadColumns
+columns_of_upload r = record {
+  upload = r.upload;
+  size = r.size;
+  count = r.count;
+  segment_size = r.segment_size;
+  sha256 = r.sha256;
+  last = r.last;
+}
+
+abbrev pub upload_columns : UploadColumns → Row
 upload_columns r =
     Int (pos r.size) ∷ Int (pos r.count) ∷ Int (pos r.segment_size) ∷ or_null Blob r.sha256
     ∷ Int (pos r.last) ∷ []
 
-abbrev pub upload_values : UploadRow → Row
+abbrev pub upload_values : UploadColumns → Row
 upload_values r = Int (pos r.upload) ∷ upload_columns r
 
-abbrev pub stored_upload : UploadRow → Row
+abbrev pub stored_upload : UploadColumns → Row
 stored_upload r = Int (pos r.upload) ∷ Null ∷ upload_columns r
 
 abbrev pub shown_upload : Row → Row
 shown_upload stored = column stored 0 ∷ columns_from 2 5 stored
 
-pub record IsStorableUpload (r : UploadRow) : Type 0 where
+pub record IsStorableUpload (r : UploadColumns) : Type 0 where
   pub upload : r.upload < 2 ^ 63
   pub size : r.size < 2 ^ 63
   pub count : r.count < 2 ^ 63
@@ -376,8 +404,10 @@ sha512_values o value = Int (pos (kind_of o)) ∷ Int (pos (number_of o)) ∷ Bl
 abbrev pub is_sha512_of : BlockOwner → Row → Bool
 is_sha512_of o stored = has_number 1 (kind_of o) stored && has_number 2 (number_of o) stored
 
-abbrev pub value_in : Row → Value
-value_in stored = column stored 3
+-- that of the file of a row of `files`
+abbrev pub is_sha512_of_row : Row → Row → Bool
+is_sha512_of_row file stored =
+    has_number 1 0 stored && is_eq (value_cmp (column stored 2) (rowid file))
 
 -- a SHA-512 alone
 abbrev pub sha512_kinds : List ColumnKind

@@ -44,10 +44,10 @@ abbrev pub delete_files_text : List ℕ
 delete_files_text = codes "DELETE FROM files WHERE object = ?1"
 
 abbrev pub find_file_text : List ℕ
-find_file_text = codes "SELECT file, object, name, media, size, tag, deposited, behalf, by_reference, sha256 FROM files WHERE file = ?1"
+find_file_text = codes "SELECT file, object, name, media, size, tag, deposited, behalf, by_reference, sha256, value FROM files LEFT JOIN sha512s ON kind = 0 AND owner = file WHERE file = ?1"
 
 abbrev pub files_of_text : List ℕ
-files_of_text = codes "SELECT file, object, name, media, size, tag, deposited, behalf, by_reference, sha256 FROM files WHERE object = ?1 ORDER BY file"
+files_of_text = codes "SELECT file, object, name, media, size, tag, deposited, behalf, by_reference, sha256, value FROM files LEFT JOIN sha512s ON kind = 0 AND owner = file WHERE object = ?1 ORDER BY file"
 
 abbrev pub insert_upload_text : List ℕ
 insert_upload_text = codes "INSERT INTO uploads (upload, size, count, segment_size, sha256, last) VALUES (?1, ?2, ?3, ?4, ?5, ?6)"
@@ -60,9 +60,6 @@ delete_upload_text = codes "DELETE FROM uploads WHERE upload = ?1"
 
 abbrev pub find_upload_text : List ℕ
 find_upload_text = codes "SELECT upload, size, count, segment_size, sha256, last FROM uploads WHERE upload = ?1"
-
-abbrev pub next_upload_text : List ℕ
-next_upload_text = codes "SELECT upload FROM uploads WHERE upload > ?1 ORDER BY upload LIMIT 1"
 
 abbrev pub left_before_text : List ℕ
 left_before_text = codes "SELECT upload, last FROM uploads WHERE last < ?1 ORDER BY last, upload LIMIT 1"

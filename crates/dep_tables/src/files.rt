@@ -3,13 +3,13 @@
 ghost use Rattle.std.specs.Prelude.{All, ◌≡◌, ◌↔◌, pos, IsTrue, ◌<◌, ◌^◌, ◌∷◌, []};
 ghost use Rattle.sqlite.specs.declared.types.Value.TheVariants.{Int};
 ghost use Rattle.sqlite.specs.Values.{bound};
-ghost use Rattle.dep_tables.specs.Rows.{IsStorableFile, file_values, IsFileRow};
+ghost use Rattle.dep_tables.specs.Rows.{IsStorableFile, file_row_values, IsFileRow};
 ghost use Rattle.dep_tables.specs.Edits.{with_new_file_row, without_file_row, without_file_rows, LacksFileRow, IsFileRowAt, AreFileRowsOf};
 ghost use Rattle.dep_tables.specs.Clauses.{AtMostOne, Changes, Shows, Reads, ReadsOnly, FailsWhole, FailsReading, RefusesNumbers, FailsByRunning, FailsByReading, StaysWithin};
 ghost use Rattle.dep_tables.specs.Texts.{insert_file_text, delete_file_text, delete_files_text, find_file_text, files_of_text};
 
 use crate::calls::Statements;
-use crate::columns::ColumnKind::{self, Flag, Number, Sha256, Text, TextOrNull};
+use crate::columns::ColumnKind::{self, Flag, Number, Sha256, Sha512, Text, TextOrNull};
 use crate::numbers::{LIMIT, flag_at, flag_number, key_param, number, number_at};
 use crate::reading::{FromRow, ask_all, ask_one};
 use crate::texts::{digest_at, text_at, text_or_null, text_or_null_at, text_value};
@@ -30,7 +30,7 @@ fn is_storable_file(row: &FileRow) -> bool
 
 fn file_params(row: &FileRow) -> [ValueRef<'_>; 10]
     requires { IsStorableFile row.now }
-    ensures { bound result ≡ file_values row.now }
+    ensures { bound result ≡ file_row_values row.now }
 {
     [
         ValueRef::Int(number(row.file)),
@@ -46,14 +46,14 @@ fn file_params(row: &FileRow) -> [ValueRef<'_>; 10]
     ]
 }
 
-/// Adds a row. It is a fault of the store where there is a row of this key, and where a number is 2^63 or more.
+/// Adds a row; the SHA-512 has a table of its own. It is a fault of the store where there is a row of this key, and where a number is 2^63 or more.
 pub fn insert_file<T: Statements>(tx: &mut T, row: &FileRow) -> Result<(), StoreFault>
     ensures ok { Changes (T.state tx.old) (T.state tx.new) result (with_new_file_row row.now) }
     ensures free { Shows (T.state tx.old) (T.state tx.new) result (LacksFileRow row.now.file) }
     ensures numbers { RefusesNumbers (T.state tx.old) (T.state tx.new) result
         (IsStorableFile row.now) }
     ensures cause { FailsByRunning (T.state tx.old) (T.state tx.new) result
-        (IsStorableFile row.now) insert_file_text (file_values row.now) }
+        (IsStorableFile row.now) insert_file_text (file_row_values row.now) }
     ensures err { FailsWhole (T.state tx.old) (T.state tx.new) result }
     ensures stays { StaysWithin T.lenders T.state tx.old tx.new result }
 {
@@ -100,7 +100,7 @@ impl FromRow for FileRow {
     ghost use Rattle.dep_tables.specs.Rows.{file_values, file_kinds};
     ghost use Rattle.std.specs.Prelude.{⊤};
 
-    ghost width = { 10 };
+    ghost width = { 11 };
 
     ghost values = { file_values };
 
@@ -110,7 +110,7 @@ impl FromRow for FileRow {
 
     fn kinds() -> &'static [ColumnKind] {
         &[
-            Number, Number, Text, Text, Number, Number, Number, TextOrNull, Flag, Sha256,
+            Number, Number, Text, Text, Number, Number, Number, TextOrNull, Flag, Sha256, Sha512,
         ]
     }
 
@@ -124,6 +124,7 @@ impl FromRow for FileRow {
             deposited: number_at(row, 6)?,
             by_reference: flag_at(row, 8)?,
             sha256: digest_at(row, 9)?,
+            sha512: digest_at(row, 10)?,
             name: text_at(row, 2)?,
             media: text_at(row, 3)?,
             behalf: text_or_null_at(row, 7)?,
@@ -131,7 +132,7 @@ impl FromRow for FileRow {
     }
 }
 
-/// The row of this key. It is a fault of the store where the row is not one that `insert_file` writes, and for a number of 2^63 or more.
+/// The row of this key, with the SHA-512 of the file. It is a fault of the store where the row is not one that `insert_file` writes, where the file has no SHA-512, and for a number of 2^63 or more.
 pub fn find_file<T: Statements>(tx: &mut T, file: u64) -> Result<Option<FileRow>, StoreFault>
     ensures ok { Reads (T.state tx.old) (T.state tx.new) result (IsFileRowAt file) }
     ensures same { ReadsOnly (T.state tx.old) (T.state tx.new) result }
@@ -146,12 +147,12 @@ pub fn find_file<T: Statements>(tx: &mut T, file: u64) -> Result<Option<FileRow>
     }
     ask_one(
         tx,
-        "SELECT file, object, name, media, size, tag, deposited, behalf, by_reference, sha256 FROM files WHERE file = ?1",
+        "SELECT file, object, name, media, size, tag, deposited, behalf, by_reference, sha256, value FROM files LEFT JOIN sha512s ON kind = 0 AND owner = file WHERE file = ?1",
         &key_param(file),
     )
 }
 
-/// The rows of an object, by ascending key. It is a fault of the store where one is not one that `insert_file` writes, and for a number of 2^63 or more.
+/// The rows of an object, by ascending key, each with the SHA-512 of its file. It is a fault of the store where one is not one that `insert_file` writes, where a file has no SHA-512, and for a number of 2^63 or more.
 pub fn files_of<T: Statements>(
     tx: &mut T,
     alloc: Global,
@@ -172,7 +173,7 @@ pub fn files_of<T: Statements>(
     ask_all(
         tx,
         alloc,
-        "SELECT file, object, name, media, size, tag, deposited, behalf, by_reference, sha256 FROM files WHERE object = ?1 ORDER BY file",
+        "SELECT file, object, name, media, size, tag, deposited, behalf, by_reference, sha256, value FROM files LEFT JOIN sha512s ON kind = 0 AND owner = file WHERE object = ?1 ORDER BY file",
         &key_param(object),
     )
 }

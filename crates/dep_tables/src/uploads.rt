@@ -3,10 +3,10 @@
 ghost use Rattle.std.specs.Prelude.{◌≡◌, ◌↔◌, pos, IsTrue, ◌<◌, ◌^◌, ◌∷◌, []};
 ghost use Rattle.sqlite.specs.declared.types.Value.TheVariants.{Int};
 ghost use Rattle.sqlite.specs.Values.{bound};
-ghost use Rattle.dep_tables.specs.Rows.{IsStorableUpload, upload_values, IsNumberRow, IsUploadRow, IsLeftRow};
-ghost use Rattle.dep_tables.specs.Edits.{with_new_upload_row, with_upload_row, without_upload_row, LacksUploadRow, IsUploadRowAt, IsUploadAfter, IsLeftBefore};
+ghost use Rattle.dep_tables.specs.Rows.{IsStorableUpload, columns_of_upload, upload_values, IsUploadRow, IsLeftRow};
+ghost use Rattle.dep_tables.specs.Edits.{with_new_upload_row, with_upload_row, without_upload_row, LacksUploadRow, IsUploadRowAt, IsLeftBefore};
 ghost use Rattle.dep_tables.specs.Clauses.{AtMostOne, Changes, Shows, Reads, ReadsOnly, FailsWhole, FailsReading, RefusesNumbers, FailsByRunning, FailsByReadingNumbers, StaysWithin};
-ghost use Rattle.dep_tables.specs.Texts.{insert_upload_text, write_upload_text, delete_upload_text, find_upload_text, next_upload_text, left_before_text};
+ghost use Rattle.dep_tables.specs.Texts.{insert_upload_text, write_upload_text, delete_upload_text, find_upload_text, left_before_text};
 
 use crate::calls::Statements;
 use crate::columns::ColumnKind::{self, Number, Sha256OrNull};
@@ -17,6 +17,39 @@ use dep_types::{StoreFault, UploadRow};
 use sqlite::types::ValueRef;
 use sqlite::{Error, Row};
 
+/// An upload as its row has it: a SHA-512 that was promised of it has a table of its own.
+#[derive(Clone, Copy, Debug, PartialEq, Eq)]
+pub struct UploadColumns {
+    /// The upload's number.
+    pub upload: u64,
+    /// How many bytes the whole has.
+    pub size: u64,
+    /// In how many segments it comes.
+    pub count: u64,
+    /// How many bytes each segment but the last has.
+    pub segment_size: u64,
+    /// The SHA-256 that was promised of the whole.
+    pub sha256: Option<[u8; 32]>,
+    /// The moment of the last segment, or of the opening, in seconds of Unix time.
+    pub last: u64,
+}
+
+impl UploadColumns {
+    /// The columns of this row.
+    pub fn of_row(row: &UploadRow) -> UploadColumns
+        ensures { result ≡ columns_of_upload row.now }
+    {
+        UploadColumns {
+            upload: row.upload,
+            size: row.size,
+            count: row.count,
+            segment_size: row.segment_size,
+            sha256: row.sha256,
+            last: row.last,
+        }
+    }
+}
+
 /// An upload, and when it was last written to.
 #[derive(Clone, Copy, Debug, PartialEq, Eq)]
 pub struct LeftUpload {
@@ -26,7 +59,7 @@ pub struct LeftUpload {
     pub last: u64,
 }
 
-fn is_storable_upload(row: &UploadRow) -> bool
+fn is_storable_upload(row: &UploadColumns) -> bool
     ensures { IsTrue result ↔ IsStorableUpload row.now }
 {
     row.upload < LIMIT
@@ -36,7 +69,7 @@ fn is_storable_upload(row: &UploadRow) -> bool
         && row.last < LIMIT
 }
 
-fn upload_params(row: &UploadRow) -> [ValueRef<'_>; 6]
+fn upload_params(row: &UploadColumns) -> [ValueRef<'_>; 6]
     requires { IsStorableUpload row.now }
     ensures { bound result ≡ upload_values row.now }
 {
@@ -51,7 +84,7 @@ fn upload_params(row: &UploadRow) -> [ValueRef<'_>; 6]
 }
 
 /// Adds a row. It is a fault of the store where there is a row of this key, and where a number is 2^63 or more.
-pub fn insert_upload<T: Statements>(tx: &mut T, row: &UploadRow) -> Result<(), StoreFault>
+pub fn insert_upload<T: Statements>(tx: &mut T, row: &UploadColumns) -> Result<(), StoreFault>
     ensures ok { Changes (T.state tx.old) (T.state tx.new) result (with_new_upload_row row.now) }
     ensures free { Shows (T.state tx.old) (T.state tx.new) result (LacksUploadRow row.now.upload) }
     ensures numbers { RefusesNumbers (T.state tx.old) (T.state tx.new) result
@@ -71,7 +104,7 @@ pub fn insert_upload<T: Statements>(tx: &mut T, row: &UploadRow) -> Result<(), S
 }
 
 /// Sets the row of this key, if there is one. A number of 2^63 or more is a fault of the store.
-pub fn write_upload<T: Statements>(tx: &mut T, row: &UploadRow) -> Result<(), StoreFault>
+pub fn write_upload<T: Statements>(tx: &mut T, row: &UploadColumns) -> Result<(), StoreFault>
     ensures ok { Changes (T.state tx.old) (T.state tx.new) result (with_upload_row row.now) }
     ensures numbers { RefusesNumbers (T.state tx.old) (T.state tx.new) result
         (IsStorableUpload row.now) }
@@ -104,7 +137,7 @@ pub fn delete_upload<T: Statements>(tx: &mut T, upload: u64) -> Result<(), Store
     tx.run("DELETE FROM uploads WHERE upload = ?1", &key_param(upload))
 }
 
-impl FromRow for UploadRow {
+impl FromRow for UploadColumns {
     ghost use Rattle.dep_tables.specs.Rows.{upload_values, upload_kinds};
 
     ghost width = { 6 };
@@ -119,8 +152,8 @@ impl FromRow for UploadRow {
         &[Number, Number, Number, Number, Sha256OrNull, Number]
     }
 
-    fn from_row(row: &Row) -> Result<UploadRow, Error> {
-        Ok(UploadRow {
+    fn from_row(row: &Row) -> Result<UploadColumns, Error> {
+        Ok(UploadColumns {
             upload: number_at(row, 0)?,
             size: number_at(row, 1)?,
             count: number_at(row, 2)?,
@@ -132,7 +165,10 @@ impl FromRow for UploadRow {
 }
 
 /// The row of this key. It is a fault of the store where the row is not one that `insert_upload` writes, and for a number of 2^63 or more.
-pub fn find_upload<T: Statements>(tx: &mut T, upload: u64) -> Result<Option<UploadRow>, StoreFault>
+pub fn find_upload<T: Statements>(
+    tx: &mut T,
+    upload: u64,
+) -> Result<Option<UploadColumns>, StoreFault>
     ensures ok { Reads (T.state tx.old) (T.state tx.new) result (IsUploadRowAt upload) }
     ensures same { ReadsOnly (T.state tx.old) (T.state tx.new) result }
     ensures numbers { RefusesNumbers (T.state tx.old) (T.state tx.new) result (upload < 2 ^ 63) }
@@ -148,26 +184,6 @@ pub fn find_upload<T: Statements>(tx: &mut T, upload: u64) -> Result<Option<Uplo
         tx,
         "SELECT upload, size, count, segment_size, sha256, last FROM uploads WHERE upload = ?1",
         &key_param(upload),
-    )
-}
-
-/// The least upload above this one. A number of 2^63 or more is a fault of the store.
-pub fn next_upload<T: Statements>(tx: &mut T, after: u64) -> Result<Option<u64>, StoreFault>
-    ensures ok { Reads (T.state tx.old) (T.state tx.new) result (IsUploadAfter after) }
-    ensures same { ReadsOnly (T.state tx.old) (T.state tx.new) result }
-    ensures numbers { RefusesNumbers (T.state tx.old) (T.state tx.new) result (after < 2 ^ 63) }
-    ensures cause { FailsByReadingNumbers (T.state tx.old) (T.state tx.new) result
-        (after < 2 ^ 63) next_upload_text (Int (pos after) ∷ []) (AtMostOne IsNumberRow) }
-    ensures err { FailsReading (T.state tx.old) (T.state tx.new) result }
-    ensures stays { StaysWithin T.lenders T.state tx.old tx.new result }
-{
-    if after >= LIMIT {
-        return Err(StoreFault::Store);
-    }
-    ask_one(
-        tx,
-        "SELECT upload FROM uploads WHERE upload > ?1 ORDER BY upload LIMIT 1",
-        &key_param(after),
     )
 }
 

@@ -40,6 +40,7 @@ module _ (s t : State) (later : Later s t) where
     past = le_trans h.past later.clock;
     counted = h.counted;
     sizes = h.sizes;
-    promised = h.promised;
+    promised_sha256 = h.promised_sha256;
+    promised_sha512 = h.promised_sha512;
     segments = h.segments;
   }

@@ -9,8 +9,10 @@ tag_paths =
     codes "bagit.txt"
     ∷ codes "bag-info.txt"
     ∷ codes "manifest-sha256.txt"
+    ∷ codes "manifest-sha512.txt"
     ∷ codes "metadata/sword.json"
     ∷ codes "tagmanifest-sha256.txt"
+    ∷ codes "tagmanifest-sha512.txt"
     ∷ []
 
 -- where a file of the object stands

@@ -2,6 +2,7 @@
 use Rattle.std.specs.Prelude.{ℕ, length, map}
 use Rattle.std.specs.FinMap as finmap
 use Rattle.sha2.specs.Sha256.{sha256}
+use Rattle.sha2.specs.Sha512.{sha512}
 use Rattle.dep_types.specs.State.{Object, File, Upload}
 use Rattle.dep_types.specs.declared.rows.ObjectRow.{ObjectRow}
 use Rattle.dep_types.specs.declared.rows.FileRow.{FileRow}
@@ -32,6 +33,7 @@ file_row n f file = record {
   behalf = file.behalf;
   by_reference = file.by_reference;
   sha256 = sha256 file.content;
+  sha512 = sha512 file.content;
 }
 
 -- the object of this number, with its metadata and its files by ascending number
@@ -50,5 +52,6 @@ upload_row n u = record {
   count = u.count;
   segment_size = u.segment_size;
   sha256 = u.sha256;
+  sha512 = u.sha512;
   last = u.last;
 }

@@ -34,7 +34,8 @@ pub record IsSoundUpload (s : State) (number : ℕ) (u : Upload) : Type 0 where
   pub past : u.last ≤ s.clock
   pub counted : 1 ≤ u.count
   pub sizes : IsTrue (sizes_agree u.size u.count u.segment_size)
-  pub promised : IfSome u.sha256 (λ digest. length digest ≡ 32)
+  pub promised_sha256 : IfSome u.sha256 (λ digest. length digest ≡ 32)
+  pub promised_sha512 : IfSome u.sha512 (λ digest. length digest ≡ 64)
   pub segments : (k : ℕ) (bytes : List ℕ) → map.get u.segments k ≡ Some bytes
       → (1 ≤ k) × (k ≤ u.count) × (length bytes ≡ segment_length u k)
 

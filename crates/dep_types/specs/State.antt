@@ -35,6 +35,7 @@ pub record Upload : Type 0 where
   pub count : ℕ
   pub segment_size : ℕ
   pub sha256 : Option (List ℕ)
+  pub sha512 : Option (List ℕ)
   pub last : ℕ
   pub segments : Numbered (List ℕ)
 

@@ -45,6 +45,8 @@ pub struct FileRow {
     pub by_reference: bool,
     /// The SHA-256 of its bytes (FIPS 180-4).
     pub sha256: [u8; 32],
+    /// The SHA-512 of its bytes (FIPS 180-4).
+    pub sha512: [u8; 64],
 }
 
 /// A staged upload, without its segments.
@@ -60,6 +62,8 @@ pub struct UploadRow {
     pub segment_size: u64,
     /// The SHA-256 that was promised of the whole.
     pub sha256: Option<[u8; 32]>,
+    /// The SHA-512 that was promised of the whole.
+    pub sha512: Option<[u8; 64]>,
     /// The moment of the last segment, or of the opening, in seconds of Unix time.
     pub last: u64,
 }

@@ -11,7 +11,7 @@ use Rattle.dep_tables.specs.Schema.{our_schema, older_schema}
 use Rattle.dep_tables.specs.Tables.{Tables, tables_in, tables_of, HasTablesOf, IsKnown}
 use Rattle.dep_tables.specs.declared.sha512s.FileSha512.{FileSha512}
 use Rattle.dep_row_maps.specs.Sha512s.{upgraded}
-use Rattle.dep_schema.specs.Standing.{Holds, HoldsOlder, Stands, StandsOf, StandsOlder}
+use Rattle.dep_schema.specs.Standing.{Holds, HoldsOlder, IsBack, Stands, StandsOf, StandsOlder}
 use Rattle.dep_schema.specs.Transactions.{TransactsTo}
 use Rattle.dep_schema.proofs.Transactions.{stands_left}
 use Rattle.dep_schema.proofs.Transacting.{IsSettled, left_as_was, left_still}
@@ -113,3 +113,18 @@ module _ {A E : Type 0} (old new : db.State) (result : Result A E) (it : Migrate
     | inl earlier ↦ inr (stood.tables, earlier, stood.means)
     | inr (after, holds, is) ↦ inl (after, holds, upgraded_means stood.tables after s (files_rise old stood.tables stood.stands) stood.means is)
   ]
+
+-- ---- back at the last commit
+
+-- a call that only reads
+pub kept_back : (old new : db.State) → old.now ≡ old.committed → IsKept old new → IsTrue new.is_open → IsBack old new
+kept_back old new between kept is_open =
+    let it = kept is_open in
+    elim it.1 [
+      | inl same ↦ (same.0 ∙ between, it.0.1)
+      | inr back ↦ (back.0, it.0.1)
+    ]
+
+-- one behind it that fell back
+pub back_behind : (old mid new : db.State) → IsUnchanged old mid → IsBack mid new → IsBack old new
+back_behind old mid new same back = (back.0 ∙ same.0.committed_is, back.1 ∙ same.0.committed_is)

@@ -31,7 +31,7 @@ pub opened_stood : (old new : db.State) (found : ℕ) (s : State) → ((its : Sc
 opened_stood old new found s finds (inl (t, holds, means)) =
     let it = finds our_schema (inl refl) t holds in inl (version_is t found our_version it.0 means.are.common.format, record { tables = t; stands = it.1; means = means })
 opened_stood old new found s finds (inr (t, holds, means)) =
-    let it = finds older_schema (inr refl) t holds in inr (version_is t found older_version it.0 means.are.format, record { tables = t; stands = it.1; means = means })
+    let it = finds older_schema (inr refl) t holds in inr (version_is t found older_version it.0 means.are.common.format, record { tables = t; stands = it.1; means = means })
 
 -- the tables of a new store stand for the empty archive
 pub first_means : TablesStandFor first_tables empty_state
@@ -66,7 +66,7 @@ is_openable old live is_open s (inl (t, holds, means)) =
     inr (inr ((our_schema, inl refl, sees.ours), (our_version, inl refl, subst (HasVersion our_version) (sym sees.rows) means.are.common.format)))
 is_openable old live is_open s (inr (t, holds, means)) =
     let sees = sees_trees older_schema old (live is_open).0 t holds in
-    inr (inr ((older_schema, inr refl, sees.ours), (older_version, inr refl, subst (HasVersion older_version) (sym sees.rows) means.are.format)))
+    inr (inr ((older_schema, inr refl, sees.ours), (older_version, inr refl, subst (HasVersion older_version) (sym sees.rows) means.are.common.format)))
 
 -- back at the last commit, it stands as it did
 module _ (old new : db.State) (live : IsLive old) (was_open : IsTrue old.is_open) (between : old.now ≡ old.committed) (back : IsBack old new) (is_open : IsTrue new.is_open) (settled : new.in_transaction ≡ false) where

@@ -4,11 +4,11 @@ use Rattle.sqlite.specs.State as db
 use Rattle.sqlite.specs.State.{HasCleanDisk}
 use Rattle.sqlite.specs.Tree.{Trees}
 use Rattle.dep_types.specs.State.{State, empty_state}
-use Rattle.dep_tables.specs.Tables.{Tables}
+use Rattle.dep_tables.specs.Tables.{Tables, IsKnown}
 use Rattle.dep_tables.specs.Versions.{our_version, older_version, HasVersion}
 use Rattle.dep_tables.specs.declared.sha512s.FileSha512.{FileSha512}
 use Rattle.dep_row_maps.specs.Sha512s.{upgraded}
-use Rattle.dep_schema.specs.Beside.{LacksFormat}
+use Rattle.dep_schema.specs.OpenFaults.{TellsVersion}
 use Rattle.dep_schema.specs.Standing.{Holds, HoldsOlder, HoldsNone, Stands, StandsOlder, IsBack}
 use Rattle.dep_schema.specs.States.{StandsFor, OlderStandsFor, IsLeftAs, Leaves}
 use Rattle.dep_streams.specs.Sha512s.{AreValuesOf}
@@ -33,13 +33,18 @@ pub record Migrates {A E : Type 0} (old new : db.State) (result : Result A E) : 
 abbrev pub Stood : db.State → State → Type 0
 Stood d s = StandsFor d s ⊎ OlderStandsFor d s
 
--- What an open that failed keeps: a database without a table `format`, and the tables of each version whose row
--- tells that version.
+-- What tables of version 1 are once they were opened, by the version that their row tells: those of version 2, or, where
+-- the row tells that already, what they were.
+abbrev pub OpensOlder : Tables → db.State → Type 0
+OpensOlder t new =
+    (HasVersion older_version t × ((after : Tables) × Stands new after × IsUpgraded t after))
+    ⊎ (HasVersion our_version t × StandsOlder new t)
+
+-- What an open that failed leaves as it was committed: a database with the schema of one of our versions, and each one
+-- of which version 1 is not told, such as one without a table `format`.
 pub record Keeps (old new : db.State) : Type 0 where
-  pub none : LacksFormat old.now.schema → IsBack old new
-  pub newest : (t : Tables) → Holds old.now.trees t → HasVersion our_version t → Stands new t
-  pub older : (t : Tables) → HoldsOlder old.now.trees t → HasVersion older_version t
-      → StandsOlder new t
+  pub known : IsKnown old → IsBack old new
+  pub other : (TellsVersion old older_version → ⊥) → IsBack old new
 
 -- a database with no table, as it was or as a new store; one that stood for a state, as that state
 pub record OpenLeaves (old new : db.State) : Type 0 where

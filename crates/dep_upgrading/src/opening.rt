@@ -1,14 +1,15 @@
 //! The tables of a database, found or made, or those of version 1 turned into those of version 2.
 
-ghost use Rattle.std.specs.Prelude.{◌≡◌, IsTrue, IfOk, IfErr, MatchResult, false};
+ghost use Rattle.std.specs.Prelude.{◌≡◌, IsTrue, IfOk, IfErr, OnOk, OnErr, MatchResult, false};
 ghost use Rattle.sqlite.specs.State.{HasCleanDisk};
 ghost use Rattle.sqlite.specs.Held.{state};
 ghost use Rattle.dep_types.specs.State.{State, empty_state};
-ghost use Rattle.dep_tables.specs.Tables.{Tables};
-ghost use Rattle.dep_tables.specs.Versions.{our_version, older_version, HasVersion};
-ghost use Rattle.dep_schema.specs.Standing.{Holds, HoldsOlder, HoldsNone, IsOpenable, Stands};
+ghost use Rattle.dep_tables.specs.Tables.{Tables, IsKnown};
+ghost use Rattle.dep_tables.specs.Versions.{our_version, HasVersion};
+ghost use Rattle.dep_schema.specs.Standing.{Holds, HoldsOlder, HoldsNone, IsBack, IsOpenable, Stands};
 ghost use Rattle.dep_schema.specs.States.{StandsFor, IsLeftAs};
-ghost use Rattle.dep_upgrading.specs.Migrating.{IsUpgraded, Keeps, Migrates, OpenLeaves, Stood};
+ghost use Rattle.dep_upgrading.specs.Causes.{FailsToMigrate, FailsToOpenTables, FindsOrUpgrades, HadFreeNames};
+ghost use Rattle.dep_upgrading.specs.Migrating.{Keeps, Migrates, OpenLeaves, OpensOlder, Stood};
 
 use dep_schema::{OpenFault, Schema, upgrade};
 use dep_streams::{Watch, hash_files};
@@ -28,6 +29,16 @@ fn migrate<S: Alter, W: Watch>(
     ensures mode { (state S.Store connection.new).in_transaction ≡ false }
     ensures open { IsTrue (state S.Store connection.new).is_open
         → IsTrue (state S.Store connection.old).is_open }
+    ensures free { HasCleanDisk (state S.Store connection.new)
+        → IsTrue (state S.Store connection.old).is_open
+        → OnOk result (HadFreeNames S.Store connection.old) }
+    ensures cause { HasCleanDisk (state S.Store connection.new)
+        → IsTrue (state S.Store connection.old).is_open → IsKnown (state S.Store connection.old)
+        → IfErr result (FailsToMigrate S.Store connection.old connection.new) }
+    ensures left { IsTrue (state S.Store connection.new).is_open
+        → (state S.Store connection.old).now ≡ (state S.Store connection.old).committed
+        → IsKnown (state S.Store connection.old)
+        → OnErr result (IsBack (state S.Store connection.old) (state S.Store connection.new)) }
 {
     let values = match hash_files(connection, alloc, watch) {
         Ok(values) => values,
@@ -51,13 +62,17 @@ pub fn open_tables<S: Alter, W: Watch>(
     ensures found { IfOk result (λ opened. HasCleanDisk (state S.Store opened)
         → (s : State) → IsLeftAs (state S.Store connection).now.trees s
         → StandsFor (state S.Store opened) s) }
-    // So it is of tables that stand for no state.
+    // So it is of tables that stand for no state, whatever version their row tells.
     ensures tables { IfOk result (λ opened. HasCleanDisk (state S.Store opened)
-        → (t : Tables) → Holds (state S.Store connection).now.trees t → HasVersion our_version t
-        → Stands (state S.Store opened) t) }
+        → (t : Tables) → Holds (state S.Store connection).now.trees t
+        → HasVersion our_version t × Stands (state S.Store opened) t) }
     ensures older { IfOk result (λ opened. HasCleanDisk (state S.Store opened)
-        → (t : Tables) → HoldsOlder (state S.Store connection).now.trees t → HasVersion older_version t
-        → (after : Tables) × Stands (state S.Store opened) after × IsUpgraded t after) }
+        → (t : Tables) → HoldsOlder (state S.Store connection).now.trees t
+        → OpensOlder t (state S.Store opened)) }
+    // An Ok has a cause, and so has a fault.
+    ensures told { MatchResult result
+        (λ opened. HasCleanDisk (state S.Store opened) → FindsOrUpgrades S.Store connection)
+        (λ e. HasCleanDisk (state S.Store e.1) → FailsToOpenTables S.Store connection e.1 e.0) }
     ensures refused { IfErr result (λ e. HasCleanDisk (state S.Store e.1)
         → e.0 ≡ OpenFault.UnknownVersion → IsOpenable (state S.Store connection) → ⊥) }
     ensures known { IfErr result (λ e. HasCleanDisk (state S.Store e.1)

@@ -5,4 +5,4 @@ use Rattle.dep_bag.proofs.manifest.payload_manifest.Given as goal
 
 -- a line for each file so far
 abbrev pub invariant-loop-row : goal.invariant-loop-row
-invariant-loop-row l = l.text.items ≡ manifest (map row_checksum (take l.row-index l.row-items))
+invariant-loop-row l = l.text.items ≡ manifest (map (row_checksum l.algorithm) (take l.row-index l.row-items))

@@ -3,6 +3,15 @@ use Rattle.std.specs.Prelude.{⊤}
 use Rattle.dep_row_maps.specs.Causes.{FailsByStatement, FailsHolding}
 use Rattle.dep_row_maps.specs.Causes.FailsHolding.{memory}
 use Rattle.dep_row_maps.proofs.Causes.{fails_first, if_err_is}
+use Rattle.std.proofs.Common.{◌≡◌, ℕ, refl, sym, ap, ◌∙◌}
+use Rattle.std.specs.Prelude.{OnOk}
+use Rattle.dep_types.specs.State.{File}
+use Rattle.dep_types.specs.Uploads.{assembled}
+use Rattle.dep_types.specs.declared.rows.UploadRow.{UploadRow}
+use Rattle.dep_row_maps.specs.Clauses.{SeesState}
+use Rattle.dep_staging.specs.Assembling.{deposited}
+use Rattle.dep_changes.specs.Changed.{made_file}
+use Rattle.dep_changes.proofs.Assembled.{made_row, done_as}
 use Rattle.dep_changes.proofs.Causes.{by_statement, caused_among, new_row_fits, whole_fits}
 use Rattle.dep_changes.proofs.new_files.put_assembled.Goals as goal
 
@@ -42,3 +51,14 @@ returns-clause-cause g c storable clean inside =
     let upload = whole_fits c.in_ok-upload.upload.row whole.upload whole.it whole.fits (c.in_ok-upload.ensures.told whole.upload whole.it whole.told).0 in
     let fits = new_row_fits view storable.0 c.in_ok-row.row storable.1 storable.2 upload.size c.in_ok-row.ensures.told in
     caused_among g.T.Statements.state FailsByStatement (FailsHolding ⊤) (by_statement ⊤) c.assemble.result c.args.tx.now c.assemble.new.tx (c.assemble.ensures.cause (upload, fits) clean inside)
+
+pub returns-clause-map : goal.returns-clause-map
+returns-clause-map g c clean inside ours s are o u it numbers at_o at_u whole seen =
+    let told = c.in_ok-upload.ensures.told u it seen in
+    let view = c.args.change.now.view.now in
+    let up = c.in_ok-upload.upload in
+    let file : File = made_file s c.args.new.now (assembled it) in
+    let row_is = made_row s c.args.numbers.object c.args.numbers.file c.args.new.now (assembled it) c.in_ok-row.row up.row.size view.clock view.next up.digests c.in_ok-row.ensures.told
+    (ap (λ (w : UploadRow). w.size) told.0 ∙ sym whole.size) numbers.0 numbers.1 told.1 in
+    done_as (λ (n f w : ℕ). OnOk c.assemble.result (SeesState (g.T.Statements.state c.assemble.new.tx) (deposited s n o f file w))) s c.args.numbers.object c.args.numbers.file u o it file c.in_ok-row.row up.row row_is told.0 at_o at_u
+    (λ there held upload_is same. c.assemble.ensures.map clean inside ours s are o it file there held whole.segments upload_is same refl)

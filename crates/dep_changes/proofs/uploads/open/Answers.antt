@@ -5,8 +5,10 @@ use Rattle.dep_tables.proofs.Results.{ok_then}
 use Rattle.dep_decisions.specs.Effects.{fresh}
 use Rattle.dep_changes.proofs.Staged.{opened_row, upload_at}
 use Rattle.dep_row_maps.specs.Causes.{FailsByStatement}
-use Rattle.dep_row_maps.specs.Causes.FailsByStatement.{upload_added}
-use Rattle.dep_row_maps.proofs.Causes.{fails_first, if_err_then}
+use Rattle.dep_types.specs.declared.rows.UploadRow.{UploadRow}
+use Rattle.dep_staging.specs.Causes.{FailsToOpen}
+use Rattle.dep_staging.proofs.Causes.{open_among}
+use Rattle.dep_changes.proofs.Causes.{caused_among}
 use Rattle.dep_changes.proofs.uploads.open.Goals as goal
 
 pub returns-clause-map : goal.returns-clause-map
@@ -21,5 +23,8 @@ pub returns-clause-cause : goal.returns-clause-cause
 returns-clause-cause g c storable clean inside =
     let numbers = storable.0 in
     let sizes = storable.1 in
-    if_err_then c.open_upload.result (c.open_upload.ensures.cause (record { upload = numbers.upload; size = sizes.size; count = sizes.count; segment_size = sizes.segment_size; last = numbers.clock }) clean inside)
-    (λ fault failed. fails_first g.T.Statements.state c.args.tx.now c.open_upload.new.tx FailsByStatement fault (upload_added _ failed))
+    let view = c.args.view.now in
+    let o = c.args.opening.now in
+    let row : UploadRow = record { upload = view.next.upload; size = o.size; count = o.count; segment_size = o.segment_size; sha256 = o.digest.sha256; sha512 = o.digest.sha512; last = view.clock } in
+    caused_among g.T.Statements.state (FailsToOpen row) FailsByStatement (λ at now fault failed. open_among at now fault row failed) c.open_upload.result c.args.tx.now c.open_upload.new.tx
+    (c.open_upload.ensures.cause (record { upload = numbers.upload; size = sizes.size; count = sizes.count; segment_size = sizes.segment_size; last = numbers.clock }) clean inside)

@@ -1,6 +1,6 @@
 use Rattle.std.proofs.Common.{ℕ, List, length, subst, sym}
 use Rattle.dep_types.specs.Limits.{IsStorable}
-use Rattle.dep_tables.specs.Rows.{IsStorableUpload}
+use Rattle.dep_tables.specs.Rows.{IsStorableUpload, columns_of_upload}
 use Rattle.dep_rulings.specs.declared.view.LiveUpload.{LiveUpload}
 use Rattle.dep_changes.proofs.uploads.receive.Goals as goal
 
@@ -14,7 +14,7 @@ returns-clause-cause g c storable clean inside =
     let told = storable.0 in
     let fits = told.fits in
     let same = c.in_ok-live.ensures.told told.upload told.live told.told in
-    let row = subst (λ (l : LiveUpload). IsStorableUpload (record l.row { last = c.args.change.now.view.now.clock })) (sym same)
+    let row = subst (λ (l : LiveUpload). IsStorableUpload (columns_of_upload (record l.row { last = c.args.change.now.view.now.clock }))) (sym same)
     (record { upload = fits.upload; size = fits.size; count = fits.count; segment_size = fits.segment_size; last = told.numbers.clock }) in
     let size = subst (λ (bytes : List ℕ). IsStorable (length bytes)) (sym c.as_slice.ensures) storable.2 in
     c.put_segment.ensures.cause (row, record { upload = row.upload; number = storable.1; size = size }) clean inside

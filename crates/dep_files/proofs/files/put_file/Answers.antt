@@ -14,7 +14,7 @@ use Rattle.dep_files.proofs.FileCalls.{file_put, free_of}
 use Rattle.dep_files.proofs.files.put_file.Goals as goal
 
 pub returns-clause-map : goal.returns-clause-map
-returns-clause-map g c clean inside ours s are o file there is same value =
+returns-clause-map g c clean inside ours s are o file there is same =
     let old = g.T.Statements.state c.args.tx.now in
     let one = g.T.Statements.state c.put_blocks.new.tx in
     let two = g.T.Statements.state c.insert_sha512.new.tx in
@@ -24,8 +24,8 @@ returns-clause-map g c clean inside ours s are o file there is same value =
     let first = c.in_ok-put_blocks.ensures.ok clean_one inside ours in
     let second = c.in_ok-insert_sha512.ensures.ok clean_two (c.in_ok-put_blocks.ensures.stays.inside clean_one inside) first.ours in
     ok_both c.insert_file.result (c.insert_file.ensures.ok clean second.shows.mode second.ours) (c.insert_file.ensures.free clean second.shows.mode second.ours)
-    (λ leads free. file_put (tables_of old) (tables_of one) (tables_of two) (tables_of new) s c.args.row.now (g.C.Content.bytes c.args.content.now) c.args.sha512.now o file are
-    ours.trees.ordered.1.1.1.1.0 ours.trees.ordered.1.1.1.1.1.1.1.1.0 ours.trees.ordered.1.1.1.1.1.1.1.1.1.0 there is same value first.rows second.rows leads.rows free)
+    (λ leads free. file_put (tables_of old) (tables_of one) (tables_of two) (tables_of new) s c.args.row.now (g.C.Content.bytes c.args.content.now) o file are
+    ours.trees.ordered.1.1.1.1.0 ours.trees.ordered.1.1.1.1.1.1.1.1.0 ours.trees.ordered.1.1.1.1.1.1.1.1.1.0 there is same first.rows second.rows leads.rows free)
 
 pub returns-clause-rows : goal.returns-clause-rows
 returns-clause-rows g c clean inside ours =
@@ -33,7 +33,7 @@ returns-clause-rows g c clean inside ours =
     let clean_one = clean_before c.insert_sha512.ensures.stays clean_two in
     let first = c.in_ok-put_blocks.ensures.ok clean_one inside ours in
     let second = c.in_ok-insert_sha512.ensures.ok clean_two (c.in_ok-put_blocks.ensures.stays.inside clean_one inside) first.ours in
-    let value = sha512_values (owner.File c.args.row.now.file) c.args.sha512.now in
+    let value = sha512_values (owner.File c.args.row.now.file) c.args.row.now.sha512 in
     ok_then c.insert_file.result (c.insert_file.ensures.ok clean second.shows.mode second.ours)
     (λ leads. record {
       ours = leads.ours;

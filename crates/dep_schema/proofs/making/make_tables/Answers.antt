@@ -1,7 +1,7 @@
 use Rattle.std.proofs.Common.{Err, inl, inr}
 use Rattle.std.proofs.lemmas.Result.{IfOk-from_err}
 use Rattle.dep_tables.proofs.Chains.{clean_before, stays_then, stays_err}
-use Rattle.dep_schema.proofs.BesideRows.{gains, first_seen}
+use Rattle.dep_schema.proofs.BesideRows.{gains, free_before, first_seen}
 use Rattle.dep_schema.proofs.Refusing.{if_err_told, if_err_then}
 use Rattle.dep_schema.proofs.making.make_tables.Goals as goal
 
@@ -33,7 +33,18 @@ returns-clause-cause g c clean inside =
     let clean_mid = clean_before both.stays clean_named in
     let inside_mid = made.stays.inside clean_mid inside in
     if_err_then c.add_rows.result (c.add_rows.ensures.cause clean (both.stays.inside clean_named inside_mid))
-    (λ fault failed. inr (c.create_tables.new.tx, made.adds clean_mid inside, made.stays.survives, inr (c.create_indexes.new.tx, both.adds clean_named inside_mid, both.stays.survives, failed)))
+    (λ fault failed. inr (
+      c.create_tables.new.tx,
+      made.adds clean_mid inside,
+      made.stays.survives,
+      inr (
+        free_before (g.T.Statements.state c.args.tx.now).now (g.T.Statements.state c.create_tables.new.tx).now (g.T.Statements.state c.create_indexes.new.tx).now (made.adds clean_mid inside) (both.adds clean_named inside_mid),
+        c.create_indexes.new.tx,
+        both.adds clean_named inside_mid,
+        both.stays.survives,
+        failed,
+      ),
+    ))
 
 -- where one was not made, nothing is said of an Ok
 pub returns-in_err-create_tables : goal.returns-in_err-create_tables

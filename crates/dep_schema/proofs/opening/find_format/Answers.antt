@@ -1,4 +1,4 @@
-use Rattle.std.proofs.Common.{pos, inl, inr, refl, subst, sym}
+use Rattle.std.proofs.Common.{pos, inl, refl, subst, sym}
 use Rattle.std.proofs.lemmas.Bool.{both_ways}
 use Rattle.sqlite.specs.Held.{state}
 use Rattle.dep_schema.specs.Texts.{find_format_text}
@@ -16,16 +16,10 @@ returns-then-are_known-clause-ours g c clean known =
     (2, refl, (found_version 2 (state g.S.Store c.args.tx.now.conn.now) (state g.S.Store c.query_all.new.self.conn.now) _ known (c.in-Ok.ensures.ok clean)).0 (subst (AreVersion (pos 2)) c.as_slice.ensures.value (c.are_known.ensures.0 c.if-are_known.true)))
 
 pub returns-then-are_known-clause-same : goal.returns-then-are_known-clause-same
-returns-then-are_known-clause-same g c clean either = elim either [
-  | inl known ↦ find_stays (state g.S.Store c.args.tx.now.conn.now) (state g.S.Store c.query_all.new.self.conn.now) _ known (c.in-Ok.ensures.ok clean)
-  | inr empty ↦ absurd (none_shown (state g.S.Store c.args.tx.now.conn.now) (state g.S.Store c.query_all.new.self.conn.now) _ (empty_lacks _ empty) (c.in-Ok.ensures.ok clean))
-]
+returns-then-are_known-clause-same g c clean = find_stays (state g.S.Store c.args.tx.now.conn.now) (state g.S.Store c.query_all.new.self.conn.now) _ (c.in-Ok.ensures.ok clean)
 
 pub returns-then-are_known-clause-lacking : goal.returns-then-are_known-clause-lacking
 returns-then-are_known-clause-lacking g c clean lacks = absurd (none_shown (state g.S.Store c.args.tx.now.conn.now) (state g.S.Store c.query_all.new.self.conn.now) _ lacks (c.in-Ok.ensures.ok clean))
-
-pub returns-then-are_known-clause-left : goal.returns-then-are_known-clause-left
-returns-then-are_known-clause-left g c clean lacks = absurd (none_shown (state g.S.Store c.args.tx.now.conn.now) (state g.S.Store c.query_all.new.self.conn.now) _ lacks (c.in-Ok.ensures.ok clean))
 
 pub returns-then-are_known-clause-told : goal.returns-then-are_known-clause-told
 returns-then-are_known-clause-told g c clean = (_, c.in-Ok.ensures.ok clean, subst (AreVersion (pos 2)) c.as_slice.ensures.value (c.are_known.ensures.0 c.if-are_known.true))
@@ -41,16 +35,10 @@ returns-then-are_known-2-clause-ours g c clean known =
     (1, refl, (found_version 1 (state g.S.Store c.args.tx.now.conn.now) (state g.S.Store c.query_all.new.self.conn.now) _ known (c.in-Ok.ensures.ok clean)).0 (subst (AreVersion (pos 1)) c.as_slice-else-are_known.ensures.value (c.are_known-else-are_known.ensures.0 c.if-are_known-2.true)))
 
 pub returns-then-are_known-2-clause-same : goal.returns-then-are_known-2-clause-same
-returns-then-are_known-2-clause-same g c clean either = elim either [
-  | inl known ↦ find_stays (state g.S.Store c.args.tx.now.conn.now) (state g.S.Store c.query_all.new.self.conn.now) _ known (c.in-Ok.ensures.ok clean)
-  | inr empty ↦ absurd (none_shown (state g.S.Store c.args.tx.now.conn.now) (state g.S.Store c.query_all.new.self.conn.now) _ (empty_lacks _ empty) (c.in-Ok.ensures.ok clean))
-]
+returns-then-are_known-2-clause-same g c clean = find_stays (state g.S.Store c.args.tx.now.conn.now) (state g.S.Store c.query_all.new.self.conn.now) _ (c.in-Ok.ensures.ok clean)
 
 pub returns-then-are_known-2-clause-lacking : goal.returns-then-are_known-2-clause-lacking
 returns-then-are_known-2-clause-lacking g c clean lacks = absurd (none_shown (state g.S.Store c.args.tx.now.conn.now) (state g.S.Store c.query_all.new.self.conn.now) _ lacks (c.in-Ok.ensures.ok clean))
-
-pub returns-then-are_known-2-clause-left : goal.returns-then-are_known-2-clause-left
-returns-then-are_known-2-clause-left g c clean lacks = absurd (none_shown (state g.S.Store c.args.tx.now.conn.now) (state g.S.Store c.query_all.new.self.conn.now) _ lacks (c.in-Ok.ensures.ok clean))
 
 pub returns-then-are_known-2-clause-told : goal.returns-then-are_known-2-clause-told
 returns-then-are_known-2-clause-told g c clean = (_, c.in-Ok.ensures.ok clean, subst (AreVersion (pos 1)) c.as_slice-else-are_known.ensures.value (c.are_known-else-are_known.ensures.0 c.if-are_known-2.true))
@@ -97,8 +85,7 @@ returns g c =
       ours = λ clean known. known_told old new c.in-Err.error c.told_by.result is (failed clean) known;
       known = version_told c.in-Err.error c.told_by.result is;
       lacking = λ clean lacks. lacking_told old new c.in-Err.error c.told_by.result is (failed clean) lacks;
-      same = λ clean either. unchanged_told old new c.in-Err.error c.told_by.result is (failed clean);
-      left = λ clean lacks. unchanged_told old new c.in-Err.error c.told_by.result is (failed clean);
+      same = λ clean. unchanged_told old new c.in-Err.error c.told_by.result is (failed clean);
       told = λ clean. finds_told old new c.in-Err.error c.told_by.result is (failed clean);
       stays = tells_stay g.S.Store c.args.tx.now.conn c.query_all.new.self.conn c.query_all.ensures.same_reference c.query_all.ensures.survives find_format_text _ c.in-Err.error failed
           (λ clean. unchanged_told old new c.in-Err.error c.told_by.result is (failed clean));

@@ -9,7 +9,7 @@ use Rattle.dep_tables.specs.Tables.{tables_of}
 use Rattle.dep_tables.specs.Versions.{IsKnownVersion, HasVersion}
 use Rattle.dep_schema.specs.Standing.{GainsOurs}
 use Rattle.dep_schema.proofs.Asking.{stays_on}
-use Rattle.dep_schema.proofs.Version.{never_named, never_refused, told_as}
+use Rattle.dep_schema.proofs.Version.{never_named, never_refused, not_older, told_as}
 use Rattle.dep_schema.proofs.Refusing.{match_err, some_is_not_none, of_found, none_found, matched_some, matched_none, lent_fails}
 use Rattle.dep_schema.proofs.opening.find_or_make.Goals as goal
 
@@ -27,6 +27,7 @@ returns-in_err-version g c =
       version = λ clean said. (λ empty. told.empty clean empty (is said), λ ours. told.ours clean ours (is said));
       gains = λ clean inside lacks. IfOk-from_err result _ is_err;
       made = λ clean lacks. IfOk-from_err result _ is_err;
+      still = λ clean. IfOk-from_err result _ is_err;
       known = IfOk-from_err result _ is_err;
       lacking = λ clean said lacks. told.lacking clean lacks (is said);
       told = λ clean inside. match_err _ _ result fault c.from_residual.ensures.1 (inl (told.told clean));
@@ -43,12 +44,13 @@ returns-in-Some g c =
     let shown = subst (λ o. IfSome o IsKnownVersion) is told.known in
     record {
       empty = λ clean inside empty. absurd (some_is_not_none version (sym is ∙ told.empty clean empty));
-      ours = λ clean known. (of_found (λ v. HasVersion v (tables_of (state g.S.Store c.args.tx.now.conn.now))) found version is (told.ours clean known), (told.same clean (inl known)).0.now_is);
+      ours = λ clean known. (of_found (λ v. HasVersion v (tables_of (state g.S.Store c.args.tx.now.conn.now))) found version is (told.ours clean known), (told.same clean).0.now_is);
       version = λ clean said. absurd (never_refused _ _ said);
       gains = λ clean inside lacks. absurd (some_is_not_none version (sym is ∙ told.lacking clean lacks));
       lacking = λ clean said lacks. never_refused _ _ said;
       told = λ clean inside. (c.find_format.new.tx.conn.now, inl (matched_some _ _ found version is (told.told clean)));
       made = λ clean lacks. absurd (some_is_not_none version (sym is ∙ told.lacking clean lacks));
+      still = λ clean older. (told.same clean).0.now_is;
       known = shown;
       stays = stays_ok told.stays;
     }
@@ -66,15 +68,16 @@ returns-in-Ok g c =
     record {
       empty = λ clean inside empty.
           let before = clean_before stays clean in
-          made.ok clean (told.stays.inside before inside) (ap (λ (d : Database). d.schema) (told.same before (inr empty)).0.now_is ∙ empty);
+          made.ok clean (told.stays.inside before inside) (ap (λ (d : Database). d.schema) (told.same before).0.now_is ∙ empty);
       ours = λ clean known. absurd (none_found (λ v. HasVersion v (tables_of (state g.S.Store c.args.tx.now.conn.now))) found c.in_default.is (told.ours (clean_before stays clean) known));
       version = λ clean said. absurd (never_refused _ _ said);
       gains = λ clean inside lacks.
           let before = clean_before stays clean in
-          subst (λ (d : Database). GainsOurs d new.now) (told.left before lacks).0.now_is (made.gains clean (told.stays.inside before inside));
+          subst (λ (d : Database). GainsOurs d new.now) (told.same before).0.now_is (made.gains clean (told.stays.inside before inside));
       lacking = λ clean said lacks. never_refused _ _ said;
       told = λ clean inside. (c.find_format.new.tx.conn.now, inr (matched_none _ _ found c.in_default.is (told.told (clean_before stays clean)), refl));
       made = λ clean lacks. refl;
+      still = λ clean older. absurd (not_older older);
       known = inl refl;
       stays = stays_ok (stays_then told.stays stays);
     }
@@ -98,6 +101,7 @@ returns-in-Err g c =
           (lent_fails g.S.Store _ c.make_tables.new.tx c.in-Err.fault (c.in-Err.ensures.cause last (told.stays.inside before inside))) in
           inr (c.find_format.new.tx.conn.now, c.in-Err.fault, matched_none _ _ c.in_ok-version.field-0 c.in_default.is (told.told before), told.stays.survives, failed, c.from.ensures);
       made = λ clean lacks. tt;
+      still = λ clean. tt;
       known = tt;
       stays = stays_err refl (stays_then {r = Err c.in-Err.fault} told.stays stays);
     }

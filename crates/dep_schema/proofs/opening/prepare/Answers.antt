@@ -6,7 +6,7 @@ use Rattle.sqlite.proofs.Callers.{survives_begin}
 use Rattle.sqlite.proofs.StateLemmas.{clean_if_open}
 use Rattle.dep_tables.proofs.Chains.{was_clean}
 use Rattle.dep_schema.proofs.Prepared.{AreMade, AreMissed, IsCommitted, IsUncommitted, IsGivenUp, on_err_by}
-use Rattle.dep_schema.proofs.Prepared.{fresh, found, made_new, free, beside, opened, crash, fell_back, left, refused, crash_missed}
+use Rattle.dep_schema.proofs.Prepared.{fresh, found, made_new, still, free, beside, opened, crash, fell_back, left, refused, crash_missed}
 use Rattle.dep_schema.specs.OpenFaults.{open_fault_for, FailsToFindOrMake, ShowsOrMakes, begun}
 use Rattle.dep_schema.proofs.Refusing.{match_err, if_err_told, refuses_known, uncommitted, failed_only, clean_last}
 use Rattle.dep_schema.proofs.Version.{never_named, never_refused, told_as}
@@ -39,6 +39,7 @@ returns-in_err-version g c =
       fresh = λ clean empty. IfOk-from_err result _ is_err;
       found = λ clean its known ours. IfOk-from_err result _ is_err;
       made = λ clean lacks. IfOk-from_err result _ is_err;
+      still = λ clean. IfOk-from_err result _ is_err;
       known = IfOk-from_err result _ is_err;
       version = λ clean said. missed.version (before clean) (told_as result fault _ c.from_residual.ensures.1 said);
       lacking = λ clean said. missed.lacking (before clean) (told_as result fault _ c.from_residual.ensures.1 said);
@@ -65,7 +66,7 @@ returns-in-Ok g c =
     let version = c.in_ok-version.version in
     let stays = told.stays in
     let made = subst (λ h. AreMade (state g.S.Store h) (state g.S.Store last) version) c.transaction-tx.ensures.begun
-    (record { empty = told.empty; ours = told.ours; gains = told.gains; new = told.made; inside = stays.inside; kept = stays.kept; survives = stays.survives }) in
+    (record { empty = told.empty; ours = told.ours; gains = told.gains; new = told.made; still = told.still; inside = stays.inside; kept = stays.kept; survives = stays.survives }) in
     let shown = subst (λ h. HasCleanDisk (state g.S.Store last) → IsTrue (state g.S.Store h).in_transaction → ShowsOrMakes g.S.Store h version) c.transaction-tx.ensures.begun told.told in
     let ended = subst (λ h. IsCommitted (state g.S.Store last) (state g.S.Store h)) same
     (record { ended = c.commit.ensures.ended; shows = λ clean. (c.in-Ok.ensures.ok clean).1; survives = c.commit.ensures.survives }) in
@@ -73,6 +74,7 @@ returns-in-Ok g c =
       fresh = fresh g.S.Store old last new version made ended;
       found = found g.S.Store old last new version made ended;
       made = made_new g.S.Store old last new version made ended;
+      still = still g.S.Store old last new version made ended;
       known = told.known;
       version = λ clean said. absurd (never_refused _ _ said);
       lacking = λ clean said lacks. never_refused _ _ said;
@@ -98,7 +100,7 @@ returns-in-Err g c =
     let version = c.in_ok-version.version in
     let stays = told.stays in
     let made = subst (λ h. AreMade (state g.S.Store h) (state g.S.Store last) version) c.transaction-tx.ensures.begun
-    (record { empty = told.empty; ours = told.ours; gains = told.gains; new = told.made; inside = stays.inside; kept = stays.kept; survives = stays.survives }) in
+    (record { empty = told.empty; ours = told.ours; gains = told.gains; new = told.made; still = told.still; inside = stays.inside; kept = stays.kept; survives = stays.survives }) in
     let ended = subst (λ h. IsUncommitted (state g.S.Store last) (state g.S.Store h) c.in-Err.error) same
     (record { ended = c.commit.ensures.ended; failed = λ clean. c.in-Err.ensures.err clean; survives = c.commit.ensures.survives }) in
     let undone = fell_back g.S.Store old last new version made c.in-Err.error ended in
@@ -110,10 +112,11 @@ returns-in-Err g c =
       fresh = λ clean empty. tt;
       found = λ clean its known ours. tt;
       made = λ clean lacks. tt;
+      still = λ clean. tt;
       known = tt;
       version = λ clean said. absurd (never_named c.fault_of.result c.from.result c.from.ensures said);
       lacking = λ clean said lacks. never_named c.fault_of.result c.from.result c.from.ensures said;
-      told = λ clean. inr (last, c.in-Err.error, since, failed clean, tells);
+      told = λ clean. inr (last, c.in-Err.error, (λ lacks. (made.gains (before clean) refl lacks).free), since, failed clean, tells);
       ours = λ clean known. uncommitted g.S.Store old last new known _ c.in-Err.error (failed clean) tells since ended.survives.counts (before clean);
       free = λ clean lacks. tt;
       beside = λ clean lacks has. tt;

@@ -1,10 +1,9 @@
-use Rattle.std.proofs.Common.{Err, inl}
+use Rattle.std.proofs.Common.{Err, inl, inr}
 use Rattle.std.proofs.lemmas.Result.{IfOk-from_err}
 use Rattle.dep_tables.proofs.Results.{ok_then}
 use Rattle.dep_tables.proofs.Chains.{clean_before, stays_then, stays_err}
-use Rattle.dep_row_maps.proofs.Causes.{if_err_is, if_err_then, fails_first}
-use Rattle.dep_schema.proofs.Upgraded.{extends, extend_fails}
-use Rattle.dep_schema.specs.Upgrading.{FailsToExtend}
+use Rattle.dep_row_maps.proofs.Causes.{if_err_is, if_err_then}
+use Rattle.dep_schema.proofs.Upgraded.{extends, free_new}
 use Rattle.dep_schema.proofs.upgrading.extend_schema.Goals as goal
 
 pub returns-clause-ok : goal.returns-clause-ok
@@ -14,12 +13,19 @@ returns-clause-ok g c clean inside older =
     ok_then c.create_indexes.result (c.create_indexes.ensures.adds clean (created.stays.inside before inside))
     (λ both. extends (g.T.Statements.state c.args.tx.now) (g.T.Statements.state c.create_sha512s.new.tx) (g.T.Statements.state c.create_indexes.new.tx) older (created.adds before inside) both)
 
+pub returns-clause-free : goal.returns-clause-free
+returns-clause-free g c clean inside =
+    let created = c.in_ok-create_sha512s.ensures in
+    let before = clean_before c.create_indexes.ensures.stays clean in
+    ok_then c.create_indexes.result (c.create_indexes.ensures.adds clean (created.stays.inside before inside))
+    (free_new (g.T.Statements.state c.args.tx.now).now (g.T.Statements.state c.create_sha512s.new.tx).now (g.T.Statements.state c.create_indexes.new.tx).now (created.adds before inside))
+
 pub returns-clause-cause : goal.returns-clause-cause
-returns-clause-cause g c any clean inside =
+returns-clause-cause g c clean inside =
     let created = c.in_ok-create_sha512s.ensures in
     let before = clean_before c.create_indexes.ensures.stays clean in
     if_err_then c.create_indexes.result (c.create_indexes.ensures.cause clean (created.stays.inside before inside))
-    (extend_fails g.T.Statements.state c.args.tx.now c.create_sha512s.new.tx c.create_indexes.new.tx created.stays.survives)
+    (λ fault failed. inr (c.create_sha512s.new.tx, created.adds before inside, created.stays.survives, failed))
 
 pub returns-clause-stays : goal.returns-clause-stays
 returns-clause-stays g c = stays_then c.in_ok-create_sha512s.ensures.stays c.create_indexes.ensures.stays
@@ -30,7 +36,7 @@ returns-in_err-create_sha512s g c =
     let is_err = c.from_residual.ensures.0 in
     record {
       ok = λ clean inside older. IfOk-from_err c.from_residual.result _ is_err;
-      cause = λ any clean inside. if_err_is _ c.from_residual.result _ c.from_residual.ensures.1
-          (fails_first g.T.Statements.state c.args.tx.now c.create_sha512s.new.tx FailsToExtend _ (inl (c.in_err-create_sha512s.ensures.cause clean inside)));
+      free = λ clean inside. IfOk-from_err c.from_residual.result _ is_err;
+      cause = λ clean inside. if_err_is _ c.from_residual.result _ c.from_residual.ensures.1 (inl (c.in_err-create_sha512s.ensures.cause clean inside));
       stays = stays_err {r = Err c.in_err-create_sha512s.field-0.0} is_err c.in_err-create_sha512s.ensures.stays;
     }

@@ -1,11 +1,9 @@
-use Rattle.std.proofs.Common.{◌<◌, ◌^◌, length, arith}
-use Rattle.std.proofs.lemmas.List.Elements.{All-get_or}
+use Rattle.std.proofs.Common.{◌<◌, length, arith}
 use Rattle.std.proofs.lemmas.List.{take_all}
 use Rattle.dep_tables.proofs.Chains.{clean_before, stays_then, stays_ok, stays_err}
 use Rattle.dep_tables.specs.Tables.{tables_of}
-use Rattle.dep_tables.specs.declared.sha512s.FileSha512.{FileSha512}
 use Rattle.dep_row_maps.proofs.Causes.{if_err_is}
-use Rattle.dep_schema.proofs.Upgraded.{one_more_value, put_fails}
+use Rattle.dep_schema.proofs.Upgraded.{one_more_value, put_fails, told_fault}
 use Rattle.dep_schema.proofs.upgrading.insert_values.Goals as goal
 
 pub values-preserved : goal.values-preserved
@@ -30,10 +28,12 @@ pub returns-clause-ok : goal.returns-clause-ok
 returns-clause-ok g c = rw (take_all c.values.value-index c.args.values.now c.values-test.false) at c.values.invariant.1
 
 pub returns-in_err-insert_sha512-clause-cause : goal.returns-in_err-insert_sha512-clause-cause
-returns-in_err-insert_sha512-clause-cause g c storable clean inside =
+returns-in_err-insert_sha512-clause-cause g c any clean inside =
     let stays = c.values.invariant.0 in
     let before = clean_before c.insert_sha512.ensures.stays clean in
     let within : c.values.value-index < length c.args.values.now = omega arith in
+    let goes_on = stays.inside before inside in
+    let failed = c.in_err-insert_sha512.ensures in
     if_err_is _ c.from_residual.result _ c.from_residual.ensures.1
     (put_fails g.T.Statements.state c.args.values.now c.args.tx.now c.values.tx c.insert_sha512.new.tx stays.survives c.values.value-index _ within _
-    (c.in_err-insert_sha512.ensures.cause (All-get_or (λ (v : FileSha512). v.file < 2 ^ 63) c.args.values.now c.values.value-index _ within storable) clean (stays.inside before inside)))
+    (λ below. failed.cause below clean goes_on) (λ above. told_fault (failed.numbers above).0))

@@ -3,12 +3,15 @@ use Rattle.sqlite.specs.Held.{Held, state}
 use Rattle.sqlite.specs.State.{HasCleanDisk}
 use Rattle.sqlite.specs.declared.transaction.Transaction.{Transaction}
 use Rattle.sqlite.proofs.StateLemmas.{clean_if_open}
+use Rattle.std.proofs.lemmas.Result.{IfOk-from_err}
 use Rattle.dep_schema.proofs.Transacting.{gave_up, committed, uncommitted, works_within, still_inside}
 use Rattle.dep_tables.proofs.Chains.{was_clean}
+use Rattle.dep_tables.proofs.Results.{if_failed}
 use Rattle.dep_row_maps.proofs.Causes.{if_err_is}
-use Rattle.dep_schema.specs.Upgrading.{AreStorable, FailsToUpgrade}
+use Rattle.dep_schema.specs.Beside.{AreNewNamesFree}
+use Rattle.dep_schema.specs.Upgrading.{FailsToUpgrade}
 use Rattle.dep_schema.proofs.Refusing.{clean_last}
-use Rattle.dep_schema.proofs.Upgraded.{statement_failed, commit_failed}
+use Rattle.dep_schema.proofs.Upgraded.{statement_failed, commit_failed, upgrade_back, commit_back, crash_given_up, crash_committing}
 use Rattle.dep_schema.proofs.upgrading.upgrade.Goals as goal
 
 pub returns-in_err-upgrade_tables : goal.returns-in_err-upgrade_tables
@@ -24,11 +27,14 @@ returns-in_err-upgrade_tables g c =
       mode = subst (λ (h : Held g.row.S.Denot). (state g.S.Store h).in_transaction ≡ false) same c.drop-tx.ensures.ended;
       upgrades = gave_up g.S.Store old inside new _ c.from_residual.result c.from_residual.ensures.0 work
           c.drop-tx.ensures.undone c.drop-tx.ensures.survives _ same;
-      cause = subst (λ (h : Held g.row.S.Denot). HasCleanDisk (state g.S.Store h) → AreStorable c.args.values.now → IfErr c.from_residual.result (FailsToUpgrade g.S.Store old h c.args.values.now)) same
-          (λ clean storable. if_err_is _ c.from_residual.result _ c.from_residual.ensures.1
+      free = λ clean. IfOk-from_err c.from_residual.result _ c.from_residual.ensures.0;
+      cause = subst (λ (h : Held g.row.S.Denot). HasCleanDisk (state g.S.Store h) → IfErr c.from_residual.result (FailsToUpgrade g.S.Store old h c.args.values.now)) same
+          (λ clean. if_err_is _ c.from_residual.result _ c.from_residual.ensures.1
           (statement_failed g.S.Store c.args.values.now old _ c.upgrade_tables.new.tx c.tx-2-1.given.0 c.transaction-tx.ensures.begun left new _
-          (c.in_err-upgrade_tables.ensures.cause storable (subst (λ (tx : Transaction g.row.S.Denot). HasCleanDisk (state g.S.Store tx.conn.now)) (sym left) (was_clean (state g.S.Store inside) (state g.S.Store new) c.drop-tx.ensures.survives clean))
+          (c.in_err-upgrade_tables.ensures.cause (subst (λ (tx : Transaction g.row.S.Denot). HasCleanDisk (state g.S.Store tx.conn.now)) (sym left) (was_clean (state g.S.Store inside) (state g.S.Store new) c.drop-tx.ensures.survives clean))
           (subst (λ (h : Held g.row.S.Denot). IsTrue h.in_transaction) (sym c.transaction-tx.ensures.begun) refl)) c.drop-tx.ensures.survives));
+      left = λ is_open. if_failed c.from_residual.result (upgrade_back g.S.Store old inside new work _ same c.drop-tx.ensures.survives c.drop-tx.ensures.undone is_open);
+      crash = crash_given_up g.S.Store old inside new work _ same _ c.drop-tx.ensures.survives;
     }
 
 pub returns-in-Ok : goal.returns-in-Ok
@@ -46,7 +52,11 @@ returns-in-Ok g c =
       upgrades = committed g.S.Store old inside new _ _ work
           (λ clean older. let sees = worked.ok clean refl older in (sees.ours, sees.rows))
           (λ clean. let ok = c.in-Ok.ensures.ok clean in (ok.1, ok.2, ok.3)) c.commit.ensures.survives _ same;
-      cause = λ clean storable. tt;
+      free = subst (λ (h : Held g.row.S.Denot). HasCleanDisk (state g.S.Store h) → AreNewNamesFree (state g.S.Store old).now.schema) same
+          (λ clean. worked.free (clean_last (state g.S.Store inside) (state g.S.Store new) _ c.commit.ensures.survives clean) refl);
+      cause = λ clean. tt;
+      left = λ is_open. tt;
+      crash = crash_committing g.S.Store old inside new work _ same _ c.commit.ensures.survives (λ clean. worked.free clean refl);
     }
 
 pub returns-in-Err : goal.returns-in-Err
@@ -64,8 +74,14 @@ returns-in-Err g c =
       upgrades = uncommitted g.S.Store old inside new _ tt _ c.in-Err.error work
           (λ clean older. let sees = worked.ok clean refl older in (sees.ours, sees.rows))
           (still_inside g.S.Store old c.in_ok-upgrade_tables.ensures.stays c.transaction-tx.ensures.begun left) (λ clean. c.in-Err.ensures.err clean) c.commit.ensures.survives _ same;
-      cause = subst (λ (h : Held g.row.S.Denot). HasCleanDisk (state g.S.Store h) → AreStorable c.args.values.now → FailsToUpgrade g.S.Store old h c.args.values.now c.fault_of.result) same
-          (λ clean storable. subst (FailsToUpgrade g.S.Store old new c.args.values.now) (sym c.fault_of.ensures)
+      free = λ clean. tt;
+      cause = subst (λ (h : Held g.row.S.Denot). HasCleanDisk (state g.S.Store h) → FailsToUpgrade g.S.Store old h c.args.values.now c.fault_of.result) same
+          (λ clean.
+          let before = clean_last (state g.S.Store inside) (state g.S.Store new) _ c.commit.ensures.survives clean in
+          subst (FailsToUpgrade g.S.Store old new c.args.values.now) (sym c.fault_of.ensures)
           (commit_failed g.S.Store c.args.values.now old _ c.upgrade_tables.new.tx c.tx-2-1.given.0 c.transaction-tx.ensures.begun left new c.in-Err.error c.in_ok-upgrade_tables.ensures.stays
-          (clean_last (state g.S.Store inside) (state g.S.Store new) _ c.commit.ensures.survives clean) (c.in-Err.ensures.err clean)));
+          before (worked.free before refl) (c.in-Err.ensures.err clean)));
+      left = commit_back g.S.Store old inside new work _ same c.in-Err.error c.commit.ensures.survives
+          (still_inside g.S.Store old c.in_ok-upgrade_tables.ensures.stays c.transaction-tx.ensures.begun left) (λ clean. c.in-Err.ensures.err clean);
+      crash = crash_committing g.S.Store old inside new work _ same _ c.commit.ensures.survives (λ clean. worked.free clean refl);
     }

@@ -1,10 +1,10 @@
 use Rattle.std.proofs.Common.{Err, inl, inr, ap, ◌∙◌}
 use Rattle.std.proofs.lemmas.Result.{IfOk-from_err}
 use Rattle.dep_tables.specs.Edits.{with_our_version}
-use Rattle.dep_tables.proofs.Results.{ok_then}
+use Rattle.dep_tables.proofs.Results.{if_ok, ok_then}
 use Rattle.dep_tables.proofs.Chains.{clean_before, survived, stays_then, stays_err}
-use Rattle.dep_row_maps.proofs.Causes.{if_err_is, if_err_then, fails_then, fails_later, fails_among}
-use Rattle.dep_schema.specs.Upgrading.{with_sha512s, FailsToExtend, FailsToPut, FailsToRewrite}
+use Rattle.dep_row_maps.proofs.Causes.{if_err_is, if_err_then, fails_then, fails_later}
+use Rattle.dep_schema.specs.Upgrading.{with_sha512s, FailsToPut, FailsToFill}
 use Rattle.dep_schema.proofs.upgrading.upgrade_tables.Goals as goal
 
 pub returns-clause-ok : goal.returns-clause-ok
@@ -19,8 +19,14 @@ returns-clause-ok g c clean inside older =
     ok_then c.write_version.result (c.write_version.ensures.ok clean (inserted.stays.inside filled goes_on) put.ours)
     (λ led. record { ours = led.ours; rows = led.rows ∙ ap with_our_version (put.rows ∙ ap (with_sha512s c.args.values.now) made.rows) })
 
+pub returns-clause-free : goal.returns-clause-free
+returns-clause-free g c clean inside =
+    let extended = c.in_ok-extend_schema.ensures in
+    let there = clean_before c.in_ok-insert_values.ensures.stays (clean_before c.write_version.ensures.stays clean) in
+    if_ok c.write_version.result (extended.free there inside)
+
 pub returns-clause-cause : goal.returns-clause-cause
-returns-clause-cause g c storable clean inside =
+returns-clause-cause g c clean inside =
     let extended = c.in_ok-extend_schema.ensures in
     let inserted = c.in_ok-insert_values.ensures in
     let filled = clean_before c.write_version.ensures.stays clean in
@@ -28,7 +34,7 @@ returns-clause-cause g c storable clean inside =
     let goes_on = inserted.stays.inside filled (extended.stays.inside there inside) in
     let since = survived (g.T.Statements.state c.args.tx.now) (g.T.Statements.state c.extend_schema.new.tx) (g.T.Statements.state c.insert_values.new.tx) extended.stays.survives inserted.stays.survives in
     if_err_then c.write_version.result (c.write_version.ensures.cause clean goes_on)
-    (λ fault failed. fails_then g.T.Statements.state c.args.tx.now c.insert_values.new.tx c.write_version.new.tx since (FailsToRewrite c.args.values.now) fault (inr (inr failed)))
+    (λ fault failed. inr (extended.free there inside, fails_then g.T.Statements.state c.args.tx.now c.insert_values.new.tx c.write_version.new.tx since (FailsToFill c.args.values.now) fault (inr failed)))
 
 pub returns-clause-stays : goal.returns-clause-stays
 returns-clause-stays g c = stays_then c.in_ok-extend_schema.ensures.stays (stays_then c.in_ok-insert_values.ensures.stays c.write_version.ensures.stays)
@@ -39,8 +45,8 @@ returns-in_err-extend_schema g c =
     let is_err = c.from_residual.ensures.0 in
     record {
       ok = λ clean inside older. IfOk-from_err c.from_residual.result _ is_err;
-      cause = λ storable clean inside. if_err_is _ c.from_residual.result _ c.from_residual.ensures.1
-          (fails_among g.T.Statements.state c.args.tx.now c.extend_schema.new.tx FailsToExtend (FailsToRewrite c.args.values.now) (λ at now fault by. inl by) _ (c.in_err-extend_schema.ensures.cause tt clean inside));
+      free = λ clean inside. IfOk-from_err c.from_residual.result _ is_err;
+      cause = λ clean inside. if_err_is _ c.from_residual.result _ c.from_residual.ensures.1 (inl (c.in_err-extend_schema.ensures.cause clean inside));
       stays = stays_err {r = Err c.in_err-extend_schema.field-0.0} is_err c.in_err-extend_schema.ensures.stays;
     }
 
@@ -51,10 +57,14 @@ returns-in_err-insert_values g c =
     let is_err = c.from_residual-in_err-insert_values.ensures.0 in
     record {
       ok = λ clean inside older. IfOk-from_err c.from_residual-in_err-insert_values.result _ is_err;
-      cause = λ storable clean inside.
+      free = λ clean inside. IfOk-from_err c.from_residual-in_err-insert_values.result _ is_err;
+      cause = λ clean inside.
           let there = clean_before failed.stays clean in
           if_err_is _ c.from_residual-in_err-insert_values.result _ c.from_residual-in_err-insert_values.ensures.1
-          (fails_later g.T.Statements.state c.args.tx.now c.extend_schema.new.tx c.insert_values.new.tx extended.stays.survives (FailsToPut c.args.values.now) (FailsToRewrite c.args.values.now)
-          (λ at now fault by. inr (inl by)) _ (failed.cause storable clean (extended.stays.inside there inside)));
+          (inr (
+            extended.free there inside,
+            fails_later g.T.Statements.state c.args.tx.now c.extend_schema.new.tx c.insert_values.new.tx extended.stays.survives (FailsToPut c.args.values.now) (FailsToFill c.args.values.now)
+                (λ at now fault by. inl by) _ (failed.cause tt clean (extended.stays.inside there inside)),
+          ));
       stays = stays_err is_err (stays_then {r = Err c.in_err-insert_values.field-0.0} extended.stays failed.stays);
     }

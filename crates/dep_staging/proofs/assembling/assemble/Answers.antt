@@ -2,103 +2,125 @@ use Rattle.dep_tables.proofs.Results.{if_failed}
 use Rattle.dep_tables.proofs.Chains.{clean_before, stays_then, stays_err}
 use Rattle.dep_tables.specs.Tables.{tables_of}
 use Rattle.dep_row_maps.specs.Causes.{FailsByStatement}
-use Rattle.dep_row_maps.specs.Causes.FailsByStatement.{file_added, segments_deleted, sha512_added, upload_deleted}
+use Rattle.dep_row_maps.specs.Causes.FailsByStatement.{file_added, segments_deleted, sha512_added, sha512_deleted, upload_deleted}
 use Rattle.dep_row_maps.proofs.Causes.{fails_then, if_err_then, if_err_is}
 use Rattle.dep_files.proofs.Results.{ok_both, fails_behind}
 use Rattle.dep_staging.proofs.Moved.{made}
 use Rattle.dep_staging.proofs.assembling.assemble.Goals as goal
 
 pub returns-clause-map : goal.returns-clause-map
-returns-clause-map g c clean inside ours s are o it file there held whole upload_is row_is content value_is =
+returns-clause-map g c clean inside ours s are o it file there held whole upload_is row_is content =
     let old = g.T.Statements.state c.args.tx.now in
     let one = g.T.Statements.state c.move_parts.new.tx in
-    let two = g.T.Statements.state c.delete_segments.new.tx in
-    let three = g.T.Statements.state c.delete_upload.new.tx in
-    let four = g.T.Statements.state c.insert_sha512.new.tx in
+    let two = g.T.Statements.state c.delete_sha512.new.tx in
+    let three = g.T.Statements.state c.delete_segments.new.tx in
+    let four = g.T.Statements.state c.delete_upload.new.tx in
+    let five = g.T.Statements.state c.insert_sha512.new.tx in
     let new = g.T.Statements.state c.insert_file.new.tx in
-    let clean_four = clean_before c.insert_file.ensures.stays clean in
-    let clean_three = clean_before c.insert_sha512.ensures.stays clean_four in
-    let clean_two = clean_before c.delete_upload.ensures.stays clean_three in
-    let clean_one = clean_before c.delete_segments.ensures.stays clean_two in
+    let clean_five = clean_before c.insert_file.ensures.stays clean in
+    let clean_four = clean_before c.insert_sha512.ensures.stays clean_five in
+    let clean_three = clean_before c.delete_upload.ensures.stays clean_four in
+    let clean_two = clean_before c.delete_segments.ensures.stays clean_three in
+    let clean_one = clean_before c.delete_sha512.ensures.stays clean_two in
     let first = c.in_ok-move_parts.ensures.ok clean_one inside ours in
-    let second = c.in_ok-delete_segments.ensures.ok clean_two (c.in_ok-move_parts.ensures.stays.inside clean_one inside) first.ours in
-    let third = c.in_ok-delete_upload.ensures.ok clean_three second.shows.mode second.ours in
-    let fourth = c.in_ok-insert_sha512.ensures.ok clean_four third.shows.mode third.ours in
-    ok_both c.insert_file.result (c.insert_file.ensures.ok clean fourth.shows.mode fourth.ours) (c.insert_file.ensures.free clean fourth.shows.mode fourth.ours)
-    (λ leads free. made (tables_of old) (tables_of one) (tables_of two) (tables_of three) (tables_of four) (tables_of new) c.args.upload.now c.args.row.now c.args.sha512.now first.rows second.rows third.rows fourth.rows leads.rows
-    s o it file are ours.trees.ordered.1.1.1.1.0 ours.trees.ordered.1.1.1.1.1.1.1.1.1.0 there held whole upload_is row_is content value_is free)
+    let second = c.in_ok-delete_sha512.ensures.ok clean_two (c.in_ok-move_parts.ensures.stays.inside clean_one inside) first.ours in
+    let third = c.in_ok-delete_segments.ensures.ok clean_three second.shows.mode second.ours in
+    let fourth = c.in_ok-delete_upload.ensures.ok clean_four third.shows.mode third.ours in
+    let fifth = c.in_ok-insert_sha512.ensures.ok clean_five fourth.shows.mode fourth.ours in
+    ok_both c.insert_file.result (c.insert_file.ensures.ok clean fifth.shows.mode fifth.ours) (c.insert_file.ensures.free clean fifth.shows.mode fifth.ours)
+    (λ leads free. made (tables_of old) (tables_of one) (tables_of two) (tables_of three) (tables_of four) (tables_of five) (tables_of new) c.args.upload.now c.args.row.now first.rows second.rows third.rows fourth.rows fifth.rows leads.rows
+    s o it file are ours.trees.ordered.1.1.1.1.0 ours.trees.ordered.1.1.1.1.1.1.1.1.1.0 there held whole upload_is row_is content free)
+
+pub returns-in_err-delete_sha512-clause-stays : goal.returns-in_err-delete_sha512-clause-stays
+returns-in_err-delete_sha512-clause-stays g c =
+    stays_err c.from_residual-in_err-delete_sha512.ensures.0 (stays_then c.in_ok-move_parts.ensures.stays c.delete_sha512.ensures.stays)
+
+pub returns-in_err-delete_sha512-clause-err : goal.returns-in_err-delete_sha512-clause-err
+returns-in_err-delete_sha512-clause-err g c clean inside is_open =
+    if_failed _ (fails_behind c.in_ok-move_parts.ensures.stays c.in_err-delete_sha512.ensures.stays c.in_err-delete_sha512.ensures.err clean inside is_open)
 
 pub returns-in_err-delete_segments-clause-stays : goal.returns-in_err-delete_segments-clause-stays
 returns-in_err-delete_segments-clause-stays g c =
-    stays_err c.from_residual-in_err-delete_segments.ensures.0 (stays_then c.in_ok-move_parts.ensures.stays c.delete_segments.ensures.stays)
+    stays_err c.from_residual-in_err-delete_segments.ensures.0 (stays_then (stays_then c.in_ok-move_parts.ensures.stays c.in_ok-delete_sha512.ensures.stays) c.delete_segments.ensures.stays)
 
 pub returns-in_err-delete_segments-clause-err : goal.returns-in_err-delete_segments-clause-err
 returns-in_err-delete_segments-clause-err g c clean inside is_open =
-    if_failed _ (fails_behind c.in_ok-move_parts.ensures.stays c.in_err-delete_segments.ensures.stays c.in_err-delete_segments.ensures.err clean inside is_open)
+    if_failed _ (fails_behind (stays_then c.in_ok-move_parts.ensures.stays c.in_ok-delete_sha512.ensures.stays) c.in_err-delete_segments.ensures.stays c.in_err-delete_segments.ensures.err clean inside is_open)
 
 pub returns-in_err-delete_upload-clause-stays : goal.returns-in_err-delete_upload-clause-stays
 returns-in_err-delete_upload-clause-stays g c =
-    stays_err c.from_residual-in_err-delete_upload.ensures.0 (stays_then (stays_then c.in_ok-move_parts.ensures.stays c.in_ok-delete_segments.ensures.stays) c.delete_upload.ensures.stays)
+    stays_err c.from_residual-in_err-delete_upload.ensures.0 (stays_then (stays_then (stays_then c.in_ok-move_parts.ensures.stays c.in_ok-delete_sha512.ensures.stays) c.in_ok-delete_segments.ensures.stays) c.delete_upload.ensures.stays)
 
 pub returns-in_err-delete_upload-clause-err : goal.returns-in_err-delete_upload-clause-err
 returns-in_err-delete_upload-clause-err g c clean inside is_open =
-    if_failed _ (fails_behind (stays_then c.in_ok-move_parts.ensures.stays c.in_ok-delete_segments.ensures.stays) c.in_err-delete_upload.ensures.stays c.in_err-delete_upload.ensures.err clean inside is_open)
+    if_failed _ (fails_behind (stays_then (stays_then c.in_ok-move_parts.ensures.stays c.in_ok-delete_sha512.ensures.stays) c.in_ok-delete_segments.ensures.stays) c.in_err-delete_upload.ensures.stays c.in_err-delete_upload.ensures.err clean inside is_open)
 
 pub returns-in_err-insert_sha512-clause-stays : goal.returns-in_err-insert_sha512-clause-stays
 returns-in_err-insert_sha512-clause-stays g c =
-    stays_err c.from_residual-in_err-insert_sha512.ensures.0 (stays_then (stays_then (stays_then c.in_ok-move_parts.ensures.stays c.in_ok-delete_segments.ensures.stays) c.in_ok-delete_upload.ensures.stays) c.insert_sha512.ensures.stays)
+    stays_err c.from_residual-in_err-insert_sha512.ensures.0 (stays_then (stays_then (stays_then (stays_then c.in_ok-move_parts.ensures.stays c.in_ok-delete_sha512.ensures.stays) c.in_ok-delete_segments.ensures.stays) c.in_ok-delete_upload.ensures.stays) c.insert_sha512.ensures.stays)
 
 pub returns-in_err-insert_sha512-clause-err : goal.returns-in_err-insert_sha512-clause-err
 returns-in_err-insert_sha512-clause-err g c clean inside is_open =
-    if_failed _ (fails_behind (stays_then (stays_then c.in_ok-move_parts.ensures.stays c.in_ok-delete_segments.ensures.stays) c.in_ok-delete_upload.ensures.stays) c.in_err-insert_sha512.ensures.stays c.in_err-insert_sha512.ensures.err clean inside is_open)
+    if_failed _ (fails_behind (stays_then (stays_then (stays_then c.in_ok-move_parts.ensures.stays c.in_ok-delete_sha512.ensures.stays) c.in_ok-delete_segments.ensures.stays) c.in_ok-delete_upload.ensures.stays) c.in_err-insert_sha512.ensures.stays c.in_err-insert_sha512.ensures.err clean inside is_open)
 
 pub returns-clause-stays : goal.returns-clause-stays
 returns-clause-stays g c =
-    stays_then (stays_then (stays_then (stays_then c.in_ok-move_parts.ensures.stays c.in_ok-delete_segments.ensures.stays) c.in_ok-delete_upload.ensures.stays) c.in_ok-insert_sha512.ensures.stays) c.insert_file.ensures.stays
+    stays_then (stays_then (stays_then (stays_then (stays_then c.in_ok-move_parts.ensures.stays c.in_ok-delete_sha512.ensures.stays) c.in_ok-delete_segments.ensures.stays) c.in_ok-delete_upload.ensures.stays) c.in_ok-insert_sha512.ensures.stays) c.insert_file.ensures.stays
 
 pub returns-clause-err : goal.returns-clause-err
 returns-clause-err g c =
-    fails_behind (stays_then (stays_then (stays_then c.in_ok-move_parts.ensures.stays c.in_ok-delete_segments.ensures.stays) c.in_ok-delete_upload.ensures.stays) c.in_ok-insert_sha512.ensures.stays) c.insert_file.ensures.stays c.insert_file.ensures.err
+    fails_behind (stays_then (stays_then (stays_then (stays_then c.in_ok-move_parts.ensures.stays c.in_ok-delete_sha512.ensures.stays) c.in_ok-delete_segments.ensures.stays) c.in_ok-delete_upload.ensures.stays) c.in_ok-insert_sha512.ensures.stays) c.insert_file.ensures.stays c.insert_file.ensures.err
 
 pub returns-in_err-move_parts-clause-cause : goal.returns-in_err-move_parts-clause-cause
 returns-in_err-move_parts-clause-cause g c storable clean inside =
     if_err_is _ c.from_residual.result c.in_err-move_parts.field-0.0 c.from_residual.ensures.1 (c.in_err-move_parts.ensures.cause (storable.0.upload, storable.0.count, storable.1.file) clean inside)
 
+pub returns-in_err-delete_sha512-clause-cause : goal.returns-in_err-delete_sha512-clause-cause
+returns-in_err-delete_sha512-clause-cause g c storable clean inside =
+    let old = c.args.tx.now in
+    let one = c.move_parts.new.tx in
+    let new = c.delete_sha512.new.tx in
+    let stays = c.in_ok-move_parts.ensures.stays in
+    let within = stays.inside (clean_before c.delete_sha512.ensures.stays clean) inside in
+    if_err_is _ c.from_residual-in_err-delete_sha512.result c.in_err-delete_sha512.field-0.0 c.from_residual-in_err-delete_sha512.ensures.1 (fails_then g.T.Statements.state old one new stays.survives FailsByStatement _
+    (sha512_deleted _ (c.in_err-delete_sha512.ensures.cause storable.0.upload clean within)))
+
 pub returns-in_err-delete_segments-clause-cause : goal.returns-in_err-delete_segments-clause-cause
 returns-in_err-delete_segments-clause-cause g c storable clean inside =
     let old = c.args.tx.now in
-    let one = c.move_parts.new.tx in
+    let two = c.delete_sha512.new.tx in
     let new = c.delete_segments.new.tx in
-    let before = clean_before c.delete_segments.ensures.stays clean in
-    if_err_is _ c.from_residual-in_err-delete_segments.result c.in_err-delete_segments.field-0.0 c.from_residual-in_err-delete_segments.ensures.1 (fails_then g.T.Statements.state old one new c.move_parts.ensures.stays.survives FailsByStatement _
-    (segments_deleted _ (c.in_err-delete_segments.ensures.cause storable.0.upload clean (c.in_ok-move_parts.ensures.stays.inside before inside))))
+    let stays = stays_then c.in_ok-move_parts.ensures.stays c.in_ok-delete_sha512.ensures.stays in
+    let within = stays.inside (clean_before c.delete_segments.ensures.stays clean) inside in
+    if_err_is _ c.from_residual-in_err-delete_segments.result c.in_err-delete_segments.field-0.0 c.from_residual-in_err-delete_segments.ensures.1 (fails_then g.T.Statements.state old two new stays.survives FailsByStatement _
+    (segments_deleted _ (c.in_err-delete_segments.ensures.cause storable.0.upload clean within)))
 
 pub returns-in_err-delete_upload-clause-cause : goal.returns-in_err-delete_upload-clause-cause
 returns-in_err-delete_upload-clause-cause g c storable clean inside =
     let old = c.args.tx.now in
-    let two = c.delete_segments.new.tx in
+    let three = c.delete_segments.new.tx in
     let new = c.delete_upload.new.tx in
-    let stays = stays_then c.in_ok-move_parts.ensures.stays c.in_ok-delete_segments.ensures.stays in
+    let stays = stays_then (stays_then c.in_ok-move_parts.ensures.stays c.in_ok-delete_sha512.ensures.stays) c.in_ok-delete_segments.ensures.stays in
     let within = stays.inside (clean_before c.delete_upload.ensures.stays clean) inside in
-    if_err_is _ c.from_residual-in_err-delete_upload.result c.in_err-delete_upload.field-0.0 c.from_residual-in_err-delete_upload.ensures.1 (fails_then g.T.Statements.state old two new stays.survives FailsByStatement _
+    if_err_is _ c.from_residual-in_err-delete_upload.result c.in_err-delete_upload.field-0.0 c.from_residual-in_err-delete_upload.ensures.1 (fails_then g.T.Statements.state old three new stays.survives FailsByStatement _
     (upload_deleted _ (c.in_err-delete_upload.ensures.cause storable.0.upload clean within)))
 
 pub returns-in_err-insert_sha512-clause-cause : goal.returns-in_err-insert_sha512-clause-cause
 returns-in_err-insert_sha512-clause-cause g c storable clean inside =
     let old = c.args.tx.now in
-    let three = c.delete_upload.new.tx in
+    let four = c.delete_upload.new.tx in
     let new = c.insert_sha512.new.tx in
-    let stays = stays_then (stays_then c.in_ok-move_parts.ensures.stays c.in_ok-delete_segments.ensures.stays) c.in_ok-delete_upload.ensures.stays in
+    let stays = stays_then (stays_then (stays_then c.in_ok-move_parts.ensures.stays c.in_ok-delete_sha512.ensures.stays) c.in_ok-delete_segments.ensures.stays) c.in_ok-delete_upload.ensures.stays in
     let within = stays.inside (clean_before c.insert_sha512.ensures.stays clean) inside in
-    if_err_is _ c.from_residual-in_err-insert_sha512.result c.in_err-insert_sha512.field-0.0 c.from_residual-in_err-insert_sha512.ensures.1 (fails_then g.T.Statements.state old three new stays.survives FailsByStatement _
+    if_err_is _ c.from_residual-in_err-insert_sha512.result c.in_err-insert_sha512.field-0.0 c.from_residual-in_err-insert_sha512.ensures.1 (fails_then g.T.Statements.state old four new stays.survives FailsByStatement _
     (sha512_added _ (c.in_err-insert_sha512.ensures.cause storable.1.file clean within)))
 
 pub returns-clause-cause : goal.returns-clause-cause
 returns-clause-cause g c storable clean inside =
     let old = c.args.tx.now in
-    let four = c.insert_sha512.new.tx in
+    let five = c.insert_sha512.new.tx in
     let new = c.insert_file.new.tx in
-    let stays = stays_then (stays_then (stays_then c.in_ok-move_parts.ensures.stays c.in_ok-delete_segments.ensures.stays) c.in_ok-delete_upload.ensures.stays) c.in_ok-insert_sha512.ensures.stays in
+    let stays = stays_then (stays_then (stays_then (stays_then c.in_ok-move_parts.ensures.stays c.in_ok-delete_sha512.ensures.stays) c.in_ok-delete_segments.ensures.stays) c.in_ok-delete_upload.ensures.stays) c.in_ok-insert_sha512.ensures.stays in
     let within = stays.inside (clean_before c.insert_file.ensures.stays clean) inside in
     if_err_then c.insert_file.result (c.insert_file.ensures.cause storable.1 clean within)
-    (λ fault failed. fails_then g.T.Statements.state old four new stays.survives FailsByStatement fault (file_added _ failed))
+    (λ fault failed. fails_then g.T.Statements.state old five new stays.survives FailsByStatement fault (file_added _ failed))

@@ -1,4 +1,8 @@
+use Rattle.std.proofs.Common.{ap, sym, subst, ◌∙◌}
+use Rattle.dep_tables.specs.Edits.{with_upload_row}
+use Rattle.dep_tables.specs.Rows.{IsStorableUpload}
 use Rattle.dep_tables.specs.Tables.{tables_of}
+use Rattle.dep_tables.specs.declared.uploads.UploadColumns.{UploadColumns}
 use Rattle.dep_tables.proofs.Results.{ok_then, if_failed}
 use Rattle.dep_tables.proofs.Chains.{clean_before, stays_then, stays_err}
 use Rattle.dep_row_maps.specs.Causes.{FailsByStatement}
@@ -9,7 +13,7 @@ use Rattle.dep_staging.proofs.UploadCalls.{received}
 use Rattle.dep_staging.proofs.segments.put_segment.Goals as goal
 
 pub returns-clause-map : goal.returns-clause-map
-returns-clause-map g c clean inside ours s are was it there none is its grown =
+returns-clause-map g c clean inside ours s are was it there none is its grown kept =
     let old = g.T.Statements.state c.args.tx.now in
     let one = g.T.Statements.state c.put_blocks.new.tx in
     let two = g.T.Statements.state c.insert_segment.new.tx in
@@ -20,7 +24,7 @@ returns-clause-map g c clean inside ours s are was it there none is its grown =
     let second = c.in_ok-insert_segment.ensures.ok clean_two (c.in_ok-put_blocks.ensures.stays.inside clean_one inside) first.ours in
     ok_then c.write_upload.result (c.write_upload.ensures.ok clean second.shows.mode second.ours)
     (λ leads. received (tables_of old) (tables_of one) (tables_of two) (tables_of new) s c.args.row.now c.args.segment.now (g.C.Content.bytes c.args.content.now) was it are
-    ours.trees.ordered.1.1.1.1.1.1.0 ours.trees.ordered.1.1.1.1.1.1.1.1.0 ours.trees.ordered.1.1.1.1.1.0 there none is its grown first.rows second.rows leads.rows)
+    ours.trees.ordered.1.1.1.1.1.1.0 ours.trees.ordered.1.1.1.1.1.1.1.1.0 ours.trees.ordered.1.1.1.1.1.0 there none is its grown kept first.rows second.rows (leads.rows ∙ ap (λ (r : UploadColumns). with_upload_row r (tables_of two)) c.of_row.ensures))
 
 pub returns-in_err-insert_segment-clause-stays : goal.returns-in_err-insert_segment-clause-stays
 returns-in_err-insert_segment-clause-stays g c =
@@ -58,5 +62,5 @@ returns-clause-cause g c storable clean inside =
     let new = c.write_upload.new.tx in
     let stays = stays_then c.in_ok-put_blocks.ensures.stays c.in_ok-insert_segment.ensures.stays in
     let within = stays.inside (clean_before c.write_upload.ensures.stays clean) inside in
-    if_err_then c.write_upload.result (c.write_upload.ensures.cause storable.0 clean within)
+    if_err_then c.write_upload.result (c.write_upload.ensures.cause (subst IsStorableUpload (sym c.of_row.ensures) storable.0) clean within)
     (λ fault failed. fails_then g.T.Statements.state old two new stays.survives FailsByStatement fault (upload_written _ failed))

@@ -1,9 +1,54 @@
+use Rattle.std.proofs.Common.{None, Some, ap, refl, sym, subst, ◌∙◌}
+use Rattle.dep_statements.specs.Rows.{row_at}
+use Rattle.dep_tables.specs.Edits.{with_new_upload_row}
+use Rattle.dep_tables.specs.Rows.{IsStorableUpload, upload_values}
 use Rattle.dep_tables.specs.Tables.{tables_of}
-use Rattle.dep_files.proofs.Results.{ok_both}
+use Rattle.dep_tables.specs.Clauses.{FailsToRun}
+use Rattle.dep_tables.specs.Texts.{insert_upload_text}
+use Rattle.dep_tables.specs.declared.uploads.UploadColumns.{UploadColumns}
+use Rattle.dep_tables.proofs.Results.{ok_then}
+use Rattle.dep_tables.proofs.Chains.{clean_before}
+use Rattle.dep_row_maps.proofs.Causes.{fails_first, fails_then, if_err_is, if_err_then}
+use Rattle.dep_staging.specs.Causes.{FailsToOpen}
+use Rattle.dep_staging.specs.Causes.FailsToOpen.{promise, row}
 use Rattle.dep_staging.proofs.UploadCalls.{opened}
 use Rattle.dep_staging.proofs.uploads.open_upload.Goals as goal
 
-pub returns-clause-map : goal.returns-clause-map
-returns-clause-map g c clean inside ours s are it is empty =
-    ok_both c.insert_upload.result (c.insert_upload.ensures.ok clean inside ours) (c.insert_upload.ensures.free clean inside ours)
-    (λ leads free. opened (tables_of (g.T.Statements.state c.args.tx.now)) (tables_of (g.T.Statements.state c.insert_upload.new.tx)) s c.args.row.now it are is empty leads.rows free)
+pub returns-in-Some-clause-map : goal.returns-in-Some-clause-map
+returns-in-Some-clause-map g c clean inside ours s are it is empty =
+    let old = tables_of (g.T.Statements.state c.args.tx.now) in
+    let mid = tables_of (g.T.Statements.state c.insert_upload.new.tx) in
+    let new = tables_of (g.T.Statements.state c.insert_sha512.new.tx) in
+    let before = clean_before c.insert_sha512.ensures.stays clean in
+    let first = c.in_ok-insert_upload.ensures.ok before inside ours in
+    let free = ap (λ (r : UploadColumns). row_at old.uploads r.upload) (sym c.of_row.ensures) ∙ c.in_ok-insert_upload.ensures.free before inside ours in
+    ok_then c.insert_sha512.result (c.insert_sha512.ensures.ok clean first.shows.mode first.ours)
+    (λ leads. opened old mid new s c.args.row.now (Some c.in-Some.value) it are ours.trees.ordered.1.1.1.1.1.1.1.1.1.0 c.in-Some.is is empty free
+    (first.rows ∙ ap (λ (r : UploadColumns). with_new_upload_row r old) c.of_row.ensures) leads.rows)
+
+pub returns-in-None-clause-map : goal.returns-in-None-clause-map
+returns-in-None-clause-map g c clean inside ours s are it is empty =
+    let old = tables_of (g.T.Statements.state c.args.tx.now) in
+    let new = tables_of (g.T.Statements.state c.insert_upload.new.tx) in
+    let first = c.in_ok-insert_upload.ensures.ok clean inside ours in
+    let free = ap (λ (r : UploadColumns). row_at old.uploads r.upload) (sym c.of_row.ensures) ∙ c.in_ok-insert_upload.ensures.free clean inside ours in
+    opened old new new s c.args.row.now None it are ours.trees.ordered.1.1.1.1.1.1.1.1.1.0 c.in-None.is is empty free
+    (first.rows ∙ ap (λ (r : UploadColumns). with_new_upload_row r old) c.of_row.ensures) refl
+
+pub returns-in_err-insert_upload-clause-cause : goal.returns-in_err-insert_upload-clause-cause
+returns-in_err-insert_upload-clause-cause g c storable clean inside =
+    let old = c.args.tx.now in
+    let new = c.insert_upload.new.tx in
+    let fault = c.in_err-insert_upload.field-0.0 in
+    if_err_is _ c.from_residual.result fault c.from_residual.ensures.1 (fails_first g.T.Statements.state old new (FailsToOpen c.args.row.now) _
+    (row (subst (λ (r : UploadColumns). FailsToRun insert_upload_text (upload_values r) (g.T.Statements.state old) (g.T.Statements.state new) fault) c.of_row.ensures
+    (c.in_err-insert_upload.ensures.cause (subst IsStorableUpload (sym c.of_row.ensures) storable) clean inside))))
+
+pub returns-in-Some-clause-cause : goal.returns-in-Some-clause-cause
+returns-in-Some-clause-cause g c storable clean inside =
+    let old = c.args.tx.now in
+    let mid = c.insert_upload.new.tx in
+    let new = c.insert_sha512.new.tx in
+    let within = c.in_ok-insert_upload.ensures.stays.inside (clean_before c.insert_sha512.ensures.stays clean) inside in
+    if_err_then c.insert_sha512.result (c.insert_sha512.ensures.cause storable.upload clean within)
+    (λ fault failed. fails_then g.T.Statements.state old mid new c.insert_upload.ensures.stays.survives (FailsToOpen c.args.row.now) fault (promise c.in-Some.value c.in-Some.is failed))

@@ -1,12 +1,15 @@
-use Rattle.std.proofs.Common.{◌≡◌, IsTrue, inl, inr, refl, rules, arith}
+use Rattle.std.proofs.Common.{◌≡◌, ℕ, IsTrue, inl, inr, refl, sym, subst, ◌∙◌, rules, arith}
 use Rattle.sqlite.specs.Held.{state}
 use Rattle.sqlite.specs.State.{HasCleanDisk}
 use Rattle.sqlite.proofs.StateLemmas.{clean_if_open}
 use Rattle.dep_upgrading.proofs.Migrated.{ok_states, err_states, stop_states}
 use Rattle.dep_schema.proofs.Refusing.{clean_last}
 use Rattle.dep_tables.specs.Schema.{our_schema, older_schema}
-use Rattle.dep_upgrading.proofs.Opened.{opened_stood, version_is, first_means, leaves_opened, is_openable, stands_back, stood_back}
-use Rattle.dep_schema.specs.Standing.{first_tables}
+use Rattle.dep_tables.specs.Versions.{our_version, HasVersion}
+use Rattle.dep_upgrading.proofs.Opened.{opened_stood, first_means, leaves_opened, is_openable, stood_back}
+use Rattle.dep_upgrading.proofs.Older.{one_left, tells_older, known_since, back_since, had_free, not_upgraded}
+use Rattle.dep_schema.specs.OpenFaults.{begun, ShowsOrMakes}
+use Rattle.dep_schema.specs.Standing.{Stands, first_tables}
 use Rattle.dep_upgrading.proofs.opening.open_tables.Goals as goal
 
 pub returns-then-version-eq2-clause-found : goal.returns-then-version-eq2-clause-found
@@ -22,12 +25,20 @@ pub returns-then-version-eq2-clause-fresh : goal.returns-then-version-eq2-clause
 returns-then-version-eq2-clause-fresh g c clean none = record { tables = first_tables; stands = (c.in-Ok.ensures.fresh clean none).0; means = first_means }
 
 pub returns-then-version-eq2-clause-tables : goal.returns-then-version-eq2-clause-tables
-returns-then-version-eq2-clause-tables g c clean t holds told = (c.in-Ok.ensures.found clean our_schema (inl refl) t holds).1
+returns-then-version-eq2-clause-tables g c clean t holds =
+    let two : c.in-Ok.schema.found ≡ our_version = omega (arith, c.if-version-eq2.true, c.version-version.ensures) in
+    subst (λ (n : ℕ). HasVersion n t × Stands (state g.S.Store c.in-Ok.schema.connection) t) two (c.in-Ok.ensures.found clean our_schema (inl refl) t holds)
 
 pub returns-then-version-eq2-clause-older : goal.returns-then-version-eq2-clause-older
-returns-then-version-eq2-clause-older g c clean t holds told =
-    let is = version_is t c.in-Ok.schema.found 1 (c.in-Ok.ensures.found clean older_schema (inr refl) t holds).0 told in
-    absurd (omega (arith, is, c.if-version-eq2.true, c.version-version.ensures))
+returns-then-version-eq2-clause-older g c clean t holds =
+    let two : c.in-Ok.schema.found ≡ our_version = omega (arith, c.if-version-eq2.true, c.version-version.ensures) in
+    let it = c.in-Ok.ensures.found clean older_schema (inr refl) t holds in
+    inr (subst (λ (n : ℕ). HasVersion n t) two it.0, it.1)
+
+pub returns-then-version-eq2-clause-told : goal.returns-then-version-eq2-clause-told
+returns-then-version-eq2-clause-told g c clean =
+    let two : c.in-Ok.schema.found ≡ our_version = omega (arith, c.if-version-eq2.true, c.version-version.ensures) in
+    inl (subst (ShowsOrMakes g.S.Store (begun c.args.connection)) two (c.in-Ok.ensures.told clean))
 
 pub returns-then-version-eq2-clause-stop : goal.returns-then-version-eq2-clause-stop
 returns-then-version-eq2-clause-stop g c =
@@ -52,15 +63,26 @@ returns-in-Ok-migrate-clause-fresh g c clean none =
     absurd (omega (arith, is, c.if-version-eq2.false, c.version-version.ensures))
 
 pub returns-in-Ok-migrate-clause-tables : goal.returns-in-Ok-migrate-clause-tables
-returns-in-Ok-migrate-clause-tables g c clean t holds told =
-    let it = c.in-Ok-migrate.ensures.migrates in
-    let is = version_is t c.in-Ok.schema.found 2 (c.in-Ok.ensures.found (it.honest clean) our_schema (inl refl) t holds).0 told in
-    absurd (omega (arith, is, c.if-version-eq2.false, c.version-version.ensures))
+returns-in-Ok-migrate-clause-tables g c clean t holds =
+    let before = c.in-Ok-migrate.ensures.migrates.honest clean in
+    let one = one_left c.in-Ok.schema.found c.in-Ok.ensures.known (λ two. omega (arith, two, c.if-version-eq2.false, c.version-version.ensures)) in
+    let still = c.in-Ok.ensures.still before one in
+    let at = (c.in-Ok.ensures.found before our_schema (inl refl) t holds).1 in
+    absurd (not_upgraded g.S.Store c.in-Ok.schema.connection at.ours (c.in-Ok-migrate.ensures.free clean still.is_open))
 
 pub returns-in-Ok-migrate-clause-older : goal.returns-in-Ok-migrate-clause-older
-returns-in-Ok-migrate-clause-older g c clean t holds told =
-    let it = c.in-Ok-migrate.ensures.migrates in
-    it.ok clean t (c.in-Ok.ensures.found (it.honest clean) older_schema (inr refl) t holds).1
+returns-in-Ok-migrate-clause-older g c clean t holds =
+    let migrated = c.in-Ok-migrate.ensures.migrates in
+    let one = one_left c.in-Ok.schema.found c.in-Ok.ensures.known (λ two. omega (arith, two, c.if-version-eq2.false, c.version-version.ensures)) in
+    let it = c.in-Ok.ensures.found (migrated.honest clean) older_schema (inr refl) t holds in
+    inl (subst (λ (n : ℕ). HasVersion n t) one it.0, migrated.ok clean t it.1)
+
+pub returns-in-Ok-migrate-clause-told : goal.returns-in-Ok-migrate-clause-told
+returns-in-Ok-migrate-clause-told g c clean =
+    let before = c.in-Ok-migrate.ensures.migrates.honest clean in
+    let one = one_left c.in-Ok.schema.found c.in-Ok.ensures.known (λ two. omega (arith, two, c.if-version-eq2.false, c.version-version.ensures)) in
+    let still = c.in-Ok.ensures.still before one in
+    inr (tells_older g.S.Store c.args.connection c.in-Ok.schema.found one (c.in-Ok.ensures.told before), had_free g.S.Store c.args.connection c.in-Ok.schema.connection still (c.in-Ok-migrate.ensures.free clean still.is_open))
 
 pub returns-in-Ok-migrate-clause-honest : goal.returns-in-Ok-migrate-clause-honest
 returns-in-Ok-migrate-clause-honest g c clean =
@@ -91,16 +113,34 @@ returns-in-Ok-migrate-clause-stop g c =
 
 pub returns-in-Err-migrate-clause-left : goal.returns-in-Err-migrate-clause-left
 returns-in-Err-migrate-clause-left g c is_open =
+    let old = state g.S.Store c.args.connection in
     let store = c.migrate.new.connection.store in
-    let it = c.in-Err-migrate.ensures.migrates in
-    let clean = clean_if_open (g.S.Store.view store) (g.met.S.Store.shut_if_dirty store) is_open in
+    let it = c.in-Err-migrate.ensures in
+    let before = it.migrates.honest (clean_if_open (g.S.Store.view store) (g.met.S.Store.shut_if_dirty store) is_open) in
+    let one = one_left c.in-Ok.schema.found c.in-Ok.ensures.known (λ two. omega (arith, two, c.if-version-eq2.false, c.version-version.ensures)) in
+    let still = c.in-Ok.ensures.still before one in
+    let between = c.is_autocommit-between.ensures.settled (search rules) still.was_open in
     record {
-      none = λ lacks. let is = c.in-Ok.ensures.made (it.honest clean) lacks in absurd (omega (arith, is, c.if-version-eq2.false, c.version-version.ensures));
-      newest = λ t holds told.
-          let is = version_is t c.in-Ok.schema.found 2 (c.in-Ok.ensures.found (it.honest clean) our_schema (inl refl) t holds).0 told in
-          absurd (omega (arith, is, c.if-version-eq2.false, c.version-version.ensures));
-      older = λ t holds told. it.err is_open t (c.in-Ok.ensures.found (it.honest clean) older_schema (inr refl) t holds).1;
+      known = λ known. back_since old (state g.S.Store c.in-Ok.schema.connection) (state g.S.Store c.migrate.new.connection) between still
+          (it.left is_open (still.now ∙ sym still.committed) (known_since old (state g.S.Store c.in-Ok.schema.connection) still known));
+      other = λ none. absurd (none (tells_older g.S.Store c.args.connection c.in-Ok.schema.found one (c.in-Ok.ensures.told before)));
     }
+
+pub returns-in-Err-migrate-clause-told : goal.returns-in-Err-migrate-clause-told
+returns-in-Err-migrate-clause-told g c clean =
+    let old = state g.S.Store c.args.connection in
+    let it = c.in-Err-migrate.ensures in
+    let before = it.migrates.honest clean in
+    let one = one_left c.in-Ok.schema.found c.in-Ok.ensures.known (λ two. omega (arith, two, c.if-version-eq2.false, c.version-version.ensures)) in
+    let still = c.in-Ok.ensures.still before one in
+    inr (
+      tells_older g.S.Store c.args.connection c.in-Ok.schema.found one (c.in-Ok.ensures.told before),
+      c.in-Ok.schema.connection,
+      still,
+      c.in-Err-migrate.fault,
+      c.from.ensures,
+      (λ known. it.cause clean still.is_open (known_since old (state g.S.Store c.in-Ok.schema.connection) still known)),
+    )
 
 pub returns-in-Err-migrate-clause-stood : goal.returns-in-Err-migrate-clause-stood
 returns-in-Err-migrate-clause-stood g c is_open s left =
@@ -148,18 +188,12 @@ returns-in-Err-clause-known g c clean is_open s left said =
 
 pub returns-in-Err-clause-left : goal.returns-in-Err-clause-left
 returns-in-Err-clause-left g c is_open =
-    let old = state g.S.Store c.args.connection in
-    let new = state g.S.Store c.in-Err.refused.1 in
     let store = c.in-Err.refused.1.store in
-    let clean = clean_if_open (g.S.Store.view store) (g.met.S.Store.shut_if_dirty store) is_open in
-    let was_open = c.in-Err.ensures.opened is_open in
-    let back = c.in-Err.ensures.left clean is_open in
-    let between = c.is_autocommit-between.ensures.settled (search rules) was_open in
-    record {
-      none = λ lacks. back;
-      newest = λ t holds told. stands_back old new c.schema-schema.ensures.live was_open between back is_open c.in-Err.ensures.mode our_schema t holds;
-      older = λ t holds told. stands_back old new c.schema-schema.ensures.live was_open between back is_open c.in-Err.ensures.mode older_schema t holds;
-    }
+    let back = c.in-Err.ensures.left (clean_if_open (g.S.Store.view store) (g.met.S.Store.shut_if_dirty store) is_open) is_open in
+    record { known = λ known. back; other = λ none. back }
+
+pub returns-in-Err-clause-told : goal.returns-in-Err-clause-told
+returns-in-Err-clause-told g c clean = inl (c.in-Err.ensures.told clean)
 
 pub returns-in-Err-clause-stood : goal.returns-in-Err-clause-stood
 returns-in-Err-clause-stood g c is_open s left =

@@ -1,7 +1,7 @@
 use Rattle.std.proofs.Common.{refl, arith}
 use Rattle.dep_tables.specs.Rows.{upload_kinds}
 use Rattle.dep_tables.proofs.Refused.{passed_on, next_column, kind_at}
-use Rattle.dep_tables.proofs.uploads.UploadRowFromRow.from_row.Goals as goal
+use Rattle.dep_tables.proofs.uploads.UploadColumnsFromRow.from_row.Goals as goal
 
 pub returns-in_err-number_at-clause-refused : goal.returns-in_err-number_at-clause-refused
 returns-in_err-number_at-clause-refused c = passed_on _ c.from_residual.result c.from_residual.ensures.0 c.in_err-number_at.ensures.refused (kind_at upload_kinds c.args.row.now 0 (omega arith))

@@ -1,0 +1,82 @@
+//! The tag manifests of a bag (RFC 8493, section 2.2.1).
+ghost use Rattle.std.specs.Prelude.{◌≡◌, IfOk};
+ghost use Rattle.dep_manifest.specs.declared.algorithm.Algorithm.{Algorithm};
+ghost use Rattle.dep_bag.specs.Parts.{text_by, told_tag_manifest};
+
+use crate::manifest::payload_manifest;
+use crate::paths::{BAG_INFO, BAGIT, MANIFEST_SHA256, MANIFEST_SHA512, METADATA};
+use crate::tag_files::{declaration, information};
+use dep_docs_out::bag_metadata_doc;
+use dep_fixity::Hasher;
+use dep_manifest::{Algorithm, add_line};
+use dep_types::ObjectView;
+use std::alloc::{AllocError, Global};
+
+/// The texts of both tag manifests.
+#[derive(Drop)]
+pub(crate) struct TagManifests {
+    /// `tagmanifest-sha256.txt`.
+    pub(crate) sha256: Vec<u8>,
+    /// `tagmanifest-sha512.txt`.
+    pub(crate) sha512: Vec<u8>,
+}
+
+impl TagManifests {
+    ghost use Rattle.std.specs.Prelude.{◌≡◌, ◌++◌, ℕ, List, OnOk, IfOk};
+    ghost use Rattle.dep_manifest.specs.Manifest.{checksum_of, digest_by, manifest_line};
+    ghost use Rattle.dep_manifest.specs.declared.algorithm.Algorithm.{Algorithm};
+    ghost use Rattle.dep_bag.specs.Parts.{text_by};
+
+    // Adds the lines of a file with these bytes, where they could be made.
+    fn add_file(&mut self, path: &str, made: Result<Vec<u8>, AllocError>) -> Result<(), AllocError>
+        ensures { (bytes : List ℕ) → IfOk made (λ text. text.items ≡ bytes) → (a : Algorithm)
+            → OnOk result (text_by a self.new ≡ text_by a self.old
+            ++ manifest_line (checksum_of (digest_by a) (path.now, bytes))) }
+    {
+        let bytes = made?;
+        let mut hasher = Hasher::new();
+        hasher.update(bytes.as_slice());
+        let digests = hasher.finish();
+        let path = path.as_bytes();
+        add_line(&mut self.sha256, path, Algorithm::Sha256, &digests)?;
+        add_line(&mut self.sha512, path, Algorithm::Sha512, &digests)
+    }
+}
+
+/// Both tag manifests. Each file that they name is made once, hashed once for both, and dropped before the next is made.
+pub(crate) fn tag_manifests(alloc: Global, view: &ObjectView) -> Result<TagManifests, AllocError>
+    ensures { IfOk result (λ texts.
+        (a : Algorithm) → text_by a texts ≡ told_tag_manifest a view.now) }
+{
+    let mut texts = TagManifests {
+        sha256: Vec::new(alloc),
+        sha512: Vec::new(alloc),
+    };
+    texts.add_file(BAGIT, declaration(alloc))?;
+    texts.add_file(BAG_INFO, information(alloc, view))?;
+    texts.add_file(
+        MANIFEST_SHA256,
+        payload_manifest(alloc, view, Algorithm::Sha256),
+    )?;
+    texts.add_file(
+        MANIFEST_SHA512,
+        payload_manifest(alloc, view, Algorithm::Sha512),
+    )?;
+    texts.add_file(METADATA, bag_metadata_doc(alloc, &view.metadata))?;
+    Ok(texts)
+}
+
+/// The tag manifest of one algorithm.
+pub(crate) fn tag_manifest(
+    alloc: Global,
+    view: &ObjectView,
+    algorithm: Algorithm,
+) -> Result<Vec<u8>, AllocError>
+    ensures { IfOk result (λ text. text.items ≡ told_tag_manifest algorithm view.now) }
+{
+    let TagManifests { sha256, sha512 } = tag_manifests(alloc, view)?;
+    match algorithm {
+        Algorithm::Sha256 => Ok(sha256),
+        Algorithm::Sha512 => Ok(sha512),
+    }
+}

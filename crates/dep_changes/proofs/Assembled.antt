@@ -1,0 +1,31 @@
+-- A file that is made of a whole upload, by its row and the upload's.
+use Rattle.std.proofs.Common.{◌≡◌, ℕ, List, length, Some, sym, ap, subst, ◌∙◌}
+use Rattle.std.specs.FinMap as finmap
+use Rattle.dep_types.specs.State.{State, Object, File, Upload}
+use Rattle.dep_types.specs.Rows.{file_row, upload_row}
+use Rattle.dep_types.specs.declared.counters.Counters.{Counters}
+use Rattle.dep_types.specs.declared.rows.FileRow.{FileRow}
+use Rattle.dep_types.specs.declared.rows.UploadRow.{UploadRow}
+use Rattle.dep_fixity.specs.Fixity.{digests_of}
+use Rattle.dep_fixity.specs.declared.hasher.Digests.{Digests}
+use Rattle.dep_decisions.specs.Effects.{is_reference}
+use Rattle.dep_decisions.specs.declared.decision.NewFile.{NewFile}
+use Rattle.dep_changes.specs.Changed.{made_file}
+
+pub made_row : (s : State) (n f : ℕ) (new : NewFile) (content : List ℕ) (row : FileRow) (size clock : ℕ) (next : Counters) (digests : Digests)
+    → row ≡ record { file = f; object = n; name = new.name; media = new.media; size = size; tag = next.change; deposited = clock; behalf = new.behalf; by_reference = is_reference new.source; sha256 = digests.sha256; sha512 = digests.sha512 }
+    → size ≡ length content → clock ≡ s.clock → next ≡ s.next → digests ≡ digests_of content → row ≡ file_row n f (made_file s new content)
+made_row s n f new content row size clock next digests is size_is clock_is next_is digests_is =
+    is ∙ (λ i. record { file = f; object = n; name = new.name; media = new.media; size = size_is i; tag = (next_is i).change; deposited = clock_is i; behalf = new.behalf; by_reference = is_reference new.source; sha256 = (digests_is i).sha256; sha512 = (digests_is i).sha512 })
+
+-- what is said of the numbers that the rows have is said of those of the file and the upload
+pub done_as : (Done : (n f u : ℕ) → Type 0) (s : State) (n f u : ℕ) (o : Object) (it : Upload) (file : File) (row : FileRow) (up : UploadRow) → row ≡ file_row n f file → up ≡ upload_row u it → finmap.get s.objects n ≡ Some o → finmap.get s.uploads u ≡ Some it
+    → (finmap.get s.objects row.object ≡ Some o → finmap.get s.uploads up.upload ≡ Some it → up ≡ upload_row up.upload it → row ≡ file_row row.object row.file file → Done row.object row.file up.upload) → Done n f u
+done_as Done s n f u o it file row up row_is up_is at_o at_u call =
+    let object : row.object ≡ n = ap (λ (r : FileRow). r.object) row_is in
+    let number : row.file ≡ f = ap (λ (r : FileRow). r.file) row_is in
+    let upload : up.upload ≡ u = ap (λ (w : UploadRow). w.upload) up_is in
+    subst (λ (m : ℕ). Done m f u) object
+    (subst (λ (m : ℕ). Done row.object m u) number
+    (subst (λ (m : ℕ). Done row.object row.file m) upload
+    (call (ap (finmap.get s.objects) object ∙ at_o) (ap (finmap.get s.uploads) upload ∙ at_u) (up_is ∙ ap (λ (m : ℕ). upload_row m it) (sym upload)) (row_is ∙ ap (λ (m : ℕ). file_row m f file) (sym object) ∙ ap (λ (m : ℕ). file_row row.object m file) (sym number)))))

@@ -1,0 +1,10 @@
+//! The algorithms of a bag's manifests.
+
+/// An algorithm whose digests a manifest has (RFC 8493, section 2.4).
+#[derive(Clone, Copy, Debug, PartialEq, Eq)]
+pub enum Algorithm {
+    /// SHA-256 (FIPS 180-4).
+    Sha256,
+    /// SHA-512 (FIPS 180-4).
+    Sha512,
+}
