@@ -15,8 +15,9 @@ use Rattle.dep_schema.proofs.Transacting.{IsSettled, leaves_as_was}
 use Rattle.dep_store.specs.Archive.{shown_by}
 use Rattle.dep_store.specs.Auditing.{IsObjectAudited}
 use Rattle.dep_store.specs.Audits.{Audited, Audits, IsBegun, object_rows}
-use Rattle.dep_upgrading.proofs.Opened.{first_means}
-use Rattle.dep_upgrading.specs.Migrating.{IsUpgraded}
+use Rattle.dep_schema.proofs.Version.{not_older}
+use Rattle.dep_upgrading.proofs.Opened.{first_means, version_is}
+use Rattle.dep_upgrading.specs.Migrating.{IsUpgraded, OpensOlder}
 use Rattle.dep_store.proofs.TellLemmas.{stands_still}
 use Rattle.dep_program.specs.declared.outcome.Outcome.{Outcome}
 use Rattle.dep_program.specs.declared.outcome.Outcome.TheVariants.{StoreFault}
@@ -54,7 +55,7 @@ module _ (old new : db.State) (refused : IsRefused old new) where
   pub audits_none : AuditsDatabase old new [] StoreFault
   audits_none = record {
     fresh = λ honest none. (first_tables, first_means, none_begun first_tables);
-    found = λ honest t holds told. none_begun t;
+    found = λ honest t holds. none_begun t;
     older = λ honest t holds told. inr (refl, refl);
     stays = inr (refl, refused);
     tables = inr (refl, refused);
@@ -68,30 +69,35 @@ module _ (old new : db.State) (refused : IsRefused old new) where
     stays = inr (refl, refused);
   }
 
+-- tables of which version 1 is told are of version 2 then
+renewed : (t : Tables) (mid : db.State) → HasVersion older_version t → OpensOlder t mid → (after : Tables) × Stands mid after × IsUpgraded t after
+renewed t mid told (inl it) = it.1
+renewed t mid told (inr it) = absurd (not_older (version_is t our_version older_version it.0 told))
+
 -- a store that was opened
 module _ (given mid new : db.State) (clean : IsTrue new.is_open → HasCleanDisk new) (honest : HasCleanDisk new → HasCleanDisk mid)
     (fresh : HasCleanDisk mid → HoldsNone given.now.trees → StandsFor mid empty_state)
     (found : HasCleanDisk mid → (s : State) → IsLeftAs given.now.trees s → StandsFor mid s) where
   pub audits_all : (written : List ℕ) (outcome : Outcome)
-      → (HasCleanDisk mid → (t : Tables) → Holds given.now.trees t → HasVersion our_version t → Stands mid t)
-      → (HasCleanDisk mid → (t : Tables) → HoldsOlder given.now.trees t → HasVersion older_version t
-      → (after : Tables) × Stands mid after × IsUpgraded t after)
+      → (HasCleanDisk mid → (t : Tables) → Holds given.now.trees t → HasVersion our_version t × Stands mid t)
+      → (HasCleanDisk mid → (t : Tables) → HoldsOlder given.now.trees t → OpensOlder t mid)
       → (HasCleanDisk new → (t : Tables) → Stands mid t → Audits t written outcome)
       → (IsTrue new.is_open → (t : Tables) → Stands mid t → Stands new t)
       → (HasCleanDisk new → (s : State) → StandsFor mid s → Leaves new (λ left. left ≡ s))
       → AuditsDatabase given new written outcome
-  audits_all written outcome tables renewed writes still stop = record {
+  audits_all written outcome tables older writes still stop = record {
     fresh = λ is_honest none.
         let at = fresh (honest is_honest) none in (at.tables, at.means, writes is_honest at.tables at.stands);
-    found = λ is_honest t holds told. writes is_honest t (tables (honest is_honest) t holds told);
+    found = λ is_honest t holds. writes is_honest t (tables (honest is_honest) t holds).1;
     older = λ is_honest t holds told.
-        let after = renewed (honest is_honest) t holds told in inl (after.0, after.2, writes is_honest after.0 after.1);
+        let after = renewed t mid told (older (honest is_honest) t holds) in inl (after.0, after.2, writes is_honest after.0 after.1);
     stays = inl (kept_still given mid new clean honest fresh found
         (λ is_open s at. stands_still s at (still is_open at.tables at.stands)) stop);
     tables = inl (record {
-      newest = λ is_open t holds told. still is_open t (tables (honest (clean is_open)) t holds told);
+      newest = λ is_open t holds.
+          let at = tables (honest (clean is_open)) t holds in (at.0, still is_open t at.1);
       older = λ is_open t holds told.
-          let after = renewed (honest (clean is_open)) t holds told in (after.0, still is_open after.0 after.1, after.2);
+          let after = renewed t mid told (older (honest (clean is_open)) t holds) in (after.0, still is_open after.0 after.1, after.2);
     });
   }
 

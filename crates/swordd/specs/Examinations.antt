@@ -23,7 +23,7 @@ Stays old new outcome = IsKept old new ⊎ ((outcome ≡ StoreFault) × IsRefuse
 -- so do tables that stand for no state, and those of version 1 are now of version 2
 pub record AreOpened (old new : db.State) : Type 0 where
   pub newest : IsTrue new.is_open → (t : Tables) → Holds old.now.trees t
-      → HasVersion our_version t → Stands new t
+      → HasVersion our_version t × Stands new t
   pub older : IsTrue new.is_open → (t : Tables) → HoldsOlder old.now.trees t
       → HasVersion older_version t → (after : Tables) × Stands new after × IsUpgraded t after
 
@@ -42,8 +42,7 @@ AuditsOlder t written outcome =
 pub record AuditsDatabase (old new : db.State) (written : List ℕ) (outcome : Outcome) : Type 0 where
   pub fresh : HasCleanDisk new → HoldsNone old.now.trees
       → (t : Tables) × TablesStandFor t empty_state × Audits t written outcome
-  pub found : HasCleanDisk new → (t : Tables) → Holds old.now.trees t → HasVersion our_version t
-      → Audits t written outcome
+  pub found : HasCleanDisk new → (t : Tables) → Holds old.now.trees t → Audits t written outcome
   pub older : HasCleanDisk new → (t : Tables) → HoldsOlder old.now.trees t
       → HasVersion older_version t → AuditsOlder t written outcome
   pub stays : Stays old new outcome
