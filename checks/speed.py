@@ -10,8 +10,9 @@ the greatest memory that the server had: after the deposits and reads, after as 
 exports the bag of that file beside `cp` and `sync`, and audits the store beside `sha256sum` of as many bytes, each less
 what an open of the store takes by itself. In the end, or by --digests alone, it measures what SHA-512 costs:
 
-- a deposit of 16 MiB, beside one by PROGRAM, a swordd that computes none (of version 1): at most what `openssl speed sha512`
-  takes for as many bytes. Without PROGRAM or openssl it says that this is skipped.
+- the SHA-512 of 16 MiB by what the server takes it with (checks/benches/digest_bench), beside `openssl speed sha512`, and
+  the same of SHA-256. Without openssl it says that this is skipped.
+- with PROGRAM, a swordd that computes none (of version 1): how much longer a deposit of 16 MiB takes than one by it.
 - the first open of a store of version 1 with 512 MiB, which Python's sqlite3 makes by the statements of
   crates/examples/data/older-stores.txt: an audit that makes it a store of version 2 takes at most twice what `sha512sum`
   takes for the same bytes above what the next audit takes. Where the store stays one of version 1, it says that this is
@@ -202,14 +203,22 @@ def seconds_of(work):
     return time.perf_counter() - began
 
 
-def openssl_seconds(size):
+def openssl_seconds(algorithm, size):
     """What the digest of so many bytes takes by openssl, or None where there is none."""
     if not shutil.which("openssl"):
         return None
-    said = subprocess.run(["openssl", "speed", "-mr", "-seconds", "2", "-bytes", "65536", "sha512"],
+    said = subprocess.run(["openssl", "speed", "-mr", "-seconds", "2", "-bytes", "65536", algorithm],
                           capture_output=True, text=True)
-    rates = re.findall(r"^\+F:\d+:sha512:([0-9.]+)$", said.stdout, re.M)
+    rates = re.findall(rf"^\+F:\d+:{algorithm}:([0-9.]+)$", said.stdout, re.M)
     return size / float(rates[0]) if rates else None
+
+
+def bench_seconds(program, algorithm):
+    """What the digest of 16 MiB takes by the library that the server uses: the least of five runs."""
+    def least(mebibytes):
+        return min(ran(program, algorithm, str(mebibytes))[1] for _ in range(5))
+
+    return (least(272) - least(16)) / 16
 
 
 def deposits_beside(before):
@@ -229,15 +238,19 @@ def deposits_beside(before):
 
 def cost_of_sha512(before):
     """What SHA-512 costs a deposit."""
-    digest = openssl_seconds(LARGE)
-    if digest is None or before is None:
-        print("skipped: what SHA-512 costs a deposit, for want of " + ("openssl" if digest is None else "--before PROGRAM"))
-        return
-    without, deposit = deposits_beside(before)
-    cost = deposit - without
-    print(f"deposit of 16 MiB {1000 * deposit:.1f} ms, by the program before {1000 * without:.1f} ms: {1000 * cost:.1f} ms "
-          f"more; SHA-512 by openssl {1000 * digest:.1f} ms", flush=True)
-    expect("SHA-512 in a deposit costs at most what it costs by openssl", cost <= digest, True)
+    said = subprocess.run([pathlib.Path(__file__).with_name("bench"), "--path", "digest_bench"], capture_output=True, text=True)
+    program = said.stdout.split("\n")[-2]
+    for algorithm in ("sha512", "sha256"):
+        by_openssl = openssl_seconds(algorithm, LARGE)
+        if by_openssl is None:
+            print("skipped: what digests cost, for want of openssl")
+            return
+        own = bench_seconds(program, algorithm)
+        print(f"{algorithm} of 16 MiB {1000 * own:.1f} ms, by openssl {1000 * by_openssl:.1f} ms: {own / by_openssl:.2f} times",
+              flush=True)
+    if before is not None:
+        without, deposit = deposits_beside(before)
+        print(f"deposit of 16 MiB {1000 * deposit:.1f} ms, by the program before {1000 * without:.1f} ms", flush=True)
 
 
 def make_older_store(folder, mebibytes):
