@@ -3,26 +3,34 @@ ghost use Rattle.std.specs.Prelude.{◌≡◌, ◌≢◌, [], ◌++◌, OnOk, On
 ghost use Rattle.dep_manifest.specs.Damaged.{number_unless_kept};
 
 use dep_fixity::Digests;
-use dep_types::FileRow;
 use std::alloc::AllocError;
 
-/// Notes the number of a file whose bytes have these digests, unless they are the SHA-256 that its row keeps and the
-/// SHA-512 that is kept of it. A file of which no SHA-512 is kept is noted. It fails for want of memory alone.
+/// The digests that are kept of a file.
+#[derive(Clone, Copy)]
+pub struct KeptDigests {
+    /// The SHA-256 of its content.
+    pub sha256: [u8; 32],
+    /// The SHA-512 of its content, if one is kept.
+    pub sha512: Option<[u8; 64]>,
+}
+
+/// Notes the number of a file whose bytes have these digests, unless they are those that are kept of it. A file of which
+/// no SHA-512 is kept is noted. It fails for want of memory alone.
 pub fn note_damaged(
     damaged: &mut Vec<u64>,
-    row: &FileRow,
-    kept_sha512: Option<[u8; 64]>,
+    file: u64,
+    kept: &KeptDigests,
     digests: &Digests,
 ) -> Result<(), AllocError>
     ensures ok { OnOk result (damaged.new.items
-        ≡ damaged.old.items ++ number_unless_kept row.now kept_sha512 digests.now) }
-    ensures damaged { OnErr result (number_unless_kept row.now kept_sha512 digests.now ≢ []) }
+        ≡ damaged.old.items ++ number_unless_kept file kept.now digests.now) }
+    ensures damaged { OnErr result (number_unless_kept file kept.now digests.now ≢ []) }
     ensures err { OnErr result (damaged.new.items ≡ damaged.old.items) }
 {
-    if row.sha256 == digests.sha256 && kept_sha512 == Some(digests.sha512) {
+    if kept.sha256 == digests.sha256 && kept.sha512 == Some(digests.sha512) {
         return Ok(());
     }
-    match damaged.push(row.file) {
+    match damaged.push(file) {
         Ok(()) => Ok(()),
         Err(_) => Err(AllocError),
     }

@@ -7,5 +7,5 @@ pub mod laws;
 mod lines;
 
 pub use algorithm::Algorithm;
-pub use damaged::note_damaged;
+pub use damaged::{KeptDigests, note_damaged};
 pub use lines::add_line;

@@ -6,13 +6,13 @@ ghost use Rattle.std.specs.FinMap as finmap;
 ghost use Rattle.sqlite.specs.Held.{state};
 ghost use Rattle.dep_types.specs.State.{State};
 ghost use Rattle.dep_types.specs.Rows.{object_view};
-ghost use Rattle.dep_tables.specs.Edits.{AreFileRowsOf, IsObjectAfter};
+ghost use Rattle.dep_tables.specs.Edits.{AreSha256sOf, IsObjectAfter};
 ghost use Rattle.dep_schema.specs.States.{TablesStandFor};
 ghost use Rattle.dep_schema.specs.Transactions.{Transacts, OnlyTells};
 
 use dep_schema::Lent;
-use dep_tables::{fault_of, files_of, next_object};
-use dep_types::{FileRow, ObjectView, StoreFault};
+use dep_tables::{FileSha256, fault_of, next_object, sha256s_of};
+use dep_types::{ObjectView, StoreFault};
 use dep_views::load_object_view;
 use sqlite::{Alter, Connection};
 use std::alloc::Global;
@@ -55,20 +55,20 @@ pub(crate) fn find_next<S: Alter>(
     }
 }
 
-/// The rows of an object's files, in the order of their numbers.
+/// The files of an object by ascending number, each with the SHA-256 that its row keeps.
 pub(crate) fn list_files<S: Alter>(
     connection: &mut Connection<S>,
     alloc: Global,
     object: u64,
-) -> Result<Vec<FileRow>, StoreFault>
+) -> Result<Vec<FileSha256>, StoreFault>
     requires settled { (state S.Store connection.old).in_transaction ≡ false }
     ensures transacts { Transacts (state S.Store connection.old) (state S.Store connection.new) result
-        (OnlyTells (λ t found. AreFileRowsOf object t found.items)) }
+        (OnlyTells (λ t found. AreSha256sOf object t found.items)) }
     ensures opened { HasCleanDisk (state S.Store connection.new)
         → OnOk result (IsTrue (state S.Store connection.old).is_open) }
 {
     let mut tx = connection.transaction();
-    let found = files_of(&mut Lent { tx: &mut tx }, alloc, object)?;
+    let found = sha256s_of(&mut Lent { tx: &mut tx }, alloc, object)?;
     match tx.commit() {
         Ok(()) => Ok(found),
         Err(error) => Err(fault_of(error)),

@@ -16,7 +16,7 @@ use Rattle.dep_tables.specs.Tables.{tables_of}
 use Rattle.dep_tables.specs.Texts.{blocks_of_text, find_sha512_text}
 use Rattle.dep_tables.specs.declared.owner.BlockOwner.{BlockOwner}
 use Rattle.dep_tables.specs.declared.owner.BlockOwner.TheVariants as owner
-use Rattle.dep_types.specs.declared.rows.FileRow.{FileRow}
+use Rattle.dep_tables.specs.declared.sha256s.FileSha256.{FileSha256}
 use Rattle.dep_tables.specs.declared.sha512s.FileSha512.{FileSha512}
 use Rattle.dep_streams.specs.Fixity.{HasFixity, IsKeptSha512, number_if_damaged}
 use Rattle.dep_streams.specs.Sha512s.{next_file_text, IsFileAfter, IsReached, IsValueAfter}
@@ -84,15 +84,15 @@ pub data FailsToFindFixity (file : ℕ) (old new : State) (fault : StoreFault) :
       → FailsToGiveBlocks (owner.File file) None old new fault → FailsToFindFixity file old new fault
 
 -- why a file was not checked; where it is damaged, for want of memory to note it
-pub data FailsToCheck (file : FileRow) (old new : State) (fault : StoreFault) : Type 0 where
+pub data FailsToCheck (file : FileSha256) (old new : State) (fault : StoreFault) : Type 0 where
   not_found : FailsToFindFixity file.file old new fault → FailsToCheck file old new fault
   not_noted : (found : FileFixity) → HasFixity (tables_of old) file.file found
       → number_if_damaged file found ≢ [] → fault ≡ Memory → FailsToCheck file old new fault
 
 -- one of these files was not checked, where the tables were as at first
-abbrev pub FailsToAudit : {T : Type 0} → (T → State) → List FileRow → T → T → StoreFault → Type 0
+abbrev pub FailsToAudit : {T : Type 0} → (T → State) → List FileSha256 → T → T → StoreFault → Type 0
 FailsToAudit {T} state files old new fault =
-    (file : FileRow) × Contains files file × (at : T) × ((state at).now ≡ (state old).now)
+    (file : FileSha256) × Contains files file × (at : T) × ((state at).now ≡ (state old).now)
     × FailsToCheck file (state at) (state new) fault
 
 -- why the next file behind a number was not told

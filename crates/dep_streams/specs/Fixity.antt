@@ -15,7 +15,7 @@ use Rattle.dep_tables.specs.Rows.{shown_block, is_block_of, by_part_and_place}
 use Rattle.dep_tables.specs.Tables.{Tables}
 use Rattle.dep_tables.specs.declared.owner.BlockOwner.{BlockOwner}
 use Rattle.dep_tables.specs.declared.owner.BlockOwner.TheVariants as owner
-use Rattle.dep_types.specs.declared.rows.FileRow.{FileRow}
+use Rattle.dep_tables.specs.declared.sha256s.FileSha256.{FileSha256}
 use Rattle.dep_streams.specs.declared.auditing.Audit.{Audit}
 use Rattle.dep_streams.specs.declared.auditing.FileFixity.{FileFixity}
 
@@ -41,18 +41,19 @@ pub record HasFixity (t : Tables) (file : ℕ) (found : FileFixity) : Type 0 whe
   pub digests : AreDigestsOf t (owner.File file) found.digests
 
 -- the number of the file, unless both of its digests are those that are kept
-abbrev pub number_if_damaged : FileRow → FileFixity → List ℕ
-number_if_damaged row found = number_unless_kept row found.kept_sha512 found.digests
+abbrev pub number_if_damaged : FileSha256 → FileFixity → List ℕ
+number_if_damaged row found =
+    number_unless_kept row.file (record { sha256 = row.value; sha512 = found.kept_sha512 }) found.digests
 
 -- All files were checked, each by the digests of its blocks, and those that differ are told in their order.
-pub record IsAudited (t : Tables) (rows : List FileRow) (audit : Audit) : Type 0 where
+pub record IsAudited (t : Tables) (rows : List FileSha256) (audit : Audit) : Type 0 where
   pub checked : audit.checked ≡ length rows
   pub found : List FileFixity
   pub are : AllZip (λ row its. HasFixity t row.file its) rows found
   pub damaged : audit.damaged.items ≡ flat_map (λ p. number_if_damaged p.0 p.1) (zip rows found)
 
 -- by what was found of it a file was noted, or not
-pub record KeepsDamaged (t : Tables) (row : FileRow) (old new : List ℕ) : Type 0 where
+pub record KeepsDamaged (t : Tables) (row : FileSha256) (old new : List ℕ) : Type 0 where
   pub found : FileFixity
   pub its : HasFixity t row.file found
   pub noted : new ≡ old ++ number_if_damaged row found

@@ -12,9 +12,9 @@ use crate::hashing::hash_blocks;
 use crate::sha512s::find_sha512;
 use crate::watch::Watch;
 use dep_fixity::Digests;
-use dep_manifest::note_damaged;
-use dep_tables::BlockOwner;
-use dep_types::{FileRow, StoreFault};
+use dep_manifest::{KeptDigests, note_damaged};
+use dep_tables::{BlockOwner, FileSha256};
+use dep_types::StoreFault;
 use sqlite::{Alter, Connection};
 use std::alloc::{AllocError, Global};
 
@@ -76,7 +76,7 @@ fn find_fixity<S: Alter, W: Watch>(
 fn keep_damaged<S: Alter, W: Watch>(
     connection: &mut Connection<S>,
     damaged: &mut Vec<u64>,
-    row: &FileRow,
+    row: &FileSha256,
     watch: &mut W,
 ) -> Result<(), StoreFault>
     ensures notes { HasCleanDisk (state S.Store connection.new) → IsOurs (state S.Store connection.old)
@@ -101,7 +101,11 @@ fn keep_damaged<S: Alter, W: Watch>(
         Ok(found) => found,
         Err(fault) => return Err(fault),
     };
-    match note_damaged(damaged, row, found.kept_sha512, &found.digests) {
+    let kept = KeptDigests {
+        sha256: row.value,
+        sha512: found.kept_sha512,
+    };
+    match note_damaged(damaged, row.file, &kept, &found.digests) {
         Ok(()) => Ok(()),
         Err(AllocError) => Err(StoreFault::Memory),
     }
@@ -116,7 +120,7 @@ fn keep_damaged<S: Alter, W: Watch>(
 pub fn audit_files<S: Alter, W: Watch>(
     connection: &mut Connection<S>,
     alloc: Global,
-    files: &[FileRow],
+    files: &[FileSha256],
     watch: &mut W,
 ) -> Result<Audit, StoreFault>
     ensures audits { HasCleanDisk (state S.Store connection.new) → IsOurs (state S.Store connection.old)

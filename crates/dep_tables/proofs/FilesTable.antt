@@ -23,16 +23,17 @@ use Rattle.dep_statements.proofs.Tests.{passes_key, holds_literal, holds_key, pa
 use Rattle.dep_statements.proofs.Answered.{by_rowid}
 use Rattle.dep_statements.proofs.Written.{Inserts, Deletes, inserts_keyed, deletes_keyed, deletes_where}
 use Rattle.dep_statements.proofs.Looking.{few_is_find}
-use Rattle.dep_statements.proofs.Selected.{AsksBy}
+use Rattle.dep_statements.proofs.Selected.{Asks, AsksBy, selects_in_order}
 use Rattle.dep_statements.proofs.Joined.{selects_joined, selects_joined_sorted}
 use Rattle.dep_types.specs.declared.rows.FileRow.{FileRow}
+use Rattle.dep_tables.specs.declared.sha256s.FileSha256.{FileSha256}
 use Rattle.dep_tables.specs.Schema.{our_schema}
-use Rattle.dep_tables.specs.Texts.{insert_file_text, delete_file_text, delete_files_text, find_file_text, files_of_text}
-use Rattle.dep_tables.specs.Rows.{stored_file, file_values, file_row_values, file_columns, shown_file, by_file, is_sha512_of_row}
+use Rattle.dep_tables.specs.Texts.{insert_file_text, delete_file_text, delete_files_text, find_file_text, files_of_text, sha256s_of_text}
+use Rattle.dep_tables.specs.Rows.{stored_file, file_values, file_row_values, file_columns, shown_file, sha256_values, shown_sha256, by_file, is_sha512_of_row}
 use Rattle.dep_tables.specs.Edits.{with_sha512s}
 use Rattle.dep_tables.specs.Tables.{tables_of, IsOurs, Leads}
 use Rattle.dep_tables.proofs.Leading.{leads, files_at, sha512s_at}
-use Rattle.dep_tables.proofs.Answered.{read_at_most, read_in_order}
+use Rattle.dep_tables.proofs.Answered.{read_at_most, read_each, read_in_order}
 
 abbrev terms : List Term
 terms = col 0 0 ∷ lit Null ∷ col 0 1 ∷ col 0 2 ∷ col 0 3 ∷ col 0 4 ∷ col 0 5 ∷ col 0 6 ∷ col 0 7 ∷ col 0 8 ∷ col 0 9 ∷ []
@@ -74,6 +75,22 @@ pub deletes_files : (old new : State) (number count : ℕ) → IsOurs old → Ex
 deletes_files old new number count ours h =
     leads old new 5 _ ours
     (deletes_where our_schema 4 5 files_at delete_files_text (Int (pos number) ∷ []) old new ours.schema ours.trees.ordered.1.1.1.1.0 count h of_object delete_all_is (has_number 2 number) (λ row. passes_key number 2 row)) _ refl
+
+-- ---- the SHA-256 values alone
+
+abbrev numbers_and_sha256s : List Term
+numbers_and_sha256s = col 1 0 ∷ col 1 10 ∷ []
+
+pub sha256s_are : Asks our_schema sha256s_of_text 5 of_object numbers_and_sha256s by_rowid no_limit
+unfolding understood everything
+sha256s_are = record { names = _; is = refl; unlisted = refl; plain = (refl, refl) }
+
+pub lists_sha256s : (old new : State) (object : ℕ) (found : List FileSha256) → IsOurs old
+    → (rows : List Row) × Shown sha256s_of_text (Int (pos object) ∷ []) old new rows × (map sha256_values found ≡ map (columns_from 0 2) rows)
+    → map sha256_values found ≡ map shown_sha256 (filter (has_number 2 object) (tables_of old).files)
+lists_sha256s old new object found ours read =
+    read_each sha256_values 2 shown_sha256 (λ row. refl) (filter (has_number 2 object) (tables_of old).files) read.0 found
+    (selects_in_order our_schema sha256s_of_text (Int (pos object) ∷ []) old ours.schema 5 files_at.own of_object numbers_and_sha256s (has_number 2 object) (λ row. passes_key object 2 row) new ours.trees.ordered.1.1.1.1.0 sha256s_are read.0 read.1) read.2
 
 -- ---- reading, with the SHA-512 values
 

@@ -17,6 +17,7 @@ use Rattle.dep_tables.specs.declared.columns.ColumnKind.{ColumnKind}
 use Rattle.dep_tables.specs.declared.columns.ColumnKind.TheVariants as kind
 use Rattle.dep_tables.specs.declared.state.StateRow.{StateRow}
 use Rattle.dep_tables.specs.declared.metadata.MetadataRow.{MetadataRow}
+use Rattle.dep_tables.specs.declared.sha256s.FileSha256.{FileSha256}
 use Rattle.dep_tables.specs.declared.segments.SegmentRow.{SegmentRow}
 use Rattle.dep_tables.specs.declared.uploads.LeftUpload.{LeftUpload}
 use Rattle.dep_tables.specs.declared.uploads.UploadColumns.{UploadColumns}
@@ -199,6 +200,19 @@ file_kinds =
 
 abbrev pub IsFileRow : Row → Type 0
 IsFileRow = HasKinds file_kinds
+
+-- a file with the SHA-256 that its row keeps
+abbrev pub sha256_values : FileSha256 → Row
+sha256_values r = Int (pos r.file) ∷ Blob r.value ∷ []
+
+abbrev pub shown_sha256 : Row → Row
+shown_sha256 stored = column stored 0 ∷ column stored 10 ∷ []
+
+abbrev pub sha256_kinds : List ColumnKind
+sha256_kinds = kind.Number ∷ kind.Sha256 ∷ []
+
+abbrev pub IsSha256Row : Row → Type 0
+IsSha256Row = HasKinds sha256_kinds
 
 -- by number, of rows as they are shown
 abbrev pub by_file : Row → Row → Ordering

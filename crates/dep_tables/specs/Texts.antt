@@ -46,6 +46,9 @@ delete_files_text = codes "DELETE FROM files WHERE object = ?1"
 abbrev pub find_file_text : List ℕ
 find_file_text = codes "SELECT file, object, name, media, size, tag, deposited, behalf, by_reference, sha256, value FROM files LEFT JOIN sha512s ON kind = 0 AND owner = file WHERE file = ?1"
 
+abbrev pub sha256s_of_text : List ℕ
+sha256s_of_text = codes "SELECT file, sha256 FROM files WHERE object = ?1 ORDER BY file"
+
 abbrev pub files_of_text : List ℕ
 files_of_text = codes "SELECT file, object, name, media, size, tag, deposited, behalf, by_reference, sha256, value FROM files LEFT JOIN sha512s ON kind = 0 AND owner = file WHERE object = ?1 ORDER BY file"
 

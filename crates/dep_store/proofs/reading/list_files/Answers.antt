@@ -1,6 +1,6 @@
 use Rattle.std.proofs.Common.{rules, ◌≡◌}
 use Rattle.sqlite.proofs.StateLemmas.{clean_if_open}
-use Rattle.dep_tables.specs.Edits.{AreFileRowsOf}
+use Rattle.dep_tables.specs.Edits.{AreSha256sOf}
 use Rattle.dep_schema.proofs.Transacting.{gave_up, committed, uncommitted, began_open, nothing_told, works_within, still_inside}
 use Rattle.dep_store.proofs.Carrying.{tells}
 use Rattle.dep_store.proofs.reading.list_files.Goals as goal
@@ -8,7 +8,7 @@ use Rattle.dep_store.proofs.reading.list_files.Goals as goal
 pub returns-in_err-found : goal.returns-in_err-found
 returns-in_err-found g c =
     let old = c.args.connection.now in
-    let left : c.files_of.new.tx.tx.now ≡ c.tx-2-1.given.0 = search rules in
+    let left : c.sha256s_of.new.tx.tx.now ≡ c.tx-2-1.given.0 = search rules in
     let inside = c.tx-2-1.given.0.conn.now in
     let new = c.drop-tx.new.self.0 in
     let work = works_within g.S.Store old new c.in_err-found.ensures.stays c.transaction-tx.ensures.begun left (λ is_open trees h. g.met.S.Store.settled old.store trees is_open h)
@@ -23,7 +23,7 @@ returns-in_err-found g c =
 pub returns-in-Ok : goal.returns-in-Ok
 returns-in-Ok g c =
     let old = c.args.connection.now in
-    let left : c.files_of.new.tx.tx.now ≡ c.tx-2-1.given.0 = search rules in
+    let left : c.sha256s_of.new.tx.tx.now ≡ c.tx-2-1.given.0 = search rules in
     let inside = c.tx-2-1.given.0.conn.now in
     let new = c.commit.new.self.0 in
     let worked = rw (c.transaction-tx.ensures.begun, left) at c.in_ok-found.ensures in
@@ -32,7 +32,7 @@ returns-in-Ok g c =
     let same : new ≡ c.connection-2-1.given.0 = search rules in
     record {
       transacts = committed g.S.Store old inside new _ _ work
-          (tells g.S.Store old inside (λ t rows. AreFileRowsOf c.args.object t rows.items) c.in_ok-found.found worked.ok worked.same)
+          (tells g.S.Store old inside (λ t rows. AreSha256sOf c.args.object t rows.items) c.in_ok-found.found worked.ok worked.same)
           (λ clean. let ok = c.in-Ok.ensures.ok clean in (ok.1, ok.2, ok.3)) c.commit.ensures.survives _ same;
       opened = began_open g.S.Store old inside new work
           (λ clean. let ok = c.in-Ok.ensures.ok clean in (ok.1, ok.2, ok.3)) c.commit.ensures.survives _ same;
@@ -41,7 +41,7 @@ returns-in-Ok g c =
 pub returns-in-Err : goal.returns-in-Err
 returns-in-Err g c =
     let old = c.args.connection.now in
-    let left : c.files_of.new.tx.tx.now ≡ c.tx-2-1.given.0 = search rules in
+    let left : c.sha256s_of.new.tx.tx.now ≡ c.tx-2-1.given.0 = search rules in
     let inside = c.tx-2-1.given.0.conn.now in
     let new = c.commit.new.self.0 in
     let worked = rw (c.transaction-tx.ensures.begun, left) at c.in_ok-found.ensures in
@@ -50,7 +50,7 @@ returns-in-Err g c =
     let same : new ≡ c.connection-2-1.given.0 = search rules in
     record {
       transacts = uncommitted g.S.Store old inside new _ c.in_ok-found.found _ c.in-Err.error work
-          (tells g.S.Store old inside (λ t rows. AreFileRowsOf c.args.object t rows.items) c.in_ok-found.found worked.ok worked.same)
+          (tells g.S.Store old inside (λ t rows. AreSha256sOf c.args.object t rows.items) c.in_ok-found.found worked.ok worked.same)
           (still_inside g.S.Store old c.in_ok-found.ensures.stays c.transaction-tx.ensures.begun left) (λ clean. c.in-Err.ensures.err clean) c.commit.ensures.survives _ same;
       opened = λ clean. tt;
     }

@@ -7,7 +7,7 @@ use Rattle.sqlite.specs.Held.{state}
 use Rattle.sqlite.specs.State.{State}
 use Rattle.sqlite.proofs.StateLemmas.{survives_then, unchanged}
 use Rattle.dep_tables.specs.Tables.{Tables, tables_of}
-use Rattle.dep_types.specs.declared.rows.FileRow.{FileRow}
+use Rattle.dep_tables.specs.declared.sha256s.FileSha256.{FileSha256}
 use Rattle.dep_row_maps.proofs.Causes.{survives_itself}
 use Rattle.dep_streams.specs.Fixity.{HasFixity, KeepsDamaged, number_if_damaged}
 use Rattle.dep_streams.specs.declared.auditing.FileFixity.{FileFixity}
@@ -15,10 +15,10 @@ use Rattle.dep_streams.proofs.Stills.{still_then, ours_still, tables_still, kept
 use Rattle.dep_streams.proofs.Digests.{one_more, zip_more}
 use Rattle.dep_streams.proofs.auditing.audit_files.Goals as goal
 
-abbrev its : State → FileRow → FileFixity → Type 0
+abbrev its : State → FileSha256 → FileFixity → Type 0
 its old row found = HasFixity (tables_of old) row.file found
 
-abbrev number_of : FileRow × FileFixity → List ℕ
+abbrev number_of : FileSha256 × FileFixity → List ℕ
 number_of p = number_if_damaged p.0 p.1
 
 pub files-init : goal.files-init
@@ -47,17 +47,17 @@ files-preserved g c =
           let it = subst (λ (t : Tables). KeepsDamaged t c.row-item.result c.files.damaged.items c.keep_damaged.new.damaged.items) (tables_still old mid still) (c.in-Ok.ensures.notes clean (ours_still old mid still ours)) in
           let xs = c.args.files.now in
           let i = c.files.row-index in
-          let row : FileRow = c.row-item.result in
+          let row : FileSha256 = c.row-item.result in
           let found : List FileFixity = done.0 ++ it.found ∷ [] in
-          let grown : take (i + 1) xs ≡ take i xs ++ row ∷ [] = take_more xs i row c.files-test.true ∙ ap (λ (x : FileRow). take i xs ++ x ∷ []) (sym c.row-item.is) in
+          let grown : take (i + 1) xs ≡ take i xs ++ row ∷ [] = take_more xs i row c.files-test.true ∙ ap (λ (x : FileSha256). take i xs ++ x ∷ []) (sym c.row-item.is) in
           let all = one_more (its old) (take i xs) done.0 row it.found done.1 it.its in
           let pairs = zip_more (its old) (take i xs) done.0 row it.found done.1 in (
             found,
-            subst (λ (l : List FileRow). AllZip (its old) l found) (sym grown) all,
+            subst (λ (l : List FileSha256). AllZip (its old) l found) (sym grown) all,
             it.noted ∙ ap (λ l. l ++ number_if_damaged row it.found) done.2
                 ∙ ap (λ l. flat_map number_of (zip (take i xs) done.0) ++ l) (sym (append-nil (number_if_damaged row it.found)))
                 ∙ sym (flat_map-append number_of (zip (take i xs) done.0) ((row, it.found) ∷ []))
-                ∙ ap (flat_map number_of) (sym pairs) ∙ ap (λ (l : List FileRow). flat_map number_of (zip l found)) (sym grown),
+                ∙ ap (flat_map number_of) (sym pairs) ∙ ap (λ (l : List FileSha256). flat_map number_of (zip l found)) (sym grown),
           ),
     )
 
@@ -71,8 +71,8 @@ returns g c =
           record {
             checked = refl;
             found = done.0;
-            are = subst (λ (l : List FileRow). AllZip (its (state g.S.Store c.args.connection.now)) l done.0) whole done.1;
-            damaged = done.2 ∙ ap (λ (l : List FileRow). flat_map number_of (zip l done.0)) whole;
+            are = subst (λ (l : List FileSha256). AllZip (its (state g.S.Store c.args.connection.now)) l done.0) whole done.1;
+            damaged = done.2 ∙ ap (λ (l : List FileSha256). flat_map number_of (zip l done.0)) whole;
           };
       cause = λ clean ours. tt;
       ok = λ clean ours opened. (inv.2 clean ours).unchanged opened;

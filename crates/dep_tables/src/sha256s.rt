@@ -1,0 +1,75 @@
+//! The SHA-256 values that the rows of files keep.
+
+ghost use Rattle.std.specs.Prelude.{All, ◌<◌, ◌^◌, ◌∷◌, [], pos};
+ghost use Rattle.sqlite.specs.declared.types.Value.TheVariants.{Int};
+ghost use Rattle.dep_tables.specs.Rows.{IsSha256Row};
+ghost use Rattle.dep_tables.specs.Edits.{AreSha256sOf};
+ghost use Rattle.dep_tables.specs.Clauses.{Reads, ReadsOnly, FailsReading, RefusesNumbers, FailsByReading, StaysWithin};
+ghost use Rattle.dep_tables.specs.Texts.{sha256s_of_text};
+
+use crate::calls::Statements;
+use crate::columns::ColumnKind::{self, Number, Sha256};
+use crate::numbers::{LIMIT, key_param, number_at};
+use crate::reading::{FromRow, ask_all};
+use crate::texts::digest_at;
+use dep_types::StoreFault;
+use sqlite::{Error, Row};
+use std::alloc::Global;
+
+/// The SHA-256 that the row of a file keeps.
+#[derive(Clone, Copy)]
+pub struct FileSha256 {
+    /// The number of the file.
+    pub file: u64,
+    /// The SHA-256 of its content.
+    pub value: [u8; 32],
+}
+
+impl FromRow for FileSha256 {
+    ghost use Rattle.dep_tables.specs.Rows.{sha256_values, sha256_kinds};
+
+    ghost width = { 2 };
+
+    ghost values = { sha256_values };
+
+    ghost columns = { sha256_kinds };
+
+    ghost copies = { ⊥ };
+
+    fn kinds() -> &'static [ColumnKind] {
+        &[Number, Sha256]
+    }
+
+    fn from_row(row: &Row) -> Result<FileSha256, Error> {
+        Ok(FileSha256 {
+            file: number_at(row, 0)?,
+            value: digest_at(row, 1)?,
+        })
+    }
+}
+
+/// The SHA-256 of each file of an object, by ascending number of the file. No row of `sha512s` is asked for, so a file that has none there is told too. It is a fault of the store where a SHA-256 is not one of 32 bytes, and for a number of 2^63 or more.
+pub fn sha256s_of<T: Statements>(
+    tx: &mut T,
+    alloc: Global,
+    object: u64,
+) -> Result<Vec<FileSha256>, StoreFault>
+    ensures ok { Reads (T.state tx.old) (T.state tx.new) result
+        (λ t found. AreSha256sOf object t found.items) }
+    ensures same { ReadsOnly (T.state tx.old) (T.state tx.new) result }
+    ensures numbers { RefusesNumbers (T.state tx.old) (T.state tx.new) result (object < 2 ^ 63) }
+    ensures cause { FailsByReading (T.state tx.old) (T.state tx.new) result
+        (object < 2 ^ 63) sha256s_of_text (Int (pos object) ∷ []) (All IsSha256Row) }
+    ensures err { FailsReading (T.state tx.old) (T.state tx.new) result }
+    ensures stays { StaysWithin T.lenders T.state tx.old tx.new result }
+{
+    if object >= LIMIT {
+        return Err(StoreFault::Store);
+    }
+    ask_all(
+        tx,
+        alloc,
+        "SELECT file, sha256 FROM files WHERE object = ?1 ORDER BY file",
+        &key_param(object),
+    )
+}
