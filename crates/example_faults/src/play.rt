@@ -140,7 +140,7 @@ impl<'a> FaultPlay<'a> {
             let ticked = looked(self.alloc, hub, looks, request.exchange.moment)?;
             is_answered(self.alloc, hub, request)?;
             let after = looked(self.alloc, hub, looks, LOOKING)?;
-            if ticked == after && !request.is_get() {
+            if ticked == after && !request.may_change_nothing() {
                 return Err(Trouble::Line("a request changes nothing that is looked at"));
             }
             self.pictures.push(ticked)?;

@@ -12,9 +12,10 @@ pub struct Request {
 }
 
 impl Request {
-    /// Whether it asks for no change.
-    pub fn is_get(&self) -> bool {
+    /// Whether nothing that is looked at has to change: it is a GET, or it is to be refused with a status of 4xx.
+    pub fn may_change_nothing(&self) -> bool {
         self.exchange.stream.as_slice().starts_with(b"GET ")
+            || self.exchange.want.as_slice().starts_with(b"HTTP/1.1 4")
     }
 }
 
