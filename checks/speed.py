@@ -21,8 +21,8 @@ what an open of the store takes by itself. In the end, or by --digests alone, it
 By --uploads alone, it measures uploads of so many segments of so many KiB, by default 10000x64 and 256x16384 (4 GiB, for which
 the disk needs some 25). Each segment is sent to the server and then written by sqlite3, in turn, so that what else the machine
 does meets both alike: the rate of the first 100 segments, and of the last. Then come the last segment once more, the deposit by
-reference (by sqlite3: both digests, and one statement that moves the blocks), a GET of the file, the greatest memory of the
-server in each of these steps, at most 64 MiB above what it had behind its open, the next open, and the commands as above.
+reference (by sqlite3: both digests, and one statement that moves the blocks), a GET of the file, the commands as above, the
+open by a server, a GET again, and a DELETE of the object. Each of these may take 64 MiB above what the server had before.
 
 The status is 1 where one of these takes more. It measures, so it is no part of checks/all: numbers of one run on a busy
 machine say little. Run it on one that does nothing else.
@@ -392,37 +392,60 @@ def in_turn(client, store, count, size):
     return url, digest.digest(), content
 
 
-def large_upload(folder, count, size):
-    """What an upload of so many segments of so many bytes takes, from its opening to the next open of the store."""
-    mebibytes, paths = count * size / MIB, []
-    print(f"an upload of {count} segments of {size // 1024} KiB, {mebibytes:.0f} MiB", flush=True)
+class Steps:
+    """What is asked of a server, with the memory that each takes above what it has at rest."""
+
+    def __init__(self, server):
+        self.server = server
+        server.forget_peak()
+        self.rest = server.peak()
+
+    def step(self, what, work, mebibytes):
+        self.server.forget_peak()
+        took = seconds_of(work)
+        above = self.server.peak() - self.rest
+        told(what, took, mebibytes, f", {above:.0f} MiB of memory above {self.rest:.0f}")
+        expect(f"{what}: memory above what it had, {above:.0f} MiB", above > MOST_ABOVE, False)
+
+
+def kept_upload(folder, count, size):
+    """Sends an upload, deposits it and reads the file. Returns the file's path."""
+    mebibytes, made = count * size / MIB, []
     with Server(1, folder) as server:
         client, store = Client(server), PlainUpload(folder)
         client.deposit(os.urandom(SMALL))
-        rest = server.peak()
-
-        def step(what, work, octets):
-            server.forget_peak()
-            took = seconds_of(work)
-            above = server.peak() - rest
-            told(what, took, octets, f", {above:.0f} MiB of memory above the {rest:.0f} behind the open")
-            expect(f"{what}: memory above what the open takes, {above:.0f} MiB", above > MOST_ABOVE, False)
-        began = []
-        step("segments, with those of sqlite3", lambda: began.extend(in_turn(client, store, count, size)), mebibytes)
-        url, digest, last = began
-        step("the last segment once more", lambda: client.segment(url, count, last), size / MIB)
-        step("deposit by reference", lambda: paths.append(client.deposit_upload(url)), mebibytes)
+        steps = Steps(server)
+        steps.step("segments, with those of sqlite3", lambda: made.extend(in_turn(client, store, count, size)), mebibytes)
+        url, digest, last = made
+        steps.step("the last segment once more", lambda: client.segment(url, count, last), size / MIB)
+        steps.step("deposit by reference", lambda: made.append(client.deposit_upload(url)), mebibytes)
         told("sqlite3: digests, and blocks moved", seconds_of(store.deposit), mebibytes)
-        step("GET of the file", lambda: expect("the file's SHA-256", client.hash_file(paths[0]), digest), mebibytes)
+        steps.step("GET of the file", lambda: expect("the file's SHA-256", client.hash_file(made[-1]), digest), mebibytes)
         told("sqlite3: blocks read", seconds_of(store.read), mebibytes)
         store.end()
         client.connection.close()
         expect("the end of the server", server.ends(PATIENCE), (0, ""))
+    return made[-1]
+
+
+def large_upload(folder, count, size):
+    """What an upload of so many segments of so many bytes takes, from its opening to the end of its object."""
+    mebibytes = count * size / MIB
+    print(f"an upload of {count} segments of {size // 1024} KiB, {mebibytes:.0f} MiB", flush=True)
+    path = kept_upload(folder, count, size)
+    item = path.split("/")[2]
+    exported_and_audited(folder, pathlib.Path(folder, "deposits.db"), item, mebibytes)
+    for name in ("bag", "bag-2"):
+        shutil.rmtree(pathlib.Path(folder, name))
     began = time.perf_counter()
     with Server(1, folder, patience=PATIENCE) as server:
         took, room = time.perf_counter() - began, server.store.stat().st_size / MIB
-        told(f"the next open, of {room:.0f} MiB", took, room, f", {server.peak():.0f} MiB of memory")
-    exported_and_audited(folder, server.store, paths[0].split("/")[2], mebibytes)
+        told(f"open of {room:.0f} MiB by a server", took, room, f", {server.peak():.0f} MiB of memory")
+        client, steps = Client(server), Steps(server)
+        steps.step("GET of the file", lambda: client.hash_file(path), mebibytes)
+        steps.step("DELETE of its object", lambda: client.ask(204, "DELETE", f"/objects/{item}"), mebibytes)
+        client.connection.close()
+        expect("the end of the server", server.ends(PATIENCE), (0, ""))
 
 
 def main():
