@@ -19,7 +19,7 @@ from expectations import expect, status_of
 from served import Server
 
 SEGMENT = 65_536
-REQUESTS = 22
+REQUESTS = 23
 
 
 def has(what, content, text):
@@ -58,12 +58,12 @@ def replace_metadata(server, path):
 
 
 def deposit_in_segments(server, path, content):
-    """A file in four segments, the last one first, which becomes the object's second file."""
+    """A file in four segments, the last one first and twice, which becomes the object's second file."""
     headers = {"Content-Disposition": f"segment-init; size={len(content)}; segment_count=4; segment_size={SEGMENT}; "
                                       f"digest=SHA-512={hashlib.sha512(content).hexdigest()}"}
     reply, _ = server.ask(201, "POST", "/staging", headers=headers)
     upload = reply.headers["Location"]
-    for number in (4, 1, 3, 2):
+    for number in (4, 4, 1, 3, 2):
         segment = content[(number - 1) * SEGMENT:number * SEGMENT]
         headers = {"Content-Disposition": f"segment; segment_number={number}"}
         server.ask(204, "POST", server.path_of(upload), segment, headers)

@@ -9,7 +9,7 @@ folder=$(mktemp -d) || exit 2
 port=$((20000 + $$ % 20000))
 base=http://127.0.0.1:$port
 # Each call of curl below is one connection; the server ends after the last.
-"$program" serve $port "$folder/deposits.db" 22 2>"$folder/said" &
+"$program" serve $port "$folder/deposits.db" 23 2>"$folder/said" &
 server=$!
 trap 'kill $server 2>/dev/null; rm -r "$folder"' EXIT
 failed=0
@@ -67,14 +67,14 @@ ask 200 "$object/metadata"
 has '"dc:title":"Observations"'
 ask 412 -X DELETE -H 'If-Match: "1"' "$object/metadata"
 
-# A file of 200,000 bytes in four segments, the last one first.
+# A file of 200,000 bytes in four segments, the last one first and twice.
 head -c 200000 /dev/urandom >"$folder/large"
 split -b 65536 -d -a 1 "$folder/large" "$folder/segment."
 sizes='size=200000; segment_count=4; segment_size=65536'
 ask 201 -X POST -H "Content-Disposition: segment-init; $sizes; digest=SHA-512=$(sha512sum "$folder/large" | cut -c1-128)" \
     "$base/staging"
 upload=$(told Location)
-for segment in 3 0 2 1; do
+for segment in 3 3 0 2 1; do
     ask 204 --data-binary "@$folder/segment.$segment" -H 'Content-Type:' \
         -H "Content-Disposition: segment; segment_number=$((segment + 1))" "$upload"
 done

@@ -93,7 +93,7 @@ class Play:
         self.config, self.archive, self.server = model.Config(), model.Archive(), None
         self.moment, self.stream, self.want, self.name = MOMENT, b"", b"", None
         self.current, self.longest, self.call = 1, 0, None
-        self.has_faults, self.looks, self.intake = False, [], None
+        self.has_faults, self.looks, self.intake, self.played = False, [], None, set()
 
     def line(self, line):
         word, _, rest = line.partition(" ")
@@ -186,9 +186,10 @@ class Play:
             part, came = self.intake.arrive(piece) if self.intake else self.server.arrive(current, piece, self.moment)
             sent += part
         self.compare(sent, came, word)
-        may_stay = self.stream.startswith(b"GET ") or self.want.startswith(b"HTTP/1.1 4")
+        may_stay = self.stream.startswith(b"GET ") or self.want.startswith(b"HTTP/1.1 4") or self.stream in self.played
         if self.has_faults and not may_stay and before == self.looked():
             raise Wrong("nothing that is looked at has changed")
+        self.played.add(self.stream)
         self.stream, self.want = b"", b""
 
     def looked(self):

@@ -5,8 +5,9 @@
 
 In each round (200) a client deposits files, replaces metadata and sends segments over one connection, and after a
 random time the server gets SIGKILL. Then sqlite3 checks the store, and the server is started again on it: each change
-that was answered has to be there, and of the one that was in work all or nothing. Each upload promised a SHA-512 at its
-opening, every second one that of another content: sent to its end and deposited, it is refused then, and else taken.
+that was answered has to be there, and of the one that was in work all or nothing. Each segment of an upload is sent again
+then, whether it was stored or not, and other bytes are refused in the place of one that was. Each upload promised a SHA-512
+at its opening, every second one that of another content: sent to its end and deposited, it is refused then, and else taken.
 The status is 0 where it was so. It needs nothing else; a round takes a second and a half of processor time.
 """
 
@@ -181,8 +182,11 @@ def check(connection, known, wrong):
 
 
 def go_on(connection, path, upload, received, wrong):
-    """The upload is sent to its end and deposited, by what was promised at its opening."""
-    for place in {1, 2, 3} - received:
+    """Each segment is sent, those that were received too, and the upload is deposited, by what was promised at its opening."""
+    other = Upload(os.urandom(3 * SEGMENT), False)
+    for place in (1, 2, 3):
+        status = ask_for_segment(connection, path, other, place) if place in received else 400
+        find(f"other bytes as segment {place} of {path}: {status}", status == 400, wrong)
         status = ask_for_segment(connection, path, upload, place)
         find(f"segment {place} of {path}: {status}", status == 204, wrong)
     status = ask_for_deposit(connection, path)[0].status

@@ -138,15 +138,15 @@ class Config:
     on_behalf_of: bool = False
     require_if_match: bool = False
     max_upload: int = 16_777_216
-    max_assembled: int = 536_870_912
-    max_segments: int = 1_000
+    max_assembled: int = 17_179_869_184
+    max_segments: int = 10_000
     staging_max_idle: int = 3_600
 
     def is_accepted(self):
         base = re.fullmatch(r"http://(\[[0-9a-f:]+\]|[0-9a-z.\-]+)(?::([1-9][0-9]*))?", self.base)
         return (base is not None and base.group(2) != "80" and int(base.group(2) or 1) < 65_536
-                and 1 <= self.max_upload <= 16_777_216 and 1 <= self.max_assembled <= 536_870_912
-                and 1 <= self.max_segments <= 1_000 and 1 <= self.staging_max_idle <= 31_536_000)
+                and 1 <= self.max_upload <= 16_777_216 and 1 <= self.max_assembled <= 17_179_869_184
+                and 1 <= self.max_segments <= 10_000 and 1 <= self.staging_max_idle <= 31_536_000)
 
 
 @dataclass
@@ -809,12 +809,14 @@ class Step:
         return Reply(201, "application/json", upload_document(config, key, upload), location=location)
 
     def add_segment(self):
-        upload, place = self.archive.uploads[self.key], self.told
-        refuse_if(place == 0 or place > upload.count or place in upload.segments, "UnexpectedSegment")
-        rest = upload.size - (upload.count - 1) * upload.segment_size
-        length = rest if place == upload.count else upload.segment_size
-        refuse_if(len(self.request.content) != length, "InvalidSegmentSize")
-        upload.segments[place] = self.request.content
+        upload, place, content = self.archive.uploads[self.key], self.told, self.request.content
+        refuse_if(not 1 <= place <= upload.count, "UnexpectedSegment")
+        if place in upload.segments:
+            refuse_if(content != upload.segments[place], "UnexpectedSegment")
+        else:
+            rest = upload.size - (upload.count - 1) * upload.segment_size
+            refuse_if(len(content) != (rest if place == upload.count else upload.segment_size), "InvalidSegmentSize")
+            upload.segments[place] = content
         upload.last = self.archive.clock
         return Reply(204)
 

@@ -358,8 +358,10 @@ def sizes(case, kind, numbers, content):
         refuse_if(not (count - 1) * segment_size < size <= count * segment_size, "InvalidSegmentSize")
     if kind[0] == "segment":
         upload, k = upload_at(case, numbers[0]), kind[1]
-        refuse_if(k < 1 or k > upload.count or upload.segments[k - 1] is not None, "UnexpectedSegment")
-        refuse_if(len(content) != upload.length(k), "InvalidSegmentSize")
+        refuse_if(k < 1 or k > upload.count, "UnexpectedSegment")
+        received = upload.segments[k - 1]
+        refuse_if(received not in (None, content), "UnexpectedSegment")
+        refuse_if(received is None and len(content) != upload.length(k), "InvalidSegmentSize")
 
 
 @dataclass

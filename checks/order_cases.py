@@ -33,6 +33,7 @@ NO_KIND = [(9, "Content-Disposition: attachment"), (9, "Content-Disposition: att
 OPENING = "Content-Disposition: segment-init; size=5; segment_count=3; segment_size=2"
 SEGMENT = "Content-Disposition: segment; segment_number=2"
 LAST = "Content-Disposition: segment; segment_number=3"
+RECEIVED = "Content-Disposition: segment; segment_number=1"
 AS_FILE = "Content-Disposition: attachment; filename=a.txt"
 AS_METADATA = "Content-Disposition: attachment; metadata=true"
 AS_REFERENCES = "Content-Disposition: attachment; by-reference=true"
@@ -239,6 +240,11 @@ def segments():
         ["require-if-match true", 'If-Match: "9"', "Content-Type:", "In-Progress: yes", "Digest: SHA-256=" + sha256("cd")])
     yield "the last segment", ["POST /staging/3", LAST, "content e"], flat(
         BEHALF, absent("POST /staging/1"), [(14.4, SEGMENT)], [(14.5, "content ef"), (14.5, "no content")], full())
+    yield "a segment that comes again", ["POST /staging/2", RECEIVED, "content ab"], flat(
+        BEHALF, gone, ENCODING, [(9, AS_FILE), (9, "no Content-Disposition"), (9, RECEIVED.replace("=1", "=x"))], DIGEST,
+        [(14.4, RECEIVED.replace("=1", f"={k}")) for k in (0, 3, 4)],
+        [(14.4, f"content {other}") for other in ("ax", "xb", "a", "abc")], [(14.4, "no content")], full(), GIVEN,
+        ["require-if-match true", 'If-Match: "9"', "Content-Type:", "In-Progress: yes", "Digest: SHA-256=" + sha256("ab")])
     yield "an upload that is dropped", ["DELETE /staging/2"], flat(
         BEHALF, absent("DELETE /staging/1", "DELETE /staging/9"), [UNREAD], full())
 

@@ -93,9 +93,9 @@ def upload_in_segments(client):
     path = upload.removeprefix(client.server.base)
     for place in (6, 2, 1, 4, 3, 5):
         segment = content[(place - 1) * size:place * size]
-        headers = {"Content-Disposition": f"segment; segment_number={place}", "Digest": digest(segment)}
-        client.ask(204, "POST", path, segment, headers)
-        client.ask(400, "POST", path, segment, headers)
+        where = {"Content-Disposition": f"segment; segment_number={place}"}
+        for status, sent in ((204, segment), (204, segment), (400, segment[:-1] + bytes([segment[-1] ^ 1])), (400, segment + b"x")):
+            client.ask(status, "POST", path, sent, {**where, "Digest": digest(sent)})
     _, document = client.ask(200, "GET", path)
     expect("segments", json.loads(document)["segments"]["expecting"], [])
     document = {"byReferenceFiles": [{"@id": upload, "contentDisposition": "attachment; filename*=UTF-8''gro%C3%9F"}]}

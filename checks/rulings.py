@@ -25,7 +25,7 @@ DATA = pathlib.Path(__file__).resolve().parent.parent / "crates/examples/data"
 WORDS = examples.texts_of(DATA / "texts.txt")
 MOMENT, AN_HOUR_AND_A_SECOND_BEFORE = 1_523_836_800, 1_523_833_199
 CONFIG = ["base http://127.0.0.1:8080", "on-behalf-of false", "require-if-match false", "max-upload 16777216",
-          "max-assembled 536870912", "max-segments 1000"]
+          "max-assembled 17179869184", "max-segments 10000"]
 CONFIG_KEYS = {key_of(setting) for setting in CONFIG}
 KINDS = ("object", "file", "upload", "change")
 
@@ -285,7 +285,8 @@ ENTRY_NAMES = ("a-number", "no-url", "no-name", "no-media-type", "no-length", "n
 # What stands in many requests has a name.
 NAMES = {
     "as-file": cases.AS_FILE, "as-metadata": cases.AS_METADATA, "as-references": cases.AS_REFERENCES, "as-opening": cases.OPENING,
-    "as-segment": cases.SEGMENT, "as-last-segment": cases.LAST, "sent-abc": "content abc", "dc-title": cases.TITLE, "sent-cd": "content cd",
+    "as-segment": cases.SEGMENT, "as-last-segment": cases.LAST, "as-first-segment": cases.RECEIVED,
+    "sent-ab": "content ab", "sent-abc": "content abc", "dc-title": cases.TITLE, "sent-cd": "content cd",
     "sent-e": "content e", "sent-nothing": "no content", "with-f": cases.ENTRIES[0], "and-abcde": cases.ENTRIES[1],
     "named-twice": cases.NO_KIND[1][1], "both-kinds": cases.NO_KIND[4][1], "binary-twice": cases.PACKAGING[0][1],
     "zip": cases.PACKAGING[1][1], "format-twice": cases.FORMATS[0][1], "other-format": cases.FORMATS[1][1],

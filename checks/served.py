@@ -24,26 +24,30 @@ def free_port():
 
 
 class Server:
-    """A server that ends after so many connections, over the store `deposits.db` of a folder. `how` is what
-    `subprocess.Popen` takes besides."""
+    """A server that ends after so many connections, over the store `deposits.db` of a folder. It may open that for
+    `patience` seconds. `how` is what `subprocess.Popen` takes besides."""
 
-    def __init__(self, count, folder=None, port=None, **how):
+    def __init__(self, count, folder=None, port=None, patience=60, **how):
         self.kept = tempfile.TemporaryDirectory() if folder is None else None
         self.store = pathlib.Path(folder or self.kept.name) / "deposits.db"
-        self.port = port or free_port()
+        self.port, self.patience = port or free_port(), patience
         self.base = f"http://127.0.0.1:{self.port}"
         self.process = start("serve", str(self.port), self.store, str(count), stderr=subprocess.PIPE, **how)
 
     def wait_until_it_listens(self):
         """Looks into the table of sockets, since a connection would be counted."""
         wanted = f"0100007F:{self.port:04X} 00000000:0000 0A"
-        for _ in range(6000):
+        for _ in range(100 * self.patience):
             if wanted in pathlib.Path("/proc/net/tcp").read_text():
                 return self
             if self.process.poll() is not None:
                 raise RuntimeError(f"the server ended: {self.process.stderr.read().decode()}")
             time.sleep(0.01)
         raise RuntimeError("the server does not listen")
+
+    def forget_peak(self):
+        """Its greatest memory counts from here on."""
+        pathlib.Path(f"/proc/{self.process.pid}/clear_refs").write_text("5")
 
     def peak(self):
         """The greatest memory that it had, in MiB."""
@@ -66,9 +70,10 @@ class Server:
         """The path of a URL that the server told."""
         return url.removeprefix(self.base)
 
-    def ends(self):
-        """Its exit status, once it has served all its connections, and what it wrote on standard error."""
-        status = self.process.wait(60)
+    def ends(self, patience=60):
+        """Its exit status, once it has served all its connections, and what it wrote on standard error. That may take so many
+        seconds, since the log is copied into the file then."""
+        status = self.process.wait(patience)
         return status, self.process.stderr.read().decode()
 
     def __enter__(self):

@@ -4,6 +4,7 @@ with the same durability (write-ahead log, synchronous=FULL) on the same disk, i
 
     checks/speed.py [--segmented MIB] [--before PROGRAM]
     checks/speed.py --digests [--before PROGRAM]
+    checks/speed.py --uploads [COUNTxKIB ..]
 
 It prints deposits of 1 KiB and of 16 MiB, reads of both, a file of 512 MiB in segments and its deposit by reference, and
 the greatest memory that the server had: after the deposits and reads, after as many again, and at the end. Then it
@@ -17,6 +18,13 @@ what an open of the store takes by itself. In the end, or by --digests alone, it
   crates/examples/data/older-stores.txt: an audit that makes it a store of version 2 takes at most twice what `sha512sum`
   takes for the same bytes above what the next audit takes. Where the store stays one of version 1, it says that this is
   skipped.
+
+By --uploads alone, it measures uploads of so many segments of so many KiB, by default 10000x64 and 256x16384 (4 GiB, for which
+the disk needs some 25). Each segment is sent to the server and then written by sqlite3, in turn, so that what else the machine
+does meets both alike: the rate of the first 100 segments, and of the last. Then come the last segment once more, the deposit by
+reference (by sqlite3: both digests, and one statement that moves the blocks), a GET of the file, the commands as above, the
+open by a server, a GET again, and a DELETE of the object. Each but the DELETE, whose one statement holds all that it deletes,
+may take 64 MiB above what the server had before.
 
 The status is 1 where one of these takes more. It measures, so it is no part of checks/all: numbers of one run on a busy
 machine say little. Run it on one that does nothing else.
@@ -45,6 +53,15 @@ from served import Server
 MIB = 1024 * 1024
 SMALL, LARGE = 1024, 16 * MIB
 BLOCK = 65_536
+UPLOADS = ["10000x64", "256x16384"]
+# So many segments are the first ones, and the last ones.
+ENDS = 100
+# So many MiB may a step take above what the server had before.
+MOST_ABOVE = 64
+# So many seconds may an open take.
+PATIENCE = 1800
+# By this a process gives freed memory back at once, so that what its open took doesn't hide what it takes later.
+GIVES_BACK = {"MALLOC_MMAP_THRESHOLD_": "65536", "MALLOC_TRIM_THRESHOLD_": "65536"}
 
 
 def timed(what, count, work, size):
@@ -77,19 +94,23 @@ class Client:
         _, came = self.ask(200, "GET", path)
         assert came == content
 
+    def open_upload(self, count, size):
+        headers = {"Content-Disposition": f"segment-init; size={count * size}; segment_count={count}; segment_size={size}"}
+        reply, _ = self.ask(201, "POST", "/staging", headers=headers)
+        return reply.headers["Location"]
+
+    def segment(self, url, place, content):
+        headers = {"Content-Disposition": f"segment; segment_number={place}"}
+        self.ask(204, "POST", url.removeprefix(self.base), content, headers)
+
     def upload(self, mebibytes):
         """A file in segments of 16 MiB."""
         count = mebibytes // 16
-        headers = {"Content-Disposition": f"segment-init; size={count * LARGE}; segment_count={count}; "
-                                          f"segment_size={LARGE}"}
-        reply, _ = self.ask(201, "POST", "/staging", headers=headers)
-        url = reply.headers["Location"]
-        digest = hashlib.sha256()
+        url, digest = self.open_upload(count, LARGE), hashlib.sha256()
         for place in range(1, count + 1):
             segment = os.urandom(LARGE)
             digest.update(segment)
-            headers = {"Content-Disposition": f"segment; segment_number={place}"}
-            self.ask(204, "POST", url.removeprefix(self.base), segment, headers)
+            self.segment(url, place, segment)
         return url, digest.digest()
 
     def deposit_upload(self, url):
@@ -133,6 +154,53 @@ class Plain:
         return b"".join(row[0] for row in rows)
 
 
+class PlainUpload:
+    """An upload by sqlite3, in tables like the server's: the row of each segment, and its content in blocks."""
+
+    BYTES = "SELECT bytes FROM blocks WHERE kind = ? AND owner = 1 ORDER BY part, place"
+
+    def __init__(self, folder):
+        self.file = pathlib.Path(folder) / "plain.db"
+        self.database = sqlite3.connect(self.file, isolation_level=None)
+        for text in ("PRAGMA journal_mode=WAL", "PRAGMA synchronous=FULL",
+                     "CREATE TABLE uploads (upload INTEGER PRIMARY KEY, last INTEGER) STRICT",
+                     "CREATE TABLE segments (upload INTEGER, number INTEGER, size INTEGER, PRIMARY KEY (upload, number)) STRICT",
+                     "CREATE TABLE blocks (kind INTEGER, owner INTEGER, part INTEGER, place INTEGER, bytes BLOB, "
+                     "PRIMARY KEY (kind, owner, part, place)) STRICT",
+                     "INSERT INTO uploads VALUES (1, 0)"):
+            self.database.execute(text)
+
+    def segment(self, number, content):
+        self.database.execute("BEGIN IMMEDIATE")
+        blocks = ((number, at // BLOCK, content[at:at + BLOCK]) for at in range(0, len(content), BLOCK))
+        self.database.executemany("INSERT INTO blocks VALUES (1, 1, ?, ?, ?)", blocks)
+        self.database.execute("INSERT INTO segments VALUES (1, ?, ?)", (number, len(content)))
+        self.database.execute("UPDATE uploads SET last = ?", (number,))
+        self.database.execute("COMMIT")
+
+    def digest(self, kind):
+        digests = hashlib.sha256(), hashlib.sha512()
+        for (content,) in self.database.execute(self.BYTES, (kind,)):
+            for it in digests:
+                it.update(content)
+        return digests[0].digest()
+
+    def deposit(self):
+        self.database.execute("BEGIN IMMEDIATE")
+        self.digest(1)
+        for text in ("UPDATE blocks SET kind = 0 WHERE kind = 1 AND owner = 1", "DELETE FROM segments", "DELETE FROM uploads"):
+            self.database.execute(text)
+        self.database.execute("COMMIT")
+
+    def read(self):
+        for _ in self.database.execute(self.BYTES, (0,)):
+            pass
+
+    def end(self):
+        self.database.close()
+        self.file.unlink()
+
+
 def small_and_large(client):
     small, large = os.urandom(SMALL), os.urandom(LARGE)
     timed("deposit of 1 KiB", 1000, lambda: client.deposit(small), SMALL)
@@ -174,10 +242,10 @@ def exported_and_audited(folder, store, item, mebibytes):
     print(f"{'open of the store alone':<44} {opened:10.2f} s       {room:10.0f} MiB of memory", flush=True)
     size = store.stat().st_size / MIB
     for what, words, wanted, octets in (
-            (f"export of {mebibytes} MiB", (program, "export", store, item, bag), 0, mebibytes),
-            (f"cp and sync of {mebibytes} MiB", ("sh", "-c", f"cp -r {bag} {bag}-2 && sync {bag}-2/data/*/*"), 0, mebibytes),
+            (f"export of {mebibytes:.0f} MiB", (program, "export", store, item, bag), 0, mebibytes),
+            (f"cp and sync of {mebibytes:.0f} MiB", ("sh", "-c", f"cp -r {bag} {bag}-2 && sync {bag}-2/data/*/*"), 0, mebibytes),
             (f"audit of a store of {size:.0f} MiB", (program, "audit", store), 0, size),
-            (f"sha256sum of {mebibytes} MiB", ("sh", "-c", f"sha256sum {bag}/data/*/*"), 0, mebibytes)):
+            (f"sha256sum of {mebibytes:.0f} MiB", ("sh", "-c", f"sha256sum {bag}/data/*/*"), 0, mebibytes)):
         status, took, peak = ran(*words)
         assert status == wanted, (what, status)
         if words[0] == program:
@@ -320,12 +388,99 @@ def whole(folder, mebibytes):
     plain(folder)
 
 
+def told(what, took, mebibytes, more=""):
+    print(f"{what:<44} {took:10.2f} s       {mebibytes / took:10.1f} MiB/s{more}", flush=True)
+
+
+def in_turn(client, store, count, size):
+    """Sends segments, each to the server and then to sqlite3. Returns the upload's URL, the SHA-256 of the whole, and the last
+    segment."""
+    url, digest, took = client.open_upload(count, size), hashlib.sha256(), ([], [])
+    for place in range(1, count + 1):
+        content = os.urandom(size)
+        digest.update(content)
+        took[0].append(seconds_of(lambda: client.segment(url, place, content)))
+        took[1].append(seconds_of(lambda: store.segment(place, content)))
+    for name, seconds in (("", took[0]), ("sqlite3: ", took[1])):
+        for part, some in (("first", seconds[:ENDS]), ("last", seconds[-ENDS:])):
+            rate = len(some) / sum(some)
+            print(f"{f'{name}the {part} {len(some)} segments':<44} {rate:10.1f} a second {rate * size / MIB:8.1f} MiB/s", flush=True)
+    return url, digest.digest(), content
+
+
+class Steps:
+    """What is asked of a server, with the memory that each takes above what it has at rest."""
+
+    def __init__(self, server):
+        self.server = server
+        server.forget_peak()
+        self.rest = server.peak()
+
+    def tell(self, what, work, mebibytes):
+        """Returns how many MiB it took."""
+        self.server.forget_peak()
+        took = seconds_of(work)
+        above = self.server.peak() - self.rest
+        told(what, took, mebibytes, f", {above:.0f} MiB of memory above {self.rest:.0f}")
+        return above
+
+    def step(self, what, work, mebibytes):
+        above = self.tell(what, work, mebibytes)
+        expect(f"{what}: memory above what it had, {above:.0f} MiB", above > MOST_ABOVE, False)
+
+
+def kept_upload(folder, count, size):
+    """Sends an upload, deposits it and reads the file. Returns the file's path."""
+    mebibytes, made = count * size / MIB, []
+    with Server(1, folder) as server:
+        client, store = Client(server), PlainUpload(folder)
+        client.deposit(os.urandom(SMALL))
+        steps = Steps(server)
+        steps.step("segments, with those of sqlite3", lambda: made.extend(in_turn(client, store, count, size)), mebibytes)
+        url, digest, last = made
+        steps.step("the last segment once more", lambda: client.segment(url, count, last), size / MIB)
+        steps.step("deposit by reference", lambda: made.append(client.deposit_upload(url)), mebibytes)
+        told("sqlite3: digests, and blocks moved", seconds_of(store.deposit), mebibytes)
+        steps.step("GET of the file", lambda: expect("the file's SHA-256", client.hash_file(made[-1]), digest), mebibytes)
+        told("sqlite3: blocks read", seconds_of(store.read), mebibytes)
+        store.end()
+        client.connection.close()
+        expect("the end of the server", server.ends(PATIENCE), (0, ""))
+    return made[-1]
+
+
+def large_upload(folder, count, size):
+    """What an upload of so many segments of so many bytes takes, from its opening to the end of its object."""
+    mebibytes = count * size / MIB
+    print(f"an upload of {count} segments of {size // 1024} KiB, {mebibytes:.0f} MiB", flush=True)
+    path = kept_upload(folder, count, size)
+    item = path.split("/")[2]
+    exported_and_audited(folder, pathlib.Path(folder, "deposits.db"), item, mebibytes)
+    for name in ("bag", "bag-2"):
+        shutil.rmtree(pathlib.Path(folder, name))
+    began = time.perf_counter()
+    with Server(1, folder, patience=PATIENCE, env={**os.environ, **GIVES_BACK}) as server:
+        took, room = time.perf_counter() - began, server.store.stat().st_size / MIB
+        told(f"open of {room:.0f} MiB by a server", took, room, f", {server.peak():.0f} MiB of memory")
+        client, steps = Client(server), Steps(server)
+        steps.step("GET of the file", lambda: client.hash_file(path), mebibytes)
+        steps.tell("DELETE of its object", lambda: client.ask(204, "DELETE", f"/objects/{item}"), mebibytes)
+        client.connection.close()
+        expect("the end of the server", server.ends(PATIENCE), (0, ""))
+
+
 def main():
     options = argparse.ArgumentParser(description=__doc__, formatter_class=argparse.RawTextHelpFormatter)
     options.add_argument("--segmented", type=int, default=512, metavar="MIB")
     options.add_argument("--before", type=pathlib.Path, metavar="PROGRAM")
     options.add_argument("--digests", action="store_true")
+    options.add_argument("--uploads", nargs="*", metavar="COUNTxKIB")
     given = options.parse_args()
+    if given.uploads is not None:
+        for count, kibibytes in (map(int, it.split("x")) for it in given.uploads or UPLOADS):
+            with tempfile.TemporaryDirectory() as folder:
+                large_upload(folder, count, 1024 * kibibytes)
+        return 1 if wrong else 0
     with tempfile.TemporaryDirectory() as folder:
         if not given.digests:
             whole(folder, given.segmented)

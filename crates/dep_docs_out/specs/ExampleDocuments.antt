@@ -14,8 +14,8 @@ example_config = record {
   on_behalf_of = false;
   require_if_match = false;
   max_upload = 16777216;
-  max_assembled = 536870912;
-  max_segments = 1000;
+  max_assembled = 17179869184;
+  max_segments = 10000;
   staging_max_idle = 3600;
 }
 
@@ -104,7 +104,7 @@ example_upload =
     record { upload = 1; size = 5; count = 3; segment_size = 2; sha256 = None; sha512 = None; last = 0 }
 
 unfoldable pub service_text : List ℕ
-service_text = codes "{\"@context\":\"https://swordapp.github.io/swordv3/swordv3.jsonld\",\"@id\":\"http://127.0.0.1:8080/service\",\"@type\":\"ServiceDocument\",\"accept\":[\"*/*\"],\"acceptDeposits\":true,\"acceptMetadata\":[\"http://purl.org/net/sword/3.0/types/Metadata\"],\"acceptPackaging\":[\"http://purl.org/net/sword/3.0/package/Binary\"],\"byReferenceDeposit\":true,\"dc:title\":\"swordd\",\"dcterms:abstract\":\"Deposit service\",\"digest\":[\"SHA-256\",\"SHA-512\"],\"maxAssembledSize\":536870912,\"maxSegments\":1000,\"maxUploadSize\":16777216,\"onBehalfOf\":false,\"root\":\"http://127.0.0.1:8080/service\",\"staging\":\"http://127.0.0.1:8080/staging\",\"stagingMaxIdle\":3600,\"version\":\"http://purl.org/net/sword/3.0\"}"
+service_text = codes "{\"@context\":\"https://swordapp.github.io/swordv3/swordv3.jsonld\",\"@id\":\"http://127.0.0.1:8080/service\",\"@type\":\"ServiceDocument\",\"accept\":[\"*/*\"],\"acceptDeposits\":true,\"acceptMetadata\":[\"http://purl.org/net/sword/3.0/types/Metadata\"],\"acceptPackaging\":[\"http://purl.org/net/sword/3.0/package/Binary\"],\"byReferenceDeposit\":true,\"dc:title\":\"swordd\",\"dcterms:abstract\":\"Deposit service\",\"digest\":[\"SHA-256\",\"SHA-512\"],\"maxAssembledSize\":17179869184,\"maxSegments\":10000,\"maxUploadSize\":16777216,\"onBehalfOf\":false,\"root\":\"http://127.0.0.1:8080/service\",\"staging\":\"http://127.0.0.1:8080/staging\",\"stagingMaxIdle\":3600,\"version\":\"http://purl.org/net/sword/3.0\"}"
 
 unfoldable pub error_text : List ℕ
 error_text = codes "{\"@context\":\"https://swordapp.github.io/swordv3/swordv3.jsonld\",\"@type\":\"DigestMismatch\",\"error\":\"The content does not match its digest\",\"log\":\"refusal 10\",\"timestamp\":\"2018-04-16T00:00:00Z\"}"

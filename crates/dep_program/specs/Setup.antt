@@ -12,8 +12,8 @@ program_config base = record {
   on_behalf_of = false;
   require_if_match = false;
   max_upload = 16777216;
-  max_assembled = 536870912;
-  max_segments = 1000;
+  max_assembled = 17179869184;
+  max_segments = 10000;
   staging_max_idle = 3600;
 }
 

@@ -8,8 +8,8 @@ use Rattle.dep_types.specs.declared.config.ConfigFault.TheVariants.{Base, Limit,
 
 pub record HasLimits (config : Config) : Type 0 where
   pub upload : IsLimit config.max_upload 16777216
-  pub assembled : IsLimit config.max_assembled 536870912
-  pub segments : IsLimit config.max_segments 1000
+  pub assembled : IsLimit config.max_assembled 17179869184
+  pub segments : IsLimit config.max_segments 10000
   pub idle : IsLimit config.staging_max_idle 31536000
 
 pub record IsChecked (config : Config) : Type 0 where

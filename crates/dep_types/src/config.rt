@@ -12,10 +12,10 @@ use std::fmt;
 pub const GREATEST_MAX_UPLOAD: u64 = 16_777_216;
 
 /// The greatest file that may be assembled from segments, in bytes.
-pub const GREATEST_MAX_ASSEMBLED: u64 = 536_870_912;
+pub const GREATEST_MAX_ASSEMBLED: u64 = 17_179_869_184;
 
 /// The greatest number of segments of an upload.
-pub const GREATEST_MAX_SEGMENTS: u64 = 1_000;
+pub const GREATEST_MAX_SEGMENTS: u64 = 10_000;
 
 /// The longest time that an upload may be left alone, in seconds: a year of 365 days.
 pub const GREATEST_STAGING_MAX_IDLE: u64 = 31_536_000;

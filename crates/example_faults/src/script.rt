@@ -9,12 +9,15 @@ use std::alloc::{AllocError, Global};
 pub struct Request {
     pub exchange: Exchange,
     pub closes: bool,
+    comes_again: bool,
 }
 
 impl Request {
-    /// Whether nothing that is looked at has to change: it is a GET, or it is to be refused with a status of 4xx.
+    /// Whether nothing that is looked at has to change: it is a GET, or it is to be refused with a status of 4xx, or one
+    /// before it has the same bytes.
     pub fn may_change_nothing(&self) -> bool {
-        self.exchange.stream.as_slice().starts_with(b"GET ")
+        self.comes_again
+            || self.exchange.stream.as_slice().starts_with(b"GET ")
             || self.exchange.want.as_slice().starts_with(b"HTTP/1.1 4")
     }
 }
@@ -84,9 +87,15 @@ impl Script {
 
     /// Adds an exchange that ends in this word.
     pub fn add(&mut self, exchange: Exchange, answer: &str) -> Result<(), Trouble> {
+        let stream = exchange.stream.as_slice();
+        let comes_again = self
+            .requests
+            .iter()
+            .any(|it| it.exchange.stream.as_slice() == stream);
         self.requests.push(Request {
             exchange,
             closes: answer == "closed",
+            comes_again,
         })?;
         Ok(())
     }
