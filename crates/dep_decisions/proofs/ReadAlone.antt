@@ -126,7 +126,7 @@ read_no_further config s op other h target behalf =
 
 -- ---- what is only read
 
-none_taken : (next : Counters) → counters_after next (numbers 0 0 0 0) ≡ next
+pub none_taken : (next : Counters) → counters_after next (numbers 0 0 0 0) ≡ next
 none_taken next = rw (add-zero next.object, add-zero next.file, add-zero next.upload, add-zero next.change) refl
 
 shown : (s : State) (content : List ℕ) → effect_of s content Show ≡ s

@@ -47,7 +47,7 @@ there_by true gone e = refl
 there_by false true e = cc e
 there_by false false e = cc e
 
-upload_there : (s : State) (o : Option ℕ) (u : ℕ) → o ≡ Some u → option_and_then (upload_refusal s) o ≡ None → (x : Upload) × (finmap.get s.uploads u ≡ Some x)
+pub upload_there : (s : State) (o : Option ℕ) (u : ℕ) → o ≡ Some u → option_and_then (upload_refusal s) o ≡ None → (x : Upload) × (finmap.get s.uploads u ≡ Some x)
 upload_there s o u is e = some_one (finmap.get s.uploads u) (there_by (finmap.contains_key s.uploads u) (set.contains s.timed_out u) (ap (option_and_then (upload_refusal s)) (sym is) ∙ e)) where
   some_one : (o : Option Upload) → is_some o ≡ true → (x : Upload) × (o ≡ Some x)
   some_one (Some x) h = (x, refl)

@@ -6,12 +6,15 @@ use Rattle.dep_types.specs.Uploads.{assembled}
 use Rattle.dep_types.specs.declared.target.Resource.{Resource}
 use Rattle.dep_types.specs.declared.target.Resource.TheVariants.{Object as AnObject, FileSet as AFileSet, File as AFile, Upload as AnUpload}
 use Rattle.dep_types.specs.declared.target.Method.{Method}
-use Rattle.dep_types.specs.declared.target.Method.TheVariants.{Get, Head, Put, Delete}
+use Rattle.dep_types.specs.declared.target.Method.TheVariants.{Get, Head, Post, Put, Delete}
 use Rattle.dep_types.specs.declared.target.Target.{Target}
+use Rattle.dep_fields.specs.declared.kind.Kind.TheVariants.{Segment}
 use Rattle.dep_fixity.specs.Fixity.{digests_of, keeps}
 use Rattle.dep_docs_in.specs.declared.reference.Reference.{Reference}
 use Rattle.dep_docs_in.specs.declared.reference.Pointed.TheVariants.{Upload as Pointing}
+use Rattle.dep_decisions.specs.Kinds.{kind_of}
 use Rattle.dep_decisions.specs.Rules.{has_length, promised_of}
+use Rattle.dep_decisions.specs.declared.operation.Operation.{Operation}
 
 -- ---- numbers
 
@@ -62,6 +65,19 @@ has_file_in n f resource = false
 -- what is asked for replaces the file or deletes it
 abbrev pub takes_file : (object file : ℕ) → Target → Bool
 takes_file n f t = puts_or_deletes t.method && has_file_in n f t.resource
+
+-- ---- segments
+
+-- a POST to the upload
+abbrev pub posted_to : (upload : ℕ) → Target
+posted_to u = record { resource = AnUpload u; method = Post }
+
+-- the request sends this segment of an upload, which is there
+pub record SendsSegment (s : State) (op : Operation) (number segment : ℕ) (upload : Upload)
+    : Type 0 where
+  pub target : op.target ≡ posted_to number
+  pub kind : kind_of op ≡ Some (Segment segment)
+  pub there : map.get s.uploads number ≡ Some upload
 
 -- ---- deposits by reference
 
