@@ -23,7 +23,7 @@ use Rattle.dep_decisions.proofs.FoundInMaps.{all_passed}
 use Rattle.dep_rulings.specs.Checks.{HoldsContent}
 use Rattle.dep_rulings.specs.Memory.{are_taken, is_held, is_noted, TouchTakesMemory}
 use Rattle.dep_rulings.specs.Rows.{content_by, content_refusal, document_by, has_content, size_by}
-use Rattle.dep_rulings.specs.Walks.{entries_seen, is_other_packaging, packaging_refusal, points_elsewhere, references_seen, repeat_refusal, rule_of, target_refusal, walk}
+use Rattle.dep_rulings.specs.Walks.{entries_seen, is_other_packaging, packaging_refusal, points_elsewhere, references_seen, twice_refusal, rule_of, target_refusal, walk}
 use Rattle.dep_rulings.specs.declared.references.UploadRule.TheVariants.{IsThere, IsWhole, HasLength, HasDigests}
 use Rattle.dep_rulings.specs.declared.view.UploadView.{UploadView}
 use Rattle.dep_rulings.specs.declared.view.View.{View}
@@ -104,7 +104,7 @@ taken_entries views refs e =
     let passed = all_passed
     (target_refusal refs
     ∷ packaging_refusal refs
-    ∷ repeat_refusal views
+    ∷ twice_refusal views
     ∷ walk (rule_of IsThere) refs views
     ∷ walk (rule_of IsWhole) refs views
     ∷ walk (rule_of HasLength) refs views

@@ -18,7 +18,7 @@ use Rattle.dep_docs_in.specs.declared.reference.Pointed.TheVariants.{Upload as A
 use Rattle.dep_decisions.specs.Decisions.{upload_number}
 use Rattle.dep_decisions.specs.Rules.{each, has_digests, has_length, is_binary, entries_refusal, passes, stands_twice, unless, upload_refusal, when}
 use Rattle.dep_rulings.specs.Views.{live_upload, upload_state, upload_view, uploads_named}
-use Rattle.dep_rulings.specs.Walks.{at_entry, entries_seen, has_digests_seen, if_live, packaging_refusal, repeat_refusal, rule_of, target_refusal, walk}
+use Rattle.dep_rulings.specs.Walks.{at_entry, entries_seen, has_digests_seen, if_live, packaging_refusal, twice_refusal, rule_of, target_refusal, walk}
 use Rattle.dep_rulings.specs.declared.references.UploadRule.TheVariants.{IsThere, IsWhole, HasLength, HasDigests}
 use Rattle.dep_rulings.specs.declared.view.LiveUpload.{LiveUpload}
 use Rattle.dep_rulings.specs.declared.view.UploadView.{UploadView}
@@ -81,9 +81,9 @@ module _ (s : State) where
   numbers_are [] = refl
   numbers_are (u ∷ us) = ap (λ l. u ∷ l) (numbers_are us)
 
-  repeats_are : (us : List ℕ) → repeat_refusal (map (upload_view true s) us) ≡ when (stands_twice us) BadRequest
-  unfolding repeat_refusal
-  repeats_are us = ap (λ l. when (stands_twice l) BadRequest) (numbers_are us)
+  twice_is : (us : List ℕ) → twice_refusal (map (upload_view true s) us) ≡ when (stands_twice us) BadRequest
+  unfolding twice_refusal
+  twice_is us = ap (λ l. when (stands_twice l) BadRequest) (numbers_are us)
 
   abbrev views_of : List Reference → List UploadView
   views_of refs = map (upload_view true s) (uploads_named refs)
@@ -175,7 +175,7 @@ module _ (s : State) where
       let is_there = walked (rule_of IsThere) (λ r. option_and_then (upload_refusal s) (upload_number r.target)) refs (everywhere _ _ there refs) in
       let is_whole = walked (rule_of IsWhole) (λ r. unless (passes s r is_complete) BadRequest) refs (everywhere _ _ whole refs) in
       let is_long = walked (rule_of HasLength) (λ r. unless (passes s r (has_length r.length)) BadRequest) refs (everywhere _ _ long refs) in
-      rw (targets_are refs, packagings_are refs, repeats_are (uploads_named refs), is_there, is_whole, is_long)
+      rw (targets_are refs, packagings_are refs, twice_is (uploads_named refs), is_there, is_whole, is_long)
       (guarded
       (each (λ r. unless (is_some (upload_number r.target)) ByReferenceNotAllowed) refs)
       (each (λ r. unless (is_binary r.packaging) PackagingFormatNotAcceptable) refs)

@@ -78,8 +78,8 @@ target_refusal refs = when (list_any points_elsewhere refs) ByReferenceNotAllowe
 unfoldable pub packaging_refusal : List Reference → Option Refusal
 packaging_refusal refs = when (list_any is_other_packaging refs) PackagingFormatNotAcceptable
 
-unfoldable pub repeat_refusal : List UploadView → Option Refusal
-repeat_refusal views = when (stands_twice (map (λ v. v.upload) views)) BadRequest
+unfoldable pub twice_refusal : List UploadView → Option Refusal
+twice_refusal views = when (stands_twice (map (λ v. v.upload) views)) BadRequest
 
 -- a number that stands twice among these, or is one of those before
 unfoldable pub stands_again : (before : ℕ → Bool) → List ℕ → Bool
@@ -90,7 +90,7 @@ unfoldable pub entries_seen : List UploadView → List Reference → Option Refu
 entries_seen views refs = first_of
     (target_refusal refs
     ∷ packaging_refusal refs
-    ∷ repeat_refusal views
+    ∷ twice_refusal views
     ∷ walk (rule_of IsThere) refs views
     ∷ walk (rule_of IsWhole) refs views
     ∷ walk (rule_of HasLength) refs views

@@ -6,7 +6,7 @@ ghost use Rattle.dep_decisions.specs.Rules.{stands_twice};
 ghost use Rattle.dep_decisions.specs.declared.purpose.Purpose.TheVariants as of;
 ghost use Rattle.dep_rulings.specs.Memory.{are_taken, is_held};
 ghost use Rattle.dep_rulings.specs.Seen.{state_refusal};
-ghost use Rattle.dep_rulings.specs.Walks.{upload_digest_rule, entries_seen, is_other_packaging, upload_length_rule, packaging_refusal, points_elsewhere, promised_in, references_seen, repeat_refusal, rule_of, target_refusal, walk, whole_upload_rule};
+ghost use Rattle.dep_rulings.specs.Walks.{upload_digest_rule, entries_seen, is_other_packaging, upload_length_rule, packaging_refusal, points_elsewhere, promised_in, references_seen, twice_refusal, rule_of, target_refusal, walk, whole_upload_rule};
 
 use crate::view::{UploadState, UploadView};
 use dep_decisions::is_binary;
@@ -61,7 +61,7 @@ fn entries_row(
     if let Some(refusal) = packaging_row(references) {
         return Ok(Some(refusal));
     }
-    if let Some(refusal) = repeat_row(alloc, views)? {
+    if let Some(refusal) = twice_row(alloc, views)? {
         return Ok(Some(refusal));
     }
     if let Some(refusal) = first_refused(UploadRule::IsThere, references, views) {
@@ -132,9 +132,9 @@ fn is_other_packaging(reference: &Reference) -> bool
     }
 }
 
-#[tactic(auto, unfolding(crate::specs::Walks::repeat_refusal))]
-fn repeat_row(alloc: Global, views: &[UploadView]) -> Result<Option<Refusal>, AllocError>
-    ensures { IfOk result (λ refusal. refusal ≡ repeat_refusal views.now) }
+#[tactic(auto, unfolding(crate::specs::Walks::twice_refusal))]
+fn twice_row(alloc: Global, views: &[UploadView]) -> Result<Option<Refusal>, AllocError>
+    ensures { IfOk result (λ refusal. refusal ≡ twice_refusal views.now) }
 {
     if stands_twice(alloc, views)? {
         Ok(Some(Refusal::BadRequest))
