@@ -1,20 +1,20 @@
 -- The statements of a call on uploads are among those of the tables.
-use Rattle.std.proofs.Common.{ℕ}
+use Rattle.std.proofs.Common.{◌≡◌, ℕ, subst}
 use Rattle.sqlite.specs.State as db
 use Rattle.dep_types.specs.Maps.{Numbered}
 use Rattle.dep_types.specs.State.{State, Upload, clock_at}
 use Rattle.dep_types.specs.declared.config.Config.{Config}
 use Rattle.dep_types.specs.declared.rows.UploadRow.{UploadRow}
 use Rattle.dep_types.specs.declared.store_fault.StoreFault.{StoreFault}
+use Rattle.dep_tables.specs.declared.segments.SegmentRow.{SegmentRow}
 use Rattle.dep_row_maps.specs.Causes.{FailsByStatement}
-use Rattle.dep_row_maps.specs.Causes.FailsByStatement.{state_read, state_written, timed_out_added, upload_added, upload_left, upload_deleted, segments_deleted, segments_read, blocks_deleted, block_read, sha512_added, sha512_deleted}
-use Rattle.dep_staging.specs.Causes.{FailsToDrop, FailsToOpen, FailsToExpire, FailsToExpireAll, FailsToTick, FailsToHash}
+use Rattle.dep_row_maps.specs.Causes.FailsByStatement.{state_read, state_written, timed_out_added, upload_added, upload_left, upload_deleted, segments_deleted, blocks_deleted, block_read, sha512_added, sha512_deleted}
+use Rattle.dep_staging.specs.Causes.{FailsToDrop, FailsToOpen, FailsToExpire, FailsToExpireAll, FailsToTick, FailsToHash, FailsToReadBlock}
 use Rattle.dep_staging.specs.Causes.FailsToDrop.{blocks, promise, segments, row}
 use Rattle.dep_staging.specs.Causes.FailsToOpen.{row as columns, promise as promised}
 use Rattle.dep_staging.specs.Causes.FailsToExpire.{drop, number}
 use Rattle.dep_staging.specs.Causes.FailsToExpireAll.{looked, ended}
 use Rattle.dep_staging.specs.Causes.FailsToTick.{read, written, expired}
-use Rattle.dep_staging.specs.Causes.FailsToHash.{segments as rows, block}
 
 module _ (at now : db.State) (fault : StoreFault) where
   pub open_among : (opened : UploadRow) → FailsToOpen opened at now fault → FailsByStatement at now fault
@@ -40,6 +40,12 @@ module _ (at now : db.State) (fault : StoreFault) where
   tick_among config s moment (written failed) = state_written _ failed
   tick_among config s moment (expired failed) = expire_all_among config (clock_at s moment) s.uploads failed
 
+  pub block_among : (u k : ℕ) → FailsToReadBlock u k at now fault → FailsByStatement at now fault
+  block_among u k failed = block_read _ failed.1
+
+  -- of a segment's row that names the upload
+  pub segment_among : (u : ℕ) (one : SegmentRow) → one.upload ≡ u → FailsToReadBlock one.upload one.number at now fault → FailsToHash u at now fault
+  segment_among u one is failed = (one.number, subst (λ n. FailsToReadBlock n one.number at now fault) is failed)
+
   pub hash_among : (u : ℕ) → FailsToHash u at now fault → FailsByStatement at now fault
-  hash_among u (rows failed) = segments_read _ failed
-  hash_among u (block part place failed) = block_read _ failed
+  hash_among u failed = block_among u failed.0 failed.1

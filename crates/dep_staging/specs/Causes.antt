@@ -1,5 +1,5 @@
 -- Why a call of several statements fails: one of its statements does.
-use Rattle.std.specs.Prelude.{◌≡◌, ℕ, ◌<◌, ◌^◌, ◌-◌, pos, List, [], ◌∷◌, Some, All, IsTrue}
+use Rattle.std.specs.Prelude.{◌≡◌, ℕ, ◌<◌, ◌^◌, ◌-◌, pos, List, [], ◌∷◌, Some, IsTrue}
 use Rattle.std.specs.FinMap as map
 use Rattle.sqlite.specs.State as db
 use Rattle.sqlite.specs.declared.types.Value.TheVariants.{Int}
@@ -9,12 +9,11 @@ use Rattle.dep_types.specs.declared.config.Config.{Config}
 use Rattle.dep_types.specs.declared.rows.UploadRow.{UploadRow}
 use Rattle.dep_types.specs.declared.store_fault.StoreFault.{StoreFault}
 use Rattle.dep_tables.specs.Clauses.{AtMostOne, FailsToRead, FailsToReadNumbers, FailsToRun, JustOne}
-use Rattle.dep_tables.specs.Rows.{IsBytesRow, IsLeftRow, IsSegmentRow, IsStateRow, columns_of_upload, key_values, owner_values, sha512_values, state_values, upload_values}
-use Rattle.dep_tables.specs.Texts.{delete_blocks_text, delete_segments_text, delete_sha512_text, delete_upload_text, insert_sha512_text, insert_timed_out_text, insert_upload_text, left_before_text, read_block_text, read_state_text, segments_of_text, write_state_text}
+use Rattle.dep_tables.specs.Rows.{IsBytesRow, IsLeftRow, IsStateRow, columns_of_upload, key_values, owner_values, sha512_values, state_values, upload_values}
+use Rattle.dep_tables.specs.Texts.{delete_blocks_text, delete_segments_text, delete_sha512_text, delete_upload_text, insert_sha512_text, insert_timed_out_text, insert_upload_text, left_before_text, read_block_text, read_state_text, write_state_text}
 use Rattle.dep_tables.specs.declared.owner.BlockOwner.TheVariants as owner
 use Rattle.dep_tables.specs.declared.segments.SegmentRow.{SegmentRow}
 use Rattle.dep_row_maps.specs.Stored.{block_key, state_row}
-use Rattle.dep_row_maps.specs.TablesAre.{segments_at}
 
 -- the numbers of the uploads are SQL's
 abbrev pub HasStorableNumbers : Numbered Upload → Type 0
@@ -25,10 +24,9 @@ abbrev pub AreStorableKeys : SegmentRow → Type 0
 AreStorableKeys row = (row.upload < 2 ^ 63) × (row.number < 2 ^ 63)
 
 -- so are those of an upload's segments
-pub record HasStorableSegments (s : State) (u : ℕ) : Type 0 where
+pub record HasStorableSegments (u : ℕ) (it : Upload) : Type 0 where
   pub upload : u < 2 ^ 63
-  pub segments : (k : ℕ) (bytes : List ℕ) → map.get (segments_at s.uploads u) k ≡ Some bytes
-      → k < 2 ^ 63
+  pub segments : (k : ℕ) (bytes : List ℕ) → map.get it.segments k ≡ Some bytes → k < 2 ^ 63
 
 -- one of the statements that open an upload
 pub data FailsToOpen (opened : UploadRow) (at new : db.State) (fault : StoreFault) : Type 0 where
@@ -75,11 +73,12 @@ pub data FailsToTick (config : Config) (s : State) (moment : ℕ)
   expired : FailsToExpireAll config (clock_at s moment) s.uploads at new fault
       → FailsToTick config s moment at new fault
 
--- one of those that read what was received of an upload
-pub data FailsToHash (u : ℕ) (at new : db.State) (fault : StoreFault) : Type 0 where
-  segments : FailsToRead (All IsSegmentRow) segments_of_text (Int (pos u) ∷ []) at new fault
-      → FailsToHash u at new fault
-  block : (part place : ℕ)
-      → FailsToRead (AtMostOne IsBytesRow) read_block_text
-      (key_values (block_key (owner.Upload u) part place)) at new fault
-      → FailsToHash u at new fault
+-- the query of a block of a segment
+abbrev pub FailsToReadBlock : (u k : ℕ) (at new : db.State) → StoreFault → Type 0
+FailsToReadBlock u k at new fault =
+    (place : ℕ) × FailsToRead (AtMostOne IsBytesRow) read_block_text
+    (key_values (block_key (owner.Upload u) k place)) at new fault
+
+-- of one of the segments of an upload
+abbrev pub FailsToHash : ℕ → (at new : db.State) → StoreFault → Type 0
+FailsToHash u at new fault = (k : ℕ) × FailsToReadBlock u k at new fault

@@ -1,7 +1,7 @@
 -- Segments of uploads, as their rows and their bytes.
 use Rattle.std.specs.Prelude.{◌≡◌, ℕ, List, length, Some}
 use Rattle.std.specs.FinMap as map
-use Rattle.dep_types.specs.State.{State}
+use Rattle.dep_types.specs.State.{State, Upload}
 use Rattle.dep_tables.specs.declared.segments.SegmentRow.{SegmentRow}
 use Rattle.dep_row_maps.specs.TablesAre.{segments_at, joined}
 
@@ -10,6 +10,6 @@ pub record IsSegmentOf (s : State) (row : SegmentRow) (bytes : List ℕ) : Type 
   pub received : map.get (segments_at s.uploads row.upload) row.number ≡ Some bytes
   pub sized : row.size ≡ length bytes
 
--- what was received of an upload, by the numbers of its segments; nothing where there is no upload
-abbrev pub received_bytes : State → ℕ → List ℕ
-received_bytes s u = joined (segments_at s.uploads u)
+-- what was received of an upload, by the numbers of its segments
+abbrev pub received_bytes : Upload → List ℕ
+received_bytes it = joined it.segments

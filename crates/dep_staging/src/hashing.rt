@@ -1,31 +1,29 @@
 //! The digests of what the segments of an upload make, taken one block at a time.
 
-ghost use Rattle.std.specs.Prelude.{◌≡◌, ◌<◌, ◌++◌, ℕ, List, [], length, Some, OnOk, IfErr, IsTrue, slice_index_or};
-ghost use Rattle.std.specs.FinMap as finmap;
+ghost use Rattle.std.specs.Prelude.{◌≡◌, ◌<◌, ◌^◌, ◌++◌, ℕ, List, [], length, OnOk, IfErr, IsTrue, slice_index_or};
 ghost use Rattle.sqlite.specs.State.{HasCleanDisk};
 ghost use Rattle.dep_types.specs.State.{State, Upload};
 ghost use Rattle.dep_types.specs.Uploads.{assembled};
 ghost use Rattle.dep_fixity.specs.Fixity.{Holds, digests_of};
 ghost use Rattle.dep_tables.specs.Tables.{tables_of, IsOurs};
 ghost use Rattle.dep_tables.specs.Clauses.{ReadsOnly, FailsReading, StaysWithin};
-ghost use Rattle.dep_tables.specs.Rows.{IsStorableKey};
-ghost use Rattle.dep_tables.specs.declared.owner.BlockOwner.TheVariants as owner;
-ghost use Rattle.dep_row_maps.specs.Stored.{blocks_of, block_key};
+ghost use Rattle.dep_row_maps.specs.Stored.{blocks_of};
 ghost use Rattle.dep_row_maps.specs.Laws.{HasSegmentsWithin};
 ghost use Rattle.dep_row_maps.specs.TablesAre.{TablesAre};
-ghost use Rattle.dep_files.specs.Reading.{Tells};
 ghost use Rattle.dep_row_maps.specs.Causes.{FailsSince};
-ghost use Rattle.dep_staging.specs.Causes.{AreStorableKeys, FailsToHash, HasStorableSegments};
+ghost use Rattle.dep_files.specs.Reading.{Tells};
+ghost use Rattle.dep_staging.specs.Causes.{AreStorableKeys, FailsToHash, FailsToReadBlock, HasStorableSegments};
+ghost use Rattle.dep_staging.specs.Found.{IsLiveAs};
 ghost use Rattle.dep_staging.specs.Hashing.{IsSegmentOf, received_bytes};
 
+use crate::blocks::stored_block;
+use crate::loading::StagedUpload;
 use dep_files::BLOCK_SIZE;
 use dep_fixity::{Digests, Hasher};
-use dep_tables::{
-    BlockKey, BlockOwner, BlockPlace, SegmentRow, Statements, read_block, segments_of,
-};
+use dep_tables::{SegmentRow, Statements};
 use dep_types::StoreFault;
-use std::alloc::Global;
 
+// A block that the segment has.
 fn segment_block<T: Statements>(
     tx: &mut T,
     segment: &SegmentRow,
@@ -39,19 +37,13 @@ fn segment_block<T: Statements>(
         → IsOurs (T.state tx.old)
         → (s : State) → TablesAre (tables_of (T.state tx.old)) s
         → (bytes : List ℕ) → IsSegmentOf s segment.now bytes → place < length (blocks_of bytes)
-        → IsStorableKey (block_key (owner.Upload segment.now.upload) segment.now.number place)
-        → IfErr result (FailsSince T.state (FailsToHash segment.now.upload) tx.old tx.new) }
+        → AreStorableKeys segment.now → place < 2 ^ 63
+        → IfErr result (FailsToReadBlock segment.now.upload segment.now.number
+        (T.state tx.old) (T.state tx.new)) }
     ensures err { FailsReading (T.state tx.old) (T.state tx.new) result }
     ensures stays { StaysWithin T.lenders T.state tx.old tx.new result }
 {
-    let key = BlockKey {
-        owner: BlockOwner::Upload(segment.upload),
-        at: BlockPlace {
-            part: segment.number,
-            place,
-        },
-    };
-    match read_block(tx, &key)? {
+    match stored_block(tx, segment.upload, segment.number, place)? {
         Some(bytes) => Ok(bytes),
         None => Err(StoreFault::Store),
     }
@@ -74,7 +66,8 @@ fn hash_segment<T: Statements>(
         → IsTrue (T.state tx.old).is_open
         → (s : State) → TablesAre (tables_of (T.state tx.old)) s
         → (bytes : List ℕ) → IsSegmentOf s segment.now bytes → AreStorableKeys segment.now
-        → IfErr result (FailsSince T.state (FailsToHash segment.now.upload) tx.old tx.new) }
+        → IfErr result (FailsSince T.state
+        (FailsToReadBlock segment.now.upload segment.now.number) tx.old tx.new) }
     ensures err { FailsReading (T.state tx.old) (T.state tx.new) result }
     ensures stays { StaysWithin T.lenders T.state tx.old tx.new result }
 {
@@ -85,32 +78,30 @@ fn hash_segment<T: Statements>(
     Ok(())
 }
 
-/// The SHA-256 and the SHA-512 (FIPS 180-4) of what was received of an upload, in the order of its
-/// segments' numbers: those of the assembled bytes where all are there, and those of no bytes where
-/// there is no upload. It reads each block once for both, and holds one at a time, and the rows of
-/// the segments. A number of 2^63 or more is a fault of the store.
-pub fn hash_upload<T: Statements>(
-    tx: &mut T,
-    alloc: Global,
-    upload: u64,
-) -> Result<Digests, StoreFault>
-    ensures map { Tells (T.state tx.old) (T.state tx.new) result
-        (λ s digests. digests ≡ digests_of (received_bytes s upload)) }
-    ensures assembled { Tells (T.state tx.old) (T.state tx.new) result
-        (λ s digests. (it : Upload) → finmap.get s.uploads upload ≡ Some it → HasSegmentsWithin it
+/// The SHA-256 and the SHA-512 (FIPS 180-4) of what was received of an upload that was loaded, in the
+/// order of its segments' numbers: those of the assembled bytes where all are there. It reads each
+/// block once for both, and holds one at a time, and no row.
+pub fn hash_upload<T: Statements>(tx: &mut T, staged: &StagedUpload) -> Result<Digests, StoreFault>
+    ensures map { IsTrue (T.state tx.old).is_open → Tells (T.state tx.old) (T.state tx.new) result
+        (λ s digests. (u : ℕ) (it : Upload) → IsLiveAs s u staged.now it
+        → digests ≡ digests_of (received_bytes it)) }
+    ensures assembled { IsTrue (T.state tx.old).is_open
+        → Tells (T.state tx.old) (T.state tx.new) result
+        (λ s digests. (u : ℕ) (it : Upload) → IsLiveAs s u staged.now it → HasSegmentsWithin it
         → digests ≡ digests_of (assembled it)) }
-    ensures same { ReadsOnly (T.state tx.old) (T.state tx.new) result }
+    ensures same { IsTrue (T.state tx.old).is_open
+        → ReadsOnly (T.state tx.old) (T.state tx.new) result }
     ensures cause { HasCleanDisk (T.state tx.new)
         → IsOurs (T.state tx.old)
+        → IsTrue (T.state tx.old).is_open
         → (s : State) → TablesAre (tables_of (T.state tx.old)) s
-        → HasStorableSegments s upload
-        → IfErr result (FailsSince T.state (FailsToHash upload) tx.old tx.new) }
+        → (u : ℕ) (it : Upload) → IsLiveAs s u staged.now it → HasStorableSegments u it
+        → IfErr result (FailsSince T.state (FailsToHash u) tx.old tx.new) }
     ensures err { FailsReading (T.state tx.old) (T.state tx.new) result }
     ensures stays { StaysWithin T.lenders T.state tx.old tx.new result }
 {
-    let rows = segments_of(tx, alloc, upload)?;
     let mut hasher = Hasher::new();
-    'rows: for row in rows.as_slice() {
+    'rows: for row in staged.received.as_slice() {
         hash_segment(tx, row, &mut hasher)?;
     }
     Ok(hasher.finish())

@@ -10,9 +10,9 @@ use Rattle.dep_row_maps.specs.TablesAre.{TablesAre}
 use Rattle.dep_files.proofs.Results.{still_ours, same_tables}
 use Rattle.dep_files.proofs.Cuts.{one_block_more, all_blocks, few_blocks}
 use Rattle.dep_staging.proofs.Chains.{failed_since}
-use Rattle.dep_staging.specs.Causes.{FailsToHash}
-use Rattle.dep_row_maps.proofs.Causes.{fails_later}
-use Rattle.dep_staging.proofs.Hashed.{counted, storable_key}
+use Rattle.dep_staging.specs.Causes.{FailsToReadBlock}
+use Rattle.dep_row_maps.proofs.Causes.{fails_then}
+use Rattle.dep_staging.proofs.Hashed.{counted}
 use Rattle.dep_staging.proofs.hashing.hash_segment.Goals as goal
 
 pub loop-place-init : goal.loop-place-init
@@ -76,7 +76,7 @@ returns-in_err-block-clause-cause g c clean ours is_open s are bytes its storabl
     let same = inv.2 is_open (clean_before c.segment_block.ensures.stays clean) ours in
     let are_mid = subst (λ (t : Tables). TablesAre t s) (sym (same_tables (g.T.Statements.state old) (g.T.Statements.state mid) same)) are in
     let within : c.loop-place.place < length (blocks_of bytes) = subst (λ n. c.loop-place.place < n) (inv.0 ∙ counted s c.args.segment.now bytes its) c.loop-place-test.true in
-    let key = storable_key c.args.segment.now c.loop-place.place storable (omega (arith, inv.4, c.loop-place-test.true)) in
-    let known = fails_later g.T.Statements.state old mid new inv.1.survives (FailsToHash c.args.segment.now.upload) (FailsToHash c.args.segment.now.upload) (λ at now fault failed. failed) _
-    (c.in_err-block.ensures.cause clean (still_ours (g.T.Statements.state old) (g.T.Statements.state mid) same ours) s are_mid bytes its within key) in
+    let below : c.loop-place.place < 2 ^ 63 = omega (arith, inv.4, c.loop-place-test.true) in
+    let known = fails_then g.T.Statements.state old mid new inv.1.survives (FailsToReadBlock c.args.segment.now.upload c.args.segment.now.number) _
+    (c.in_err-block.ensures.cause clean (still_ours (g.T.Statements.state old) (g.T.Statements.state mid) same ours) s are_mid bytes its within storable below) in
     search rules

@@ -1,12 +1,13 @@
-use Rattle.std.proofs.Common.{take}
+use Rattle.std.proofs.Common.{ℕ, IsTrue, take}
 use Rattle.std.specs.List.{flat_map}
 use Rattle.std.specs.FinMap as finmap
 use Rattle.dep_fixity.specs.Fixity.{Holds}
 use Rattle.sqlite.specs.State.{HasCleanDisk, IsUnchanged}
-use Rattle.dep_types.specs.State.{State}
+use Rattle.dep_types.specs.State.{State, Upload}
 use Rattle.dep_tables.specs.Tables.{tables_of, IsOurs}
 use Rattle.dep_tables.proofs.Chains.{Stays}
-use Rattle.dep_row_maps.specs.TablesAre.{TablesAre, segments_at}
+use Rattle.dep_row_maps.specs.TablesAre.{TablesAre}
+use Rattle.dep_staging.specs.Found.{IsLiveAs}
 use Rattle.dep_staging.proofs.hashing.hash_upload.Given as goal
 
 -- the hasher holds the segments so far, in the order of their numbers
@@ -14,7 +15,7 @@ abbrev pub invariant-rows : goal.invariant-rows
 invariant-rows g l =
     let old = g.T.Statements.state l.fn.tx in
     let now = g.T.Statements.state l.tx in
-    Stays g.T.Statements.lenders g.T.Statements.state l.initial.tx l.tx
-    × (HasCleanDisk now → IsOurs old → IsUnchanged old now)
-    × (HasCleanDisk now → IsOurs old → (s : State) → TablesAre (tables_of old) s
-    → Holds l.hasher (flat_map (λ e. e.1) (take l.row-index (finmap.entries (segments_at s.uploads l.upload)))))
+    Stays g.T.Statements.lenders g.T.Statements.state l.fn.tx l.tx
+    × (IsTrue old.is_open → HasCleanDisk now → IsOurs old → IsUnchanged old now)
+    × (IsTrue old.is_open → HasCleanDisk now → IsOurs old → (s : State) → TablesAre (tables_of old) s
+    → (u : ℕ) (it : Upload) → IsLiveAs s u l.staged it → Holds l.hasher (flat_map (λ e. e.1) (take l.row-index (finmap.entries it.segments))))

@@ -1,15 +1,15 @@
-use Rattle.std.proofs.Common.{ap, sym, subst, ◌∙◌}
-use Rattle.dep_tables.specs.Edits.{with_upload_row}
-use Rattle.dep_tables.specs.Rows.{IsStorableUpload}
+use Rattle.std.proofs.Common.{subst}
+use Rattle.std.specs.Prelude.{OnOk}
 use Rattle.dep_tables.specs.Tables.{tables_of}
-use Rattle.dep_tables.specs.declared.uploads.UploadColumns.{UploadColumns}
-use Rattle.dep_tables.proofs.Results.{ok_then, if_failed}
+use Rattle.dep_tables.proofs.Results.{if_failed}
 use Rattle.dep_tables.proofs.Chains.{clean_before, stays_then, stays_err}
 use Rattle.dep_row_maps.specs.Causes.{FailsByStatement}
 use Rattle.dep_row_maps.specs.Causes.FailsByStatement.{segment_added, upload_written}
+use Rattle.dep_row_maps.specs.TablesAre.{TablesAre, with_upload}
 use Rattle.dep_row_maps.proofs.Causes.{fails_then, if_err_then, if_err_is}
+use Rattle.dep_row_maps.proofs.Lens.{get_here, insert_twice}
 use Rattle.dep_files.proofs.Results.{fails_behind}
-use Rattle.dep_staging.proofs.UploadCalls.{received}
+use Rattle.dep_staging.proofs.UploadCalls.{received, received_into}
 use Rattle.dep_staging.proofs.segments.put_segment.Goals as goal
 
 pub returns-clause-map : goal.returns-clause-map
@@ -17,14 +17,17 @@ returns-clause-map g c clean inside ours s are was it there none is its grown ke
     let old = g.T.Statements.state c.args.tx.now in
     let one = g.T.Statements.state c.put_blocks.new.tx in
     let two = g.T.Statements.state c.insert_segment.new.tx in
-    let new = g.T.Statements.state c.write_upload.new.tx in
-    let clean_two = clean_before c.write_upload.ensures.stays clean in
+    let new = g.T.Statements.state c.rewrite_upload.new.tx in
+    let u = c.args.row.now.upload in
+    let bytes = g.C.Content.bytes c.args.content.now in
+    let mid = received_into was c.args.segment.now.number bytes in
+    let clean_two = clean_before c.rewrite_upload.ensures.stays clean in
     let clean_one = clean_before c.insert_segment.ensures.stays clean_two in
     let first = c.in_ok-put_blocks.ensures.ok clean_one inside ours in
     let second = c.in_ok-insert_segment.ensures.ok clean_two (c.in_ok-put_blocks.ensures.stays.inside clean_one inside) first.ours in
-    ok_then c.write_upload.result (c.write_upload.ensures.ok clean second.shows.mode second.ours)
-    (λ leads. received (tables_of old) (tables_of one) (tables_of two) (tables_of new) s c.args.row.now c.args.segment.now (g.C.Content.bytes c.args.content.now) was it are
-    ours.trees.ordered.1.1.1.1.1.1.0 ours.trees.ordered.1.1.1.1.1.1.1.1.0 ours.trees.ordered.1.1.1.1.1.0 there none is its grown kept first.rows second.rows (leads.rows ∙ ap (λ (r : UploadColumns). with_upload_row r (tables_of two)) c.of_row.ensures))
+    let put = received (tables_of old) (tables_of one) (tables_of two) s c.args.segment.now u bytes was are ours.trees.ordered.1.1.1.1.1.1.0 ours.trees.ordered.1.1.1.1.1.1.1.1.0 there none its first.rows second.rows in
+    subst (λ m. OnOk c.rewrite_upload.result (TablesAre (tables_of new) (record s { uploads = m }))) (insert_twice s.uploads u mid it)
+    (c.rewrite_upload.ensures.map clean second.shows.mode second.ours (with_upload s u mid) put mid it (get_here s.uploads u mid) is grown kept)
 
 pub returns-in_err-insert_segment-clause-stays : goal.returns-in_err-insert_segment-clause-stays
 returns-in_err-insert_segment-clause-stays g c =
@@ -36,11 +39,11 @@ returns-in_err-insert_segment-clause-err g c clean inside is_open =
 
 pub returns-clause-stays : goal.returns-clause-stays
 returns-clause-stays g c =
-    stays_then (stays_then c.in_ok-put_blocks.ensures.stays c.in_ok-insert_segment.ensures.stays) c.write_upload.ensures.stays
+    stays_then (stays_then c.in_ok-put_blocks.ensures.stays c.in_ok-insert_segment.ensures.stays) c.rewrite_upload.ensures.stays
 
 pub returns-clause-err : goal.returns-clause-err
 returns-clause-err g c =
-    fails_behind (stays_then c.in_ok-put_blocks.ensures.stays c.in_ok-insert_segment.ensures.stays) c.write_upload.ensures.stays c.write_upload.ensures.err
+    fails_behind (stays_then c.in_ok-put_blocks.ensures.stays c.in_ok-insert_segment.ensures.stays) c.rewrite_upload.ensures.stays c.rewrite_upload.ensures.err
 
 pub returns-in_err-put_blocks-clause-cause : goal.returns-in_err-put_blocks-clause-cause
 returns-in_err-put_blocks-clause-cause g c storable clean inside =
@@ -59,8 +62,8 @@ pub returns-clause-cause : goal.returns-clause-cause
 returns-clause-cause g c storable clean inside =
     let old = c.args.tx.now in
     let two = c.insert_segment.new.tx in
-    let new = c.write_upload.new.tx in
+    let new = c.rewrite_upload.new.tx in
     let stays = stays_then c.in_ok-put_blocks.ensures.stays c.in_ok-insert_segment.ensures.stays in
-    let within = stays.inside (clean_before c.write_upload.ensures.stays clean) inside in
-    if_err_then c.write_upload.result (c.write_upload.ensures.cause (subst IsStorableUpload (sym c.of_row.ensures) storable.0) clean within)
+    let within = stays.inside (clean_before c.rewrite_upload.ensures.stays clean) inside in
+    if_err_then c.rewrite_upload.result (c.rewrite_upload.ensures.cause storable.0 clean within)
     (λ fault failed. fails_then g.T.Statements.state old two new stays.survives FailsByStatement fault (upload_written _ failed))
