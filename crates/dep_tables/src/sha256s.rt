@@ -17,7 +17,7 @@ use sqlite::{Error, Row};
 use std::alloc::Global;
 
 /// The SHA-256 that the row of a file keeps.
-#[derive(Clone, Copy)]
+#[derive(Drop)]
 pub struct FileSha256 {
     /// The number of the file.
     pub file: u64,
