@@ -50,7 +50,8 @@ EndsInWork (breaks {moment = at} found run arrival shut leaves) item moment bega
     (moment ≡ at) × ArrivalFailsAt arrival item began
 
 -- a request that is accepted at this tick, and answered so
-pub record IsAcknowledged (config : Config) (s : State) (m : Message) (moment number : ℕ) : Type 0 where
+pub record IsAcknowledged (config : Config) (s : State) (m : Message) (moment number : ℕ)
+    : Type 0 where
   pub accepted : IsAccepted config (tick config s moment) m (posted_to number)
   pub replied : HasStatus 204 (sent_by (step config s (Request m) moment))
 
