@@ -28,7 +28,8 @@ use Rattle.dep_router.specs.Targets.{target}
 use Rattle.dep_router.specs.declared.routed.Routed.{Routed}
 use Rattle.dep_router.specs.declared.routed.Routed.TheVariants.{To}
 use Rattle.dep_server.specs.Machine.{operation_of, routed_step, step}
-use Rattle.dep_runs.specs.Acknowledged.{posted_to, HasStatus, IsReceived}
+use Rattle.dep_decisions.specs.Laws.{posted_to}
+use Rattle.dep_runs.specs.Acknowledged.{HasStatus, IsReceived}
 use Rattle.dep_runs.proofs.SegmentsStay.{received_by}
 
 -- ---- a refusal's reply has another status
@@ -66,7 +67,7 @@ other_status why.PackagingFormatNotAcceptable x y e = apart _ _ e refl refl
 other_status why.StoreFull x y e = apart_too _ _ e refl refl
 
 -- what stands behind the status in a head
-fields_text : ReplyHead → List ℕ
+pub fields_text : ReplyHead → List ℕ
 fields_text r =
     field (codes "Date") (http_text r.date)
     ++ optional (codes "Content-Type") r.content_type
@@ -81,7 +82,7 @@ regroup : (s a b c d e f g h document : List ℕ) → ((((((((s ++ a) ++ b) ++ c
     ≡ s ++ ((((((((a ++ b) ++ c) ++ d) ++ e) ++ f) ++ g) ++ h) ++ document)
 regroup s a b c d e f g h document = simp append_assoc
 
-front_begins : (a : Answer) (clock : ℕ) (bare ends : Bool)
+pub front_begins : (a : Answer) (clock : ℕ) (bare ends : Bool)
     → front_text a clock bare ends ≡ status_line a.status ++ (fields_text (head_of a clock ends) ++ unless_bare bare (document_of a.content))
 unfolding front_text head_text fields_text
 front_begins a clock bare ends =
@@ -127,7 +128,7 @@ module _ (config : Config) (s : State) (m : Message) (u : ℕ) where
       let rows = all_passed (rows_met config s op (at_resource.Upload u) Post) accepted in
       one_of (is_some (kind_of op)) (is_completion op) (unless-none (is_some (kind_of op) || is_completion op) why.BadRequest rows.1.1.1.1.0) refl
 
-  named_segment : refusal config s (operation_of m (posted_to u)) ≡ None → (k : ℕ) × (kind_of (operation_of m (posted_to u)) ≡ Some (of.Segment k))
+  pub named_segment : refusal config s (operation_of m (posted_to u)) ≡ None → (k : ℕ) × (kind_of (operation_of m (posted_to u)) ≡ Some (of.Segment k))
   unfolding kind_of
   named_segment accepted =
       let op : Operation = operation_of m (posted_to u) in

@@ -2,6 +2,7 @@ mod CalmLemmas
 mod StreamLemmas
 mod SoundLemmas
 mod RunKeeps
+mod UploadsKept
 mod SegmentsStay
 mod MovesLead
 mod FilesStay
@@ -10,4 +11,5 @@ mod Refusing
 mod BareLemmas
 mod HeadLemmas
 pub mod Acknowledging
+mod TakenAgain
 pub mod CallsStand

@@ -6,8 +6,6 @@ use Rattle.dep_types.specs.State.{State, Upload, tick, expires, clock_at}
 use Rattle.dep_types.specs.declared.config.Config.{Config}
 use Rattle.dep_message.specs.Places.{Place}
 use Rattle.dep_types.specs.declared.target.Target.{Target}
-use Rattle.dep_types.specs.declared.target.Resource.TheVariants.{Upload as AnUpload}
-use Rattle.dep_types.specs.declared.target.Method.TheVariants.{Post}
 use Rattle.dep_fields.specs.declared.kind.Kind.TheVariants.{Segment}
 use Rattle.dep_reply.specs.Head.{status_line}
 use Rattle.dep_decisions.specs.Kinds.{kind_of}
@@ -15,6 +13,7 @@ use Rattle.dep_message.specs.Stream.{Item, Fault, Continue, Request}
 use Rattle.dep_message.specs.declared.message.Message.{Message}
 use Rattle.dep_decisions.specs.Decisions.{decision}
 use Rattle.dep_decisions.specs.Effects.{used}
+use Rattle.dep_decisions.specs.Laws.{posted_to}
 use Rattle.dep_runs.specs.Deposited.{IsAccepted}
 use Rattle.dep_runs.specs.Moves.{Move, Made, Begun, state_by}
 use Rattle.dep_server.specs.Machine.{operation_of, state_after, Serves, serves_all, step_fails, gives_up}
@@ -76,10 +75,6 @@ pub record HasSegment (s : State) (number segment : ℕ) (bytes : List ℕ) : Ty
 -- there is no such upload: it was deposited or deleted, or has timed out
 abbrev pub IsGone : State → ℕ → Type 0
 IsGone s number = map.get s.uploads number ≡ None
-
--- a POST to the upload
-abbrev pub posted_to : ℕ → Target
-posted_to number = record { resource = AnUpload number; method = Post }
 
 -- the bytes begin with the line of this status
 abbrev pub HasStatus : ℕ → List ℕ → Type 0

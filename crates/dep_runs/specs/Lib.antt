@@ -6,4 +6,5 @@ pub mod Moves
 pub mod Refused
 pub mod Deposited
 pub mod Acknowledged
+pub mod TakenAgain
 pub mod Calls
