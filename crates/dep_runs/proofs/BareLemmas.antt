@@ -61,7 +61,7 @@ there : {X : Type 0} (f : X → ReplyContent) (o : Option X) → is_some o ≡ t
 there f None e = cc
 there f (Some x) e = (f x, refl)
 
-pub upload_there : (b c : Bool) → (if b then None else if c then Some why.SegmentedUploadTimedOut else Some why.NotFound) ≡ None → b ≡ true
+upload_there : (b c : Bool) → (if b then None else if c then Some why.SegmentedUploadTimedOut else Some why.NotFound) ≡ None → b ≡ true
 upload_there true c e = refl
 upload_there false true e = cc
 upload_there false false e = cc
