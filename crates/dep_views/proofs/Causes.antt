@@ -10,7 +10,6 @@ use Rattle.dep_types.specs.State.{State, Object, Upload as Staged}
 use Rattle.dep_types.specs.declared.rows.ObjectRow.{ObjectRow}
 use Rattle.dep_row_maps.specs.Stored.{segment_row}
 use Rattle.dep_row_maps.proofs.Files.{entries-empty}
-use Rattle.dep_row_maps.proofs.Whole.{segments_there}
 use Rattle.dep_rulings.specs.Views.{touched_object}
 use Rattle.dep_rulings.specs.declared.view.Touched.{Touched}
 use Rattle.dep_staging.specs.Causes.{HasStorableSegments}
@@ -23,17 +22,17 @@ pub not_empty : {X : Type 0} (xs : List X) (i : ℕ) → i < length xs → xs �
 not_empty xs i within none = let nothing = ap length none in omega (arith, within, nothing)
 
 -- an upload of a sound state, all of whose segments were counted
-pub storable_segments : (s : State) (u : ℕ) (it : Staged) → IsSound s → finmap.get s.uploads u ≡ Some it → it.count < 2 ^ 63 → HasStorableSegments s u
+pub storable_segments : (s : State) (u : ℕ) (it : Staged) → IsSound s → finmap.get s.uploads u ≡ Some it → it.count < 2 ^ 63 → HasStorableSegments u it
 storable_segments s u it sound there few =
     let is = sound.uploads u it there in
     record {
       upload = omega (arith, is.number_given.below, sound.upload_bound);
-      segments = λ k bytes has. omega (arith, few, (is.segments k bytes (sym (ap (λ m. finmap.get m k) (segments_there s.uploads u it there)) ∙ has)).1);
+      segments = λ k bytes has. omega (arith, few, (is.segments k bytes has).1);
     }
 
 -- what was found of an upload lists its segments
 pub has_segments : (s : State) (u : ℕ) (staged : StagedUpload) → IsFound s u (found.Live staged) → staged.received.items ≢ [] → HasSegments s u
-has_segments s u staged h some = (h.0, h.1, λ none. some (h.3 ∙ ap (map (λ (e : ℕ × List ℕ). segment_row u e.0 (length e.1))) (ap finmap.entries none ∙ entries-empty nat_cmp (List ℕ))))
+has_segments s u staged h some = (h.0, h.1.there, λ none. some (h.1.received ∙ ap (map (λ (e : ℕ × List ℕ). segment_row u e.0 (length e.1))) (ap finmap.entries none ∙ entries-empty nat_cmp (List ℕ))))
 
 -- an object that was found has the number that is touched
 pub touched_row : (s : State) (t : Touched) (row : ObjectRow) → Some row ≡ touched_object s t → AreStorable t → IsStorable row.object

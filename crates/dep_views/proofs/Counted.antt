@@ -1,5 +1,5 @@
 -- An upload misses no segment where it has as many as it comes in.
-use Rattle.std.proofs.Common.{◌≡◌, ◌⊎◌, inl, inr, ℕ, Ordering, Less, Equal, Greater, is_lt, zero, suc, ◌+◌, ◌<◌, ◌≤◌, ◌^◌, Bool, true, false, T, ◌&&◌, cond, List, [], ◌∷◌, length, nat_eq, nat_cmp, is_eq, is_some, Some, refl, sym, ap, subst, ◌∙◌, arith}
+use Rattle.std.proofs.Common.{◌≡◌, ◌⊎◌, inl, inr, ℕ, Ordering, Less, Equal, Greater, is_lt, zero, suc, ◌+◌, ◌<◌, ◌≤◌, Bool, true, false, T, ◌&&◌, cond, List, [], ◌∷◌, length, nat_eq, nat_cmp, is_eq, is_some, Some, refl, sym, ap, subst, ◌∙◌, arith}
 use Rattle.std.specs.List.{AllByRecursion, list_all, range_with_len}
 use Rattle.std.specs.FinMap as finmap
 use Rattle.std.specs.FinMap.Entries as entries
@@ -11,11 +11,10 @@ use Rattle.dep_types.specs.State.{Upload}
 use Rattle.dep_types.specs.Uploads.{has_segment, is_complete}
 use Rattle.dep_row_maps.specs.Laws.{HasSegmentsWithin}
 use Rattle.dep_row_maps.specs.Stored.{segment_row}
-use Rattle.dep_tables.specs.declared.segments.SegmentRow.{SegmentRow}
 use Rattle.dep_row_maps.proofs.Blocks.{number_order}
 use Rattle.dep_row_maps.proofs.Pieces.{all_found}
+use Rattle.dep_staging.specs.Found.{segment_rows_of}
 use Rattle.dep_staging.proofs.Entries.{both, passed, none_below}
-use Rattle.dep_views.specs.Segments.{segment_rows_of}
 
 abbrev Parts : Type 0
 Parts = List (ℕ × List ℕ)
@@ -97,10 +96,3 @@ complete_is it u within =
     looked : (ks : List ℕ) → list_all (has_segment it) ks ≡ list_all (is_there (finmap.entries it.segments)) ks
     looked [] = refl
     looked (k ∷ ks) = ap (λ x. is_some x && list_all (has_segment it) ks) (finmap.get-entries it.segments k) ∙ ap (λ b. is_there (finmap.entries it.segments) k && b) (looked ks)
-
--- so it has few segments, where these are its rows
-pub few_segments : (it : Upload) (u : ℕ) (rows : List SegmentRow) → HasSegmentsWithin it → rows ≡ segment_rows_of u it → is_complete it ≡ true → length rows < 2 ^ 63 → it.count < 2 ^ 63
-few_segments it u rows within are whole few = go (complete_is it u within ∙ whole) (subst (λ (l : List SegmentRow). length l < 2 ^ 63) are few)
-  where
-    go : nat_eq (length (segment_rows_of u it)) it.count ≡ true → length (segment_rows_of u it) < 2 ^ 63 → it.count < 2 ^ 63
-    go same small = let is : length (segment_rows_of u it) ≡ it.count = grind (arith, nat_tests, same) in omega (arith, is, small)

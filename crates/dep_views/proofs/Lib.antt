@@ -4,4 +4,5 @@ pub mod Told
 pub mod Found
 pub mod Paths
 pub mod Shows
+pub mod Sent
 pub mod Causes

@@ -5,10 +5,13 @@ use Rattle.std.specs.Option.{option_map_or}
 use Rattle.std.specs.FinMap as finmap
 use Rattle.dep_types.specs.State.{State, Upload as Staged}
 use Rattle.dep_types.specs.Rows.{upload_row}
+use Rattle.dep_types.specs.declared.rows.UploadRow.{UploadRow}
 use Rattle.dep_answers.specs.Subjects.{shown_at}
 use Rattle.dep_answers.specs.declared.subject.Subject.TheVariants as subject
 use Rattle.dep_answers.specs.declared.subject.Shown.TheVariants as shown
-use Rattle.dep_staging.specs.Found.{IsFound}
+use Rattle.dep_staging.specs.Found.{IsFound, found_row, gone_row}
+use Rattle.dep_staging.specs.declared.loading.FoundRow.{FoundRow}
+use Rattle.dep_staging.specs.declared.loading.FoundRow.TheVariants as by_row
 use Rattle.dep_staging.specs.declared.loading.FoundUpload.TheVariants as found
 use Rattle.dep_staging.specs.declared.loading.StagedUpload.{StagedUpload}
 use Rattle.dep_views.proofs.Found.{numbers_are}
@@ -26,12 +29,17 @@ module _ (s : State) (u : ℕ) where
   at : (o : Option Staged) → finmap.get s.uploads u ≡ o → shown_at s (subject.Upload u) ≡ option_map_or (λ it. shown.Upload (upload_row u it) (finmap.keys it.segments)) o shown.Nothing
   at o is = ap (λ x. option_map_or (λ (it : Staged). shown.Upload (upload_row u it) (finmap.keys it.segments)) x shown.Nothing) is
 
-  pub no_upload_shown : finmap.get s.uploads u ≡ None → shown.Nothing ≡ shown_at s (subject.Upload u)
-  no_upload_shown is = sym (at None is)
+  -- what became of an upload that isn't there
+  pub no_upload_shown : (gone : FoundRow) → ((its : UploadRow) → by_row.Live its ≡ gone → ⊥) → found_row s u ≡ gone → shown.Nothing ≡ shown_at s (subject.Upload u)
+  no_upload_shown gone other h = go (finmap.get s.uploads u) refl h
+    where
+      go : (o : Option Staged) → finmap.get s.uploads u ≡ o → option_map_or (λ it. by_row.Live (upload_row u it)) o (gone_row s u) ≡ gone → shown.Nothing ≡ shown_at s (subject.Upload u)
+      go None is e = sym (at None is)
+      go (Some it) is e = absurd (other (upload_row u it) e)
 
   pub upload_shown : (staged : StagedUpload) (numbers : List ℕ) → IsFound s u (found.Live staged) → numbers ≡ map (λ segment. segment.number) staged.received.items
       → shown.Upload staged.row numbers ≡ shown_at s (subject.Upload u)
   upload_shown staged numbers h are =
-      let row = h.2 in
-      let keys = are ∙ ap (map (λ segment. segment.number)) h.3 ∙ numbers_are u (finmap.entries (h.0).segments) in
-      (λ i. shown.Upload (row i) (keys i)) ∙ sym (at (Some h.0) h.1)
+      let row = h.1.row in
+      let keys = are ∙ ap (map (λ segment. segment.number)) h.1.received ∙ numbers_are u (finmap.entries (h.0).segments) in
+      (λ i. shown.Upload (row i) (keys i)) ∙ sym (at (Some h.0) h.1.there)

@@ -1,11 +1,12 @@
 -- Which numbers a table can hold, and when a list is made of what was read.
-use Rattle.std.specs.Prelude.{◌≡◌, ◌≢◌, ⊤, ℕ, Some, All, IfSome}
+use Rattle.std.specs.Prelude.{◌≡◌, ◌≢◌, ◌≤◌, ⊤, ℕ, List, [], ◌∷◌, Some, All, IfSome}
 use Rattle.std.specs.FinMap as finmap
 use Rattle.dep_types.specs.Limits.{IsStorable}
 use Rattle.dep_types.specs.State.{State, Upload as Staged}
 use Rattle.dep_answers.specs.declared.subject.Subject.{Subject}
 use Rattle.dep_answers.specs.declared.subject.Subject.TheVariants.{Nothing, Object, ObjectRow, Metadata, File, Upload}
 use Rattle.dep_row_maps.specs.TablesAre.{metadata_at}
+use Rattle.dep_rulings.specs.declared.view.SegmentId.{SegmentId}
 use Rattle.dep_rulings.specs.declared.view.Touched.{Touched}
 
 -- each number that is touched is one that a table can hold
@@ -13,6 +14,18 @@ pub record AreStorable (t : Touched) : Type 0 where
   pub object : IfSome t.object IsStorable
   pub file : IfSome t.file IsStorable
   pub uploads : All IsStorable t.uploads
+
+-- the segment is of the one upload that is touched, and its number is one that a table can hold,
+-- where the upload comes in so many
+pub record IsStorableIn (s : State) (uploads : List ℕ) (id : SegmentId) : Type 0 where
+  pub alone : uploads ≡ id.upload ∷ []
+  pub upload : IsStorable id.upload
+  pub number : (it : Staged) → finmap.get s.uploads id.upload ≡ Some it → id.number ≤ it.count
+      → IsStorable id.number
+
+-- so is the segment that is touched
+abbrev pub IsStorableSegment : State → Touched → Type 0
+IsStorableSegment s t = IfSome t.segment (IsStorableIn s t.uploads)
 
 -- the number by which it is looked up is
 abbrev pub IsStorableSubject : Subject → Type 0

@@ -4,6 +4,7 @@
 
 mod objects;
 mod referred;
+mod repeats;
 mod segments;
 mod shown;
 mod touched;

@@ -1,15 +1,16 @@
 //! The segments of an upload, by their rows.
 
-ghost use Rattle.std.specs.Prelude.{◌≡◌, ◌≢◌, [], IfOk, IfErr, map};
-ghost use Rattle.dep_types.specs.State.{Upload};
+ghost use Rattle.std.specs.Prelude.{◌≡◌, ◌≢◌, ◌<◌, ◌^◌, ℕ, [], IfOk, IfErr, IsTrue, map};
+ghost use Rattle.dep_types.specs.State.{State, Upload};
 ghost use Rattle.dep_types.specs.Uploads.{is_complete};
 ghost use Rattle.dep_types.specs.declared.store_fault.StoreFault.TheVariants.{Memory};
 ghost use Rattle.dep_row_maps.specs.Laws.{HasSegmentsWithin};
-ghost use Rattle.dep_views.specs.Segments.{segment_rows_of};
+ghost use Rattle.dep_staging.specs.Found.{IsLiveAs};
 
 use dep_rulings::Numbers;
+use dep_staging::StagedUpload;
 use dep_tables::SegmentRow;
-use dep_types::{StoreFault, UploadRow};
+use dep_types::StoreFault;
 use std::alloc::Global;
 
 /// The numbers of these segments, in their order.
@@ -26,10 +27,11 @@ pub(crate) fn numbers_of(alloc: Global, segments: &[SegmentRow]) -> Result<Numbe
     Ok(Numbers::from_vec(numbers))
 }
 
-/// Whether none of an upload's segments is missing.
-pub(crate) fn is_complete(row: &UploadRow, segments: &[SegmentRow]) -> bool
-    ensures { (it : Upload) → HasSegmentsWithin it → row.now.count ≡ it.count
-        → segments.now ≡ segment_rows_of row.now.upload it → result ≡ is_complete it }
+/// Whether none of the segments of an upload that was loaded is missing.
+pub(crate) fn is_complete(staged: &StagedUpload) -> bool
+    ensures whole { (s : State) (u : ℕ) (it : Upload) → IsLiveAs s u staged.now it
+        → HasSegmentsWithin it → result ≡ is_complete it }
+    ensures few { IsTrue result → staged.now.row.count < 2 ^ 63 }
 {
-    segments.len() as u64 == row.count
+    staged.received.as_slice().len() as u64 == staged.row.count
 }

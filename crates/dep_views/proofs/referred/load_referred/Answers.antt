@@ -5,7 +5,7 @@ use Rattle.dep_staging.proofs.Chains.{fails_reading, reads_then}
 use Rattle.dep_staging.specs.Found.{IsFound}
 use Rattle.dep_files.proofs.Results.{still_ours}
 use Rattle.dep_views.proofs.Chains.{still_seen}
-use Rattle.dep_views.proofs.Found.{live_as, told_referred, told_timed_out, told_unknown}
+use Rattle.dep_views.proofs.Found.{told_referred, told_timed_out, told_unknown}
 use Rattle.dep_views.specs.Referred.{live_referred}
 use Rattle.dep_views.specs.declared.referred.Referred.TheVariants.{Unknown, TimedOut, Live}
 use Rattle.dep_row_maps.specs.Causes.{FailsByStatement}
@@ -16,22 +16,20 @@ pub returns-in_ok-digests-in-Live-clause-map : goal.returns-in_ok-digests-in-Liv
 returns-in_ok-digests-in-Live-clause-map g c clean inside ours s are sound =
     let old = g.T.Statements.state c.args.tx.now in
     let mid = g.T.Statements.state c.load_upload.new.tx in
-    let new = g.T.Statements.state c.load_digests.new.tx in
     let u = c.args.upload in
     let before = clean_before c.load_digests.ensures.stays clean in
     let same = c.in_ok-staged.ensures.same before ours in
     let it = subst (IsFound s u) c.in-Live.is (c.in_ok-staged.ensures.map before ours s are) in
-    let digests = c.in_ok-digests-in-Live.ensures.map clean (c.in_ok-staged.ensures.stays.inside before inside) (still_ours old mid same ours) s (still_seen old mid s same are) sound it.0
-    (live_as s u c.in-Live.staged it) in
-    told_referred s u c.in-Live.staged it c.in_ok-digests-in-Live.digests digests
+    told_referred s u c.in-Live.staged it.0 it.1 c.in_ok-digests-in-Live.digests
+    (c.in_ok-digests-in-Live.ensures.map same.0.is_open clean (c.in_ok-staged.ensures.stays.inside before inside) (still_ours old mid same ours) s (still_seen old mid s same are) sound u it.0 it.1)
 
 pub returns-in-TimedOut-clause-map : goal.returns-in-TimedOut-clause-map
 returns-in-TimedOut-clause-map g c clean inside ours s are sound =
-    told_timed_out (λ it. Live (live_referred c.args.upload it)) TimedOut Unknown s c.args.upload (subst (IsFound s c.args.upload) c.in-TimedOut.is (c.in_ok-staged.ensures.map clean ours s are))
+    told_timed_out s c.args.upload (λ it. Live (live_referred c.args.upload it)) TimedOut Unknown (subst (IsFound s c.args.upload) c.in-TimedOut.is (c.in_ok-staged.ensures.map clean ours s are))
 
 pub returns-in-Unknown-clause-map : goal.returns-in-Unknown-clause-map
 returns-in-Unknown-clause-map g c clean inside ours s are sound =
-    told_unknown (λ it. Live (live_referred c.args.upload it)) TimedOut Unknown s c.args.upload (subst (IsFound s c.args.upload) c.in-Unknown.is (c.in_ok-staged.ensures.map clean ours s are))
+    told_unknown s c.args.upload (λ it. Live (live_referred c.args.upload it)) TimedOut Unknown (subst (IsFound s c.args.upload) c.in-Unknown.is (c.in_ok-staged.ensures.map clean ours s are))
 
 pub returns-in_err-digests-in-Live-clause-stays : goal.returns-in_err-digests-in-Live-clause-stays
 returns-in_err-digests-in-Live-clause-stays g c = stays_err c.from_residual-in_err-digests-in-Live.ensures.0 (stays_then c.in_ok-staged.ensures.stays c.load_digests.ensures.stays)
@@ -61,5 +59,5 @@ returns-in_err-digests-in-Live-clause-cause g c clean inside ours s are sound st
     let it = subst (IsFound s u) c.in-Live.is (c.in_ok-staged.ensures.map before ours s are) in
     if_err_is _ c.from_residual-in_err-digests-in-Live.result c.in_err-digests-in-Live.field-0.0 c.from_residual-in_err-digests-in-Live.ensures.1
     (fails_behind_them g.T.Statements.state old mid new c.load_upload.ensures.stays.survives FailsByStatement _
-    (c.in_err-digests-in-Live.ensures.cause clean (c.in_ok-staged.ensures.stays.inside before inside) (still_ours (g.T.Statements.state old) (g.T.Statements.state mid) same ours) s
-    (still_seen (g.T.Statements.state old) (g.T.Statements.state mid) s same are) sound it.0 (live_as s u c.in-Live.staged it)))
+    (c.in_err-digests-in-Live.ensures.cause same.0.is_open clean (c.in_ok-staged.ensures.stays.inside before inside) (still_ours (g.T.Statements.state old) (g.T.Statements.state mid) same ours) s
+    (still_seen (g.T.Statements.state old) (g.T.Statements.state mid) s same are) sound u it.0 it.1))

@@ -1,8 +1,10 @@
 use Rattle.std.proofs.Common.{◌∙◌, ap, length, nat_eq}
+use Rattle.dep_types.specs.declared.rows.UploadRow.{UploadRow}
+use Rattle.dep_staging.specs.Found.{segment_rows_of}
 use Rattle.dep_views.proofs.Counted.{complete_is}
 use Rattle.dep_views.proofs.segments.is_complete.Goals as goal
 
-pub returns : goal.returns
-returns c it within counted rows =
-    ap (λ l. nat_eq (length l) c.args.row.now.count) rows ∙ ap (nat_eq _) counted
-    ∙ complete_is it c.args.row.now.upload within
+pub returns-clause-whole : goal.returns-clause-whole
+returns-clause-whole c s u it live within =
+    ap (λ rows. nat_eq (length rows) c.args.staged.now.row.count) (c.as_slice.ensures.value ∙ live.received) ∙ ap (λ (r : UploadRow). nat_eq (length (segment_rows_of u it)) r.count) live.row
+    ∙ complete_is it u within

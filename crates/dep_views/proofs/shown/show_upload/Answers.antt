@@ -1,5 +1,6 @@
 use Rattle.std.proofs.Common.{ap, subst, map, ◌∙◌}
 use Rattle.dep_staging.specs.Found.{IsFound}
+use Rattle.dep_staging.specs.declared.loading.FoundRow.TheVariants.{TimedOut, Unknown}
 use Rattle.dep_views.proofs.Shows.{no_upload_shown, upload_shown}
 use Rattle.dep_row_maps.specs.Causes.{FailsByStatement, FailsHolding}
 use Rattle.dep_row_maps.specs.Causes.FailsHolding.{statement, memory}
@@ -15,13 +16,11 @@ returns-in_ok-numbers_of-in-Live-clause-map g c clean inside ours s are =
 
 pub returns-in-TimedOut-clause-map : goal.returns-in-TimedOut-clause-map
 returns-in-TimedOut-clause-map g c clean inside ours s are =
-    let it = subst (IsFound s c.args.upload) c.in-TimedOut.is (c.in_ok-staged.ensures.map clean ours s are) in
-    no_upload_shown s c.args.upload it.0
+    no_upload_shown s c.args.upload TimedOut (λ its e. cc) (subst (IsFound s c.args.upload) c.in-TimedOut.is (c.in_ok-staged.ensures.map clean ours s are))
 
 pub returns-in-Unknown-clause-map : goal.returns-in-Unknown-clause-map
 returns-in-Unknown-clause-map g c clean inside ours s are =
-    let it = subst (IsFound s c.args.upload) c.in-Unknown.is (c.in_ok-staged.ensures.map clean ours s are) in
-    no_upload_shown s c.args.upload it.0
+    no_upload_shown s c.args.upload Unknown (λ its e. cc) (subst (IsFound s c.args.upload) c.in-Unknown.is (c.in_ok-staged.ensures.map clean ours s are))
 
 pub returns-in_err-staged-clause-cause : goal.returns-in_err-staged-clause-cause
 returns-in_err-staged-clause-cause g c clean inside ours s are storable =

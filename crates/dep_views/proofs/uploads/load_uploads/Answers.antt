@@ -1,5 +1,4 @@
-use Rattle.std.proofs.Common.{Ok, inl, ◌≡◌, ◌≢◌, refl, ◌∙◌, ◌++◌, [], ◌∷◌, map, take, get_or, sym, ap}
-use Rattle.std.specs.Prelude.{⊤}
+use Rattle.std.proofs.Common.{IsTrue, Ok, inl, ◌≡◌, ◌≢◌, refl, ◌∙◌, ◌++◌, [], ◌∷◌, map, take, get_or, sym, ap}
 use Rattle.std.proofs.lemmas.List.{map_more, take_all}
 use Rattle.std.proofs.lemmas.List.Elements.{All-get_or}
 use Rattle.dep_types.specs.declared.store_fault.StoreFault.TheVariants.{Memory}
@@ -87,7 +86,7 @@ returns-in_err-state-clause-cause g c is_open clean inside ours s are sound stor
     let xs = c.args.uploads.now in
     let small = All-get_or IsStorable xs c.uploads.upload-index 0 c.uploads-test.true storable in
     if_err_is _ c.from_residual.result c.in_err-state.field-0.0 c.from_residual.ensures.1
-    (fails_later g.T.Statements.state old mid new inv.0.survives (FailsHolding ⊤) (FailsHolding (xs ≢ [])) (holding_more (λ _. not_empty xs c.uploads.upload-index c.uploads-test.true)) _
+    (fails_later g.T.Statements.state old mid new inv.0.survives (FailsHolding (IsTrue c.args.by_reference)) (FailsHolding (xs ≢ [])) (holding_more (λ _. not_empty xs c.uploads.upload-index c.uploads-test.true)) _
     (c.in_err-state.ensures.cause clean (inv.0.inside before inside) (still_ours (g.T.Statements.state old) (g.T.Statements.state mid) same ours) s
     (still_seen (g.T.Statements.state old) (g.T.Statements.state mid) s same are) sound small))
 
