@@ -100,7 +100,7 @@ module _ (s : State) (sound : IsSound s) where
     deposit_fits seen have (Files new) told fits = sources_all seen new told
     deposit_fits seen have (Metadata texts) told fits = fits
 
-    pub upload_told : (view : View) (u : ℕ) (it : Upload) (k : ℕ) → TellsNumbers view s → TellsUpload view s u it k → TellsStorableUpload view
+    pub upload_told : (view : View) (u : ℕ) (it : Upload) (k : ℕ) → TellsNumbers view s → TellsUpload view s u it k content → TellsStorableUpload view
     upload_told view u it k numbers told = record {
       numbers = numbers_fit view numbers;
       upload = u;

@@ -3,7 +3,7 @@ use Rattle.std.specs.Prelude.{⊤}
 use Rattle.dep_row_maps.specs.Causes.{FailsByStatement, FailsHolding}
 use Rattle.dep_row_maps.specs.Causes.FailsHolding.{memory}
 use Rattle.dep_row_maps.proofs.Causes.{fails_first, if_err_is}
-use Rattle.std.proofs.Common.{◌≡◌, ℕ, refl, sym, ap, ◌∙◌}
+use Rattle.std.proofs.Common.{ℕ, refl, sym, ap, ◌∙◌}
 use Rattle.std.specs.Prelude.{OnOk}
 use Rattle.dep_types.specs.State.{File}
 use Rattle.dep_types.specs.Uploads.{assembled}
