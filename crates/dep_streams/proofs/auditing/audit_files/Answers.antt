@@ -9,6 +9,8 @@ use Rattle.sqlite.proofs.StateLemmas.{survives_then, unchanged}
 use Rattle.dep_tables.specs.Tables.{Tables, tables_of}
 use Rattle.dep_tables.specs.declared.sha256s.FileSha256.{FileSha256}
 use Rattle.dep_row_maps.proofs.Causes.{survives_itself}
+use Rattle.dep_types.specs.declared.store_fault.StoreFault.{StoreFault}
+use Rattle.dep_streams.specs.Causes.{FailsToCheck}
 use Rattle.dep_streams.specs.Fixity.{HasFixity, KeepsDamaged, number_if_damaged}
 use Rattle.dep_streams.specs.declared.auditing.FileFixity.{FileFixity}
 use Rattle.dep_streams.proofs.Stills.{still_then, ours_still, tables_still, kept_still, failed_still}
@@ -20,6 +22,13 @@ its old row found = HasFixity (tables_of old) row.file found
 
 abbrev number_of : FileSha256 × FileFixity → List ℕ
 number_of p = number_if_damaged p.0 p.1
+
+-- the row that was looked at
+abbrev row_noted : {t : Tables} {row : FileSha256} {old new : List ℕ} → KeepsDamaged t row old new → FileSha256
+row_noted {t} {row} {old} {new} kept = row
+
+abbrev row_failed : {row : FileSha256} {old new : State} {fault : StoreFault} → FailsToCheck row old new fault → FileSha256
+row_failed {row} {old} {new} {fault} failed = row
 
 pub files-init : goal.files-init
 files-init g c = (
@@ -44,12 +53,13 @@ files-preserved g c =
       λ clean ours.
           let still = inv.2 (earlier clean) ours in
           let done = inv.3 (earlier clean) ours in
-          let it = subst (λ (t : Tables). KeepsDamaged t c.row-item.result c.files.damaged.items c.keep_damaged.new.damaged.items) (tables_still old mid still) (c.in-Ok.ensures.notes clean (ours_still old mid still ours)) in
+          let noted = c.in-Ok.ensures.notes clean (ours_still old mid still ours) in
+          let row : FileSha256 = row_noted noted in
+          let it = subst (λ (t : Tables). KeepsDamaged t row c.files.damaged.items c.keep_damaged.new.damaged.items) (tables_still old mid still) noted in
           let xs = c.args.files.now in
           let i = c.files.row-index in
-          let row : FileSha256 = c.row-item.result in
           let found : List FileFixity = done.0 ++ it.found ∷ [] in
-          let grown : take (i + 1) xs ≡ take i xs ++ row ∷ [] = take_more xs i row c.files-test.true ∙ ap (λ (x : FileSha256). take i xs ++ x ∷ []) (sym c.row-item.is) in
+          let grown : take (i + 1) xs ≡ take i xs ++ row ∷ [] = take_more xs i _ c.files-test.true in
           let all = one_more (its old) (take i xs) done.0 row it.found done.1 it.its in
           let pairs = zip_more (its old) (take i xs) done.0 row it.found done.1 in (
             found,
@@ -92,8 +102,8 @@ returns-in-Err g c =
       audits = λ clean ours. tt;
       cause = λ clean ours.
           let still = inv.2 (told.clean clean) ours in
-          let its = subst (Contains c.args.files.now) (sym c.row-item.is) (Contains-get_or c.args.files.now c.files.row-index c.row-item.result c.files-test.true) in
-          (c.row-item.result, its, c.files.connection, still.now_is, c.in-Err.ensures.cause clean (ours_still old mid still ours));
+          let failed = c.in-Err.ensures.cause clean (ours_still old mid still ours) in
+          (row_failed failed, Contains-get_or c.args.files.now c.files.row-index _ c.files-test.true, c.files.connection, still.now_is, failed);
       ok = λ clean ours opened. tt;
       same = λ clean ours.
           let still = inv.2 (told.clean clean) ours in
