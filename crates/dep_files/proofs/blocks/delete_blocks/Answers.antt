@@ -2,7 +2,6 @@ use Rattle.std.proofs.Common.{refl, subst, ◌∙◌, arith, rules}
 use Rattle.dep_tables.specs.Edits.{IsFirstBlock}
 use Rattle.dep_tables.specs.Rows.{IsStorableKey}
 use Rattle.dep_tables.specs.Tables.{tables_of}
-use Rattle.dep_tables.specs.declared.owner.BlockKey.{BlockKey}
 use Rattle.dep_tables.proofs.Results.{ok_then, if_failed, not_storable, is_storable}
 use Rattle.dep_tables.proofs.Chains.{clean_before, stays_then, stays_ok, stays_err}
 use Rattle.dep_row_maps.proofs.Causes.{fails_then, if_err_then, if_err_is}
