@@ -3,3 +3,4 @@ pub mod Written
 pub mod FileCalls
 pub mod Results
 pub mod Storable
+pub mod Causes

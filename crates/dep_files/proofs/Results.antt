@@ -5,7 +5,7 @@ use Rattle.sqlite.specs.State.{State, KeepsCommit, IsUnchanged, IsRolledBack}
 use Rattle.sqlite.specs.Effect.{Database}
 use Rattle.dep_tables.specs.Tables.{IsOurs, HasOurTables, tables_of, tables_in}
 use Rattle.dep_tables.specs.Clauses.{FailsWhole, StaysWithin}
-use Rattle.dep_tables.proofs.Chains.{clean_before}
+use Rattle.dep_tables.proofs.Chains.{clean_before, left_whole}
 use Rattle.dep_row_maps.specs.Clauses.{FailsUncommitted}
 
 pub ok_both : {A E P Q R : Type 0} (r : Result A E) → OnOk r P → OnOk r Q → (P → Q → R) → OnOk r R
@@ -17,11 +17,6 @@ still_ours old new same ours = subst HasOurTables (sym same.0.now_is) ours
 
 pub same_tables : (old new : State) → IsUnchanged old new → tables_of new ≡ tables_of old
 same_tables old new same = ap (λ (db : Database). tables_in db.trees) same.0.now_is
-
--- what a failed statement leaves of a transaction
-pub left_whole : (old new : State) → IsTrue old.in_transaction → IsTrue new.is_open → IsUnchanged old new ⊎ IsRolledBack old new → (new.committed ≡ old.committed) × (IsTrue new.in_transaction ⊎ (new.now ≡ old.committed))
-left_whole old new inside is_open (inl same) = (same.0.committed_is, inl (subst IsTrue (sym same.0.mode) inside))
-left_whole old new inside is_open (inr back) = ((back.undone is_open).1, inr (back.undone is_open).0)
 
 -- ---- one call after another
 

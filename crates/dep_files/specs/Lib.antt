@@ -1,2 +1,3 @@
+pub mod Causes
 pub mod Edits
 pub mod Reading

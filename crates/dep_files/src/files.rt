@@ -17,11 +17,9 @@ ghost use Rattle.dep_row_maps.specs.Laws.{without_contents};
 ghost use Rattle.dep_row_maps.specs.Causes.{FailsByOne, FailsByStatement, FailsSince};
 ghost use Rattle.dep_files.specs.Edits.{only_part, with_file, without_file, without_files};
 
-use crate::blocks::put_blocks;
+use crate::blocks::{delete_blocks, put_blocks};
 use crate::content::Content;
-use dep_tables::{
-    BlockOwner, Statements, delete_blocks, delete_sha512, files_of, insert_file, insert_sha512,
-};
+use dep_tables::{BlockOwner, Statements, delete_sha512, files_of, insert_file, insert_sha512};
 use dep_types::{FileRow, StoreFault};
 use std::alloc::Global;
 

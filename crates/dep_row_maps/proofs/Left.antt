@@ -89,7 +89,7 @@ row_below moment e = below_is e.1.last moment
 of_some : {A : Type 0} (o : Option A) (x : A) (p : A → Bool) → o ≡ Some x → p x ≡ true → option_map_or p o false ≡ true
 of_some o x p is passes = ap (λ y. option_map_or p y false) is ∙ passes
 
-none_taken : (xs : List Row) → [] ≡ take 1 xs → xs ≡ []
+pub none_taken : (xs : List Row) → [] ≡ take 1 xs → xs ≡ []
 none_taken [] e = refl
 none_taken (x ∷ xs) e = absurd (cc)
 

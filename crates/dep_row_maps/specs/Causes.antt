@@ -6,7 +6,7 @@ use Rattle.sqlite.specs.State.{HasCleanDisk, Survives}
 use Rattle.dep_types.specs.declared.store_fault.StoreFault.{StoreFault}
 use Rattle.dep_types.specs.declared.store_fault.StoreFault.TheVariants.{Memory}
 use Rattle.dep_tables.specs.Clauses.{AtMostOne, FailsToRead, FailsToReadNumbers, FailsToRun, JustOne}
-use Rattle.dep_tables.specs.Rows.{IsBytesRow, IsFileRow, IsMetadataRow, IsNumberRow, IsObjectRow, IsSegmentRow, IsSha512Row, IsStateRow, IsUploadRow, IsLeftRow}
+use Rattle.dep_tables.specs.Rows.{IsBytesRow, IsFileRow, IsMetadataRow, IsNumberRow, IsObjectRow, IsPlaceRow, IsSegmentRow, IsSha512Row, IsStateRow, IsUploadRow, IsLeftRow}
 use Rattle.dep_tables.specs.Texts as text
 
 -- a statement fails so, after others that committed nothing and forgot no fault
@@ -61,7 +61,11 @@ pub data FailsByStatement (at new : db.State) (fault : StoreFault) : Type 0 wher
       → FailsByStatement at new fault
   blocks_deleted : (params : Row) → FailsToRun text.delete_blocks_text params at new fault
       → FailsByStatement at new fault
-  part_moved : (params : Row) → FailsToRun text.move_part_text params at new fault
+  run_deleted : (params : Row) → FailsToRun text.delete_run_text params at new fault
+      → FailsByStatement at new fault
+  blocks_moved : (params : Row) → FailsToRun text.move_blocks_text params at new fault
+      → FailsByStatement at new fault
+  run_moved : (params : Row) → FailsToRun text.move_run_text params at new fault
       → FailsByStatement at new fault
   sha512_added : (params : Row) → FailsToRun text.insert_sha512_text params at new fault
       → FailsByStatement at new fault
@@ -93,6 +97,9 @@ pub data FailsByStatement (at new : db.State) (fault : StoreFault) : Type 0 wher
       → FailsByStatement at new fault
   timed_out_found : (params : Row)
       → FailsToReadNumbers (AtMostOne IsNumberRow) text.find_timed_out_text params at new fault
+      → FailsByStatement at new fault
+  block_found : (params : Row)
+      → FailsToReadNumbers (AtMostOne IsPlaceRow) text.first_block_text params at new fault
       → FailsByStatement at new fault
   block_read : (params : Row)
       → FailsToRead (AtMostOne IsBytesRow) text.read_block_text params at new fault

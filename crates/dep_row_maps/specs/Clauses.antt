@@ -1,8 +1,9 @@
 -- What the clauses of a call say that changes one map of the state.
-use Rattle.std.specs.Prelude.{◌≡◌, ◌⊎◌, IsTrue, Result, OnOk, OnErr}
+use Rattle.std.specs.Prelude.{◌≡◌, IsTrue, Result, OnOk}
 use Rattle.sqlite.specs.State as db
 use Rattle.sqlite.specs.State.{HasCleanDisk}
 use Rattle.dep_types.specs.State.{State}
+use Rattle.dep_tables.specs.Clauses.{FailsInside}
 use Rattle.dep_tables.specs.Tables.{Tables, tables_of, IsOurs}
 use Rattle.dep_row_maps.specs.TablesAre.{TablesAre}
 
@@ -30,9 +31,7 @@ module _ {A E : Type 0} (old new : db.State) (result : Result A E) where
   -- a failure has committed nothing: the transaction goes on, for its owner to give back, or has
   -- ended as it began
   abbrev pub FailsUncommitted : Type 0
-  FailsUncommitted = HasCleanDisk new → IsTrue old.in_transaction → IsTrue new.is_open
-      → OnErr result ((new.committed ≡ old.committed)
-      × (IsTrue new.in_transaction ⊎ (new.now ≡ old.committed)))
+  FailsUncommitted = FailsInside old new result
 
   -- the same of a function that reads our tables
   abbrev pub FailsReadingUncommitted : Type 0

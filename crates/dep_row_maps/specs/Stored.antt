@@ -1,5 +1,5 @@
 -- The rows that each table has of the state.
-use Rattle.std.specs.Prelude.{ℕ, ◌+◌, zero, suc, Bool, not, if◌then◌else◌, Option, List, [], ◌∷◌, ◌++◌, length, take, drop, filter, fold, unwrap_or, map as each}
+use Rattle.std.specs.Prelude.{ℕ, ◌+◌, zero, suc, Bool, not, Option, List, [], ◌∷◌, ◌++◌, length, take, drop, filter, fold, unwrap_or, map as each}
 use Rattle.std.specs.Option.{option_to_list}
 use Rattle.std.specs.FinMap as map
 use Rattle.sqlite_value.specs.Order.{Row, column, bytes}
@@ -7,7 +7,7 @@ use Rattle.dep_types.specs.Maps.{Numbered}
 use Rattle.dep_types.specs.State.{State, Object, File, Upload, Texts}
 use Rattle.dep_types.specs.Rows.{object_row, file_row, upload_row}
 use Rattle.dep_statements.specs.Rows.{has_number, put_next}
-use Rattle.dep_tables.specs.Rows.{stored_state, stored_object, stored_file, stored_upload, columns_of_upload, metadata_values, segment_values, block_values, is_part_of, moved_to, value_in}
+use Rattle.dep_tables.specs.Rows.{stored_state, stored_object, stored_file, stored_upload, columns_of_upload, metadata_values, segment_values, block_values, value_in}
 use Rattle.dep_tables.specs.declared.owner.BlockOwner.TheVariants as owner
 use Rattle.dep_tables.specs.declared.state.StateRow.{StateRow}
 use Rattle.dep_tables.specs.declared.metadata.MetadataRow.{MetadataRow}
@@ -128,14 +128,6 @@ abbrev pub put_blocks : BlockOwner → (part place : ℕ) → List (List ℕ) �
 put_blocks o part place [] rows = rows
 put_blocks o part place (b ∷ bs) rows =
     put_blocks o part (place + 1) bs (put_next (block_values (block_key o part place) b) rows)
-
--- the blocks of a part are given to another owner; those of these parts, part by part
-abbrev pub move_part : (o to : BlockOwner) → ℕ → List Row → List Row
-move_part o to part = each (λ r. if is_part_of o part r then moved_to to r else r)
-
-abbrev pub move_parts : (o to : BlockOwner) → List ℕ → List Row → List Row
-move_parts o to [] rows = rows
-move_parts o to (part ∷ parts) rows = move_parts o to parts (move_part o to part rows)
 
 -- ---- sha512s
 

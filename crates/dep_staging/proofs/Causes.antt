@@ -8,7 +8,9 @@ use Rattle.dep_types.specs.declared.rows.UploadRow.{UploadRow}
 use Rattle.dep_types.specs.declared.store_fault.StoreFault.{StoreFault}
 use Rattle.dep_tables.specs.declared.segments.SegmentRow.{SegmentRow}
 use Rattle.dep_row_maps.specs.Causes.{FailsByStatement}
-use Rattle.dep_row_maps.specs.Causes.FailsByStatement.{state_read, state_written, timed_out_added, upload_added, upload_left, upload_deleted, segments_deleted, blocks_deleted, block_read, sha512_added, sha512_deleted}
+use Rattle.dep_row_maps.specs.Causes.FailsByStatement.{state_read, state_written, timed_out_added, upload_added, upload_left, upload_deleted, segments_deleted, block_read, sha512_added, sha512_deleted}
+use Rattle.dep_tables.specs.declared.owner.BlockOwner.TheVariants as owner
+use Rattle.dep_files.proofs.Causes.{deletes_among}
 use Rattle.dep_staging.specs.Causes.{FailsToDrop, FailsToOpen, FailsToExpire, FailsToExpireAll, FailsToTick, FailsToHash, FailsToReadBlock}
 use Rattle.dep_staging.specs.Causes.FailsToDrop.{blocks, promise, segments, row}
 use Rattle.dep_staging.specs.Causes.FailsToOpen.{row as columns, promise as promised}
@@ -22,7 +24,7 @@ module _ (at now : db.State) (fault : StoreFault) where
   open_among opened (promised value is failed) = sha512_added _ failed
 
   pub drop_among : (u : ℕ) → FailsToDrop u at now fault → FailsByStatement at now fault
-  drop_among u (blocks failed) = blocks_deleted _ failed
+  drop_among u (blocks failed) = deletes_among (owner.Upload u) at now fault failed
   drop_among u (promise failed) = sha512_deleted _ failed
   drop_among u (segments failed) = segments_deleted _ failed
   drop_among u (row failed) = upload_deleted _ failed

@@ -10,10 +10,11 @@ use Rattle.dep_types.specs.declared.rows.UploadRow.{UploadRow}
 use Rattle.dep_types.specs.declared.store_fault.StoreFault.{StoreFault}
 use Rattle.dep_tables.specs.Clauses.{AtMostOne, FailsToRead, FailsToReadNumbers, FailsToRun, JustOne}
 use Rattle.dep_tables.specs.Rows.{IsBytesRow, IsLeftRow, IsStateRow, columns_of_upload, key_values, owner_values, sha512_values, state_values, upload_values}
-use Rattle.dep_tables.specs.Texts.{delete_blocks_text, delete_segments_text, delete_sha512_text, delete_upload_text, insert_sha512_text, insert_timed_out_text, insert_upload_text, left_before_text, read_block_text, read_state_text, write_state_text}
+use Rattle.dep_tables.specs.Texts.{delete_segments_text, delete_sha512_text, delete_upload_text, insert_sha512_text, insert_timed_out_text, insert_upload_text, left_before_text, read_block_text, read_state_text, write_state_text}
 use Rattle.dep_tables.specs.declared.owner.BlockOwner.TheVariants as owner
 use Rattle.dep_tables.specs.declared.segments.SegmentRow.{SegmentRow}
 use Rattle.dep_row_maps.specs.Stored.{block_key, state_row}
+use Rattle.dep_files.specs.Causes.{FailsToDeleteBlocks}
 
 -- the numbers of the uploads are SQL's
 abbrev pub HasStorableNumbers : Numbered Upload → Type 0
@@ -39,7 +40,7 @@ pub data FailsToOpen (opened : UploadRow) (at new : db.State) (fault : StoreFaul
 
 -- one of the statements that delete an upload
 pub data FailsToDrop (u : ℕ) (at new : db.State) (fault : StoreFault) : Type 0 where
-  blocks : FailsToRun delete_blocks_text (owner_values (owner.Upload u)) at new fault
+  blocks : FailsToDeleteBlocks (owner.Upload u) at new fault
       → FailsToDrop u at new fault
   promise : FailsToRun delete_sha512_text (owner_values (owner.Upload u)) at new fault
       → FailsToDrop u at new fault

@@ -1,52 +1,53 @@
 //! A file made of an upload.
 
 ghost use Rattle.std.specs.Prelude.{◌≡◌, ◌≤◌, ◌<◌, ◌^◌, ℕ, List, Some, OnOk, IsTrue};
-ghost use Rattle.std.specs.List.{range_with_len};
 ghost use Rattle.std.specs.FinMap as finmap;
 ghost use Rattle.dep_types.specs.State.{Object, File, Upload};
 ghost use Rattle.dep_types.specs.Rows.{upload_row, file_row};
 ghost use Rattle.dep_types.specs.Uploads.{assembled, is_complete};
 ghost use Rattle.dep_tables.specs.Tables.{tables_of};
 ghost use Rattle.dep_tables.specs.Clauses.{StaysWithin};
+ghost use Rattle.dep_tables.specs.Edits.{with_blocks_moved};
 ghost use Rattle.dep_tables.specs.Rows.{IsStorableFile, IsStorableUpload, columns_of_upload};
 ghost use Rattle.dep_tables.specs.declared.owner.BlockOwner.TheVariants as owner;
-ghost use Rattle.dep_row_maps.specs.Stored.{move_parts};
 ghost use Rattle.dep_row_maps.specs.TablesAre.{TablesAre};
 ghost use Rattle.dep_row_maps.specs.Clauses.{Becomes, FromMaps, KeepsOurs, FailsUncommitted};
 ghost use Rattle.dep_row_maps.specs.Causes.{FailsByOne, FailsByStatement};
 ghost use Rattle.dep_staging.specs.Assembling.{HasItsSegments, deposited};
 
 use dep_tables::{
-    BlockOwner, Statements, delete_segments, delete_sha512, delete_upload, insert_file,
-    insert_sha512, move_part,
+    BlockKey, BlockOwner, Statements, delete_segments, delete_sha512, delete_upload, first_block,
+    insert_file, insert_sha512, move_blocks, move_run, run_end,
 };
 use dep_types::{FileRow, StoreFault, UploadRow};
 
-fn move_parts<T: Statements>(
-    tx: &mut T,
-    upload: u64,
-    count: u64,
-    file: u64,
-) -> Result<(), StoreFault>
+/// Gives the blocks of an upload to a file, run by run, since one statement holds all rows that it moves.
+fn move_content<T: Statements>(tx: &mut T, upload: u64, file: u64) -> Result<(), StoreFault>
     ensures ok { Becomes (T.state tx.old) (T.state tx.new) result
-        (λ t. record t {
-          blocks = move_parts (owner.Upload upload) (owner.File file)
-              (range_with_len 1 count) t.blocks;
-        }) }
+        (with_blocks_moved (owner.Upload upload) (owner.File file)) }
     ensures cause { FailsByOne T.state tx.old tx.new result
-        ((upload < 2 ^ 63) × (count < 2 ^ 63) × (file < 2 ^ 63)) FailsByStatement }
+        ((upload < 2 ^ 63) × (file < 2 ^ 63)) FailsByStatement }
     ensures err { FailsUncommitted (T.state tx.old) (T.state tx.new) result }
     ensures stays { StaysWithin T.lenders T.state tx.old tx.new result }
 {
-    for before in 0..count {
-        move_part(tx, upload, before + 1, file)?;
+    'runs: for passed in 0..u64::MAX {
+        let Some(start) = first_block(tx, BlockOwner::Upload(upload))? else {
+            return Ok(());
+        };
+        let at = run_end(start);
+        let end = BlockKey {
+            owner: BlockOwner::Upload(upload),
+            at,
+        };
+        move_run(tx, &end, BlockOwner::File(file))?;
     }
-    Ok(())
+    // What so many runs leave, if anything, is moved at once.
+    move_blocks(tx, BlockOwner::Upload(upload), BlockOwner::File(file))
 }
 
-/// Makes a file of an upload each of whose segments was received: its bytes become the file's, part
-/// by part, and the upload goes with its segments and what was promised of it. It is a fault of the
-/// store where the number of the file is taken, and where a number is 2^63 or more.
+/// Makes a file of an upload each of whose segments was received: its bytes become the file's, and
+/// the upload goes with its segments and what was promised of it. It is a fault of the store where
+/// the number of the file is taken, and where a number is 2^63 or more.
 pub fn assemble<T: Statements>(
     tx: &mut T,
     upload: &UploadRow,
@@ -67,7 +68,7 @@ pub fn assemble<T: Statements>(
     ensures err { FailsUncommitted (T.state tx.old) (T.state tx.new) result }
     ensures stays { StaysWithin T.lenders T.state tx.old tx.new result }
 {
-    move_parts(tx, upload.upload, upload.count, row.file)?;
+    move_content(tx, upload.upload, row.file)?;
     delete_sha512(tx, BlockOwner::Upload(upload.upload))?;
     delete_segments(tx, upload.upload)?;
     delete_upload(tx, upload.upload)?;

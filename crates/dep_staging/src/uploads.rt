@@ -12,9 +12,10 @@ ghost use Rattle.dep_row_maps.specs.Clauses.{FromMaps, KeepsOurs, FailsUncommitt
 ghost use Rattle.dep_row_maps.specs.Causes.{FailsByOne};
 ghost use Rattle.dep_staging.specs.Causes.{FailsToDrop, FailsToOpen};
 
+use dep_files::delete_blocks;
 use dep_tables::{
-    BlockOwner, Statements, UploadColumns, delete_blocks, delete_segments, delete_sha512,
-    delete_upload, insert_sha512, insert_upload,
+    BlockOwner, Statements, UploadColumns, delete_segments, delete_sha512, delete_upload,
+    insert_sha512, insert_upload,
 };
 use dep_types::{StoreFault, UploadRow};
 

@@ -1,5 +1,5 @@
 -- The bytes of contents, in blocks.
-use Rattle.std.proofs.Common.{◌≡◌, ℕ, ℤ, pos, List, [], ◌∷◌, map, filter, not, true, false, ◌&&◌, ◌||◌, if◌then◌else◌, Option, Ok, codes, refl, sym, ap, ap₂, ◌∙◌}
+use Rattle.std.proofs.Common.{◌≡◌, ℕ, ℤ, pos, List, [], ◌∷◌, map, filter, not, true, false, ◌&&◌, ◌||◌, if◌then◌else◌, ◌++◌, Option, Ok, codes, Bool, refl, sym, ap, ap₂, ◌∙◌}
 use Rattle.std.specs.Option.{option_to_list, option_map}
 use Rattle.std.specs.List.{list_any}
 use Rattle.std.proofs.lemmas.Bool.{and_parts, and_from}
@@ -12,21 +12,24 @@ use Rattle.sqlite.specs.Rowids.TheVariants.{Chosen}
 use Rattle.sqlite.specs.Cast.{cast}
 use Rattle.sqlite.specs.Kind.TheVariants.{Integer}
 use Rattle.sqlite.specs.Order.{Row, column}
-use Rattle.sqlite.specs.Term.{Term, lit, col, op2}
+use Rattle.sqlite.specs.Term.{Term, lit, col, op2, holds}
 use Rattle.sqlite.specs.State.{State, ExecutesInside, Shown}
 use Rattle.sqlite.specs.declared.types.Value.TheVariants.{Null, Int, Blob}
 use Rattle.sqlite_value.specs.declared.keys.Key.{Key}
 use Rattle.sqlite_value.specs.Keys.{plain, first_key}
 use Rattle.sqlite_value.specs.Order.{value_cmp}
 use Rattle.sqlite_value.proofs.OrderLemmas.{value_cmp_total, then-Equal}
-use Rattle.sqlite_sql.specs.declared.ops.BinaryOp.TheVariants.{And, Or}
+use Rattle.sqlite_value.specs.declared.keys.Collation.TheVariants.{Binary}
+use Rattle.sqlite_sql.specs.Ops.{binary, is_true}
+use Rattle.sqlite_sql.specs.declared.ops.BinaryOp.TheVariants.{And, Or, Compare}
+use Rattle.sqlite_sql.specs.declared.ops.CompareOp.TheVariants.{Lt}
 use Rattle.sqlite_schema.specs.Rules.{agree}
 use Rattle.sqlite_rules.specs.Edit.{with_rowid}
 use Rattle.sqlite_rules.specs.Lists.{Has}
-use Rattle.dep_statements.specs.Query.{equals, exceeds, no_limit, rising, passes}
-use Rattle.dep_statements.specs.Rows.{put_next, columns_from, IsFirst}
+use Rattle.dep_statements.specs.Query.{equals, exceeds, falls_below, no_limit, rising, passes}
+use Rattle.dep_statements.specs.Rows.{put_next, columns_from, is_below_number, IsFirst}
 use Rattle.dep_statements.proofs.Values.{cast_int, cast_null}
-use Rattle.dep_statements.proofs.Tests.{equals_int, holds_number, holds_above, holds_both, holds_either, passes_two, passes_three, passes_four}
+use Rattle.dep_statements.proofs.Tests.{equals_int, holds_number, holds_above, holds_both, holds_either, passes_below, passes_two, passes_three, passes_four}
 use Rattle.dep_statements.proofs.Edits.{key_of, has_its_key}
 use Rattle.dep_statements.proofs.Typed.{kept_integer, stored_column}
 use Rattle.dep_statements.proofs.Unique.{IsKey}
@@ -34,12 +37,11 @@ use Rattle.dep_statements.proofs.Results.{changed_by}
 use Rattle.dep_statements.proofs.Written.{Inserts, Deletes, Updates, inserts_next, deletes_where, updates_where}
 use Rattle.dep_statements.proofs.Selected.{Asks, first_only, selects_all, selects_first}
 use Rattle.dep_tables.specs.Schema.{our_schema, blocks_table}
-use Rattle.dep_tables.specs.Texts.{insert_block_text, delete_blocks_text, move_part_text, read_block_text, next_block_text}
+use Rattle.dep_tables.specs.Texts.{insert_block_text, delete_blocks_text, delete_run_text, move_blocks_text, move_run_text, read_block_text, first_block_text, next_block_text}
 use Rattle.dep_tables.specs.declared.owner.BlockOwner.{BlockOwner}
-use Rattle.dep_tables.specs.declared.owner.BlockOwner.TheVariants.{File, Upload}
 use Rattle.dep_tables.specs.declared.owner.BlockKey.{BlockKey}
 use Rattle.dep_tables.specs.declared.owner.BlockPlace.{BlockPlace}
-use Rattle.dep_tables.specs.Rows.{kind_of, number_of, owner_values, key_values, block_values, move_values, place_values, bytes_in, shown_place, is_block, is_block_of, is_part_of, is_later_block, moved_to, by_part_and_place}
+use Rattle.dep_tables.specs.Rows.{kind_of, number_of, owner_values, key_values, block_values, move_values, move_run_values, place_values, bytes_in, shown_place, is_block, is_block_of, is_earlier_block, is_later_block, moved_to, by_part_and_place}
 use Rattle.dep_tables.specs.Tables.{tables_of, IsOurs, Leads}
 use Rattle.dep_tables.proofs.Leading.{leads, blocks_at}
 use Rattle.dep_tables.proofs.Answered.{read_few, read_first}
@@ -94,36 +96,73 @@ deletes_blocks old new o count ours h =
     leads old new 10 _ ours
     (deletes_where our_schema 8 10 blocks_at delete_blocks_text (owner_values o) old new ours.schema ours.trees.ordered.1.1.1.1.1.1.1.1.0 count h of_owner delete_is (is_block_of o) (tests_owner o)) _ refl
 
--- ---- the move of a part
+-- ---- the blocks of a part before a place
 
-abbrev of_part : List Term
-of_part = equals (col 1 1) (col 0 0) ∷ equals (col 1 2) (col 0 1) ∷ equals (col 1 3) (col 0 2) ∷ []
+abbrev earlier : List Term
+earlier = equals (col 1 1) (col 0 0) ∷ equals (col 1 2) (col 0 1) ∷ equals (col 1 3) (col 0 2) ∷ falls_below (col 1 4) (col 0 3) ∷ []
 
-tests_part : (upload part file : ℕ) (row : Row) → passes (move_values upload part file) of_part row ≡ is_part_of (Upload upload) part row
-tests_part upload part file row =
-    let params = move_values upload part file in
-    passes_three params row (equals (col 1 1) (col 0 0)) (equals (col 1 2) (col 0 1)) (equals (col 1 3) (col 0 2)) _ _ _ (holds_number params 0 1 1 row refl) (holds_number params 1 upload 2 row refl) (holds_number params 2 part 3 row refl)
+and_true : (b : Bool) → (b && true) ≡ b
+and_true true = refl
+and_true false = refl
 
-move_is : Updates our_schema move_part_text 8 10 of_part (col 1 0 ∷ col 0 3 ∷ col 0 4 ∷ col 1 3 ∷ col 1 4 ∷ col 1 5 ∷ [])
+-- column < ?, where a number is given
+holds_below : (params : Row) (slot n at : ℕ) (row : Row) → column params slot ≡ Int (pos n) → holds (params ∷ row ∷ []) (falls_below (col 1 at) (col 0 slot)) ≡ is_below_number at n row
+holds_below params slot n at row is = ap (λ v. is_true (binary (Compare Lt Binary) (column row at) v)) is ∙ sym (and_true _) ∙ passes_below n at row
+
+-- with the parameters of a key, whatever follows them
+tests_earlier : (k : BlockKey) (more row : Row) → passes (key_values k ++ more) earlier row ≡ is_earlier_block k row
+tests_earlier k more row =
+    let params = key_values k ++ more in
+    passes_four params row (equals (col 1 1) (col 0 0)) (equals (col 1 2) (col 0 1)) (equals (col 1 3) (col 0 2)) (falls_below (col 1 4) (col 0 3)) _ _ _ _ (holds_number params 0 (kind_of k.owner) 1 row refl) (holds_number params 1 (number_of k.owner) 2 row refl)
+    (holds_number params 2 k.at.part 3 row refl) (holds_below params 3 k.at.place 4 row refl)
+
+delete_run_is : Deletes our_schema delete_run_text 8 10 earlier
 unfolding understood everything
-move_is = (refl, (refl, refl))
+delete_run_is = (refl, (refl, refl))
 
--- what the UPDATE stores of a block that is there
-moves_row : (s : State) → IsOurs s → (upload part file : ℕ) (r : Row) → Has (s.now.trees 10) r
-    → changed_by blocks_table (col 1 0 ∷ col 1 0 ∷ col 0 3 ∷ col 0 4 ∷ col 1 3 ∷ col 1 4 ∷ col 1 5 ∷ []) (move_values upload part file) r ≡ moved_to (File file) r
-moves_row s ours upload part file r there =
+pub deletes_run : (old new : State) (k : BlockKey) (count : ℕ) → IsOurs old → ExecutesInside 0 delete_run_text (key_values k) old new (Ok count)
+    → Leads old new (record (tables_of old) { blocks = filter (λ r. not (is_earlier_block k r)) (tables_of old).blocks })
+deletes_run old new k count ours h =
+    leads old new 10 _ ours
+    (deletes_where our_schema 8 10 blocks_at delete_run_text (key_values k) old new ours.schema ours.trees.ordered.1.1.1.1.1.1.1.1.0 count h earlier delete_run_is (is_earlier_block k) (tests_earlier k [])) _ refl
+
+-- ---- moves
+
+-- what an UPDATE stores of a block that is there, whose new owner stands in these two of its parameters
+moves_row : (s : State) → IsOurs s → (to : BlockOwner) (params : Row) (kind number : ℕ) → column params kind ≡ Int (pos (kind_of to)) → column params number ≡ Int (pos (number_of to)) → (r : Row) → Has (s.now.trees 10) r
+    → changed_by blocks_table (col 1 0 ∷ col 1 0 ∷ col 0 kind ∷ col 0 number ∷ col 1 3 ∷ col 1 4 ∷ col 1 5 ∷ []) params r ≡ moved_to to r
+moves_row s ours to params kind number kind_is number_is r there =
     let keyed = has_its_key (s.now.trees 10) r ours.trees.ordered.1.1.1.1.1.1.1.1.0 there in
     let id : cast Integer (column r 0) ≡ column r 0 = ap (cast Integer) keyed ∙ cast_int (key_of r) ∙ sym keyed in
     let part = kept_integer (column r 3) (stored_column our_schema blocks_table 8 refl refl s.now.trees ours.trees.sound.obeys r there 2 _ _ _ refl) in
     let place = kept_integer (column r 4) (stored_column our_schema blocks_table 8 refl refl s.now.trees ours.trees.sound.obeys r there 3 _ _ _ refl) in
-    λ i. id i ∷ cast_int (pos 0) i ∷ cast_int (pos file) i ∷ part i ∷ place i ∷ column r 5 ∷ []
+    λ i. id i ∷ (ap (cast Integer) kind_is ∙ cast_int (pos (kind_of to))) i ∷ (ap (cast Integer) number_is ∙ cast_int (pos (number_of to))) i ∷ part i ∷ place i ∷ column r 5 ∷ []
 
-pub moves_part : (old new : State) (upload part file count : ℕ) → IsOurs old → ExecutesInside 0 move_part_text (move_values upload part file) old new (Ok count)
-    → Leads old new (record (tables_of old) { blocks = map (λ r. if is_part_of (Upload upload) part r then moved_to (File file) r else r) (tables_of old).blocks })
-moves_part old new upload part file count ours h =
+tests_moved : (o to : BlockOwner) (row : Row) → passes (move_values o to) of_owner row ≡ is_block_of o row
+tests_moved o to row =
+    passes_two (move_values o to) row (equals (col 1 1) (col 0 0)) (equals (col 1 2) (col 0 1)) _ _ (holds_number (move_values o to) 0 (kind_of o) 1 row refl) (holds_number (move_values o to) 1 (number_of o) 2 row refl)
+
+move_is : Updates our_schema move_blocks_text 8 10 of_owner (col 1 0 ∷ col 0 2 ∷ col 0 3 ∷ col 1 3 ∷ col 1 4 ∷ col 1 5 ∷ [])
+unfolding understood everything
+move_is = (refl, (refl, refl))
+
+pub moves_blocks : (old new : State) (o to : BlockOwner) (count : ℕ) → IsOurs old → ExecutesInside 0 move_blocks_text (move_values o to) old new (Ok count)
+    → Leads old new (record (tables_of old) { blocks = map (λ r. if is_block_of o r then moved_to to r else r) (tables_of old).blocks })
+moves_blocks old new o to count ours h =
     leads old new 10 _ ours
-    (updates_where our_schema 8 10 blocks_at move_part_text (move_values upload part file) old new ours.schema ours.trees.ordered.1.1.1.1.1.1.1.1.0 count h of_part _ move_is (is_part_of (Upload upload) part) (moved_to (File file))
-    (tests_part upload part file) (λ r there passing. (moves_row old ours upload part file r there, refl))) _ refl
+    (updates_where our_schema 8 10 blocks_at move_blocks_text (move_values o to) old new ours.schema ours.trees.ordered.1.1.1.1.1.1.1.1.0 count h of_owner _ move_is (is_block_of o) (moved_to to)
+    (tests_moved o to) (λ r there passing. (moves_row old ours to (move_values o to) 2 3 refl refl r there, refl))) _ refl
+
+move_run_is : Updates our_schema move_run_text 8 10 earlier (col 1 0 ∷ col 0 4 ∷ col 0 5 ∷ col 1 3 ∷ col 1 4 ∷ col 1 5 ∷ [])
+unfolding understood everything
+move_run_is = (refl, (refl, refl))
+
+pub moves_run : (old new : State) (k : BlockKey) (to : BlockOwner) (count : ℕ) → IsOurs old → ExecutesInside 0 move_run_text (move_run_values k to) old new (Ok count)
+    → Leads old new (record (tables_of old) { blocks = map (λ r. if is_earlier_block k r then moved_to to r else r) (tables_of old).blocks })
+moves_run old new k to count ours h =
+    leads old new 10 _ ours
+    (updates_where our_schema 8 10 blocks_at move_run_text (move_run_values k to) old new ours.schema ours.trees.ordered.1.1.1.1.1.1.1.1.0 count h earlier _ move_run_is (is_earlier_block k) (moved_to to)
+    (tests_earlier k (owner_values to)) (λ r there passing. (moves_row old ours to (move_run_values k to) 4 5 refl refl r there, refl))) _ refl
 
 -- ---- reading a block
 
@@ -181,3 +220,17 @@ nexts_block old new k found ours read =
     read_first place_values 2 shown_place (λ row. refl) by_part_and_place (filter (is_later_block k) (tables_of old).blocks) read.0 (option_to_list found)
     (selects_first our_schema next_block_text (key_values k) old ours.schema 10 blocks_at.own later _ (is_later_block k) (tests_later k) order by_part_and_place by_place_total
     (λ a b. ap (ordering_then (value_cmp (column a 3) (column b 3))) (then-Equal (value_cmp (column a 4) (column b 4)))) new next_is read.0 read.1) read.2
+
+-- ---- the first block
+
+pub first_is : Asks our_schema first_block_text 10 of_owner (col 1 3 ∷ col 1 4 ∷ []) order first_only
+unfolding understood everything
+first_is = record { names = _; is = refl; unlisted = refl; plain = (refl, refl) }
+
+pub firsts_block : (old new : State) (o : BlockOwner) (found : Option BlockPlace) → IsOurs old
+    → (rows : List Row) × Shown first_block_text (owner_values o) old new rows × (map place_values (option_to_list found) ≡ map (columns_from 0 2) rows)
+    → IsFirst by_part_and_place (map shown_place (filter (is_block_of o) (tables_of old).blocks)) (map place_values (option_to_list found))
+firsts_block old new o found ours read =
+    read_first place_values 2 shown_place (λ row. refl) by_part_and_place (filter (is_block_of o) (tables_of old).blocks) read.0 (option_to_list found)
+    (selects_first our_schema first_block_text (owner_values o) old ours.schema 10 blocks_at.own of_owner _ (is_block_of o) (tests_owner o) order by_part_and_place by_place_total
+    (λ a b. ap (ordering_then (value_cmp (column a 3) (column b 3))) (then-Equal (value_cmp (column a 4) (column b 4)))) new first_is read.0 read.1) read.2

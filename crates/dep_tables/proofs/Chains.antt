@@ -1,8 +1,8 @@
 -- One call on a transaction after another.
-use Rattle.std.proofs.Common.{Result, Ok, IsErr, ◌∙◌, arith}
+use Rattle.std.proofs.Common.{◌≡◌, ◌⊎◌, inl, inr, IsTrue, Result, Ok, IsErr, sym, subst, ◌∙◌, arith}
 use Rattle.std.specs.Prelude.{⊤}
 use Rattle.std.proofs.lemmas.Result.{IfOk-from_err}
-use Rattle.sqlite.specs.State.{State, HasCleanDisk, Survives}
+use Rattle.sqlite.specs.State.{State, HasCleanDisk, IsUnchanged, IsRolledBack, Survives}
 use Rattle.sqlite.proofs.StateLemmas.{survives_then}
 use Rattle.sqlite.proofs.InsideLemmas.{keeps_then}
 use Rattle.dep_tables.specs.Clauses.{StaysWithin}
@@ -14,6 +14,11 @@ was_clean old new survives clean = omega (arith, clean, survives.clean)
 -- nothing was committed by two calls
 pub survived : (old mid new : State) → Survives old mid (λ _. ⊥) → Survives mid new (λ _. ⊥) → Survives old new (λ _. ⊥)
 survived old mid new first second = survives_then old mid new _ _ (λ _. ⊥) (λ _ db none. none) (λ _ db none. none) first second
+
+-- what a failed statement leaves of a transaction
+pub left_whole : (old new : State) → IsTrue old.in_transaction → IsTrue new.is_open → IsUnchanged old new ⊎ IsRolledBack old new → (new.committed ≡ old.committed) × (IsTrue new.in_transaction ⊎ (new.now ≡ old.committed))
+left_whole old new inside is_open (inl same) = (same.0.committed_is, inl (subst IsTrue (sym same.0.mode) inside))
+left_whole old new inside is_open (inr back) = ((back.undone is_open).1, inr (back.undone is_open).0)
 
 -- what an Ok keeps, with no value
 abbrev pub Stays : {T L : Type 0} → (T → L) → (T → State) → T → T → Type 0

@@ -40,6 +40,13 @@ module _ {A E : Type 0} (old new : State) (result : Result A E) where
   FailsReading = HasCleanDisk new → IsTrue old.in_transaction → IsOurs old → IsTrue new.is_open
       → OnErr result (IsUnchanged old new ⊎ IsRolledBack old new)
 
+  -- a failure has committed nothing: the transaction goes on, for its owner to give back, or has
+  -- ended as it began
+  abbrev pub FailsInside : Type 0
+  FailsInside = HasCleanDisk new → IsTrue old.in_transaction → IsTrue new.is_open
+      → OnErr result ((new.committed ≡ old.committed)
+      × (IsTrue new.in_transaction ⊎ (new.now ≡ old.committed)))
+
   -- after an Ok the transaction goes on
   abbrev pub GoesOn : Type 0
   GoesOn = HasCleanDisk new → IsTrue old.in_transaction → OnOk result (IsTrue new.in_transaction)

@@ -16,10 +16,9 @@ use Rattle.dep_tables.specs.declared.segments.SegmentRow.{SegmentRow}
 use Rattle.dep_tables.specs.declared.uploads.LeftUpload.{LeftUpload}
 use Rattle.dep_tables.specs.declared.uploads.UploadColumns.{UploadColumns}
 use Rattle.dep_tables.specs.declared.owner.BlockOwner.{BlockOwner}
-use Rattle.dep_tables.specs.declared.owner.BlockOwner.TheVariants.{File, Upload}
 use Rattle.dep_tables.specs.declared.owner.BlockKey.{BlockKey}
 use Rattle.dep_tables.specs.declared.owner.BlockPlace.{BlockPlace}
-use Rattle.dep_tables.specs.Rows.{stored_format, sha512_values, is_sha512_of, is_sha512_of_row, value_in, stored_state, state_values, shown_state, stored_object, object_values, shown_object, metadata_values, shown_metadata, has_metadata_key, by_name_and_place, stored_file, file_values, shown_file, sha256_values, shown_sha256, by_file, stored_upload, upload_values, shown_upload, segment_values, shown_segment, has_segment_key, by_number, stored_number, block_values, bytes_in, shown_place, place_values, is_block, is_block_of, is_part_of, is_later_block, moved_to, by_part_and_place, left_values, shown_left, by_last_and_upload}
+use Rattle.dep_tables.specs.Rows.{stored_format, sha512_values, is_sha512_of, is_sha512_of_row, value_in, stored_state, state_values, shown_state, stored_object, object_values, shown_object, metadata_values, shown_metadata, has_metadata_key, by_name_and_place, stored_file, file_values, shown_file, sha256_values, shown_sha256, by_file, stored_upload, upload_values, shown_upload, segment_values, shown_segment, has_segment_key, by_number, stored_number, block_values, bytes_in, shown_place, place_values, is_block, is_block_of, is_earlier_block, is_later_block, moved_to, by_part_and_place, left_values, shown_left, by_last_and_upload}
 use Rattle.dep_tables.specs.Tables.{Tables}
 use Rattle.dep_tables.specs.Versions.{our_version}
 
@@ -168,17 +167,29 @@ with_new_block key bytes t = record t { blocks = put_next (block_values key byte
 abbrev pub without_blocks_of : BlockOwner → Tables → Tables
 without_blocks_of owner t = record t { blocks = filter (λ r. not (is_block_of owner r)) t.blocks }
 
--- the blocks of one part of an upload are a file's
-abbrev pub with_part_moved : ℕ → ℕ → ℕ → Tables → Tables
-with_part_moved upload part file t = record t {
-  blocks = map (λ r. if is_part_of (Upload upload) part r then moved_to (File file) r else r) t.blocks;
-}
+-- the blocks of an owner are another's; those of one part before a place are, or are gone
+abbrev pub with_blocks_moved : (o to : BlockOwner) → Tables → Tables
+with_blocks_moved o to t =
+    record t { blocks = map (λ r. if is_block_of o r then moved_to to r else r) t.blocks }
+
+abbrev pub with_run_moved : BlockKey → BlockOwner → Tables → Tables
+with_run_moved end to t =
+    record t { blocks = map (λ r. if is_earlier_block end r then moved_to to r else r) t.blocks }
+
+abbrev pub without_run : BlockKey → Tables → Tables
+without_run end t = record t { blocks = filter (λ r. not (is_earlier_block end r)) t.blocks }
 
 abbrev pub LacksBlock : BlockKey → Tables → Type 0
 LacksBlock key t = list_any (is_block key) t.blocks ≡ false
 
 abbrev pub AreBytesAt : BlockKey → Tables → List Value → Type 0
 AreBytesAt key t found = map bytes_in (filter (is_block key) t.blocks) ≡ found
+
+-- the first of an owner, by part and place
+abbrev pub IsFirstBlock : BlockOwner → Tables → Option BlockPlace → Type 0
+IsFirstBlock owner t found =
+    IsFirst by_part_and_place (map shown_place (filter (is_block_of owner) t.blocks))
+    (map place_values (option_to_list found))
 
 abbrev pub IsBlockAfter : BlockKey → Tables → Option BlockPlace → Type 0
 IsBlockAfter key t found =

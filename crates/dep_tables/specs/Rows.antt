@@ -9,7 +9,7 @@ use Rattle.sqlite.specs.Order.{Row, column}
 use Rattle.sqlite.specs.Values.{or_null}
 use Rattle.sqlite_value.specs.Order.{value_cmp}
 use Rattle.sqlite_trees.specs.Tree.{rowid}
-use Rattle.dep_statements.specs.Rows.{has_number, exceeds_number, columns_from}
+use Rattle.dep_statements.specs.Rows.{has_number, exceeds_number, is_below_number, columns_from}
 use Rattle.dep_types.specs.declared.rows.ObjectRow.{ObjectRow}
 use Rattle.dep_types.specs.declared.rows.FileRow.{FileRow}
 use Rattle.dep_types.specs.declared.rows.UploadRow.{UploadRow}
@@ -329,9 +329,6 @@ number_of (Upload n) = n
 abbrev pub owner_values : BlockOwner → Row
 owner_values o = Int (pos (kind_of o)) ∷ Int (pos (number_of o)) ∷ []
 
-abbrev pub part_values : BlockOwner → ℕ → Row
-part_values o part = Int (pos (kind_of o)) ∷ Int (pos (number_of o)) ∷ Int (pos part) ∷ []
-
 abbrev pub key_values : BlockKey → Row
 key_values k =
     Int (pos (kind_of k.owner)) ∷ Int (pos (number_of k.owner)) ∷ Int (pos k.at.part)
@@ -342,11 +339,16 @@ block_values k bytes =
     Int (pos (kind_of k.owner)) ∷ Int (pos (number_of k.owner)) ∷ Int (pos k.at.part)
     ∷ Int (pos k.at.place) ∷ Blob bytes ∷ []
 
--- the blocks of this part of an upload, and the file that they are moved to
-abbrev pub move_values : ℕ → ℕ → ℕ → Row
-move_values upload part file =
-    Int (pos (kind_of (Upload upload))) ∷ Int (pos upload) ∷ Int (pos part)
-    ∷ Int (pos (kind_of (File file))) ∷ Int (pos file) ∷ []
+-- whose the blocks are, and whose they become; those of a part before this place
+abbrev pub move_values : (o to : BlockOwner) → Row
+move_values o to =
+    Int (pos (kind_of o)) ∷ Int (pos (number_of o)) ∷ Int (pos (kind_of to))
+    ∷ Int (pos (number_of to)) ∷ []
+
+abbrev pub move_run_values : BlockKey → BlockOwner → Row
+move_run_values k to =
+    Int (pos (kind_of k.owner)) ∷ Int (pos (number_of k.owner)) ∷ Int (pos k.at.part)
+    ∷ Int (pos k.at.place) ∷ Int (pos (kind_of to)) ∷ Int (pos (number_of to)) ∷ []
 
 abbrev pub place_values : BlockPlace → Row
 place_values p = Int (pos p.part) ∷ Int (pos p.place) ∷ []
@@ -388,6 +390,11 @@ is_part_of o part stored = is_block_of o stored && has_number 3 part stored
 
 abbrev pub is_block : BlockKey → Row → Bool
 is_block k stored = is_part_of k.owner k.at.part stored && has_number 4 k.at.place stored
+
+-- a block of the same part that comes earlier
+abbrev pub is_earlier_block : BlockKey → Row → Bool
+is_earlier_block k stored =
+    is_part_of k.owner k.at.part stored && is_below_number 4 k.at.place stored
 
 -- a block of the same owner that comes later
 abbrev pub is_later_block : BlockKey → Row → Bool

@@ -97,8 +97,17 @@ blocks_of_text = codes "SELECT part, place, bytes FROM blocks WHERE kind = ?1 AN
 abbrev pub delete_blocks_text : List ℕ
 delete_blocks_text = codes "DELETE FROM blocks WHERE kind = ?1 AND owner = ?2"
 
-abbrev pub move_part_text : List ℕ
-move_part_text = codes "UPDATE blocks SET kind = ?4, owner = ?5 WHERE kind = ?1 AND owner = ?2 AND part = ?3"
+abbrev pub move_blocks_text : List ℕ
+move_blocks_text = codes "UPDATE blocks SET kind = ?3, owner = ?4 WHERE kind = ?1 AND owner = ?2"
+
+abbrev pub first_block_text : List ℕ
+first_block_text = codes "SELECT part, place FROM blocks WHERE kind = ?1 AND owner = ?2 ORDER BY part, place LIMIT 1"
+
+abbrev pub delete_run_text : List ℕ
+delete_run_text = codes "DELETE FROM blocks WHERE kind = ?1 AND owner = ?2 AND part = ?3 AND place < ?4"
+
+abbrev pub move_run_text : List ℕ
+move_run_text = codes "UPDATE blocks SET kind = ?5, owner = ?6 WHERE kind = ?1 AND owner = ?2 AND part = ?3 AND place < ?4"
 
 abbrev pub insert_sha512_text : List ℕ
 insert_sha512_text = codes "INSERT INTO sha512s (kind, owner, value) VALUES (?1, ?2, ?3)"

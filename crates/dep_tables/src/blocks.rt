@@ -4,17 +4,16 @@ ghost use Rattle.std.specs.Prelude.{◌≡◌, ◌∷◌, [], pos, ◌<◌, ◌^
 ghost use Rattle.std.specs.Option.{option_to_list};
 ghost use Rattle.sqlite.specs.declared.types.Value.TheVariants.{Int, Blob};
 ghost use Rattle.sqlite.specs.Values.{bound};
-ghost use Rattle.dep_tables.specs.Rows.{IsStorableOwner, owner_values, IsStorableKey, key_values, block_values, move_values, place_values, IsBytesRow, IsPlaceRow};
-ghost use Rattle.dep_tables.specs.Edits.{with_new_block, without_blocks_of, with_part_moved, LacksBlock, AreBytesAt, IsBlockAfter};
-ghost use Rattle.dep_tables.specs.Clauses.{AtMostOne, Changes, Shows, Reads, ReadsOnly, FailsWhole, FailsReading, RefusesNumbers, FailsByRunning, FailsByReading, FailsByReadingNumbers, StaysWithin};
-ghost use Rattle.dep_tables.specs.Texts.{insert_block_text, delete_blocks_text, move_part_text, read_block_text, next_block_text};
+ghost use Rattle.dep_tables.specs.Rows.{IsStorableOwner, owner_values, IsStorableKey, key_values, block_values, move_values, move_run_values, place_values, IsBytesRow, IsPlaceRow};
+ghost use Rattle.dep_tables.specs.Edits.{with_new_block, without_blocks_of, without_run, with_blocks_moved, with_run_moved, LacksBlock, AreBytesAt, IsFirstBlock, IsBlockAfter};
+ghost use Rattle.dep_tables.specs.Clauses.{AtMostOne, Changes, Shows, Reads, ReadsOnly, FailsWhole, FailsInside, FailsReading, RefusesNumbers, FailsByRunning, FailsByReading, FailsByReadingNumbers, StaysWithin};
+ghost use Rattle.dep_tables.specs.Texts.{insert_block_text, delete_blocks_text, delete_run_text, move_blocks_text, move_run_text, read_block_text, first_block_text, next_block_text};
 
 use crate::calls::Statements;
 use crate::columns::ColumnKind::{self, Bytes, Number};
-use crate::numbers::{LIMIT, number_at};
+use crate::numbers::number_at;
 use crate::owner::{
     BlockKey, BlockOwner, BlockPlace, is_storable_key, is_storable_owner, key_params, owner_params,
-    part_params,
 };
 use crate::reading::{FromRow, ask_one};
 use dep_types::StoreFault;
@@ -73,40 +72,84 @@ pub fn delete_blocks<T: Statements>(tx: &mut T, owner: BlockOwner) -> Result<(),
     )
 }
 
-fn move_params(upload: u64, part: u64, file: u64) -> [ValueRef<'static>; 5]
-    requires upload { upload < 2 ^ 63 }
-    requires part { part < 2 ^ 63 }
-    requires file { file < 2 ^ 63 }
-    ensures { bound result ≡ move_values upload part file }
-{
-    let [kind, owner, part] = part_params(BlockOwner::Upload(upload), part);
-    let [new_kind, new_owner] = owner_params(BlockOwner::File(file));
-    [kind, owner, part, new_kind, new_owner]
-}
-
-/// Gives the blocks of one part of an upload to a file. It is a fault of the store where the file has a block of that key, and where a number is 2^63 or more.
-pub fn move_part<T: Statements>(
-    tx: &mut T,
-    upload: u64,
-    part: u64,
-    file: u64,
-) -> Result<(), StoreFault>
-    ensures ok { Changes (T.state tx.old) (T.state tx.new) result
-        (with_part_moved upload part file) }
+/// Deletes the blocks of a part that stand before a place. A number of 2^63 or more is a fault of the store.
+pub fn delete_run<T: Statements>(tx: &mut T, end: &BlockKey) -> Result<(), StoreFault>
+    ensures ok { Changes (T.state tx.old) (T.state tx.new) result (without_run end.now) }
     ensures numbers { RefusesNumbers (T.state tx.old) (T.state tx.new) result
-        ((upload < 2 ^ 63) × (part < 2 ^ 63) × (file < 2 ^ 63)) }
+        (IsStorableKey end.now) }
     ensures cause { FailsByRunning (T.state tx.old) (T.state tx.new) result
-        ((upload < 2 ^ 63) × (part < 2 ^ 63)
-        × (file < 2 ^ 63)) move_part_text (move_values upload part file) }
+        (IsStorableKey end.now) delete_run_text (key_values end.now) }
     ensures err { FailsWhole (T.state tx.old) (T.state tx.new) result }
     ensures stays { StaysWithin T.lenders T.state tx.old tx.new result }
 {
-    if upload >= LIMIT || part >= LIMIT || file >= LIMIT {
+    if !is_storable_key(end) {
         return Err(StoreFault::Store);
     }
     tx.run(
-        "UPDATE blocks SET kind = ?4, owner = ?5 WHERE kind = ?1 AND owner = ?2 AND part = ?3",
-        &move_params(upload, part, file),
+        "DELETE FROM blocks WHERE kind = ?1 AND owner = ?2 AND part = ?3 AND place < ?4",
+        &key_params(end),
+    )
+}
+
+fn move_params(owner: BlockOwner, to: BlockOwner) -> [ValueRef<'static>; 4]
+    requires owner { IsStorableOwner owner }
+    requires to { IsStorableOwner to }
+    ensures { bound result ≡ move_values owner to }
+{
+    let [kind, number] = owner_params(owner);
+    let [new_kind, new_number] = owner_params(to);
+    [kind, number, new_kind, new_number]
+}
+
+/// Gives the blocks of an owner to another. It is a fault of the store where that has a block of the same part and place, and where a number is 2^63 or more.
+pub fn move_blocks<T: Statements>(
+    tx: &mut T,
+    owner: BlockOwner,
+    to: BlockOwner,
+) -> Result<(), StoreFault>
+    ensures ok { Changes (T.state tx.old) (T.state tx.new) result (with_blocks_moved owner to) }
+    ensures numbers { RefusesNumbers (T.state tx.old) (T.state tx.new) result
+        (IsStorableOwner owner × IsStorableOwner to) }
+    ensures cause { FailsByRunning (T.state tx.old) (T.state tx.new) result
+        (IsStorableOwner owner × IsStorableOwner to) move_blocks_text (move_values owner to) }
+    ensures err { FailsWhole (T.state tx.old) (T.state tx.new) result }
+    ensures stays { StaysWithin T.lenders T.state tx.old tx.new result }
+{
+    if !is_storable_owner(owner) || !is_storable_owner(to) {
+        return Err(StoreFault::Store);
+    }
+    tx.run(
+        "UPDATE blocks SET kind = ?3, owner = ?4 WHERE kind = ?1 AND owner = ?2",
+        &move_params(owner, to),
+    )
+}
+
+fn move_run_params(end: &BlockKey, to: BlockOwner) -> [ValueRef<'static>; 6]
+    requires end { IsStorableKey end.now }
+    requires to { IsStorableOwner to }
+    ensures { bound result ≡ move_run_values end.now to }
+{
+    let [kind, number, part, place] = key_params(end);
+    let [new_kind, new_number] = owner_params(to);
+    [kind, number, part, place, new_kind, new_number]
+}
+
+/// Gives the blocks of a part that stand before a place to another owner. It is a fault of the store where that has a block of the same part and place, and where a number is 2^63 or more.
+pub fn move_run<T: Statements>(tx: &mut T, end: &BlockKey, to: BlockOwner) -> Result<(), StoreFault>
+    ensures ok { Changes (T.state tx.old) (T.state tx.new) result (with_run_moved end.now to) }
+    ensures numbers { RefusesNumbers (T.state tx.old) (T.state tx.new) result
+        (IsStorableKey end.now × IsStorableOwner to) }
+    ensures cause { FailsByRunning (T.state tx.old) (T.state tx.new) result
+        (IsStorableKey end.now × IsStorableOwner to) move_run_text (move_run_values end.now to) }
+    ensures err { FailsWhole (T.state tx.old) (T.state tx.new) result }
+    ensures stays { StaysWithin T.lenders T.state tx.old tx.new result }
+{
+    if !is_storable_key(end) || !is_storable_owner(to) {
+        return Err(StoreFault::Store);
+    }
+    tx.run(
+        "UPDATE blocks SET kind = ?5, owner = ?6 WHERE kind = ?1 AND owner = ?2 AND part = ?3 AND place < ?4",
+        &move_run_params(end, to),
     )
 }
 
@@ -175,6 +218,30 @@ pub fn read_block<T: Statements>(tx: &mut T, key: &BlockKey) -> Result<Option<Ve
         tx,
         "SELECT bytes FROM blocks WHERE kind = ?1 AND owner = ?2 AND part = ?3 AND place = ?4",
         &key_params(key),
+    )
+}
+
+/// The first block of an owner, by part and place. A number of 2^63 or more is a fault of the store.
+pub fn first_block<T: Statements>(
+    tx: &mut T,
+    owner: BlockOwner,
+) -> Result<Option<BlockPlace>, StoreFault>
+    ensures ok { Reads (T.state tx.old) (T.state tx.new) result (IsFirstBlock owner) }
+    ensures same { ReadsOnly (T.state tx.old) (T.state tx.new) result }
+    ensures numbers { RefusesNumbers (T.state tx.old) (T.state tx.new) result
+        (IsStorableOwner owner) }
+    ensures cause { FailsByReadingNumbers (T.state tx.old) (T.state tx.new) result
+        (IsStorableOwner owner) first_block_text (owner_values owner) (AtMostOne IsPlaceRow) }
+    ensures err { FailsInside (T.state tx.old) (T.state tx.new) result }
+    ensures stays { StaysWithin T.lenders T.state tx.old tx.new result }
+{
+    if !is_storable_owner(owner) {
+        return Err(StoreFault::Store);
+    }
+    ask_one(
+        tx,
+        "SELECT part, place FROM blocks WHERE kind = ?1 AND owner = ?2 ORDER BY part, place LIMIT 1",
+        &owner_params(owner),
     )
 }
 

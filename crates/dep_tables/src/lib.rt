@@ -20,7 +20,10 @@ mod texts;
 mod timed_out;
 mod uploads;
 
-pub use blocks::{delete_blocks, insert_block, move_part, next_block, read_block};
+pub use blocks::{
+    delete_blocks, delete_run, first_block, insert_block, move_blocks, move_run, next_block,
+    read_block,
+};
 pub use calls::Statements;
 pub use columns::ColumnKind;
 pub use fault::fault_of;
@@ -29,7 +32,9 @@ pub use format::write_version;
 pub use metadata::{MetadataRow, delete_metadata, insert_metadata, metadata_of};
 pub use numbers::{LIMIT, number_at};
 pub use objects::{delete_object, find_object, insert_object, next_object, write_object};
-pub use owner::{BlockKey, BlockOwner, BlockPlace, is_storable_owner, owner_params, part_params};
+pub use owner::{
+    BlockKey, BlockOwner, BlockPlace, RUN_LENGTH, is_storable_owner, owner_params, run_end,
+};
 pub use segments::{SegmentRow, delete_segments, insert_segment, segments_of};
 pub use sha256s::{FileSha256, sha256s_of};
 pub use sha512s::{FileSha512, delete_sha512, find_sha512, insert_sha512};

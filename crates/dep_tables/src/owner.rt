@@ -1,8 +1,8 @@
 //! Whose a block or a SHA-512 is, and the key of a block.
 
-ghost use Rattle.std.specs.Prelude.{◌≡◌, ◌↔◌, ◌<◌, ◌^◌, IsTrue};
+ghost use Rattle.std.specs.Prelude.{◌≡◌, ◌↔◌, ◌+◌, ◌-◌, ◌<◌, ◌^◌, min, IsTrue};
 ghost use Rattle.sqlite.specs.Values.{bound};
-ghost use Rattle.dep_tables.specs.Rows.{kind_of, number_of, owner_values, part_values, key_values, IsStorableOwner, IsStorableKey};
+ghost use Rattle.dep_tables.specs.Rows.{kind_of, number_of, owner_values, key_values, IsStorableOwner, IsStorableKey};
 
 use crate::numbers::{LIMIT, number};
 use sqlite::types::ValueRef;
@@ -24,6 +24,9 @@ pub struct BlockPlace {
     /// The place of the block in its part, from 0.
     pub place: u64,
 }
+
+/// How many places one statement on a run of blocks goes over, so that it holds few rows.
+pub const RUN_LENGTH: u64 = 64;
 
 /// The key of a block.
 #[derive(Clone, Copy, Debug, PartialEq, Eq)]
@@ -60,6 +63,18 @@ pub fn is_storable_owner(owner: BlockOwner) -> bool
     owner_number(owner) < LIMIT
 }
 
+/// Where the run of blocks ends that begins here: behind as many places of the same part. SQL keeps
+/// both numbers.
+pub fn run_end(start: BlockPlace) -> BlockPlace
+    ensures part { result.part ≡ min start.part (2 ^ 63 - 1) }
+    ensures place { result.place ≡ min (start.place + 64) (2 ^ 63 - 1) }
+{
+    BlockPlace {
+        part: start.part.min(LIMIT - 1),
+        place: start.place.saturating_add(RUN_LENGTH).min(LIMIT - 1),
+    }
+}
+
 pub(crate) fn is_storable_key(key: &BlockKey) -> bool
     ensures { IsTrue result ↔ IsStorableKey key.now }
 {
@@ -74,19 +89,6 @@ pub fn owner_params(owner: BlockOwner) -> [ValueRef<'static>; 2]
     [
         ValueRef::Int(number(kind_number(owner))),
         ValueRef::Int(number(owner_number(owner))),
-    ]
-}
-
-/// The kind and the number of an owner, and a part of it, as parameters of a statement.
-pub fn part_params(owner: BlockOwner, part: u64) -> [ValueRef<'static>; 3]
-    requires owner { IsStorableOwner owner }
-    requires part { part < 2 ^ 63 }
-    ensures { bound result ≡ part_values owner part }
-{
-    [
-        ValueRef::Int(number(kind_number(owner))),
-        ValueRef::Int(number(owner_number(owner))),
-        ValueRef::Int(number(part)),
     ]
 }
 

@@ -11,7 +11,7 @@ ghost use Rattle.dep_types.specs.declared.store_fault.StoreFault.TheVariants.{Me
 ghost use Rattle.dep_tables.specs.declared.columns.ColumnKind.{ColumnKind};
 ghost use Rattle.dep_tables.specs.Faults.{fault_for};
 ghost use Rattle.dep_tables.specs.Rows.{HasKinds, number_kinds};
-ghost use Rattle.dep_tables.specs.Clauses.{AtMostOne, IsFaultAt, FailsWithRows, FailsToRead, FailsWhole, ShowsColumns, IsPlainIn, StaysWithin};
+ghost use Rattle.dep_tables.specs.Clauses.{AtMostOne, IsFaultAt, FailsWithRows, FailsToRead, FailsWhole, FailsInside, ShowsColumns, IsPlainIn, StaysWithin};
 
 use crate::calls::Statements;
 use crate::columns::ColumnKind::{self, Number};
@@ -122,6 +122,7 @@ pub(crate) fn ask_one<T: Statements, R: FromRow>(
         → OnOk result (IsUnchanged (T.state tx.old) (T.state tx.new)) }
     ensures err { IsPlainIn (T.state tx.old) sql.now
         → FailsWhole (T.state tx.old) (T.state tx.new) result }
+    ensures within { FailsInside (T.state tx.old) (T.state tx.new) result }
     ensures stays { StaysWithin T.lenders T.state tx.old tx.new result }
 {
     let rows = tx.ask(sql, params)?;

@@ -6,9 +6,11 @@ use Rattle.dep_tables.proofs.Chains.{clean_before, stays_then, stays_ok, stays_e
 use Rattle.dep_tables.specs.Tables.{tables_of}
 use Rattle.dep_types.specs.declared.rows.FileRow.{FileRow}
 use Rattle.dep_row_maps.specs.Causes.{FailsByStatement}
-use Rattle.dep_row_maps.specs.Causes.FailsByStatement.{blocks_deleted, sha512_deleted}
-use Rattle.dep_row_maps.proofs.Causes.{fails_then, if_err_is}
-use Rattle.dep_files.proofs.Results.{fails_behind}
+use Rattle.dep_row_maps.specs.Causes.FailsByStatement.{sha512_deleted}
+use Rattle.dep_row_maps.proofs.Causes.{fails_then, fails_later, if_err_is}
+use Rattle.dep_files.specs.Causes.{FailsToDeleteBlocks}
+use Rattle.dep_files.proofs.Causes.{deletes_among}
+use Rattle.dep_files.proofs.Results.{fails_behind, uncommitted_behind}
 use Rattle.dep_files.proofs.FileCalls.{one_more_gone}
 use Rattle.dep_files.proofs.files.delete_contents.Goals as goal
 
@@ -26,7 +28,7 @@ rows-preserved g c =
           let before = clean_before c.delete_blocks.ensures.stays clean_one in
           let was = inv.1 before inside ours in
           let first = c.in_ok-delete_blocks.ensures.ok clean_one (inv.0.inside before inside) was.ours in
-          let second = c.in_ok-delete_sha512.ensures.ok clean first.shows.mode first.ours in
+          let second = c.in_ok-delete_sha512.ensures.ok clean ((stays_then inv.0 c.in_ok-delete_blocks.ensures.stays).inside clean_one inside) first.ours in
           record { ours = second.ours; rows = one_more_gone (tables_of old) (tables_of mid) (tables_of one) (tables_of new) c.args.rows.now c.rows.row-index _ within c.row-item.is was.rows first.rows second.rows },
     )
 
@@ -35,7 +37,7 @@ returns-in_err-delete_blocks-clause-stays g c = stays_err c.from_residual.ensure
 
 pub returns-in_err-delete_blocks-clause-err : goal.returns-in_err-delete_blocks-clause-err
 returns-in_err-delete_blocks-clause-err g c clean inside is_open =
-    if_failed _ (fails_behind c.rows.invariant.0 c.in_err-delete_blocks.ensures.stays c.in_err-delete_blocks.ensures.err clean inside is_open)
+    if_failed _ (uncommitted_behind c.rows.invariant.0 c.in_err-delete_blocks.ensures.stays c.in_err-delete_blocks.ensures.err clean inside is_open)
 
 pub returns-in_err-delete_sha512-clause-stays : goal.returns-in_err-delete_sha512-clause-stays
 returns-in_err-delete_sha512-clause-stays g c =
@@ -57,8 +59,8 @@ returns-in_err-delete_blocks-clause-cause g c storable clean inside =
     let before = clean_before c.delete_blocks.ensures.stays clean in
     let within : c.rows.row-index < length c.args.rows.now = omega arith in
     let below = subst (λ (r : FileRow). r.file < 2 ^ 63) (sym c.row-item.is) (All-get_or (λ (r : FileRow). r.file < 2 ^ 63) c.args.rows.now c.rows.row-index _ within storable) in
-    if_err_is _ c.from_residual.result c.in_err-delete_blocks.field-0.0 c.from_residual.ensures.1 (fails_then g.T.Statements.state old mid new inv.0.survives FailsByStatement _
-    (blocks_deleted _ (c.in_err-delete_blocks.ensures.cause below clean (inv.0.inside before inside))))
+    if_err_is _ c.from_residual.result c.in_err-delete_blocks.field-0.0 c.from_residual.ensures.1 (fails_later g.T.Statements.state old mid new inv.0.survives (FailsToDeleteBlocks _) FailsByStatement (deletes_among _) _
+    (c.in_err-delete_blocks.ensures.cause below clean (inv.0.inside before inside)))
 
 pub returns-in_err-delete_sha512-clause-cause : goal.returns-in_err-delete_sha512-clause-cause
 returns-in_err-delete_sha512-clause-cause g c storable clean inside =

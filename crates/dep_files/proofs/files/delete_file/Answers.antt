@@ -2,8 +2,11 @@ use Rattle.dep_tables.specs.Tables.{tables_of}
 use Rattle.dep_tables.proofs.Results.{ok_then, if_failed}
 use Rattle.dep_tables.proofs.Chains.{clean_before, stays_then, stays_err}
 use Rattle.dep_row_maps.specs.Causes.{FailsByStatement}
-use Rattle.dep_row_maps.specs.Causes.FailsByStatement.{blocks_deleted, file_deleted, sha512_deleted}
-use Rattle.dep_row_maps.proofs.Causes.{fails_first, fails_then, if_err_then, if_err_is, never_failed}
+use Rattle.dep_row_maps.specs.Causes.FailsByStatement.{file_deleted, sha512_deleted}
+use Rattle.dep_row_maps.proofs.Causes.{fails_among, fails_then, if_err_then, if_err_is, never_failed}
+use Rattle.dep_tables.specs.declared.owner.BlockOwner.TheVariants as owner
+use Rattle.dep_files.specs.Causes.{FailsToDeleteBlocks}
+use Rattle.dep_files.proofs.Causes.{deletes_among}
 use Rattle.dep_files.proofs.Results.{fails_behind}
 use Rattle.dep_files.proofs.FileCalls.{file_gone, file_absent}
 use Rattle.dep_files.proofs.files.delete_file.Goals as goal
@@ -17,7 +20,7 @@ returns-clause-map g c clean inside ours s are n o it there has =
     let clean_two = clean_before c.delete_file.ensures.stays clean in
     let clean_one = clean_before c.delete_sha512.ensures.stays clean_two in
     let first = c.in_ok-delete_blocks.ensures.ok clean_one inside ours in
-    let second = c.in_ok-delete_sha512.ensures.ok clean_two first.shows.mode first.ours in
+    let second = c.in_ok-delete_sha512.ensures.ok clean_two (c.in_ok-delete_blocks.ensures.stays.inside clean_one inside) first.ours in
     ok_then c.delete_file.result (c.delete_file.ensures.ok clean second.shows.mode second.ours)
     (λ leads. file_gone (tables_of old) (tables_of one) (tables_of two) (tables_of new) s c.args.file are ours.trees.ordered.1.1.1.1.0 first.rows second.rows leads.rows n o it there has)
 
@@ -30,7 +33,7 @@ returns-clause-absent g c clean inside ours s are none =
     let clean_two = clean_before c.delete_file.ensures.stays clean in
     let clean_one = clean_before c.delete_sha512.ensures.stays clean_two in
     let first = c.in_ok-delete_blocks.ensures.ok clean_one inside ours in
-    let second = c.in_ok-delete_sha512.ensures.ok clean_two first.shows.mode first.ours in
+    let second = c.in_ok-delete_sha512.ensures.ok clean_two (c.in_ok-delete_blocks.ensures.stays.inside clean_one inside) first.ours in
     ok_then c.delete_file.result (c.delete_file.ensures.ok clean second.shows.mode second.ours)
     (λ leads. file_absent (tables_of old) (tables_of one) (tables_of two) (tables_of new) s c.args.file are ours.trees.ordered.1.1.1.1.0 first.rows second.rows leads.rows none)
 
@@ -51,8 +54,8 @@ returns-clause-err g c =
 
 pub returns-in_err-delete_blocks-clause-cause : goal.returns-in_err-delete_blocks-clause-cause
 returns-in_err-delete_blocks-clause-cause g c storable clean inside =
-    if_err_is _ c.from_residual.result c.in_err-delete_blocks.field-0.0 c.from_residual.ensures.1 (fails_first g.T.Statements.state c.args.tx.now c.delete_blocks.new.tx FailsByStatement _
-    (blocks_deleted _ (c.in_err-delete_blocks.ensures.cause storable clean inside)))
+    if_err_is _ c.from_residual.result c.in_err-delete_blocks.field-0.0 c.from_residual.ensures.1 (fails_among g.T.Statements.state c.args.tx.now c.delete_blocks.new.tx (FailsToDeleteBlocks (owner.File c.args.file)) FailsByStatement (deletes_among (owner.File c.args.file)) _
+    (c.in_err-delete_blocks.ensures.cause storable clean inside))
 
 pub returns-in_err-delete_sha512-clause-cause : goal.returns-in_err-delete_sha512-clause-cause
 returns-in_err-delete_sha512-clause-cause g c storable clean inside =

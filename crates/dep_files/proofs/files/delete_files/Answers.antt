@@ -2,14 +2,14 @@ use Rattle.std.proofs.Common.{◌≡◌, ◌<◌, ◌^◌, List, ap, ◌∙◌, 
 use Rattle.dep_types.specs.declared.rows.FileRow.{FileRow}
 use Rattle.dep_tables.specs.Tables.{tables_of}
 use Rattle.dep_tables.proofs.Results.{ok_then, if_failed}
-use Rattle.dep_tables.proofs.Chains.{clean_before, stays_then, stays_err}
+use Rattle.dep_tables.proofs.Chains.{clean_before, left_whole, stays_then, stays_err}
 use Rattle.std.proofs.lemmas.List.Elements.{All-same}
 use Rattle.dep_row_maps.specs.Laws.{without_contents}
 use Rattle.dep_row_maps.specs.Causes.{FailsByStatement}
 use Rattle.dep_row_maps.specs.Causes.FailsByStatement.{files_deleted, files_read as rows_read}
 use Rattle.dep_row_maps.proofs.Causes.{fails_first, fails_then, fails_behind_them, if_err_then, if_err_is, never_failed}
 use Rattle.dep_row_maps.proofs.Readings.{files_read}
-use Rattle.dep_files.proofs.Results.{still_ours, same_tables, left_whole, fails_behind, uncommitted_behind}
+use Rattle.dep_files.proofs.Results.{still_ours, same_tables, fails_behind, uncommitted_behind}
 use Rattle.dep_files.proofs.FileCalls.{files_gone}
 use Rattle.dep_files.proofs.Storable.{storable_files}
 use Rattle.dep_files.proofs.files.delete_files.Goals as goal

@@ -5,10 +5,10 @@ use Rattle.dep_tables.specs.declared.state.StateRow.{StateRow}
 use Rattle.dep_row_maps.specs.Stored.{state_row}
 use Rattle.dep_row_maps.specs.TablesAre.{TablesAre}
 use Rattle.dep_row_maps.proofs.Readings.{state_read}
-use Rattle.dep_files.proofs.Results.{still_ours, same_tables, left_whole, fails_behind, uncommitted_behind}
+use Rattle.dep_files.proofs.Results.{still_ours, same_tables, fails_behind, uncommitted_behind}
 use Rattle.dep_staging.proofs.Expired.{tick_is, ticked_clock, ticked_row, storable_tick, storable_uploads}
 use Rattle.dep_tables.proofs.Results.{if_failed}
-use Rattle.dep_tables.proofs.Chains.{clean_before, stays_then, stays_ok, stays_err}
+use Rattle.dep_tables.proofs.Chains.{clean_before, left_whole, stays_then, stays_ok, stays_err}
 use Rattle.dep_tables.specs.Clauses.{FailsToRun}
 use Rattle.dep_tables.specs.Rows.{IsStorableState, state_values}
 use Rattle.dep_tables.specs.Texts.{write_state_text}

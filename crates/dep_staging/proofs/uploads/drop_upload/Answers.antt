@@ -1,11 +1,13 @@
 use Rattle.dep_tables.specs.Tables.{tables_of}
 use Rattle.dep_tables.proofs.Results.{ok_then, if_failed}
 use Rattle.dep_tables.proofs.Chains.{clean_before, stays_then, stays_err}
+use Rattle.dep_tables.specs.declared.owner.BlockOwner.TheVariants as owner
+use Rattle.dep_files.specs.Causes.{FailsToDeleteBlocks}
 use Rattle.dep_files.proofs.Results.{fails_behind}
 use Rattle.dep_staging.proofs.UploadCalls.{dropped}
 use Rattle.dep_staging.specs.Causes.{FailsToDrop}
 use Rattle.dep_staging.specs.Causes.FailsToDrop.{blocks, promise, segments, row}
-use Rattle.dep_row_maps.proofs.Causes.{fails_then, if_err_then, if_err_is, never_failed, survives_itself}
+use Rattle.dep_row_maps.proofs.Causes.{fails_among, fails_then, if_err_then, if_err_is, never_failed}
 use Rattle.dep_staging.proofs.uploads.drop_upload.Goals as goal
 
 pub returns-clause-map : goal.returns-clause-map
@@ -19,16 +21,15 @@ returns-clause-map g c clean inside ours s are =
     let clean_two = clean_before c.delete_segments.ensures.stays clean_three in
     let clean_one = clean_before c.delete_sha512.ensures.stays clean_two in
     let first = c.in_ok-delete_blocks.ensures.ok clean_one inside ours in
-    let second = c.in_ok-delete_sha512.ensures.ok clean_two first.shows.mode first.ours in
+    let second = c.in_ok-delete_sha512.ensures.ok clean_two (c.in_ok-delete_blocks.ensures.stays.inside clean_one inside) first.ours in
     let third = c.in_ok-delete_segments.ensures.ok clean_three second.shows.mode second.ours in
     ok_then c.delete_upload.result (c.delete_upload.ensures.ok clean third.shows.mode third.ours)
     (λ leads. dropped (tables_of old) (tables_of one) (tables_of two) (tables_of three) (tables_of new) s c.args.upload are first.rows second.rows third.rows leads.rows)
 
 pub returns-in_err-delete_blocks-clause-cause : goal.returns-in_err-delete_blocks-clause-cause
 returns-in_err-delete_blocks-clause-cause g c storable clean inside =
-    let old = c.args.tx.now in
-    if_err_is _ c.from_residual.result c.in_err-delete_blocks.field-0.0 c.from_residual.ensures.1 (fails_then g.T.Statements.state old old c.delete_blocks.new.tx (survives_itself (g.T.Statements.state old)) (FailsToDrop c.args.upload) _
-    (blocks (c.in_err-delete_blocks.ensures.cause storable clean inside)))
+    if_err_is _ c.from_residual.result c.in_err-delete_blocks.field-0.0 c.from_residual.ensures.1 (fails_among g.T.Statements.state c.args.tx.now c.delete_blocks.new.tx (FailsToDeleteBlocks (owner.Upload c.args.upload)) (FailsToDrop c.args.upload) (λ at now fault failed. blocks failed) _
+    (c.in_err-delete_blocks.ensures.cause storable clean inside))
 
 pub returns-in_err-delete_sha512-clause-cause : goal.returns-in_err-delete_sha512-clause-cause
 returns-in_err-delete_sha512-clause-cause g c storable clean inside =
