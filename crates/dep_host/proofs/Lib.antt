@@ -1,1 +1,4 @@
 mod SeatLemmas
+mod HostLemmas
+mod RunLemmas
+mod TellLemmas

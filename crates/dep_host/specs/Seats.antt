@@ -38,7 +38,7 @@ module _ {A R K S : Type 0} (condition : A → Condition) (unread : R → Option
     pub same : new ≡ old
     pub keeps : Keeps (told taken held before.wire) (told taken held after.wire)
     -- what is read and thrown away is of a connection that is read no more
-    pub unread : is_ended after.course.phase ≡ false
+    pub gives : is_ended after.course.phase ≡ false
         → Keeps (unread before.source) (unread after.source)
     pub opens : after.course.phase ≡ Open → before.course.phase ≡ Open
 

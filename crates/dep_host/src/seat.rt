@@ -1,5 +1,5 @@
 //! A connection that is served.
-ghost use Rattle.std.specs.Prelude.{◌≡◌, ◌<◌, ◌≤◌, ◌⊎◌, ◌×◌, ℕ, length, true, false};
+ghost use Rattle.std.specs.Prelude.{◌≡◌, ◌<◌, ◌≤◌, ◌⊎◌, ℕ, length, true, false};
 ghost use Rattle.std.specs.Io.KnownBytes.{Keeps, Consumes, IsAtEnd};
 ghost use Rattle.dep_server.specs.Holding.{ComesToNext, OffersTo};
 ghost use Rattle.dep_server.specs.Standing.{IsClean, IsHonest};

@@ -1,0 +1,23 @@
+use Rattle.std.proofs.Common.{◌≡◌, ℕ, Option, None, Some, refl, sym, ap, subst, set, ◌∙◌}
+use Rattle.std.specs.Prelude.{IfSome}
+use Rattle.std.specs.Prelude.{[]}
+use Rattle.dep_server.specs.Records.{Absent}
+use Rattle.dep_server.specs.Holding.{MovesLine, with_held}
+use Rattle.dep_host.specs.Hosting.{Goes, HasDone, position, slot}
+use Rattle.dep_host.proofs.HostLemmas.{slot_read}
+use Rattle.dep_host.proofs.host.Host.close.Goals as goal
+
+pub returns-in-Some-clause-goes : goal.returns-in-Some-clause-goes
+returns-in-Some-clause-goes g c =
+    let sat = slot_read _ _ _ c.requires.there c.index_mut.ensures.value ∙ (sym c.take.ensures.value ∙ c.in-Some.is) in
+    subst (λ o. IfSome o (Goes g.A.Archive.condition g.R.Source.unread g.K.Sink.taken g.S.Spool.held (position c.args.self.now) _ c.args.at c.args.second)) (sym sat) (record {
+      there = c.requires.there;
+      sat = sat;
+      gone = ap (λ y. set c.args.self.now.seats.items c.args.at y) c.take.ensures.after;
+      done = subst (λ o. HasDone c.args.second c.args.self.now.idle o) sat c.requires.done;
+      next = c.close.ensures.next;
+      moves = subst (λ n. MovesLine g.A.Archive.condition c.args.self.now.hub c.close.new.self n Absent (with_held n [])) c.connection.ensures c.close.ensures.holding;
+      same_store = c.close.ensures.store;
+      same_config = c.close.ensures.config;
+      same_idle = refl;
+    })
