@@ -1,9 +1,10 @@
 -- How a host goes on.
 use Rattle.std.proofs.Common.{◌≡◌, ◌<◌, ◌≤◌, ◌+◌, ◌==◌, ℕ, Bool, true, false, if◌then◌else◌, List, [], ◌∷◌, ◌++◌, Option, None, Some, refl, sym, ap, subst, ◌∙◌, append_assoc, length, get_or, set, inl, inr, arith}
-use Rattle.std.proofs.lemmas.List.{append-nil, get_or_default, set-get_or, get_or-set_same, get_or-set_other}
-use Rattle.std.proofs.lemmas.Bool.{ne_eqb, cases_eq}
+use Rattle.std.proofs.lemmas.List.{append-nil, get_or_default, set-get_or, get_or_past}
+use Rattle.std.proofs.lemmas.Bool.{ne_eqb, cases_eq, cases_lt}
 use Rattle.std.proofs.KnownBytes.{Keeps-refl}
-use Rattle.std.specs.Io.KnownBytes.{IsAtEnd, Keeps}
+use Rattle.std.specs.Prelude.{IfSome}
+use Rattle.std.specs.Io.KnownBytes.{Keeps}
 use Rattle.dep_types.specs.Conditions.{Condition}
 use Rattle.dep_server.specs.Records.{Line}
 use Rattle.dep_server.specs.Holding.{KeepsHolding}
@@ -14,7 +15,7 @@ use Rattle.dep_outbox.specs.Wires.{told}
 use Rattle.dep_host.specs.Courses.{is_ended}
 use Rattle.dep_host.specs.declared.seat.Seat.{Seat}
 use Rattle.dep_host.specs.Seats.{TakesTurn}
-use Rattle.dep_host.specs.Hosting.{Position, slot, Deed, Opens, Takes, Replies, Declines, Closes, answer_at, answers_at, IsClosedAt, AreClosedAt, Comes, Refused, HasTurn, Goes, Step, refused, comes, rests, offers, refuses, answers, leaves, Steps, begins, goes_on, GoesOn, Serves, GoesRound}
+use Rattle.dep_host.specs.Hosting.{Position, slot, HasTime, HasDone, Deed, Opens, Takes, Replies, Declines, Closes, answer_at, answers_at, IsClosedAt, AreClosedAt, Comes, Refused, HasTurn, Goes, Step, refused, comes, rests, offers, refuses, answers, leaves, Steps, begins, goes_on, GoesOn, Serves, GoesRound}
 
 -- what was read at a place is what stands there
 pub slot_read : {X : Type 0} (at : ℕ) (seats : List (Option X)) (x : Option X) → at < length seats → x ≡ get_or seats at x → slot at seats ≡ x
@@ -34,6 +35,24 @@ one_at_most false = omega arith
 
 none_elsewhere : (at place : ℕ) → (place ≡ at → ⊥) → (if at == place then 1 else 0) + 0 ≡ 0
 none_elsewhere at place ne = ap (λ (b : Bool). (if b then 1 else 0) + 0) (ne_eqb at place (λ e. ne (sym e)))
+
+-- who has time left at the places so far, and at one more
+pub left_goes_on : {R K S : Type 0} (old new : List (Option (Seat R K S))) (at next second was idle : ℕ) → ((place : ℕ) → place < at → HasTime second was (slot place old))
+    → HasTime second idle (slot at new) → idle ≡ was → ((place : ℕ) → (place ≡ at → ⊥) → slot place new ≡ slot place old) → next ≡ at + 1
+    → (place : ℕ) → place < next → HasTime second idle (slot place new)
+left_goes_on {R = R} {K = K} {S = S} old new at next second was idle before here same others e place h = elim (cases_eq place at) [
+  | inl is ↦ subst (λ (n : ℕ). HasTime second idle (slot n new)) (sym is) here
+  | inr ne ↦ subst (λ (n : ℕ). HasTime second n (slot place new)) (sym same)
+    (subst (λ (x : Option (Seat R K S)). HasTime second was x) (sym (others place ne)) (before place (omega (arith, h, e, ne))))
+]
+
+-- beyond the last place nobody sits
+pub left_ends : {R K S : Type 0} (seats : List (Option (Seat R K S))) (at second idle : ℕ) → at ≡ length seats → ((place : ℕ) → place < at → HasTime second idle (slot place seats))
+    → (place : ℕ) → HasTime second idle (slot place seats)
+left_ends {R = R} {K = K} {S = S} seats at second idle all before place = elim (cases_lt place at) [
+  | inl lt ↦ before place lt
+  | inr ge ↦ subst (λ (x : Option (Seat R K S)). HasTime second idle x) (sym (get_or_past seats place None (omega (arith, ge, all)))) tt
+]
 
 module _ {A R K S : Type 0} (condition : A → Condition) (unread : R → Option (List ℕ)) (taken : K → Option (List ℕ)) (held : S → Option (List ℕ)) where
   pub one_step : (p q : Position A R K S) (more : List Deed) → Step condition unread taken held p q more → GoesOn condition unread taken held p q
@@ -99,7 +118,7 @@ module _ {A R K S : Type 0} (condition : A → Condition) (unread : R → Option
   }
 
   -- a connection had its turn
-  pub took_turn : (p q : Position A R K S) (at second moment : ℕ) (before after : Seat R K S) → HasTurn condition p q at before after
+  pub took_turn : (p q : Position A R K S) (at second moment : ℕ) (before after : Seat R K S) → HasTurn condition unread taken held p q at before after
       → TakesTurn condition unread taken held p.hub q.hub before after moment → Serves condition unread taken held p q at second
   took_turn p q at second moment before after t (inl r) = record {
     deeds = []; steps = goes_on begins (rests t r); once = omega arith; others = λ place ne. refl; closes = tt;
@@ -117,7 +136,7 @@ module _ {A R K S : Type 0} (condition : A → Condition) (unread : R → Option
   }
 
   -- and was closed after it
-  pub then_closed : (p q r : Position A R K S) (at second : ℕ) (seat : Seat R K S) → Serves condition unread taken held p q at second → Goes condition q r at second seat
+  pub then_closed : (p q r : Position A R K S) (at second : ℕ) (seat : Seat R K S) → Serves condition unread taken held p q at second → Goes condition unread taken held q r at second seat
       → Serves condition unread taken held p r at second
   then_closed p q r at second seat s g =
       let more : List Deed = Closes at seat.connection second ∷ [] in
@@ -128,6 +147,11 @@ module _ {A R K S : Type 0} (condition : A → Condition) (unread : R → Option
         others = λ place ne. let e = answers_append place s.deeds more in let f : answers_at place more ≡ 0 = refl in let o = s.others place ne in omega (arith, e, f, o);
         closes = closed_append second s.deeds more s.closes (refl, tt);
       }
+
+  pub closes_served : (p q r : Position A R K S) (at second idle : ℕ) (x : Option (Seat R K S)) → Serves condition unread taken held p q at second → HasDone second idle x
+      → IfSome x (Goes condition unread taken held q r at second) → Serves condition unread taken held p r at second
+  closes_served p q r at second idle None s d g = absurd d
+  closes_served p q r at second idle (Some seat) s d g = then_closed p q r at second seat s g
 
   -- the places so far had their turns
   pub record RoundSoFar (p q : Position A R K S) (at second : ℕ) : Type 0 where

@@ -2,3 +2,4 @@ mod SeatLemmas
 mod HostLemmas
 mod RunLemmas
 mod TellLemmas
+mod ReadLemmas

@@ -1,5 +1,5 @@
 //! All connections, over one hub.
-ghost use Rattle.std.specs.Prelude.{◌≡◌, ◌<◌, ◌≤◌, ℕ, List, None, Option, length, get_or, IfOk, OnErr, IfSome, true, false};
+ghost use Rattle.std.specs.Prelude.{◌≡◌, ◌<◌, ◌≤◌, ℕ, List, None, Option, length, get_or, IfOk, IfErr, IfSome, true, false};
 ghost use Rattle.std.specs.Io.KnownBytes.{IsAtEnd};
 ghost use Rattle.dep_server.specs.Turns.{most_read};
 ghost use Rattle.dep_outbox.specs.Wires.{told};
@@ -108,12 +108,13 @@ impl<A: Archive, R: Source + Drop, K: Sink + Drop, S: Spool + Drop> Host<A, R, K
 
     /// Gives each connection its turn, and then closes it where it is over, or was silent for too
     /// long. It answers whether one of them can go on at once.
+    #[tactic(auto, using(crate::proofs::HostLemmas::round_ends, crate::proofs::HostLemmas::left_ends))]
     pub fn round(&mut self, room: &mut [u8], time: &Time) -> bool
         requires room { length room.old ≤ most_read }
         ensures goes { GoesRound A.condition R.unread K.taken S.held (position self.old)
             (position self.new) time.now.second }
         ensures left { (at : ℕ)
-            → HasTime time.now.second self.old.idle (slot at self.new.seats.items) }
+            → HasTime time.now.second self.new.idle (slot at self.new.seats.items) }
         ensures seats { length self.new.seats.items ≡ length self.old.seats.items }
         ensures idle { self.new.idle ≡ self.old.idle }
     {
@@ -128,12 +129,13 @@ impl<A: Archive, R: Source + Drop, K: Sink + Drop, S: Spool + Drop> Host<A, R, K
 
     /// Gives the connection there its turn, and then closes it where it is done. It answers whether it
     /// can go on at once.
+    #[tactic(auto, using(crate::proofs::HostLemmas::closes_served))]
     fn serve(&mut self, at: usize, room: &mut [u8], time: &Time) -> bool
         requires there { at < length self.old.seats.items }
         requires room { length room.old ≤ most_read }
         ensures goes { Serves A.condition R.unread K.taken S.held (position self.old)
             (position self.new) at time.now.second }
-        ensures here { HasTime time.now.second self.old.idle (slot at self.new.seats.items) }
+        ensures here { HasTime time.now.second self.new.idle (slot at self.new.seats.items) }
         ensures others { (place : ℕ) → (place ≡ at → ⊥)
             → slot place self.new.seats.items ≡ slot place self.old.seats.items }
         ensures seats { length self.new.seats.items ≡ length self.old.seats.items }

@@ -1,4 +1,5 @@
 use Rattle.std.proofs.Common.{◌≡◌, ℕ, Option, None, Some, refl, sym, ap, subst, set, ◌∙◌}
+use Rattle.std.proofs.lemmas.List.{get_or-set_same, get_or-set_other}
 use Rattle.std.specs.Prelude.{IfSome}
 use Rattle.std.specs.Prelude.{[]}
 use Rattle.dep_server.specs.Records.{Absent}
@@ -21,3 +22,20 @@ returns-in-Some-clause-goes g c =
       same_config = c.close.ensures.config;
       same_idle = refl;
     })
+
+pub returns-in_default-clause-goes : goal.returns-in_default-clause-goes
+returns-in_default-clause-goes g c =
+    let none = slot_read _ _ _ c.requires.there c.index_mut.ensures.value ∙ (sym c.take.ensures.value ∙ c.in_default.is) in
+    subst (λ o. IfSome o (Goes g.A.Archive.condition g.R.Source.unread g.K.Sink.taken g.S.Spool.held (position c.args.self.now) _ c.args.at c.args.second)) (sym none) tt
+
+pub returns-in-Some-clause-gone : goal.returns-in-Some-clause-gone
+returns-in-Some-clause-gone g c = get_or-set_same _ c.args.at _ None c.requires.there ∙ c.take.ensures.after
+
+pub returns-in_default-clause-gone : goal.returns-in_default-clause-gone
+returns-in_default-clause-gone g c = get_or-set_same _ c.args.at _ None c.requires.there ∙ c.take.ensures.after
+
+pub returns-in-Some-clause-others : goal.returns-in-Some-clause-others
+returns-in-Some-clause-others g c = λ place ne. get_or-set_other _ c.args.at place _ None ne
+
+pub returns-in_default-clause-others : goal.returns-in_default-clause-others
+returns-in_default-clause-others g c = λ place ne. get_or-set_other _ c.args.at place _ None ne

@@ -1,4 +1,5 @@
-use Rattle.std.proofs.Common.{refl, ◌∙◌}
+use Rattle.std.proofs.Common.{refl, None, ◌∙◌}
+use Rattle.std.proofs.lemmas.List.{get_or-set_other}
 use Rattle.dep_host.proofs.HostLemmas.{slot_read, took_turn, served_none}
 use Rattle.dep_host.proofs.host.Host.take_turn.Goals as goal
 
@@ -22,3 +23,9 @@ returns-in-Some-clause-goes g c =
 pub returns-in_default-clause-goes : goal.returns-in_default-clause-goes
 returns-in_default-clause-goes g c =
     served_none g.A.Archive.condition g.R.Source.unread g.K.Sink.taken g.S.Spool.held _ _ c.args.at c.args.time.now.second c.index_mut.result.now refl refl refl c.requires.there c.index_mut.ensures.value
+
+pub returns-in-Some-clause-others : goal.returns-in-Some-clause-others
+returns-in-Some-clause-others g c = λ place ne. get_or-set_other _ c.args.at place _ None ne
+
+pub returns-in_default-clause-others : goal.returns-in_default-clause-others
+returns-in_default-clause-others g c = λ place ne. get_or-set_other _ c.args.at place _ None ne
