@@ -40,10 +40,10 @@ none_elsewhere at place ne = ap (λ (b : Bool). (if b then 1 else 0) + 0) (ne_eq
 pub left_goes_on : {R K S : Type 0} (old new : List (Option (Seat R K S))) (at next second was idle : ℕ) → ((place : ℕ) → place < at → HasTime second was (slot place old))
     → HasTime second idle (slot at new) → idle ≡ was → ((place : ℕ) → (place ≡ at → ⊥) → slot place new ≡ slot place old) → next ≡ at + 1
     → (place : ℕ) → place < next → HasTime second idle (slot place new)
-left_goes_on {R = R} {K = K} {S = S} old new at next second was idle before here same others e place h = elim (cases_eq place at) [
-  | inl is ↦ subst (λ (n : ℕ). HasTime second idle (slot n new)) (sym is) here
-  | inr ne ↦ subst (λ (n : ℕ). HasTime second n (slot place new)) (sym same)
-    (subst (λ (x : Option (Seat R K S)). HasTime second was x) (sym (others place ne)) (before place (omega (arith, h, e, ne))))
+left_goes_on {R = R} {K = K} {S = S} old new at next second was idle before here same others e place h = elim (cases_lt place at) [
+  | inl lt ↦ subst (λ (n : ℕ). HasTime second n (slot place new)) (sym same)
+    (subst (λ (x : Option (Seat R K S)). HasTime second was x) (sym (others place (λ is. omega (arith, is, lt)))) (before place lt))
+  | inr ge ↦ let is : place ≡ at = omega (arith, ge, h, e) in subst (λ (n : ℕ). HasTime second idle (slot n new)) (sym is) here
 ]
 
 -- beyond the last place nobody sits

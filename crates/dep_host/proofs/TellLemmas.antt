@@ -130,11 +130,11 @@ module _ {A R K S : Type 0} (condition : A → Condition) (unread : R → Option
   put_kept : (p q : Position A R K S) (rs more : List Deed) (at : ℕ) (before after : Seat R K S) → Tidy p rs → slot at p.seats ≡ Some before
       → after.connection ≡ before.connection → p.hub.next ≤ q.hub.next → StaysOpen before.connection more
       → (AllTell → told taken held after.wire ≡ Some (replies_to before.connection rs ++ replies_to before.connection more)) → Put p q rs more at after
-  put_kept p q rs more at before after tidy sat same later open says = record {
+  put_kept p q rs more at before after tidy sat same later unclosing says = record {
     tells_it = λ all. says all ∙ (ap Some (sym (replies_append before.connection rs more)) ∙ ap (λ (n : ℕ). Some (replies_to n (rs ++ more))) (sym same));
     is_below = let lower = tidy.below at before sat in omega (arith, same, lower, later);
     is_apart = λ j t ne h e. ne (tidy.apart j at t before h sat (sym e ∙ same));
-    stays_open = subst (λ (n : ℕ). StaysOpen n (rs ++ more)) (sym same) (open_append before.connection rs more (tidy.stays at before sat) open);
+    stays_open = subst (λ (n : ℕ). StaysOpen n (rs ++ more)) (sym same) (open_append before.connection rs more (tidy.stays at before sat) unclosing);
   }
 
   tidy_same : (p q : Position A R K S) (rs : List Deed) → q.seats ≡ p.seats → q.hub.next ≡ p.hub.next → Tidy p rs → Tidy q (rs ++ [])
@@ -162,15 +162,15 @@ module _ {A R K S : Type 0} (condition : A → Condition) (unread : R → Option
   sent_tidy : (p q : Position A R K S) (rs : List Deed) (one : Deed) (at : ℕ) (before after : Seat R K S) (sent : List ℕ) → Tidy p rs → HasTurn condition unread taken held p q at before after
       → Appends (told taken held before.wire) (told taken held after.wire) sent → ((n : ℕ) → sent_by n one ≡ (if before.connection == n then sent else []))
       → ((n : ℕ) → StaysOpen n (one ∷ [])) → Tidy q (rs ++ one ∷ [])
-  sent_tidy p q rs one at before after sent tidy t appends sends open =
+  sent_tidy p q rs one at before after sent tidy t appends sends unclosing =
       let later : p.hub.next ≤ q.hub.next = let e = t.next in omega (arith, e) in
       let here : replies_to before.connection (one ∷ []) ≡ sent = ap (λ (l : List ℕ). l ++ []) (sends before.connection) ∙ sent_here before.connection sent in
       tidy_set p q rs (one ∷ []) at (Some after) tidy t.there t.sits later
-      (λ s e. put_there p q rs (one ∷ []) at after s (put_kept p q rs (one ∷ []) at before after tidy t.sat t.same later (open before.connection)
+      (λ s e. put_there p q rs (one ∷ []) at after s (put_kept p q rs (one ∷ []) at before after tidy t.sat t.same later (unclosing before.connection)
       (λ all. told_appends (told taken held before.wire) (told taken held after.wire) (replies_to before.connection rs) sent appends (tidy.telling all at before t.sat)
       ∙ ap (λ (l : List ℕ). Some (replies_to before.connection rs ++ l)) (sym here))) e)
-      (λ j u ne h. (ap (λ (l : List ℕ). l ++ []) (sends u.connection) ∙ sent_elsewhere before.connection u.connection sent (λ same. ne (tidy.apart j at u before h t.sat (sym same))), open u.connection))
-      (λ n h. (ap (λ (l : List ℕ). l ++ []) (sends n) ∙ sent_elsewhere before.connection n sent (λ same. let lower = tidy.below at before t.sat in let e = t.next in omega (arith, lower, h, same, e)), open n))
+      (λ j u ne h. (ap (λ (l : List ℕ). l ++ []) (sends u.connection) ∙ sent_elsewhere before.connection u.connection sent (λ same. ne (tidy.apart j at u before h t.sat (sym same))), unclosing u.connection))
+      (λ n h. (ap (λ (l : List ℕ). l ++ []) (sends n) ∙ sent_elsewhere before.connection n sent (λ same. let lower = tidy.below at before t.sat in let e = t.next in omega (arith, lower, h, same, e)), unclosing n))
 
   step_tidy : {p q : Position A R K S} {rs more : List Deed} → Tidy p rs → Step condition unread taken held p q more → Tidy q (rs ++ more)
   step_tidy {p = p} {q = q} {rs = rs} tidy (refused r) = tidy_same p q rs r.sits r.next tidy
