@@ -22,7 +22,7 @@ pub slot_read : {X : Type 0} (at : ℕ) (seats : List (Option X)) (x : Option X)
 slot_read at seats x there read = get_or_default seats at None x there ∙ sym read
 
 answers_append : (place : ℕ) (xs ys : List Deed) → answers_at place (xs ++ ys) ≡ answers_at place xs + answers_at place ys
-answers_append place [] ys = refl
+answers_append place [] ys = let none : answers_at place [] ≡ 0 = refl in omega (arith, none)
 answers_append place (d ∷ xs) ys = let e = answers_append place xs ys in omega (arith, e)
 
 closed_append : (second : ℕ) (xs ys : List Deed) → AreClosedAt second xs → AreClosedAt second ys → AreClosedAt second (xs ++ ys)
@@ -147,6 +147,14 @@ module _ {A R K S : Type 0} (condition : A → Condition) (unread : R → Option
         others = λ place ne. let e = answers_append place s.deeds more in let f : answers_at place more ≡ 0 = refl in let o = s.others place ne in omega (arith, e, f, o);
         closes = closed_append second s.deeds more s.closes (refl, tt);
       }
+
+  -- who was at a place was closed, or nobody was there
+  pub closing : (p q : Position A R K S) (at second : ℕ) (x : Option (Seat R K S)) (seat : Seat R K S) → x ≡ Some seat → Goes condition unread taken held p q at second seat
+      → IfSome x (Goes condition unread taken held p q at second)
+  closing p q at second x seat e g = subst (λ (o : Option (Seat R K S)). IfSome o (Goes condition unread taken held p q at second)) (sym e) g
+
+  pub closing_none : (p q : Position A R K S) (at second : ℕ) (x : Option (Seat R K S)) → x ≡ None → IfSome x (Goes condition unread taken held p q at second)
+  closing_none p q at second x e = subst (λ (o : Option (Seat R K S)). IfSome o (Goes condition unread taken held p q at second)) (sym e) tt
 
   pub closes_served : (p q r : Position A R K S) (at second idle : ℕ) (x : Option (Seat R K S)) → Serves condition unread taken held p q at second → HasDone second idle x
       → IfSome x (Goes condition unread taken held q r at second) → Serves condition unread taken held p r at second

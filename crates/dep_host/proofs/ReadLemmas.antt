@@ -57,10 +57,10 @@ arrived_none n records r e = arrived_one n records r [] e ∙ append-nil (arrive
 pub reads_arrive : {first : ℕ → List ℕ} {deeds : List Deed} {records : List Record} {held : ℕ → List ℕ} (n : ℕ) → Follows first deeds records held → StaysOpen n deeds
     → first n ++ read_of n deeds ≡ arrived_of n records ++ held n
 reads_arrive {first = first} n begins h = append-nil (first n)
-reads_arrive {first = first} n (opens {deeds = deeds} {records = records} {held = held} {at = at} {n = m} f) h =
+reads_arrive {first = first} n (opens {deeds = deeds} {records = records} {held = held} at m f) h =
     stays (first n) (read_of n deeds) (arrived_of n records) (held n) _ _ (held n) (reads_arrive n f (open_before n deeds (Opens at m ∷ []) h))
     (read_none n deeds (Opens at m) refl) (arrived_none n records (record { event = Connect m; sent = [] }) refl) refl
-reads_arrive {first = first} n (takes {deeds = deeds} {records = records} {held = held} {at = at} {n = m} {piece = piece} f) h =
+reads_arrive {first = first} n (takes {deeds = deeds} {records = records} {held = held} at m piece f) h =
     let before = reads_arrive n f (open_before n deeds (Takes at m piece ∷ []) h) in
     elim (cases_eq n m) [
       | inl e ↦ read_more (first n) (read_of n deeds) (arrived_of n records) (held n) piece _ (with_held m (held m ++ piece) held n) before
@@ -68,7 +68,7 @@ reads_arrive {first = first} n (takes {deeds = deeds} {records = records} {held 
       | inr ne ↦ stays (first n) (read_of n deeds) (arrived_of n records) (held n) _ (arrived_of n records) (with_held m (held m ++ piece) held n) before
         (read_none n deeds (Takes at m piece) (elsewhere n m piece [] ne)) refl (elsewhere n m (held m ++ piece) (held n) ne)
     ]
-reads_arrive {first = first} n (replies {deeds = deeds} {records = records} {held = held} {at = at} {n = m} {moment = moment} {part = part} {rest = rest} {sent = sent} f cut) h =
+reads_arrive {first = first} n (replies {deeds = deeds} {records = records} {held = held} at m moment part rest sent f cut) h =
     let d : Deed = Replies at m moment sent in
     let r : Record = record { event = Arrive m part moment; sent = sent } in
     let before = reads_arrive n f (open_before n deeds (d ∷ []) h) in
@@ -79,7 +79,7 @@ reads_arrive {first = first} n (replies {deeds = deeds} {records = records} {hel
       | inr ne ↦ stays (first n) (read_of n deeds) (arrived_of n records) (held n) _ _ (with_held m rest held n) before
         same (arrived_none n records r (elsewhere n m part [] ne)) (elsewhere n m rest (held n) ne)
     ]
-reads_arrive {first = first} n (declines {deeds = deeds} {records = records} {held = held} {at = at} {n = m} {moment = moment} {piece = piece} {part = part} {rest = rest} {sent = sent} f cut) h =
+reads_arrive {first = first} n (declines {deeds = deeds} {records = records} {held = held} at m moment piece part rest sent f cut) h =
     let d : Deed = Declines at m piece moment sent in
     let r : Record = record { event = Arrive m part moment; sent = sent } in
     let before = reads_arrive n f (open_before n deeds (d ∷ []) h) in
@@ -90,7 +90,7 @@ reads_arrive {first = first} n (declines {deeds = deeds} {records = records} {he
       | inr ne ↦ stays (first n) (read_of n deeds) (arrived_of n records) (held n) _ _ (with_held m rest held n) before
         (read_none n deeds d (elsewhere n m piece [] ne)) (arrived_none n records r (elsewhere n m part [] ne)) (elsewhere n m rest (held n) ne)
     ]
-reads_arrive {first = first} n (closes {deeds = deeds} {records = records} {held = held} {at = at} {n = m} {second = second} f) h =
+reads_arrive {first = first} n (closes {deeds = deeds} {records = records} {held = held} at m second f) h =
     stays (first n) (read_of n deeds) (arrived_of n records) (held n) _ _ (with_held m [] held n) (reads_arrive n f (open_before n deeds (Closes at m second ∷ []) h))
     (read_none n deeds (Closes at m second) refl) (arrived_none n records (record { event = Close m; sent = [] }) refl) (elsewhere n m [] (held n) (open_last n deeds (Closes at m second ∷ []) h).0)
 
@@ -111,11 +111,11 @@ both_one n deeds d records r e f = replies_one n deeds d ∙ ap (λ l. l ++ sent
 pub replies_sent : {first : ℕ → List ℕ} {deeds : List Deed} {records : List Record} {held : ℕ → List ℕ} (n : ℕ) → Follows first deeds records held
     → replies_to n deeds ≡ sent_of n records
 replies_sent n begins = refl
-replies_sent n (opens {deeds = deeds} {records = records} {at = at} {n = m} f) = both_one n deeds (Opens at m) records (record { event = Connect m; sent = [] }) (replies_sent n f) refl
-replies_sent n (takes {deeds = deeds} {at = at} {n = m} {piece = piece} f) = replies_one n deeds (Takes at m piece) ∙ append-nil (replies_to n deeds) ∙ replies_sent n f
-replies_sent n (replies {deeds = deeds} {records = records} {at = at} {n = m} {moment = moment} {part = part} {sent = sent} f cut) =
+replies_sent n (opens {deeds = deeds} {records = records} at m f) = both_one n deeds (Opens at m) records (record { event = Connect m; sent = [] }) (replies_sent n f) refl
+replies_sent n (takes {deeds = deeds} at m piece f) = replies_one n deeds (Takes at m piece) ∙ append-nil (replies_to n deeds) ∙ replies_sent n f
+replies_sent n (replies {deeds = deeds} {records = records} at m moment part rest sent f cut) =
     both_one n deeds (Replies at m moment sent) records (record { event = Arrive m part moment; sent = sent }) (replies_sent n f) refl
-replies_sent n (declines {deeds = deeds} {records = records} {at = at} {n = m} {moment = moment} {piece = piece} {part = part} {sent = sent} f cut) =
+replies_sent n (declines {deeds = deeds} {records = records} at m moment piece part rest sent f cut) =
     both_one n deeds (Declines at m piece moment sent) records (record { event = Arrive m part moment; sent = sent }) (replies_sent n f) refl
-replies_sent n (closes {deeds = deeds} {records = records} {at = at} {n = m} {second = second} f) =
+replies_sent n (closes {deeds = deeds} {records = records} at m second f) =
     both_one n deeds (Closes at m second) records (record { event = Close m; sent = [] }) (replies_sent n f) refl

@@ -69,35 +69,35 @@ module _ {A R K S : Type 0} (condition : A → Condition) (unread : R → Option
     follows = subst (λ (l : List Deed). Follows holds l m.more m.holds) (sym (append-nil deeds)) m.follows;
     stands = subst (λ (h : Hub A). StandsHoldingAfter condition h first (records ++ m.more) m.holds) (sym r.same) m.stands;
   }
-  step_run {p = p} {q = q} first records holds m (comes {seat = seat} r) clean = record {
-    more = m.more ++ record { event = Connect seat.connection; sent = [] } ∷ []; holds = m.holds; follows = opens m.follows;
+  step_run {p = p} {q = q} first records holds m (comes {at = at} {seat = seat} r) clean = record {
+    more = m.more ++ record { event = Connect seat.connection; sent = [] } ∷ []; holds = m.holds; follows = opens at seat.connection m.follows;
     stands = behind_more q.hub first records m.more (record { event = Connect seat.connection; sent = [] }) m.holds (connects p.hub q.hub seat.connection first (records ++ m.more) m.holds m.stands r.same_config r.same_store r.moves);
   }
-  step_run {p = p} {q = q} first records holds m (offers {before = before} t o) clean = record {
-    more = m.more; holds = with_held before.connection (m.holds before.connection ++ o.piece) m.holds; follows = takes m.follows;
+  step_run {p = p} {q = q} first records holds m (offers {at = at} {before = before} t o) clean = record {
+    more = m.more; holds = with_held before.connection (m.holds before.connection ++ o.piece) m.holds; follows = takes at before.connection o.piece m.follows;
     stands = moved p.hub q.hub first (records ++ m.more) m.holds (with_held before.connection (m.holds before.connection ++ o.piece) m.holds) o.same_store t.same_config
         (λ lines h. o.holds lines m.holds h) m.stands;
   }
-  step_run {p = p} {q = q} first records holds m (refuses {moment = moment} {before = before} t r) clean =
+  step_run {p = p} {q = q} first records holds m (refuses {at = at} {moment = moment} {before = before} t r) clean =
       let came = r.answers.answers (honest q.hub.store clean) m.stands.world m.holds m.stands.at in
       record {
         more = m.more ++ record { event = Arrive before.connection came.0.part moment; sent = r.answers.sent } ∷ [];
         holds = with_held before.connection came.0.rest m.holds;
-        follows = declines m.follows came.0.whole;
+        follows = declines at before.connection moment r.piece came.0.part came.0.rest r.answers.sent m.follows came.0.whole;
         stands = behind_more q.hub first records m.more (record { event = Arrive before.connection came.0.part moment; sent = r.answers.sent }) (with_held before.connection came.0.rest m.holds)
             (adds p.hub q.hub before.connection _ moment r.answers.sent _ _ _ first (records ++ m.more) m.holds m.stands came.0 t.same_config clean);
       }
-  step_run {p = p} {q = q} first records holds m (answers {moment = moment} {before = before} t a) clean =
+  step_run {p = p} {q = q} first records holds m (answers {at = at} {moment = moment} {before = before} t a) clean =
       let came = a.answers.answers (honest q.hub.store clean) m.stands.world m.holds m.stands.at in
       record {
         more = m.more ++ record { event = Arrive before.connection came.0.part moment; sent = a.answers.sent } ∷ [];
         holds = with_held before.connection came.0.rest m.holds;
-        follows = replies m.follows came.0.whole;
+        follows = replies at before.connection moment came.0.part came.0.rest a.answers.sent m.follows came.0.whole;
         stands = behind_more q.hub first records m.more (record { event = Arrive before.connection came.0.part moment; sent = a.answers.sent }) (with_held before.connection came.0.rest m.holds)
             (adds p.hub q.hub before.connection _ moment a.answers.sent _ _ _ first (records ++ m.more) m.holds m.stands came.0 t.same_config clean);
       }
-  step_run {p = p} {q = q} first records holds m (leaves {seat = seat} r) clean = record {
-    more = m.more ++ record { event = Close seat.connection; sent = [] } ∷ []; holds = with_held seat.connection [] m.holds; follows = closes m.follows;
+  step_run {p = p} {q = q} first records holds m (leaves {at = at} {second = second} {seat = seat} r) clean = record {
+    more = m.more ++ record { event = Close seat.connection; sent = [] } ∷ []; holds = with_held seat.connection [] m.holds; follows = closes at seat.connection second m.follows;
     stands = behind_more q.hub first records m.more (record { event = Close seat.connection; sent = [] }) (with_held seat.connection [] m.holds)
         (closed p.hub q.hub seat.connection first (records ++ m.more) m.holds m.stands r.same_config r.same_store r.moves);
   }

@@ -14,23 +14,23 @@ use Rattle.dep_host.specs.Hosting.{Position, slot, Tells, Deed, Opens, Takes, Re
 -- held until the items of it are answered, and a part of what is held arrives with each answer.
 pub data Follows (first : ℕ → List ℕ) : List Deed → List Record → (ℕ → List ℕ) → Type 0 where
   begins : Follows first [] [] first
-  opens : {deeds : List Deed} {records : List Record} {held : ℕ → List ℕ} {at n : ℕ}
+  opens : {deeds : List Deed} {records : List Record} {held : ℕ → List ℕ} (at n : ℕ)
       → Follows first deeds records held
       → Follows first (deeds ++ Opens at n ∷ [])
       (records ++ record { event = Connect n; sent = [] } ∷ []) held
-  takes : {deeds : List Deed} {records : List Record} {held : ℕ → List ℕ} {at n : ℕ} {piece : List ℕ}
-      → Follows first deeds records held
+  takes : {deeds : List Deed} {records : List Record} {held : ℕ → List ℕ} (at n : ℕ)
+      (piece : List ℕ) → Follows first deeds records held
       → Follows first (deeds ++ Takes at n piece ∷ []) records (with_held n (held n ++ piece) held)
-  replies : {deeds : List Deed} {records : List Record} {held : ℕ → List ℕ} {at n moment : ℕ}
-      {part rest sent : List ℕ} → Follows first deeds records held → held n ≡ part ++ rest
+  replies : {deeds : List Deed} {records : List Record} {held : ℕ → List ℕ} (at n moment : ℕ)
+      (part rest sent : List ℕ) → Follows first deeds records held → held n ≡ part ++ rest
       → Follows first (deeds ++ Replies at n moment sent ∷ [])
       (records ++ record { event = Arrive n part moment; sent = sent } ∷ []) (with_held n rest held)
-  declines : {deeds : List Deed} {records : List Record} {held : ℕ → List ℕ} {at n moment : ℕ}
-      {piece part rest sent : List ℕ} → Follows first deeds records held
+  declines : {deeds : List Deed} {records : List Record} {held : ℕ → List ℕ} (at n moment : ℕ)
+      (piece part rest sent : List ℕ) → Follows first deeds records held
       → held n ++ piece ≡ part ++ rest
       → Follows first (deeds ++ Declines at n piece moment sent ∷ [])
       (records ++ record { event = Arrive n part moment; sent = sent } ∷ []) (with_held n rest held)
-  closes : {deeds : List Deed} {records : List Record} {held : ℕ → List ℕ} {at n second : ℕ}
+  closes : {deeds : List Deed} {records : List Record} {held : ℕ → List ℕ} (at n second : ℕ)
       → Follows first deeds records held
       → Follows first (deeds ++ Closes at n second ∷ [])
       (records ++ record { event = Close n; sent = [] } ∷ []) (with_held n [] held)

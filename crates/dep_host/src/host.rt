@@ -108,7 +108,7 @@ impl<A: Archive, R: Source + Drop, K: Sink + Drop, S: Spool + Drop> Host<A, R, K
 
     /// Gives each connection its turn, and then closes it where it is over, or was silent for too
     /// long. It answers whether one of them can go on at once.
-    #[tactic(auto, using(crate::proofs::HostLemmas::round_ends, crate::proofs::HostLemmas::left_ends))]
+    #[tactic(auto, using(crate::proofs::HostLemmas::left_ends))]
     pub fn round(&mut self, room: &mut [u8], time: &Time) -> bool
         requires room { length room.old ≤ most_read }
         ensures goes { GoesRound A.condition R.unread K.taken S.held (position self.old)

@@ -1,17 +1,15 @@
-use Rattle.std.proofs.Common.{◌≡◌, ℕ, Option, None, Some, refl, sym, ap, subst, set, ◌∙◌}
+use Rattle.std.proofs.Common.{[], None, refl, sym, ap, subst, set, ◌∙◌}
 use Rattle.std.proofs.lemmas.List.{get_or-set_same, get_or-set_other}
-use Rattle.std.specs.Prelude.{IfSome}
-use Rattle.std.specs.Prelude.{[]}
 use Rattle.dep_server.specs.Records.{Absent}
 use Rattle.dep_server.specs.Holding.{MovesLine, with_held}
-use Rattle.dep_host.specs.Hosting.{Goes, HasDone, position, slot}
-use Rattle.dep_host.proofs.HostLemmas.{slot_read}
+use Rattle.dep_host.specs.Hosting.{HasDone}
+use Rattle.dep_host.proofs.HostLemmas.{slot_read, closing, closing_none}
 use Rattle.dep_host.proofs.host.Host.close.Goals as goal
 
 pub returns-in-Some-clause-goes : goal.returns-in-Some-clause-goes
 returns-in-Some-clause-goes g c =
     let sat = slot_read _ _ _ c.requires.there c.index_mut.ensures.value ∙ (sym c.take.ensures.value ∙ c.in-Some.is) in
-    subst (λ o. IfSome o (Goes g.A.Archive.condition g.R.Source.unread g.K.Sink.taken g.S.Spool.held (position c.args.self.now) _ c.args.at c.args.second)) (sym sat) (record {
+    closing g.A.Archive.condition g.R.Source.unread g.K.Sink.taken g.S.Spool.held _ _ c.args.at c.args.second _ c.in-Some.seat sat (record {
       there = c.requires.there;
       sat = sat;
       gone = ap (λ y. set c.args.self.now.seats.items c.args.at y) c.take.ensures.after;
@@ -25,8 +23,8 @@ returns-in-Some-clause-goes g c =
 
 pub returns-in_default-clause-goes : goal.returns-in_default-clause-goes
 returns-in_default-clause-goes g c =
-    let none = slot_read _ _ _ c.requires.there c.index_mut.ensures.value ∙ (sym c.take.ensures.value ∙ c.in_default.is) in
-    subst (λ o. IfSome o (Goes g.A.Archive.condition g.R.Source.unread g.K.Sink.taken g.S.Spool.held (position c.args.self.now) _ c.args.at c.args.second)) (sym none) tt
+    closing_none g.A.Archive.condition g.R.Source.unread g.K.Sink.taken g.S.Spool.held _ _ c.args.at c.args.second _
+    (slot_read _ _ _ c.requires.there c.index_mut.ensures.value ∙ (sym c.take.ensures.value ∙ c.in_default.is))
 
 pub returns-in-Some-clause-gone : goal.returns-in-Some-clause-gone
 returns-in-Some-clause-gone g c = get_or-set_same _ c.args.at _ None c.requires.there ∙ c.take.ensures.after

@@ -1,5 +1,5 @@
 use Rattle.std.proofs.Common.{refl, ◌∙◌, arith, ◌≡◌, ◌+◌}
-use Rattle.dep_host.proofs.HostLemmas.{round_begins, round_goes_on, left_goes_on}
+use Rattle.dep_host.proofs.HostLemmas.{round_begins, round_goes_on, round_ends, left_goes_on}
 use Rattle.dep_host.proofs.host.Host.round.Goals as goal
 
 pub loop-at-init : goal.loop-at-init
@@ -19,3 +19,6 @@ loop-at-preserved g c = record {
   room = omega (arith, c.serve.auto.room, c.loop-at.invariant.room);
   idle = c.serve.ensures.idle ∙ c.loop-at.invariant.idle;
 }
+
+pub returns-clause-goes : goal.returns-clause-goes
+returns-clause-goes g c = round_ends g.A.Archive.condition g.R.Source.unread g.K.Sink.taken g.S.Spool.held _ _ _ _ c.loop-at.invariant.goes
