@@ -6,7 +6,6 @@ use Rattle.std.proofs.KnownBytes.{Keeps-refl}
 use Rattle.std.specs.Prelude.{IfSome}
 use Rattle.std.specs.Io.KnownBytes.{Keeps}
 use Rattle.dep_types.specs.Conditions.{Condition}
-use Rattle.dep_server.specs.Records.{Line}
 use Rattle.dep_server.specs.Holding.{KeepsHolding}
 use Rattle.dep_server.specs.declared.hub.Hub.{Hub}
 use Rattle.dep_server.specs.Standing.{IsClean, IsHonest}
@@ -15,7 +14,7 @@ use Rattle.dep_outbox.specs.Wires.{told}
 use Rattle.dep_host.specs.Courses.{is_ended}
 use Rattle.dep_host.specs.declared.seat.Seat.{Seat}
 use Rattle.dep_host.specs.Seats.{TakesTurn}
-use Rattle.dep_host.specs.Hosting.{Position, slot, HasTime, HasDone, Deed, Opens, Takes, Replies, Declines, Closes, answer_at, answers_at, IsClosedAt, AreClosedAt, Comes, Refused, HasTurn, Goes, Step, refused, comes, rests, offers, refuses, answers, leaves, Steps, begins, goes_on, GoesOn, Serves, GoesRound}
+use Rattle.dep_host.specs.Hosting.{Position, slot, HasTime, HasDone, Deed, Takes, Replies, Declines, Closes, answers_at, AreClosedAt, HasTurn, Goes, Step, refused, rests, offers, refuses, answers, leaves, Steps, begins, goes_on, GoesOn, Serves, GoesRound}
 
 -- what was read at a place is what stands there
 pub slot_read : {X : Type 0} (at : ℕ) (seats : List (Option X)) (x : Option X) → at < length seats → x ≡ get_or seats at x → slot at seats ≡ x
@@ -42,7 +41,7 @@ pub left_goes_on : {R K S : Type 0} (old new : List (Option (Seat R K S))) (at n
     → (place : ℕ) → place < next → HasTime second idle (slot place new)
 left_goes_on {R = R} {K = K} {S = S} old new at next second was idle before here same others e place h = elim (cases_lt place at) [
   | inl lt ↦ subst (λ (n : ℕ). HasTime second n (slot place new)) (sym same)
-    (subst (λ (x : Option (Seat R K S)). HasTime second was x) (sym (others place (λ is. omega (arith, is, lt)))) (before place lt))
+      (subst (λ (x : Option (Seat R K S)). HasTime second was x) (sym (others place (λ is. omega (arith, is, lt)))) (before place lt))
   | inr ge ↦ let is : place ≡ at = omega (arith, ge, h, e) in subst (λ (n : ℕ). HasTime second idle (slot n new)) (sym is) here
 ]
 
@@ -121,18 +120,32 @@ module _ {A R K S : Type 0} (condition : A → Condition) (unread : R → Option
   pub took_turn : (p q : Position A R K S) (at second moment : ℕ) (before after : Seat R K S) → HasTurn condition unread taken held p q at before after
       → TakesTurn condition unread taken held p.hub q.hub before after moment → Serves condition unread taken held p q at second
   took_turn p q at second moment before after t (inl r) = record {
-    deeds = []; steps = goes_on begins (rests t r); once = omega arith; others = λ place ne. refl; closes = tt;
+    deeds = [];
+    steps = goes_on begins (rests t r);
+    once = omega arith;
+    others = λ place ne. refl;
+    closes = tt;
   }
   took_turn p q at second moment before after t (inr (inl o)) = record {
-    deeds = Takes at before.connection o.piece ∷ []; steps = goes_on begins (offers t o); once = omega arith; others = λ place ne. refl; closes = (tt, tt);
+    deeds = Takes at before.connection o.piece ∷ [];
+    steps = goes_on begins (offers t o);
+    once = omega arith;
+    others = λ place ne. refl;
+    closes = (tt, tt);
   }
   took_turn p q at second moment before after t (inr (inr (inl r))) = record {
-    deeds = Declines at before.connection r.piece moment r.answers.sent ∷ []; steps = goes_on begins (refuses t r);
-    once = one_at_most (at == at); others = λ place ne. none_elsewhere at place ne; closes = (tt, tt);
+    deeds = Declines at before.connection r.piece moment r.answers.sent ∷ [];
+    steps = goes_on begins (refuses t r);
+    once = one_at_most (at == at);
+    others = λ place ne. none_elsewhere at place ne;
+    closes = (tt, tt);
   }
   took_turn p q at second moment before after t (inr (inr (inr a))) = record {
-    deeds = Replies at before.connection moment a.answers.sent ∷ []; steps = goes_on begins (answers t a);
-    once = one_at_most (at == at); others = λ place ne. none_elsewhere at place ne; closes = (tt, tt);
+    deeds = Replies at before.connection moment a.answers.sent ∷ [];
+    steps = goes_on begins (answers t a);
+    once = one_at_most (at == at);
+    others = λ place ne. none_elsewhere at place ne;
+    closes = (tt, tt);
   }
 
   -- and was closed after it
@@ -179,12 +192,12 @@ module _ {A R K S : Type 0} (condition : A → Condition) (unread : R → Option
     steps = steps_join s.steps t.steps;
     once = λ place. elim (cases_eq place at) [
       | inl h ↦ let a = answers_append place s.deeds t.deeds in let b = s.later place (omega (arith, h)) in
-        let c : answers_at place t.deeds ≤ 1 = subst (λ (n : ℕ). answers_at n t.deeds ≤ 1) (sym h) t.once in omega (arith, a, b, c)
+          let c : answers_at place t.deeds ≤ 1 = subst (λ (n : ℕ). answers_at n t.deeds ≤ 1) (sym h) t.once in omega (arith, a, b, c)
       | inr ne ↦ let a = answers_append place s.deeds t.deeds in let b = t.others place ne in let c = s.once place in omega (arith, a, b, c)
     ];
     later = λ place h.
-      let a = answers_append place s.deeds t.deeds in let b = s.later place (omega (arith, h, e)) in
-      let c = t.others place (λ same. omega (arith, same, h, e)) in omega (arith, a, b, c);
+        let a = answers_append place s.deeds t.deeds in let b = s.later place (omega (arith, h, e)) in
+        let c = t.others place (λ same. omega (arith, same, h, e)) in omega (arith, a, b, c);
     closes = closed_append second s.deeds t.deeds s.closes t.closes;
   }
 

@@ -1,5 +1,5 @@
 -- What was read of a connection arrives in its order.
-use Rattle.std.proofs.Common.{◌≡◌, ◌⊎◌, inl, inr, ◌==◌, ℕ, Bool, if◌then◌else◌, List, [], ◌∷◌, ◌++◌, refl, sym, ap, ◌∙◌, append_assoc}
+use Rattle.std.proofs.Common.{◌≡◌, inl, inr, ◌==◌, ℕ, Bool, if◌then◌else◌, List, [], ◌∷◌, ◌++◌, refl, sym, ap, ◌∙◌, append_assoc}
 use Rattle.std.proofs.lemmas.List.{append-nil}
 use Rattle.std.proofs.lemmas.Bool.{cases_eq, eq-eqb, ne_eqb}
 use Rattle.dep_server.specs.Records.{Record, Connect, Arrive, Close}
@@ -64,9 +64,9 @@ reads_arrive {first = first} n (takes {deeds = deeds} {records = records} {held 
     let before = reads_arrive n f (open_before n deeds (Takes at m piece ∷ []) h) in
     elim (cases_eq n m) [
       | inl e ↦ read_more (first n) (read_of n deeds) (arrived_of n records) (held n) piece _ (with_held m (held m ++ piece) held n) before
-        (read_one n deeds (Takes at m piece) piece (here n m piece [] e)) (here n m (held m ++ piece) (held n) e ∙ ap (λ (k : ℕ). held k ++ piece) (sym e))
+          (read_one n deeds (Takes at m piece) piece (here n m piece [] e)) (here n m (held m ++ piece) (held n) e ∙ ap (λ (k : ℕ). held k ++ piece) (sym e))
       | inr ne ↦ stays (first n) (read_of n deeds) (arrived_of n records) (held n) _ (arrived_of n records) (with_held m (held m ++ piece) held n) before
-        (read_none n deeds (Takes at m piece) (elsewhere n m piece [] ne)) refl (elsewhere n m (held m ++ piece) (held n) ne)
+          (read_none n deeds (Takes at m piece) (elsewhere n m piece [] ne)) refl (elsewhere n m (held m ++ piece) (held n) ne)
     ]
 reads_arrive {first = first} n (replies {deeds = deeds} {records = records} {held = held} at m moment part rest sent f cut) h =
     let d : Deed = Replies at m moment sent in
@@ -75,9 +75,9 @@ reads_arrive {first = first} n (replies {deeds = deeds} {records = records} {hel
     let same : read_of n (deeds ++ d ∷ []) ≡ read_of n deeds = read_none n deeds d refl in
     elim (cases_eq n m) [
       | inl e ↦ ap (λ l. first n ++ l) same ∙ arrive_more (first n) (read_of n deeds) (arrived_of n records) (held n) part rest _ (with_held m rest held n) before
-        (ap held e ∙ cut) (arrived_one n records r part (here n m part [] e)) (here n m rest (held n) e)
+          (ap held e ∙ cut) (arrived_one n records r part (here n m part [] e)) (here n m rest (held n) e)
       | inr ne ↦ stays (first n) (read_of n deeds) (arrived_of n records) (held n) _ _ (with_held m rest held n) before
-        same (arrived_none n records r (elsewhere n m part [] ne)) (elsewhere n m rest (held n) ne)
+          same (arrived_none n records r (elsewhere n m part [] ne)) (elsewhere n m rest (held n) ne)
     ]
 reads_arrive {first = first} n (declines {deeds = deeds} {records = records} {held = held} at m moment piece part rest sent f cut) h =
     let d : Deed = Declines at m piece moment sent in
@@ -85,10 +85,10 @@ reads_arrive {first = first} n (declines {deeds = deeds} {records = records} {he
     let before = reads_arrive n f (open_before n deeds (d ∷ []) h) in
     elim (cases_eq n m) [
       | inl e ↦ arrive_more (first n) _ (arrived_of n records) (held n ++ piece) part rest _ (with_held m rest held n)
-        (read_more (first n) (read_of n deeds) (arrived_of n records) (held n) piece _ (held n ++ piece) before (read_one n deeds d piece (here n m piece [] e)) refl)
-        (ap (λ (k : ℕ). held k ++ piece) e ∙ cut) (arrived_one n records r part (here n m part [] e)) (here n m rest (held n) e)
+          (read_more (first n) (read_of n deeds) (arrived_of n records) (held n) piece _ (held n ++ piece) before (read_one n deeds d piece (here n m piece [] e)) refl)
+          (ap (λ (k : ℕ). held k ++ piece) e ∙ cut) (arrived_one n records r part (here n m part [] e)) (here n m rest (held n) e)
       | inr ne ↦ stays (first n) (read_of n deeds) (arrived_of n records) (held n) _ _ (with_held m rest held n) before
-        (read_none n deeds d (elsewhere n m piece [] ne)) (arrived_none n records r (elsewhere n m part [] ne)) (elsewhere n m rest (held n) ne)
+          (read_none n deeds d (elsewhere n m piece [] ne)) (arrived_none n records r (elsewhere n m part [] ne)) (elsewhere n m rest (held n) ne)
     ]
 reads_arrive {first = first} n (closes {deeds = deeds} {records = records} {held = held} at m second f) h =
     stays (first n) (read_of n deeds) (arrived_of n records) (held n) _ _ (with_held m [] held n) (reads_arrive n f (open_before n deeds (Closes at m second ∷ []) h))

@@ -1,5 +1,5 @@
 -- What a host does makes a run.
-use Rattle.std.proofs.Common.{◌≡◌, ℕ, List, [], ◌∷◌, ◌++◌, Option, sym, ap, subst, append_assoc, IsTrue}
+use Rattle.std.proofs.Common.{◌≡◌, ℕ, List, [], ◌∷◌, ◌++◌, Option, sym, subst, append_assoc, IsTrue}
 use Rattle.std.proofs.lemmas.List.{append-nil}
 use Rattle.dep_types.specs.State.{State}
 use Rattle.dep_types.specs.declared.config.Config.{Config}
@@ -9,23 +9,22 @@ use Rattle.dep_server.specs.Standing.{IsClean}
 use Rattle.dep_server.specs.Holding.{KeepsHolding, StandsHoldingAfter, MovesLine, PartArrives, with_held}
 use Rattle.dep_server.specs.declared.hub.Hub.{Hub}
 use Rattle.dep_server.specs.declared.arrived.Arrived.{Arrived}
-use Rattle.dep_host.specs.declared.seat.Seat.{Seat}
 use Rattle.dep_host.specs.Hosting.{Position, Deed, Step, refused, comes, rests, offers, refuses, answers, leaves, Steps, begins, goes_on}
 use Rattle.dep_host.specs.Runs.{Follows, begins as follows_none, opens, takes, replies, declines, closes, StandsBehind}
 
 module _ {A R K S : Type 0} (condition : A → Condition) (unread : R → Option (List ℕ)) (taken : K → Option (List ℕ)) (held : S → Option (List ℕ))
     (honest : (a : A) → IsTrue (condition a).is_open → HasCleanDisk (condition a))
     (adds : (old new : Hub A) (n : ℕ) (offered : List ℕ) (moment : ℕ) (sent : List ℕ) (failures failures_after : ℕ) (answer : Arrived) (first : State)
-        (records : List Record) (holds : ℕ → List ℕ) (h : StandsHoldingAfter condition old first records holds)
-        (a : PartArrives condition old.config new n offered moment sent failures failures_after answer h.world holds)
-        → new.config ≡ old.config → IsClean condition new
-        → StandsHoldingAfter condition new first (records ++ record { event = Arrive n a.part moment; sent = sent } ∷ []) (with_held n a.rest holds))
+    (records : List Record) (holds : ℕ → List ℕ) (h : StandsHoldingAfter condition old first records holds)
+    (a : PartArrives condition old.config new n offered moment sent failures failures_after answer h.world holds)
+    → new.config ≡ old.config → IsClean condition new
+    → StandsHoldingAfter condition new first (records ++ record { event = Arrive n a.part moment; sent = sent } ∷ []) (with_held n a.rest holds))
     (connects : (old new : Hub A) (n : ℕ) (first : State) (records : List Record) (holds : ℕ → List ℕ) → StandsHoldingAfter condition old first records holds
-        → new.config ≡ old.config → new.store ≡ old.store → MovesLine condition old new n (Live []) (λ bytes. bytes)
-        → StandsHoldingAfter condition new first (records ++ record { event = Connect n; sent = [] } ∷ []) holds)
+    → new.config ≡ old.config → new.store ≡ old.store → MovesLine condition old new n (Live []) (λ bytes. bytes)
+    → StandsHoldingAfter condition new first (records ++ record { event = Connect n; sent = [] } ∷ []) holds)
     (closed : (old new : Hub A) (n : ℕ) (first : State) (records : List Record) (holds : ℕ → List ℕ) → StandsHoldingAfter condition old first records holds
-        → new.config ≡ old.config → new.store ≡ old.store → MovesLine condition old new n Absent (with_held n [])
-        → StandsHoldingAfter condition new first (records ++ record { event = Close n; sent = [] } ∷ []) (with_held n [] holds)) where
+    → new.config ≡ old.config → new.store ≡ old.store → MovesLine condition old new n Absent (with_held n [])
+    → StandsHoldingAfter condition new first (records ++ record { event = Close n; sent = [] } ∷ []) (with_held n [] holds)) where
   same_store_clean : (old new : Hub A) → new.store ≡ old.store → IsClean condition new → IsClean condition old
   same_store_clean old new same clean = subst (λ (s : A). IsTrue (condition s).is_open) same clean
 
@@ -60,21 +59,27 @@ module _ {A R K S : Type 0} (condition : A → Condition) (unread : R → Option
       → StandsBehind condition p.hub first records holds deeds → Step condition unread taken held p q more → IsClean condition q.hub
       → StandsBehind condition q.hub first records holds (deeds ++ more)
   step_run {p = p} {q = q} {deeds = deeds} first records holds m (refused r) clean = record {
-    more = m.more; holds = m.holds;
+    more = m.more;
+    holds = m.holds;
     follows = subst (λ (l : List Deed). Follows holds l m.more m.holds) (sym (append-nil deeds)) m.follows;
     stands = moved p.hub q.hub first (records ++ m.more) m.holds m.holds r.same_store r.same_config (λ lines h. r.keeps lines m.holds h) m.stands;
   }
   step_run {p = p} {q = q} {deeds = deeds} first records holds m (rests t r) clean = record {
-    more = m.more; holds = m.holds;
+    more = m.more;
+    holds = m.holds;
     follows = subst (λ (l : List Deed). Follows holds l m.more m.holds) (sym (append-nil deeds)) m.follows;
     stands = subst (λ (h : Hub A). StandsHoldingAfter condition h first (records ++ m.more) m.holds) (sym r.same) m.stands;
   }
   step_run {p = p} {q = q} first records holds m (comes {at = at} {seat = seat} r) clean = record {
-    more = m.more ++ record { event = Connect seat.connection; sent = [] } ∷ []; holds = m.holds; follows = opens at seat.connection m.follows;
+    more = m.more ++ record { event = Connect seat.connection; sent = [] } ∷ [];
+    holds = m.holds;
+    follows = opens at seat.connection m.follows;
     stands = behind_more q.hub first records m.more (record { event = Connect seat.connection; sent = [] }) m.holds (connects p.hub q.hub seat.connection first (records ++ m.more) m.holds m.stands r.same_config r.same_store r.moves);
   }
   step_run {p = p} {q = q} first records holds m (offers {at = at} {before = before} t o) clean = record {
-    more = m.more; holds = with_held before.connection (m.holds before.connection ++ o.piece) m.holds; follows = takes at before.connection o.piece m.follows;
+    more = m.more;
+    holds = with_held before.connection (m.holds before.connection ++ o.piece) m.holds;
+    follows = takes at before.connection o.piece m.follows;
     stands = moved p.hub q.hub first (records ++ m.more) m.holds (with_held before.connection (m.holds before.connection ++ o.piece) m.holds) o.same_store t.same_config
         (λ lines h. o.holds lines m.holds h) m.stands;
   }
@@ -97,7 +102,9 @@ module _ {A R K S : Type 0} (condition : A → Condition) (unread : R → Option
             (adds p.hub q.hub before.connection _ moment a.answers.sent _ _ _ first (records ++ m.more) m.holds m.stands came.0 t.same_config clean);
       }
   step_run {p = p} {q = q} first records holds m (leaves {at = at} {second = second} {seat = seat} r) clean = record {
-    more = m.more ++ record { event = Close seat.connection; sent = [] } ∷ []; holds = with_held seat.connection [] m.holds; follows = closes at seat.connection second m.follows;
+    more = m.more ++ record { event = Close seat.connection; sent = [] } ∷ [];
+    holds = with_held seat.connection [] m.holds;
+    follows = closes at seat.connection second m.follows;
     stands = behind_more q.hub first records m.more (record { event = Close seat.connection; sent = [] }) (with_held seat.connection [] m.holds)
         (closed p.hub q.hub seat.connection first (records ++ m.more) m.holds m.stands r.same_config r.same_store r.moves);
   }
@@ -106,7 +113,9 @@ module _ {A R K S : Type 0} (condition : A → Condition) (unread : R → Option
       → Steps condition unread taken held p deeds q → StandsHoldingAfter condition p.hub first records holds → IsClean condition q.hub
       → StandsBehind condition q.hub first records holds deeds
   steps_run {p = p} first records holds begins h clean = record {
-    more = []; holds = holds; follows = follows_none;
+    more = [];
+    holds = holds;
+    follows = follows_none;
     stands = subst (λ (l : List Record). StandsHoldingAfter condition p.hub first l holds) (sym (append-nil records)) h;
   }
   steps_run first records holds (goes_on s t) h clean = step_run first records holds (steps_run first records holds s h (clean_before t clean)) t clean

@@ -1,7 +1,6 @@
 -- What a turn of a connection comes to.
 use Rattle.std.proofs.Common.{◌≡◌, ◌⊎◌, inl, inr, ◌<◌, ◌≤◌, ℕ, List, Option, None, Some, length, take, false, true, refl, sym, subst, ap, ◌∙◌, arith}
 use Rattle.std.proofs.lemmas.List.{length-take}
-use Rattle.std.proofs.KnownBytes.{Keeps-refl}
 use Rattle.std.specs.Io.KnownBytes.{Keeps, Appends, Consumes, IsAtEnd}
 use Rattle.dep_types.specs.Conditions.{Condition}
 use Rattle.dep_server.specs.Holding.{AnswersOver, ComesToNext, OffersTo, Outcome}
@@ -16,7 +15,7 @@ use Rattle.dep_host.specs.declared.seat.Seat.{Seat}
 use Rattle.dep_host.specs.declared.course.Phase.{Phase}
 use Rattle.dep_host.specs.declared.course.Phase.TheVariants.{Open, Answering, Last, Over}
 use Rattle.dep_host.specs.Courses.{is_ended}
-use Rattle.dep_host.specs.Seats.{Rests, Offers, Refuses, Answers, IsRead, TakesTurn, phase_offered, phase_answered}
+use Rattle.dep_host.specs.Seats.{Rests, Answers, IsRead, TakesTurn, phase_offered, phase_answered}
 
 appends_kept : (a b c : Option (List ℕ)) (bytes : List ℕ) → Appends a b bytes → Keeps b c → Appends a c bytes
 appends_kept None b c bytes p q = tt
@@ -73,22 +72,34 @@ module _ {A R K S : Type 0} (condition : A → Condition) (unread : R → Option
         opens = λ h. absurd (not_open after.course.phase over h);
       })
   answered old new before mid after moment More none was c m s k f t p = inr (record {
-    unowed = none; was_read = was; same_source = t ∙ s; next = More;
+    unowed = none;
+    was_read = was;
+    same_source = t ∙ s;
+    next = More;
     answers = over_kept _ _ _ _ _ _ _ _ _ _ _ _ _ c k f;
     opens = opened More mid.course.phase after.course.phase m p;
   })
   answered old new before mid after moment Waiting none was c m s k f t p = inr (record {
-    unowed = none; was_read = was; same_source = t ∙ s; next = Waiting;
+    unowed = none;
+    was_read = was;
+    same_source = t ∙ s;
+    next = Waiting;
     answers = over_kept _ _ _ _ _ _ _ _ _ _ _ _ _ c k f;
     opens = opened Waiting mid.course.phase after.course.phase m p;
   })
   answered old new before mid after moment Closed none was c m s k f t p = inr (record {
-    unowed = none; was_read = was; same_source = t ∙ s; next = Closed;
+    unowed = none;
+    was_read = was;
+    same_source = t ∙ s;
+    next = Closed;
     answers = over_kept _ _ _ _ _ _ _ _ _ _ _ _ _ c k f;
     opens = opened Closed mid.course.phase after.course.phase m p;
   })
   answered old new before mid after moment Cut none was c m s k f t p = inr (record {
-    unowed = none; was_read = was; same_source = t ∙ s; next = Cut;
+    unowed = none;
+    was_read = was;
+    same_source = t ∙ s;
+    next = Cut;
     answers = over_kept _ _ _ _ _ _ _ _ _ _ _ _ _ c k f;
     opens = opened Cut mid.course.phase after.course.phase m p;
   })
@@ -98,13 +109,26 @@ module _ {A R K S : Type 0} (condition : A → Condition) (unread : R → Option
       → OffersTo condition (told taken held before.wire) (told taken held after.wire) before.wire.failures after.wire.failures old new before.connection piece answer
       → after.course.phase ≡ phase_offered answer → (moment : ℕ) → TakesTurn condition unread taken held old new before after moment
   offered old new before after piece came.Open read store o p moment = inr (inl (record {
-    piece = piece; read = read; answers_next = p; keeps = o.sends_nothing; same_store = store; holds = o.holds;
+    piece = piece;
+    read = read;
+    answers_next = p;
+    keeps = o.sends_nothing;
+    same_store = store;
+    holds = o.holds;
   }))
   offered old new before after piece came.Closed read store o p moment = inr (inr (inl (record {
-    piece = piece; read = read; ends = ap is_ended p; answer = came.Closed; answers = o moment;
+    piece = piece;
+    read = read;
+    ends = ap is_ended p;
+    answer = came.Closed;
+    answers = o moment;
   })))
   offered old new before after piece came.Cut read store o p moment = inr (inr (inl (record {
-    piece = piece; read = read; ends = ap is_ended p; answer = came.Cut; answers = o moment;
+    piece = piece;
+    read = read;
+    ends = ap is_ended p;
+    answer = came.Cut;
+    answers = o moment;
   })))
   offered old new before after piece came.NoSuch read store o p moment = inl (record {
     same = o.same;

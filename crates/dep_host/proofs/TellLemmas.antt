@@ -4,8 +4,6 @@ use Rattle.std.proofs.lemmas.List.{append-nil, get_or-set_same, get_or-set_other
 use Rattle.std.proofs.lemmas.Bool.{cases_eq, eq-eqb, ne_eqb}
 use Rattle.std.specs.Io.KnownBytes.{Appends, Keeps, IsAtEnd, prepend_known}
 use Rattle.dep_types.specs.Conditions.{Condition}
-use Rattle.dep_server.specs.declared.hub.Hub.{Hub}
-use Rattle.dep_outbox.specs.declared.wire.Wire.{Wire}
 use Rattle.dep_host.specs.declared.seat.Seat.{Seat}
 use Rattle.dep_outbox.specs.Wires.{joined, told}
 use Rattle.dep_host.specs.Runs.{StaysOpen}

@@ -3,7 +3,7 @@ use Rattle.std.specs.Prelude.{◌≡◌, ◌<◌, ◌≤◌, ◌+◌, ◌==◌, 
 use Rattle.std.specs.List.{flat_map}
 use Rattle.std.specs.Io.KnownBytes.{IsAtEnd}
 use Rattle.dep_types.specs.Conditions.{Condition}
-use Rattle.dep_server.specs.Records.{Record, Line, Connect, Arrive, Close, Live, Absent}
+use Rattle.dep_server.specs.Records.{Line, Live, Absent}
 use Rattle.dep_server.specs.Standing.{IsClean, IsHonest}
 use Rattle.dep_server.specs.Holding.{KeepsHolding, MovesLine, with_held}
 use Rattle.dep_server.specs.declared.hub.Hub.{Hub}

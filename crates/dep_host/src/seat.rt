@@ -35,12 +35,7 @@ pub struct Seat<R, K, S> {
 
 impl<R: Source, K: Sink, S: Spool> Seat<R, K, S> {
     /// A fresh connection, whose socket may be ready.
-    pub(crate) fn new(
-        connection: ConnId,
-        source: R,
-        wire: Wire<K, S>,
-        second: u64,
-    ) -> Seat<R, K, S>
+    pub(crate) fn new(connection: ConnId, source: R, wire: Wire<K, S>, second: u64) -> Seat<R, K, S>
         ensures number { result.connection ≡ connection }
         ensures source { result.source ≡ source }
         ensures wire { result.wire ≡ wire }
@@ -91,12 +86,7 @@ impl<R: Source, K: Sink, S: Spool> Seat<R, K, S> {
     }
 
     /// Does what it does next: at most one piece is read, or one item answered.
-    pub(crate) fn take_turn<A: Archive>(
-        &mut self,
-        hub: &mut Hub<A>,
-        room: &mut [u8],
-        time: &Time,
-    )
+    pub(crate) fn take_turn<A: Archive>(&mut self, hub: &mut Hub<A>, room: &mut [u8], time: &Time)
         requires room { length room.old ≤ most_read }
         ensures config { hub.new.config ≡ hub.old.config }
         ensures next { hub.new.next ≡ hub.old.next }

@@ -1,4 +1,4 @@
-use Rattle.std.proofs.Common.{refl, ◌∙◌, arith, ◌≡◌, ◌+◌}
+use Rattle.std.proofs.Common.{refl, ◌∙◌, arith}
 use Rattle.dep_host.proofs.HostLemmas.{round_begins, round_goes_on, round_ends, left_goes_on}
 use Rattle.dep_host.proofs.host.Host.round.Goals as goal
 

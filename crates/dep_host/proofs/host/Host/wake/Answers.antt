@@ -1,5 +1,4 @@
-use Rattle.std.proofs.Common.{◌≡◌, refl, sym, ap, subst, ◌∙◌}
-use Rattle.std.proofs.KnownBytes.{Keeps-refl}
+use Rattle.std.proofs.Common.{refl, ◌∙◌}
 use Rattle.dep_host.proofs.HostLemmas.{slot_read, woken, same_seats}
 use Rattle.dep_host.proofs.host.Host.wake.Goals as goal
 
