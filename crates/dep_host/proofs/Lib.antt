@@ -1,0 +1,5 @@
+mod SeatLemmas
+mod HostLemmas
+mod RunLemmas
+mod TellLemmas
+mod ReadLemmas

@@ -1,0 +1,121 @@
+-- What was read of a connection arrives in its order.
+use Rattle.std.proofs.Common.{◌≡◌, inl, inr, ◌==◌, ℕ, Bool, if◌then◌else◌, List, [], ◌∷◌, ◌++◌, refl, sym, ap, ◌∙◌, append_assoc}
+use Rattle.std.proofs.lemmas.List.{append-nil}
+use Rattle.std.proofs.lemmas.Bool.{cases_eq, eq-eqb, ne_eqb}
+use Rattle.dep_server.specs.Records.{Record, Connect, Arrive, Close}
+use Rattle.dep_server.specs.Holding.{with_held}
+use Rattle.dep_host.specs.Hosting.{Deed, Opens, Takes, Replies, Declines, Closes, sent_by, replies_to}
+use Rattle.dep_host.specs.Runs.{Follows, begins, opens, takes, replies, declines, closes, read_by, read_of, arrived_by, arrived_of, StaysOpen, sent_for, sent_of}
+
+read_append : (n : ℕ) (xs ys : List Deed) → read_of n (xs ++ ys) ≡ read_of n xs ++ read_of n ys
+read_append n [] ys = refl
+read_append n (d ∷ xs) ys = ap (λ l. read_by n d ++ l) (read_append n xs ys) ∙ sym (append_assoc (read_by n d) (read_of n xs) (read_of n ys))
+
+arrived_append : (n : ℕ) (xs ys : List Record) → arrived_of n (xs ++ ys) ≡ arrived_of n xs ++ arrived_of n ys
+arrived_append n [] ys = refl
+arrived_append n (r ∷ xs) ys = ap (λ l. arrived_by n r.event ++ l) (arrived_append n xs ys) ∙ sym (append_assoc (arrived_by n r.event) (arrived_of n xs) (arrived_of n ys))
+
+open_before : (n : ℕ) (xs ys : List Deed) → StaysOpen n (xs ++ ys) → StaysOpen n xs
+open_before n [] ys h = tt
+open_before n (d ∷ xs) ys h = (h.0, open_before n xs ys h.1)
+
+open_last : (n : ℕ) (xs ys : List Deed) → StaysOpen n (xs ++ ys) → StaysOpen n ys
+open_last n [] ys h = h
+open_last n (d ∷ xs) ys h = open_last n xs ys h.1
+
+here : (n m : ℕ) (xs ys : List ℕ) → n ≡ m → (if n == m then xs else ys) ≡ xs
+here n m xs ys e = ap (λ (b : Bool). if b then xs else ys) (eq-eqb n m e)
+
+elsewhere : (n m : ℕ) (xs ys : List ℕ) → (n ≡ m → ⊥) → (if n == m then xs else ys) ≡ ys
+elsewhere n m xs ys ne = ap (λ (b : Bool). if b then xs else ys) (ne_eqb n m ne)
+
+-- more is read, and held
+read_more : (f r a h piece r' h' : List ℕ) → f ++ r ≡ a ++ h → r' ≡ r ++ piece → h' ≡ h ++ piece → f ++ r' ≡ a ++ h'
+read_more f r a h piece r' h' e er eh = ap (λ l. f ++ l) er ∙ sym (append_assoc f r piece) ∙ ap (λ l. l ++ piece) e ∙ append_assoc a h piece ∙ ap (λ l. a ++ l) (sym eh)
+
+-- a part of what is held arrives
+arrive_more : (f r a h part rest a' h' : List ℕ) → f ++ r ≡ a ++ h → h ≡ part ++ rest → a' ≡ a ++ part → h' ≡ rest → f ++ r ≡ a' ++ h'
+arrive_more f r a h part rest a' h' e cut ea eh = e ∙ ap (λ l. a ++ l) cut ∙ sym (append_assoc a part rest) ∙ ap (λ l. l ++ rest) (sym ea) ∙ ap (λ l. a' ++ l) (sym eh)
+
+-- nothing of it changes
+stays : (f r a h r' a' h' : List ℕ) → f ++ r ≡ a ++ h → r' ≡ r → a' ≡ a → h' ≡ h → f ++ r' ≡ a' ++ h'
+stays f r a h r' a' h' e er ea eh = ap (λ l. f ++ l) er ∙ e ∙ ap (λ l. l ++ h) (sym ea) ∙ ap (λ l. a' ++ l) (sym eh)
+
+-- one deed more, of which this was read
+read_one : (n : ℕ) (deeds : List Deed) (d : Deed) (bytes : List ℕ) → read_by n d ≡ bytes → read_of n (deeds ++ d ∷ []) ≡ read_of n deeds ++ bytes
+read_one n deeds d bytes e = read_append n deeds (d ∷ []) ∙ ap (λ l. read_of n deeds ++ l) (append-nil (read_by n d) ∙ e)
+
+arrived_one : (n : ℕ) (records : List Record) (r : Record) (bytes : List ℕ) → arrived_by n r.event ≡ bytes → arrived_of n (records ++ r ∷ []) ≡ arrived_of n records ++ bytes
+arrived_one n records r bytes e = arrived_append n records (r ∷ []) ∙ ap (λ l. arrived_of n records ++ l) (append-nil (arrived_by n r.event) ∙ e)
+
+read_none : (n : ℕ) (deeds : List Deed) (d : Deed) → read_by n d ≡ [] → read_of n (deeds ++ d ∷ []) ≡ read_of n deeds
+read_none n deeds d e = read_one n deeds d [] e ∙ append-nil (read_of n deeds)
+
+arrived_none : (n : ℕ) (records : List Record) (r : Record) → arrived_by n r.event ≡ [] → arrived_of n (records ++ r ∷ []) ≡ arrived_of n records
+arrived_none n records r e = arrived_one n records r [] e ∙ append-nil (arrived_of n records)
+
+pub reads_arrive : {first : ℕ → List ℕ} {deeds : List Deed} {records : List Record} {held : ℕ → List ℕ} (n : ℕ) → Follows first deeds records held → StaysOpen n deeds
+    → first n ++ read_of n deeds ≡ arrived_of n records ++ held n
+reads_arrive {first = first} n begins h = append-nil (first n)
+reads_arrive {first = first} n (opens {deeds = deeds} {records = records} {held = held} at m f) h =
+    stays (first n) (read_of n deeds) (arrived_of n records) (held n) _ _ (held n) (reads_arrive n f (open_before n deeds (Opens at m ∷ []) h))
+    (read_none n deeds (Opens at m) refl) (arrived_none n records (record { event = Connect m; sent = [] }) refl) refl
+reads_arrive {first = first} n (takes {deeds = deeds} {records = records} {held = held} at m piece f) h =
+    let before = reads_arrive n f (open_before n deeds (Takes at m piece ∷ []) h) in
+    elim (cases_eq n m) [
+      | inl e ↦ read_more (first n) (read_of n deeds) (arrived_of n records) (held n) piece _ (with_held m (held m ++ piece) held n) before
+          (read_one n deeds (Takes at m piece) piece (here n m piece [] e)) (here n m (held m ++ piece) (held n) e ∙ ap (λ (k : ℕ). held k ++ piece) (sym e))
+      | inr ne ↦ stays (first n) (read_of n deeds) (arrived_of n records) (held n) _ (arrived_of n records) (with_held m (held m ++ piece) held n) before
+          (read_none n deeds (Takes at m piece) (elsewhere n m piece [] ne)) refl (elsewhere n m (held m ++ piece) (held n) ne)
+    ]
+reads_arrive {first = first} n (replies {deeds = deeds} {records = records} {held = held} at m moment part rest sent f cut) h =
+    let d : Deed = Replies at m moment sent in
+    let r : Record = record { event = Arrive m part moment; sent = sent } in
+    let before = reads_arrive n f (open_before n deeds (d ∷ []) h) in
+    let same : read_of n (deeds ++ d ∷ []) ≡ read_of n deeds = read_none n deeds d refl in
+    elim (cases_eq n m) [
+      | inl e ↦ ap (λ l. first n ++ l) same ∙ arrive_more (first n) (read_of n deeds) (arrived_of n records) (held n) part rest _ (with_held m rest held n) before
+          (ap held e ∙ cut) (arrived_one n records r part (here n m part [] e)) (here n m rest (held n) e)
+      | inr ne ↦ stays (first n) (read_of n deeds) (arrived_of n records) (held n) _ _ (with_held m rest held n) before
+          same (arrived_none n records r (elsewhere n m part [] ne)) (elsewhere n m rest (held n) ne)
+    ]
+reads_arrive {first = first} n (declines {deeds = deeds} {records = records} {held = held} at m moment piece part rest sent f cut) h =
+    let d : Deed = Declines at m piece moment sent in
+    let r : Record = record { event = Arrive m part moment; sent = sent } in
+    let before = reads_arrive n f (open_before n deeds (d ∷ []) h) in
+    elim (cases_eq n m) [
+      | inl e ↦ arrive_more (first n) _ (arrived_of n records) (held n ++ piece) part rest _ (with_held m rest held n)
+          (read_more (first n) (read_of n deeds) (arrived_of n records) (held n) piece _ (held n ++ piece) before (read_one n deeds d piece (here n m piece [] e)) refl)
+          (ap (λ (k : ℕ). held k ++ piece) e ∙ cut) (arrived_one n records r part (here n m part [] e)) (here n m rest (held n) e)
+      | inr ne ↦ stays (first n) (read_of n deeds) (arrived_of n records) (held n) _ _ (with_held m rest held n) before
+          (read_none n deeds d (elsewhere n m piece [] ne)) (arrived_none n records r (elsewhere n m part [] ne)) (elsewhere n m rest (held n) ne)
+    ]
+reads_arrive {first = first} n (closes {deeds = deeds} {records = records} {held = held} at m second f) h =
+    stays (first n) (read_of n deeds) (arrived_of n records) (held n) _ _ (with_held m [] held n) (reads_arrive n f (open_before n deeds (Closes at m second ∷ []) h))
+    (read_none n deeds (Closes at m second) refl) (arrived_none n records (record { event = Close m; sent = [] }) refl) (elsewhere n m [] (held n) (open_last n deeds (Closes at m second ∷ []) h).0)
+
+replies_one : (n : ℕ) (deeds : List Deed) (d : Deed) → replies_to n (deeds ++ d ∷ []) ≡ replies_to n deeds ++ sent_by n d
+replies_one n [] d = append-nil (sent_by n d)
+replies_one n (e ∷ deeds) d = ap (λ l. sent_by n e ++ l) (replies_one n deeds d) ∙ sym (append_assoc (sent_by n e) (replies_to n deeds) (sent_by n d))
+
+sent_one : (n : ℕ) (records : List Record) (r : Record) → sent_of n (records ++ r ∷ []) ≡ sent_of n records ++ sent_for n r.event r.sent
+sent_one n [] r = append-nil (sent_for n r.event r.sent)
+sent_one n (e ∷ records) r = ap (λ l. sent_for n e.event e.sent ++ l) (sent_one n records r) ∙ sym (append_assoc (sent_for n e.event e.sent) (sent_of n records) (sent_for n r.event r.sent))
+
+-- one deed and its record say the same
+both_one : (n : ℕ) (deeds : List Deed) (d : Deed) (records : List Record) (r : Record) → replies_to n deeds ≡ sent_of n records → sent_by n d ≡ sent_for n r.event r.sent
+    → replies_to n (deeds ++ d ∷ []) ≡ sent_of n (records ++ r ∷ [])
+both_one n deeds d records r e f = replies_one n deeds d ∙ ap (λ l. l ++ sent_by n d) e ∙ ap (λ l. sent_of n records ++ l) f ∙ sym (sent_one n records r)
+
+-- what is sent for the deeds is what their records say
+pub replies_sent : {first : ℕ → List ℕ} {deeds : List Deed} {records : List Record} {held : ℕ → List ℕ} (n : ℕ) → Follows first deeds records held
+    → replies_to n deeds ≡ sent_of n records
+replies_sent n begins = refl
+replies_sent n (opens {deeds = deeds} {records = records} at m f) = both_one n deeds (Opens at m) records (record { event = Connect m; sent = [] }) (replies_sent n f) refl
+replies_sent n (takes {deeds = deeds} at m piece f) = replies_one n deeds (Takes at m piece) ∙ append-nil (replies_to n deeds) ∙ replies_sent n f
+replies_sent n (replies {deeds = deeds} {records = records} at m moment part rest sent f cut) =
+    both_one n deeds (Replies at m moment sent) records (record { event = Arrive m part moment; sent = sent }) (replies_sent n f) refl
+replies_sent n (declines {deeds = deeds} {records = records} at m moment piece part rest sent f cut) =
+    both_one n deeds (Declines at m piece moment sent) records (record { event = Arrive m part moment; sent = sent }) (replies_sent n f) refl
+replies_sent n (closes {deeds = deeds} {records = records} at m second f) =
+    both_one n deeds (Closes at m second) records (record { event = Close m; sent = [] }) (replies_sent n f) refl

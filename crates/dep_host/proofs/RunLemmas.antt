@@ -1,0 +1,121 @@
+-- What a host does makes a run.
+use Rattle.std.proofs.Common.{◌≡◌, ℕ, List, [], ◌∷◌, ◌++◌, Option, sym, subst, append_assoc, IsTrue}
+use Rattle.std.proofs.lemmas.List.{append-nil}
+use Rattle.dep_types.specs.State.{State}
+use Rattle.dep_types.specs.declared.config.Config.{Config}
+use Rattle.dep_types.specs.Conditions.{Condition, StandsFor, HasCleanDisk}
+use Rattle.dep_server.specs.Records.{Record, Connect, Arrive, Close, Line, Live, Absent, Run}
+use Rattle.dep_server.specs.Standing.{IsClean}
+use Rattle.dep_server.specs.Holding.{KeepsHolding, StandsHoldingAfter, MovesLine, PartArrives, with_held}
+use Rattle.dep_server.specs.declared.hub.Hub.{Hub}
+use Rattle.dep_server.specs.declared.arrived.Arrived.{Arrived}
+use Rattle.dep_host.specs.Hosting.{Position, Deed, Step, refused, comes, rests, offers, refuses, answers, leaves, Steps, begins, goes_on}
+use Rattle.dep_host.specs.Runs.{Follows, begins as follows_none, opens, takes, replies, declines, closes, StandsBehind}
+
+module _ {A R K S : Type 0} (condition : A → Condition) (unread : R → Option (List ℕ)) (taken : K → Option (List ℕ)) (held : S → Option (List ℕ))
+    (honest : (a : A) → IsTrue (condition a).is_open → HasCleanDisk (condition a))
+    (adds : (old new : Hub A) (n : ℕ) (offered : List ℕ) (moment : ℕ) (sent : List ℕ) (failures failures_after : ℕ) (answer : Arrived) (first : State)
+    (records : List Record) (holds : ℕ → List ℕ) (h : StandsHoldingAfter condition old first records holds)
+    (a : PartArrives condition old.config new n offered moment sent failures failures_after answer h.world holds)
+    → new.config ≡ old.config → IsClean condition new
+    → StandsHoldingAfter condition new first (records ++ record { event = Arrive n a.part moment; sent = sent } ∷ []) (with_held n a.rest holds))
+    (connects : (old new : Hub A) (n : ℕ) (first : State) (records : List Record) (holds : ℕ → List ℕ) → StandsHoldingAfter condition old first records holds
+    → new.config ≡ old.config → new.store ≡ old.store → MovesLine condition old new n (Live []) (λ bytes. bytes)
+    → StandsHoldingAfter condition new first (records ++ record { event = Connect n; sent = [] } ∷ []) holds)
+    (closed : (old new : Hub A) (n : ℕ) (first : State) (records : List Record) (holds : ℕ → List ℕ) → StandsHoldingAfter condition old first records holds
+    → new.config ≡ old.config → new.store ≡ old.store → MovesLine condition old new n Absent (with_held n [])
+    → StandsHoldingAfter condition new first (records ++ record { event = Close n; sent = [] } ∷ []) (with_held n [] holds)) where
+  same_store_clean : (old new : Hub A) → new.store ≡ old.store → IsClean condition new → IsClean condition old
+  same_store_clean old new same clean = subst (λ (s : A). IsTrue (condition s).is_open) same clean
+
+  -- a store that is open was open before
+  clean_before : {p q : Position A R K S} {more : List Deed} → Step condition unread taken held p q more → IsClean condition q.hub → IsClean condition p.hub
+  clean_before {p = p} {q = q} (refused r) clean = same_store_clean p.hub q.hub r.same_store clean
+  clean_before {p = p} {q = q} (comes r) clean = same_store_clean p.hub q.hub r.same_store clean
+  clean_before {p = p} {q = q} (rests t r) clean = t.clean clean
+  clean_before {p = p} {q = q} (offers t o) clean = t.clean clean
+  clean_before {p = p} {q = q} (refuses t r) clean = t.clean clean
+  clean_before {p = p} {q = q} (answers t a) clean = t.clean clean
+  clean_before {p = p} {q = q} (leaves r) clean = same_store_clean p.hub q.hub r.same_store clean
+
+  -- the hub keeps other bytes, over the same store
+  moved : (old new : Hub A) (first : State) (records : List Record) (holds later : ℕ → List ℕ) → new.store ≡ old.store → new.config ≡ old.config
+      → ((lines : ℕ → Line) → KeepsHolding condition old lines holds → KeepsHolding condition new lines later)
+      → StandsHoldingAfter condition old first records holds → StandsHoldingAfter condition new first records later
+  moved old new first records holds later store config keeps h = record {
+    world = h.world;
+    run = subst (λ (c : Config). Run c first records h.world) (sym config) h.run;
+    at = record {
+      state = subst (λ (s : A). StandsFor (condition s) h.world.state) (sym store) h.at.state;
+      kept = keeps h.world.line h.at.kept;
+    };
+  }
+
+  behind_more : (hub : Hub A) (first : State) (records more : List Record) (one : Record) (holds : ℕ → List ℕ) → StandsHoldingAfter condition hub first ((records ++ more) ++ one ∷ []) holds
+      → StandsHoldingAfter condition hub first (records ++ (more ++ one ∷ [])) holds
+  behind_more hub first records more one holds h = subst (λ (l : List Record). StandsHoldingAfter condition hub first l holds) (append_assoc records more (one ∷ [])) h
+
+  step_run : {p q : Position A R K S} {deeds more : List Deed} (first : State) (records : List Record) (holds : ℕ → List ℕ)
+      → StandsBehind condition p.hub first records holds deeds → Step condition unread taken held p q more → IsClean condition q.hub
+      → StandsBehind condition q.hub first records holds (deeds ++ more)
+  step_run {p = p} {q = q} {deeds = deeds} first records holds m (refused r) clean = record {
+    more = m.more;
+    holds = m.holds;
+    follows = subst (λ (l : List Deed). Follows holds l m.more m.holds) (sym (append-nil deeds)) m.follows;
+    stands = moved p.hub q.hub first (records ++ m.more) m.holds m.holds r.same_store r.same_config (λ lines h. r.keeps lines m.holds h) m.stands;
+  }
+  step_run {p = p} {q = q} {deeds = deeds} first records holds m (rests t r) clean = record {
+    more = m.more;
+    holds = m.holds;
+    follows = subst (λ (l : List Deed). Follows holds l m.more m.holds) (sym (append-nil deeds)) m.follows;
+    stands = subst (λ (h : Hub A). StandsHoldingAfter condition h first (records ++ m.more) m.holds) (sym r.same) m.stands;
+  }
+  step_run {p = p} {q = q} first records holds m (comes {at = at} {seat = seat} r) clean = record {
+    more = m.more ++ record { event = Connect seat.connection; sent = [] } ∷ [];
+    holds = m.holds;
+    follows = opens at seat.connection m.follows;
+    stands = behind_more q.hub first records m.more (record { event = Connect seat.connection; sent = [] }) m.holds (connects p.hub q.hub seat.connection first (records ++ m.more) m.holds m.stands r.same_config r.same_store r.moves);
+  }
+  step_run {p = p} {q = q} first records holds m (offers {at = at} {before = before} t o) clean = record {
+    more = m.more;
+    holds = with_held before.connection (m.holds before.connection ++ o.piece) m.holds;
+    follows = takes at before.connection o.piece m.follows;
+    stands = moved p.hub q.hub first (records ++ m.more) m.holds (with_held before.connection (m.holds before.connection ++ o.piece) m.holds) o.same_store t.same_config
+        (λ lines h. o.holds lines m.holds h) m.stands;
+  }
+  step_run {p = p} {q = q} first records holds m (refuses {at = at} {moment = moment} {before = before} t r) clean =
+      let came = r.answers.answers (honest q.hub.store clean) m.stands.world m.holds m.stands.at in
+      record {
+        more = m.more ++ record { event = Arrive before.connection came.0.part moment; sent = r.answers.sent } ∷ [];
+        holds = with_held before.connection came.0.rest m.holds;
+        follows = declines at before.connection moment r.piece came.0.part came.0.rest r.answers.sent m.follows came.0.whole;
+        stands = behind_more q.hub first records m.more (record { event = Arrive before.connection came.0.part moment; sent = r.answers.sent }) (with_held before.connection came.0.rest m.holds)
+            (adds p.hub q.hub before.connection _ moment r.answers.sent _ _ _ first (records ++ m.more) m.holds m.stands came.0 t.same_config clean);
+      }
+  step_run {p = p} {q = q} first records holds m (answers {at = at} {moment = moment} {before = before} t a) clean =
+      let came = a.answers.answers (honest q.hub.store clean) m.stands.world m.holds m.stands.at in
+      record {
+        more = m.more ++ record { event = Arrive before.connection came.0.part moment; sent = a.answers.sent } ∷ [];
+        holds = with_held before.connection came.0.rest m.holds;
+        follows = replies at before.connection moment came.0.part came.0.rest a.answers.sent m.follows came.0.whole;
+        stands = behind_more q.hub first records m.more (record { event = Arrive before.connection came.0.part moment; sent = a.answers.sent }) (with_held before.connection came.0.rest m.holds)
+            (adds p.hub q.hub before.connection _ moment a.answers.sent _ _ _ first (records ++ m.more) m.holds m.stands came.0 t.same_config clean);
+      }
+  step_run {p = p} {q = q} first records holds m (leaves {at = at} {second = second} {seat = seat} r) clean = record {
+    more = m.more ++ record { event = Close seat.connection; sent = [] } ∷ [];
+    holds = with_held seat.connection [] m.holds;
+    follows = closes at seat.connection second m.follows;
+    stands = behind_more q.hub first records m.more (record { event = Close seat.connection; sent = [] }) (with_held seat.connection [] m.holds)
+        (closed p.hub q.hub seat.connection first (records ++ m.more) m.holds m.stands r.same_config r.same_store r.moves);
+  }
+
+  pub steps_run : {p q : Position A R K S} {deeds : List Deed} (first : State) (records : List Record) (holds : ℕ → List ℕ)
+      → Steps condition unread taken held p deeds q → StandsHoldingAfter condition p.hub first records holds → IsClean condition q.hub
+      → StandsBehind condition q.hub first records holds deeds
+  steps_run {p = p} first records holds begins h clean = record {
+    more = [];
+    holds = holds;
+    follows = follows_none;
+    stands = subst (λ (l : List Record). StandsHoldingAfter condition p.hub first l holds) (sym (append-nil records)) h;
+  }
+  steps_run first records holds (goes_on s t) h clean = step_run first records holds (steps_run first records holds s h (clean_before t clean)) t clean

@@ -1,0 +1,228 @@
+-- What the wires of a host take is what is sent for their connections.
+use Rattle.std.proofs.Common.{◌≡◌, ◌⊎◌, inl, inr, ◌<◌, ◌≤◌, ◌==◌, ℕ, Bool, if◌then◌else◌, List, [], ◌∷◌, ◌++◌, Option, None, Some, refl, sym, ap, subst, ◌∙◌, append_assoc, length, set, drop, arith}
+use Rattle.std.proofs.lemmas.List.{append-nil, get_or-set_same, get_or-set_other}
+use Rattle.std.proofs.lemmas.Bool.{cases_eq, eq-eqb, ne_eqb}
+use Rattle.std.specs.Io.KnownBytes.{Appends, Keeps, IsAtEnd, prepend_known}
+use Rattle.dep_types.specs.Conditions.{Condition}
+use Rattle.dep_host.specs.declared.seat.Seat.{Seat}
+use Rattle.dep_outbox.specs.Wires.{joined, told}
+use Rattle.dep_host.specs.Runs.{StaysOpen}
+use Rattle.dep_host.specs.Hosting.{Position, slot, Deed, Opens, Takes, Replies, Declines, Closes, sent_by, replies_to, Tells, Step, refused, comes, rests, offers, refuses, answers, leaves, HasTurn, Steps, begins, goes_on}
+
+abbrev or_else : {X : Type 0} → X → Option X → X
+or_else d None = d
+or_else d (Some x) = x
+
+some_same : {X : Type 0} (a b : X) → Some a ≡ Some b → a ≡ b
+some_same a b e = ap (or_else a) e
+
+no_some : {X : Type 0} (a : X) → None ≡ Some a → ⊥
+no_some a e = absurd (cc)
+
+replies_append : (n : ℕ) (xs ys : List Deed) → replies_to n (xs ++ ys) ≡ replies_to n xs ++ replies_to n ys
+replies_append n [] ys = refl
+replies_append n (r ∷ xs) ys = ap (λ l. sent_by n r ++ l) (replies_append n xs ys) ∙ sym (append_assoc (sent_by n r) (replies_to n xs) (replies_to n ys))
+
+-- what is sent to a connection goes to no other
+sent_here : (n : ℕ) (sent : List ℕ) → (if n == n then sent else []) ++ [] ≡ sent
+sent_here n sent = append-nil (if n == n then sent else []) ∙ ap (λ (b : Bool). if b then sent else []) (eq-eqb n n refl)
+
+sent_elsewhere : (n m : ℕ) (sent : List ℕ) → (n ≡ m → ⊥) → (if n == m then sent else []) ++ [] ≡ []
+sent_elsewhere n m sent ne = append-nil (if n == m then sent else []) ∙ ap (λ (b : Bool). if b then sent else []) (ne_eqb n m ne)
+
+-- who sits at a place once another was filled or left
+slot_set : {X : Type 0} (seats : List (Option X)) (i j : ℕ) (x : Option X) (y : X) → i < length seats → slot j (set seats i x) ≡ Some y
+    → ((j ≡ i) × (x ≡ Some y)) ⊎ ((j ≡ i → ⊥) × (slot j seats ≡ Some y))
+slot_set seats i j x y there h = elim (cases_eq j i) [
+  | inl e ↦ inl (e, sym (get_or-set_same seats i x None there) ∙ (subst (λ (k : ℕ). slot k (set seats i x) ≡ Some y) e h))
+  | inr ne ↦ inr (ne, sym (get_or-set_other seats i j x None ne) ∙ h)
+]
+
+told_keeps : (a b : Option (List ℕ)) (xs : List ℕ) → Keeps a b → Tells b → a ≡ Some xs → b ≡ Some xs
+told_keeps None b xs k t e = absurd (no_some xs e)
+told_keeps (Some x) None xs k t e = absurd k
+told_keeps (Some x) (Some y) xs k t e = ap Some k ∙ e
+
+told_appends : (a b : Option (List ℕ)) (xs sent : List ℕ) → Appends a b sent → a ≡ Some xs → b ≡ Some (xs ++ sent)
+told_appends None b xs sent k e = absurd (no_some xs e)
+told_appends (Some x) None xs sent k e = absurd k
+told_appends (Some x) (Some y) xs sent k e = ap Some (k ∙ ap (λ l. l ++ sent) (some_same x xs e))
+
+told_at_end : (a : Option (List ℕ)) → IsAtEnd a → Tells a → a ≡ Some []
+told_at_end None e t = absurd t
+told_at_end (Some x) e t = ap Some e
+
+tells_joined : (a h : Option (List ℕ)) (f : List ℕ) → Tells a → Tells h → Tells (joined a (prepend_known f h))
+tells_joined None h f t u = absurd t
+tells_joined (Some x) None f t u = absurd u
+tells_joined (Some x) (Some y) f t u = tt
+
+open_append : (n : ℕ) (xs ys : List Deed) → StaysOpen n xs → StaysOpen n ys → StaysOpen n (xs ++ ys)
+open_append n [] ys h k = k
+open_append n (d ∷ xs) ys h k = (h.0, open_append n xs ys h.1 k)
+
+module _ {A R K S : Type 0} (condition : A → Condition) (unread : R → Option (List ℕ)) (taken : K → Option (List ℕ)) (held : S → Option (List ℕ)) where
+  -- all sockets and spools tell their bytes
+  abbrev AllTell : Type 0
+  AllTell = ((sink : K) → Tells (taken sink)) × ((spool : S) → Tells (held spool))
+
+  tells_of : AllTell → (seat : Seat R K S) → Tells (told taken held seat.wire)
+  tells_of all seat = tells_joined (taken seat.wire.sink) (held seat.wire.spool) (drop seat.wire.sent seat.wire.front.items) (all.0 seat.wire.sink) (all.1 seat.wire.spool)
+
+  record Tidy (q : Position A R K S) (rs : List Deed) : Type 0 where
+    telling : AllTell → (at : ℕ) (seat : Seat R K S) → slot at q.seats ≡ Some seat → told taken held seat.wire ≡ Some (replies_to seat.connection rs)
+    below : (at : ℕ) (seat : Seat R K S) → slot at q.seats ≡ Some seat → seat.connection < q.hub.next
+    apart : (a b : ℕ) (s t : Seat R K S) → slot a q.seats ≡ Some s → slot b q.seats ≡ Some t → s.connection ≡ t.connection → a ≡ b
+    unused : (n : ℕ) → q.hub.next ≤ n → replies_to n rs ≡ []
+    stays : (at : ℕ) (seat : Seat R K S) → slot at q.seats ≡ Some seat → StaysOpen seat.connection rs
+    unclosed : (n : ℕ) → q.hub.next ≤ n → StaysOpen n rs
+
+  -- what a step leaves of a seat that it puts somewhere
+  record Put (p q : Position A R K S) (rs more : List Deed) (at : ℕ) (s : Seat R K S) : Type 0 where
+    tells_it : AllTell → told taken held s.wire ≡ Some (replies_to s.connection (rs ++ more))
+    is_below : s.connection < q.hub.next
+    is_apart : (j : ℕ) (t : Seat R K S) → (j ≡ at → ⊥) → slot j p.seats ≡ Some t → s.connection ≡ t.connection → ⊥
+    stays_open : StaysOpen s.connection (rs ++ more)
+
+  -- deeds that are of no connection of this number
+  abbrev AreOfOthers : ℕ → List Deed → Type 0
+  AreOfOthers n more = (replies_to n more ≡ []) × StaysOpen n more
+
+  tidy_set : (p q : Position A R K S) (rs more : List Deed) (at : ℕ) (x : Option (Seat R K S)) → Tidy p rs → at < length p.seats → q.seats ≡ set p.seats at x
+      → p.hub.next ≤ q.hub.next → ((s : Seat R K S) → x ≡ Some s → Put p q rs more at s)
+      → ((j : ℕ) (t : Seat R K S) → (j ≡ at → ⊥) → slot j p.seats ≡ Some t → AreOfOthers t.connection more)
+      → ((n : ℕ) → q.hub.next ≤ n → AreOfOthers n more) → Tidy q (rs ++ more)
+  tidy_set p q rs more at x tidy there sits later put others none =
+      let where_ : (j : ℕ) (t : Seat R K S) → slot j q.seats ≡ Some t → ((j ≡ at) × (x ≡ Some t)) ⊎ ((j ≡ at → ⊥) × (slot j p.seats ≡ Some t)) =
+      λ j t h. slot_set p.seats at j x t there (subst (λ (l : List (Option (Seat R K S))). slot j l ≡ Some t) sits h) in
+      record {
+        telling = λ all j t h. elim (where_ j t h) [
+          | inl e ↦ (put t e.1).tells_it all
+          | inr o ↦ tidy.telling all j t o.1 ∙ ap Some (sym (replies_append t.connection rs more ∙ (ap (λ l. replies_to t.connection rs ++ l) (others j t o.0 o.1).0 ∙ append-nil (replies_to t.connection rs))))
+        ];
+        below = λ j t h. elim (where_ j t h) [
+          | inl e ↦ (put t e.1).is_below
+          | inr o ↦ let lower = tidy.below j t o.1 in omega (arith, lower, later)
+        ];
+        apart = λ a b s t h k same. elim (where_ a s h) [
+          | inl e ↦ elim (where_ b t k) [
+            | inl f ↦ e.0 ∙ sym f.0
+            | inr o ↦ absurd ((put s e.1).is_apart b t o.0 o.1 same)
+          ]
+          | inr o ↦ elim (where_ b t k) [
+            | inl f ↦ absurd ((put t f.1).is_apart a s o.0 o.1 (sym same))
+            | inr r ↦ tidy.apart a b s t o.1 r.1 same
+          ]
+        ];
+        unused = λ n h. replies_append n rs more ∙ (ap (λ l. l ++ replies_to n more) (tidy.unused n (omega (arith, h, later))) ∙ (none n h).0);
+        stays = λ j t h. elim (where_ j t h) [
+          | inl e ↦ (put t e.1).stays_open
+          | inr o ↦ open_append t.connection rs more (tidy.stays j t o.1) (others j t o.0 o.1).1
+        ];
+        unclosed = λ n h. open_append n rs more (tidy.unclosed n (omega (arith, h, later))) (none n h).1;
+      }
+
+  put_there : (p q : Position A R K S) (rs more : List Deed) (at : ℕ) (s t : Seat R K S) → Put p q rs more at s → Some s ≡ Some t → Put p q rs more at t
+  put_there p q rs more at s t put e = subst (λ (u : Seat R K S). Put p q rs more at u) (some_same s t e) put
+
+  put_kept : (p q : Position A R K S) (rs more : List Deed) (at : ℕ) (before after : Seat R K S) → Tidy p rs → slot at p.seats ≡ Some before
+      → after.connection ≡ before.connection → p.hub.next ≤ q.hub.next → StaysOpen before.connection more
+      → (AllTell → told taken held after.wire ≡ Some (replies_to before.connection rs ++ replies_to before.connection more)) → Put p q rs more at after
+  put_kept p q rs more at before after tidy sat same later unclosing says = record {
+    tells_it = λ all. says all ∙ (ap Some (sym (replies_append before.connection rs more)) ∙ ap (λ (n : ℕ). Some (replies_to n (rs ++ more))) (sym same));
+    is_below = let lower = tidy.below at before sat in omega (arith, same, lower, later);
+    is_apart = λ j t ne h e. ne (tidy.apart j at t before h sat (sym e ∙ same));
+    stays_open = subst (λ (n : ℕ). StaysOpen n (rs ++ more)) (sym same) (open_append before.connection rs more (tidy.stays at before sat) unclosing);
+  }
+
+  tidy_same : (p q : Position A R K S) (rs : List Deed) → q.seats ≡ p.seats → q.hub.next ≡ p.hub.next → Tidy p rs → Tidy q (rs ++ [])
+  tidy_same p q rs seats next tidy = subst (λ (l : List Deed). Tidy q l) (sym (append-nil rs)) (record {
+    telling = λ all j t h. tidy.telling all j t (subst (λ (l : List (Option (Seat R K S))). slot j l ≡ Some t) seats h);
+    below = λ j t h. let lower = tidy.below j t (subst (λ (l : List (Option (Seat R K S))). slot j l ≡ Some t) seats h) in omega (arith, lower, next);
+    apart = λ a b s t h k same. tidy.apart a b s t (subst (λ (l : List (Option (Seat R K S))). slot a l ≡ Some s) seats h) (subst (λ (l : List (Option (Seat R K S))). slot b l ≡ Some t) seats k) same;
+    unused = λ n h. tidy.unused n (omega (arith, h, next));
+    stays = λ j t h. tidy.stays j t (subst (λ (l : List (Option (Seat R K S))). slot j l ≡ Some t) seats h);
+    unclosed = λ n h. tidy.unclosed n (omega (arith, h, next));
+  })
+
+  -- a turn in which nothing was sent
+  turn_tidy : (p q : Position A R K S) (rs more : List Deed) (at : ℕ) (before after : Seat R K S) → Tidy p rs → HasTurn condition unread taken held p q at before after
+      → Keeps (told taken held before.wire) (told taken held after.wire) → ((n : ℕ) → AreOfOthers n more) → Tidy q (rs ++ more)
+  turn_tidy p q rs more at before after tidy t keeps none =
+      let later : p.hub.next ≤ q.hub.next = let e = t.next in omega (arith, e) in
+      tidy_set p q rs more at (Some after) tidy t.there t.sits later
+      (λ s e. put_there p q rs more at after s (put_kept p q rs more at before after tidy t.sat t.same later (none before.connection).1
+      (λ all. told_keeps (told taken held before.wire) (told taken held after.wire) (replies_to before.connection rs ++ replies_to before.connection more) keeps (tells_of all after)
+      (tidy.telling all at before t.sat ∙ ap Some (sym (ap (λ (l : List ℕ). replies_to before.connection rs ++ l) (none before.connection).0 ∙ append-nil (replies_to before.connection rs)))))) e)
+      (λ j u ne h. none u.connection) (λ n h. none n)
+
+  -- and one in which something was sent for it
+  sent_tidy : (p q : Position A R K S) (rs : List Deed) (one : Deed) (at : ℕ) (before after : Seat R K S) (sent : List ℕ) → Tidy p rs → HasTurn condition unread taken held p q at before after
+      → Appends (told taken held before.wire) (told taken held after.wire) sent → ((n : ℕ) → sent_by n one ≡ (if before.connection == n then sent else []))
+      → ((n : ℕ) → StaysOpen n (one ∷ [])) → Tidy q (rs ++ one ∷ [])
+  sent_tidy p q rs one at before after sent tidy t appends sends unclosing =
+      let later : p.hub.next ≤ q.hub.next = let e = t.next in omega (arith, e) in
+      let here : replies_to before.connection (one ∷ []) ≡ sent = ap (λ (l : List ℕ). l ++ []) (sends before.connection) ∙ sent_here before.connection sent in
+      tidy_set p q rs (one ∷ []) at (Some after) tidy t.there t.sits later
+      (λ s e. put_there p q rs (one ∷ []) at after s (put_kept p q rs (one ∷ []) at before after tidy t.sat t.same later (unclosing before.connection)
+      (λ all. told_appends (told taken held before.wire) (told taken held after.wire) (replies_to before.connection rs) sent appends (tidy.telling all at before t.sat)
+      ∙ ap (λ (l : List ℕ). Some (replies_to before.connection rs ++ l)) (sym here))) e)
+      (λ j u ne h. (ap (λ (l : List ℕ). l ++ []) (sends u.connection) ∙ sent_elsewhere before.connection u.connection sent (λ same. ne (tidy.apart j at u before h t.sat (sym same))), unclosing u.connection))
+      (λ n h. (ap (λ (l : List ℕ). l ++ []) (sends n) ∙ sent_elsewhere before.connection n sent (λ same. let lower = tidy.below at before t.sat in let e = t.next in omega (arith, lower, h, same, e)), unclosing n))
+
+  step_tidy : {p q : Position A R K S} {rs more : List Deed} → Tidy p rs → Step condition unread taken held p q more → Tidy q (rs ++ more)
+  step_tidy {p = p} {q = q} {rs = rs} tidy (refused r) = tidy_same p q rs r.sits r.next tidy
+  step_tidy {p = p} {q = q} {rs = rs} tidy (comes {at = at} {seat = seat} r) =
+      let more : List Deed = Opens at seat.connection ∷ [] in
+      let later : p.hub.next ≤ q.hub.next = let e = r.next in omega (arith, e) in
+      let first : p.hub.next ≤ seat.connection = let e = r.is_next in omega (arith, e) in
+      tidy_set p q rs more at (Some seat) tidy r.there r.sits later
+      (λ s e. put_there p q rs more at seat s (record {
+        tells_it = λ all. told_at_end (told taken held seat.wire) r.fresh (tells_of all seat)
+            ∙ ap Some (sym (replies_append seat.connection rs more ∙ (append-nil (replies_to seat.connection rs) ∙ tidy.unused seat.connection first)));
+        is_below = let e = r.is_next in let f = r.next in omega (arith, e, f);
+        is_apart = λ j t ne h same. let lower = tidy.below j t h in let e = r.is_next in omega (arith, lower, e, same);
+        stays_open = open_append seat.connection rs more (tidy.unclosed seat.connection first) (tt, tt);
+      }) e)
+      (λ j t ne h. (refl, (tt, tt))) (λ n h. (refl, (tt, tt)))
+  step_tidy {p = p} {q = q} {rs = rs} tidy (rests {at = at} {before = before} {after = after} t r) = turn_tidy p q rs [] at before after tidy t r.keeps (λ n. (refl, tt))
+  step_tidy {p = p} {q = q} {rs = rs} tidy (offers {at = at} {before = before} {after = after} t o) =
+      turn_tidy p q rs (Takes at before.connection o.piece ∷ []) at before after tidy t o.keeps (λ n. (refl, (tt, tt)))
+  step_tidy {p = p} {q = q} {rs = rs} tidy (refuses {at = at} {moment = moment} {before = before} {after = after} t r) =
+      sent_tidy p q rs (Declines at before.connection r.piece moment r.answers.sent) at before after r.answers.sent tidy t r.answers.appends (λ n. refl) (λ n. (tt, tt))
+  step_tidy {p = p} {q = q} {rs = rs} tidy (answers {at = at} {moment = moment} {before = before} {after = after} t a) =
+      sent_tidy p q rs (Replies at before.connection moment a.answers.sent) at before after a.answers.sent tidy t a.answers.appends (λ n. refl) (λ n. (tt, tt))
+  step_tidy {p = p} {q = q} {rs = rs} tidy (leaves {at = at} {second = second} {seat = seat} r) =
+      let later : p.hub.next ≤ q.hub.next = let e = r.next in omega (arith, e) in
+      tidy_set p q rs (Closes at seat.connection second ∷ []) at None tidy r.there r.gone later
+      (λ s e. absurd (no_some s e))
+      (λ j t ne h. (refl, ((λ same. ne (tidy.apart j at t seat h r.sat same)), tt)))
+      (λ n h. (refl, ((λ same. let lower = tidy.below at seat r.sat in omega (arith, lower, h, same, later)), tt)))
+
+  tidy_first : (p : Position A R K S) → ((at : ℕ) → slot at p.seats ≡ None) → Tidy p []
+  tidy_first p empty = record {
+    telling = λ all j t h. absurd (no_some t (sym (empty j) ∙ h));
+    below = λ j t h. absurd (no_some t (sym (empty j) ∙ h));
+    apart = λ a b s t h k same. absurd (no_some s (sym (empty a) ∙ h));
+    unused = λ n h. refl;
+    stays = λ j t h. absurd (no_some t (sym (empty j) ∙ h));
+    unclosed = λ n h. tt;
+  }
+
+  steps_tidy : {p q : Position A R K S} {rs : List Deed} → ((at : ℕ) → slot at p.seats ≡ None) → Steps condition unread taken held p rs q → Tidy q rs
+  steps_tidy {p = p} empty begins = tidy_first p empty
+  steps_tidy empty (goes_on s t) = step_tidy (steps_tidy empty s) t
+
+  -- what each wire took is what was sent for its connection
+  pub wires_take : (p q : Position A R K S) (rs : List Deed) → ((sink : K) → Tells (taken sink)) → ((spool : S) → Tells (held spool)) → ((at : ℕ) → slot at p.seats ≡ None)
+      → Steps condition unread taken held p rs q → (at : ℕ) (seat : Seat R K S) → slot at q.seats ≡ Some seat → told taken held seat.wire ≡ Some (replies_to seat.connection rs)
+  wires_take p q rs tells holds empty s at seat h = (steps_tidy empty s).telling (tells, holds) at seat h
+
+  -- who sits somewhere was never closed, and no other sits there under its number
+  pub seats_stay : (p q : Position A R K S) (rs : List Deed) → ((at : ℕ) → slot at p.seats ≡ None)
+      → Steps condition unread taken held p rs q → (at : ℕ) (seat : Seat R K S) → slot at q.seats ≡ Some seat → StaysOpen seat.connection rs
+  seats_stay p q rs empty s at seat h = (steps_tidy empty s).stays at seat h
+
+  pub seats_apart : (p q : Position A R K S) (rs : List Deed) → ((at : ℕ) → slot at p.seats ≡ None)
+      → Steps condition unread taken held p rs q → (a b : ℕ) (s t : Seat R K S) → slot a q.seats ≡ Some s → slot b q.seats ≡ Some t → s.connection ≡ t.connection → a ≡ b
+  seats_apart p q rs empty s a b x y h k same = (steps_tidy empty s).apart a b x y h k same

@@ -1,0 +1,39 @@
+use Rattle.std.proofs.Common.{[], None, refl, sym, ap, subst, set, ◌∙◌}
+use Rattle.std.proofs.lemmas.List.{get_or-set_same, get_or-set_other}
+use Rattle.dep_server.specs.Records.{Absent}
+use Rattle.dep_server.specs.Holding.{MovesLine, with_held}
+use Rattle.dep_host.specs.Hosting.{HasDone}
+use Rattle.dep_host.proofs.HostLemmas.{slot_read, closing, closing_none}
+use Rattle.dep_host.proofs.host.Host.close.Goals as goal
+
+pub returns-in-Some-clause-goes : goal.returns-in-Some-clause-goes
+returns-in-Some-clause-goes g c =
+    let sat = slot_read _ _ _ c.requires.there c.index_mut.ensures.value ∙ (sym c.take.ensures.value ∙ c.in-Some.is) in
+    closing g.A.Archive.condition g.R.Source.unread g.K.Sink.taken g.S.Spool.held _ _ c.args.at c.args.second _ c.in-Some.seat sat (record {
+      there = c.requires.there;
+      sat = sat;
+      gone = ap (λ y. set c.args.self.now.seats.items c.args.at y) c.take.ensures.after;
+      done = subst (λ o. HasDone c.args.second c.args.self.now.idle o) sat c.requires.done;
+      next = c.close.ensures.next;
+      moves = subst (λ n. MovesLine g.A.Archive.condition c.args.self.now.hub c.close.new.self n Absent (with_held n [])) c.connection.ensures c.close.ensures.holding;
+      same_store = c.close.ensures.store;
+      same_config = c.close.ensures.config;
+      same_idle = refl;
+    })
+
+pub returns-in_default-clause-goes : goal.returns-in_default-clause-goes
+returns-in_default-clause-goes g c =
+    closing_none g.A.Archive.condition g.R.Source.unread g.K.Sink.taken g.S.Spool.held _ _ c.args.at c.args.second _
+    (slot_read _ _ _ c.requires.there c.index_mut.ensures.value ∙ (sym c.take.ensures.value ∙ c.in_default.is))
+
+pub returns-in-Some-clause-gone : goal.returns-in-Some-clause-gone
+returns-in-Some-clause-gone g c = get_or-set_same _ c.args.at _ None c.requires.there ∙ c.take.ensures.after
+
+pub returns-in_default-clause-gone : goal.returns-in_default-clause-gone
+returns-in_default-clause-gone g c = get_or-set_same _ c.args.at _ None c.requires.there ∙ c.take.ensures.after
+
+pub returns-in-Some-clause-others : goal.returns-in-Some-clause-others
+returns-in-Some-clause-others g c = λ place ne. get_or-set_other _ c.args.at place _ None ne
+
+pub returns-in_default-clause-others : goal.returns-in_default-clause-others
+returns-in_default-clause-others g c = λ place ne. get_or-set_other _ c.args.at place _ None ne

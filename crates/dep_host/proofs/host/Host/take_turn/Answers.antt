@@ -1,0 +1,31 @@
+use Rattle.std.proofs.Common.{refl, None, ◌∙◌}
+use Rattle.std.proofs.lemmas.List.{get_or-set_other}
+use Rattle.dep_host.proofs.HostLemmas.{slot_read, took_turn, served_none}
+use Rattle.dep_host.proofs.host.Host.take_turn.Goals as goal
+
+pub returns-in-Some-clause-goes : goal.returns-in-Some-clause-goes
+returns-in-Some-clause-goes g c =
+    took_turn g.A.Archive.condition g.R.Source.unread g.K.Sink.taken g.S.Spool.held _ _ c.args.at c.args.time.now.second c.args.time.now.moment c.in-Some.seat c.take_turn.new.self
+    (record {
+      there = c.requires.there;
+      sat = slot_read _ _ _ c.requires.there c.index_mut.ensures.value ∙ c.in-Some.is;
+      sits = refl;
+      same = c.take_turn.ensures.number;
+      next = c.take_turn.ensures.next;
+      same_config = c.take_turn.ensures.config;
+      clean = c.take_turn.ensures.clean;
+      honest = c.take_turn.ensures.honest;
+      ended = c.take_turn.ensures.ended;
+      same_idle = refl;
+    })
+    c.take_turn.ensures.turn
+
+pub returns-in_default-clause-goes : goal.returns-in_default-clause-goes
+returns-in_default-clause-goes g c =
+    served_none g.A.Archive.condition g.R.Source.unread g.K.Sink.taken g.S.Spool.held _ _ c.args.at c.args.time.now.second c.index_mut.result.now refl refl refl c.requires.there c.index_mut.ensures.value
+
+pub returns-in-Some-clause-others : goal.returns-in-Some-clause-others
+returns-in-Some-clause-others g c = λ place ne. get_or-set_other _ c.args.at place _ None ne
+
+pub returns-in_default-clause-others : goal.returns-in_default-clause-others
+returns-in_default-clause-others g c = λ place ne. get_or-set_other _ c.args.at place _ None ne

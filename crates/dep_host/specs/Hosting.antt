@@ -1,0 +1,184 @@
+-- How a host goes on: what becomes of its places, what comes to its hub, and what its wires take for it.
+use Rattle.std.specs.Prelude.{◌≡◌, ◌<◌, ◌≤◌, ◌+◌, ◌==◌, ℕ, List, [], ◌∷◌, ◌++◌, length, get_or, set, Option, None, Some, if◌then◌else◌, true, false}
+use Rattle.std.specs.List.{flat_map}
+use Rattle.std.specs.Io.KnownBytes.{IsAtEnd}
+use Rattle.dep_types.specs.Conditions.{Condition}
+use Rattle.dep_server.specs.Records.{Line, Live, Absent}
+use Rattle.dep_server.specs.Standing.{IsClean, IsHonest}
+use Rattle.dep_server.specs.Holding.{KeepsHolding, MovesLine, with_held}
+use Rattle.dep_server.specs.declared.hub.Hub.{Hub}
+use Rattle.dep_outbox.specs.Wires.{told}
+use Rattle.dep_host.specs.declared.course.Phase.TheVariants.{Open}
+use Rattle.dep_host.specs.declared.seat.Seat.{Seat}
+use Rattle.dep_host.specs.declared.host.Host.{Host}
+use Rattle.dep_host.specs.Courses.{is_done, is_ended}
+use Rattle.dep_host.specs.Seats.{Rests, Offers, Refuses, Answers}
+
+-- the hub, who sits where, and for how many seconds one may be silent
+pub record Position (A R K S : Type 0) : Type 0 where
+  pub hub : Hub A
+  pub seats : List (Option (Seat R K S))
+  pub idle : ℕ
+
+abbrev pub position : {A R K S : Type 0} → Host A R K S → Position A R K S
+position host = record { hub = host.hub; seats = host.seats.items; idle = host.idle }
+
+abbrev pub slot : {X : Type 0} → ℕ → List (Option X) → Option X
+slot at seats = get_or seats at None
+
+-- what a host does for the connection of a number, which sits at a place
+pub data Deed : Type 0 where
+  -- it is opened
+  Opens : (at number : ℕ) → Deed
+  -- a piece is read, and comes to the hub
+  Takes : (at number : ℕ) → (piece : List ℕ) → Deed
+  -- its next item is answered, where one is complete, and these bytes are sent for it
+  Replies : (at number moment : ℕ) → (sent : List ℕ) → Deed
+  -- a piece is read for which memory runs out, and these bytes are sent for it
+  Declines : (at number : ℕ) → (piece : List ℕ) → (moment : ℕ) → (sent : List ℕ) → Deed
+  -- it is closed at a second
+  Closes : (at number second : ℕ) → Deed
+
+-- what was sent to a connection
+abbrev pub sent_by : ℕ → Deed → List ℕ
+sent_by number (Opens at n) = []
+sent_by number (Takes at n piece) = []
+sent_by number (Replies at n moment sent) = if n == number then sent else []
+sent_by number (Declines at n piece moment sent) = if n == number then sent else []
+sent_by number (Closes at n second) = []
+
+abbrev pub replies_to : ℕ → List Deed → List ℕ
+replies_to number deeds = flat_map (λ d. sent_by number d) deeds
+
+-- the bytes are told
+abbrev pub Tells : Option (List ℕ) → Type 0
+Tells None = ⊥
+Tells (Some bytes) = Unit {0}
+
+-- how many items of the connection at a place were answered
+abbrev pub answer_at : ℕ → Deed → ℕ
+answer_at place (Opens at n) = 0
+answer_at place (Takes at n piece) = 0
+answer_at place (Replies at n moment sent) = if at == place then 1 else 0
+answer_at place (Declines at n piece moment sent) = if at == place then 1 else 0
+answer_at place (Closes at n second) = 0
+
+abbrev pub answers_at : ℕ → List Deed → ℕ
+answers_at place [] = 0
+answers_at place (d ∷ deeds) = answer_at place d + answers_at place deeds
+
+-- what is closed is closed at this second
+abbrev pub IsClosedAt : ℕ → Deed → Type 0
+IsClosedAt second (Opens at n) = Unit {0}
+IsClosedAt second (Takes at n piece) = Unit {0}
+IsClosedAt second (Replies at n moment sent) = Unit {0}
+IsClosedAt second (Declines at n piece moment sent) = Unit {0}
+IsClosedAt second (Closes at n s) = s ≡ second
+
+abbrev pub AreClosedAt : ℕ → List Deed → Type 0
+AreClosedAt second [] = Unit {0}
+AreClosedAt second (d ∷ deeds) = IsClosedAt second d × AreClosedAt second deeds
+
+module _ {A R K S : Type 0} (condition : A → Condition) (unread : R → Option (List ℕ))
+    (taken : K → Option (List ℕ)) (held : S → Option (List ℕ)) where
+  -- a connection is opened, over a wire that took nothing, and sits where nobody sat
+  pub record Comes (p q : Position A R K S) (at : ℕ) (seat : Seat R K S) : Type 0 where
+    pub there : at < length p.seats
+    pub free : slot at p.seats ≡ None
+    pub sits : q.seats ≡ set p.seats at (Some seat)
+    pub is_next : seat.connection ≡ p.hub.next
+    pub next : q.hub.next ≡ p.hub.next + 1
+    pub moves : MovesLine condition p.hub q.hub seat.connection (Live []) (λ kept. kept)
+    pub same_store : q.hub.store ≡ p.hub.store
+    pub same_config : q.hub.config ≡ p.hub.config
+    pub fresh : IsAtEnd (told taken held seat.wire)
+    pub opens : seat.course.phase ≡ Open
+    pub same_idle : q.idle ≡ p.idle
+
+  -- no connection could be opened, or nothing was to be done
+  pub record Refused (p q : Position A R K S) : Type 0 where
+    pub sits : q.seats ≡ p.seats
+    pub next : q.hub.next ≡ p.hub.next
+    pub keeps : (lines : ℕ → Line) → (kept : ℕ → List ℕ) → KeepsHolding condition p.hub lines kept
+        → KeepsHolding condition q.hub lines kept
+    pub same_store : q.hub.store ≡ p.hub.store
+    pub same_config : q.hub.config ≡ p.hub.config
+    pub same_idle : q.idle ≡ p.idle
+
+  -- a connection has its turn, and no other place changes
+  pub record HasTurn (p q : Position A R K S) (at : ℕ) (before after : Seat R K S) : Type 0 where
+    pub there : at < length p.seats
+    pub sat : slot at p.seats ≡ Some before
+    pub sits : q.seats ≡ set p.seats at (Some after)
+    pub same : after.connection ≡ before.connection
+    pub next : q.hub.next ≡ p.hub.next
+    pub same_config : q.hub.config ≡ p.hub.config
+    pub clean : IsClean condition q.hub → IsClean condition p.hub
+    pub honest : IsHonest condition q.hub → IsHonest condition p.hub
+    pub ended : is_ended before.course.phase ≡ true → is_ended after.course.phase ≡ true
+    pub same_idle : q.idle ≡ p.idle
+
+  -- a connection is closed, which was over or silent for too long
+  pub record Goes (p q : Position A R K S) (at second : ℕ) (seat : Seat R K S) : Type 0 where
+    pub there : at < length p.seats
+    pub sat : slot at p.seats ≡ Some seat
+    pub gone : q.seats ≡ set p.seats at None
+    pub done : is_done seat.course second p.idle ≡ true
+    pub next : q.hub.next ≡ p.hub.next
+    pub moves : MovesLine condition p.hub q.hub seat.connection Absent (with_held seat.connection [])
+    pub same_store : q.hub.store ≡ p.hub.store
+    pub same_config : q.hub.config ≡ p.hub.config
+    pub same_idle : q.idle ≡ p.idle
+
+  -- one step of a host, and what it does in it
+  pub data Step (p q : Position A R K S) : List Deed → Type 0 where
+    refused : Refused p q → Step p q []
+    comes : {at : ℕ} {seat : Seat R K S} → Comes p q at seat
+        → Step p q (Opens at seat.connection ∷ [])
+    rests : {at : ℕ} {before after : Seat R K S} → HasTurn p q at before after
+        → Rests condition unread taken held p.hub q.hub before after → Step p q []
+    offers : {at : ℕ} {before after : Seat R K S} → HasTurn p q at before after
+        → (o : Offers condition unread taken held p.hub q.hub before after)
+        → Step p q (Takes at before.connection o.piece ∷ [])
+    refuses : {at moment : ℕ} {before after : Seat R K S} → HasTurn p q at before after
+        → (r : Refuses condition unread taken held p.hub q.hub before after moment)
+        → Step p q (Declines at before.connection r.piece moment r.answers.sent ∷ [])
+    answers : {at moment : ℕ} {before after : Seat R K S} → HasTurn p q at before after
+        → (a : Answers condition unread taken held p.hub q.hub before after moment)
+        → Step p q (Replies at before.connection moment a.answers.sent ∷ [])
+    leaves : {at second : ℕ} {seat : Seat R K S} → Goes p q at second seat
+        → Step p q (Closes at seat.connection second ∷ [])
+
+  -- one step after another, and all that the host does in them
+  pub data Steps (first : Position A R K S) : List Deed → Position A R K S → Type 0 where
+    begins : Steps first [] first
+    goes_on : {deeds more : List Deed} {p q : Position A R K S} → Steps first deeds p
+        → Step p q more → Steps first (deeds ++ more) q
+
+  abbrev pub GoesOn : Position A R K S → Position A R K S → Type 0
+  GoesOn first last = (deeds : List Deed) × Steps first deeds last
+
+  -- one place has its turn
+  pub record Serves (p q : Position A R K S) (at second : ℕ) : Type 0 where
+    pub deeds : List Deed
+    pub steps : Steps p deeds q
+    pub once : answers_at at deeds ≤ 1
+    pub others : (place : ℕ) → (place ≡ at → ⊥) → answers_at place deeds ≡ 0
+    pub closes : AreClosedAt second deeds
+
+  -- each place has its turn: of no connection more than one item is answered
+  pub record GoesRound (p q : Position A R K S) (second : ℕ) : Type 0 where
+    pub deeds : List Deed
+    pub steps : Steps p deeds q
+    pub once : (place : ℕ) → answers_at place deeds ≤ 1
+    pub closes : AreClosedAt second deeds
+
+-- who sits at a place has time left, and is not over
+abbrev pub HasTime : {R K S : Type 0} → (second idle : ℕ) → Option (Seat R K S) → Type 0
+HasTime second idle None = Unit {0}
+HasTime second idle (Some seat) = is_done seat.course second idle ≡ false
+
+-- a connection sits at a place that is over, or was silent for too long
+abbrev pub HasDone : {R K S : Type 0} → (second idle : ℕ) → Option (Seat R K S) → Type 0
+HasDone second idle None = ⊥
+HasDone second idle (Some seat) = is_done seat.course second idle ≡ true

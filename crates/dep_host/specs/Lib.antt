@@ -1,0 +1,4 @@
+pub mod Courses
+pub mod Seats
+pub mod Hosting
+pub mod Runs

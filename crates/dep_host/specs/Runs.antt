@@ -1,0 +1,101 @@
+-- Which records the hub's machine makes of what a host does.
+use Rattle.std.specs.Prelude.{◌≡◌, ◌==◌, ℕ, List, [], ◌∷◌, ◌++◌, if◌then◌else◌, Option, Some}
+use Rattle.std.specs.List.{flat_map}
+use Rattle.dep_types.specs.State.{State}
+use Rattle.dep_types.specs.Conditions.{Condition}
+use Rattle.dep_server.specs.Records.{Event, Record, Connect, Arrive, Close, Stop}
+use Rattle.dep_server.specs.Holding.{StandsHoldingAfter, with_held}
+use Rattle.dep_server.specs.declared.hub.Hub.{Hub}
+use Rattle.dep_outbox.specs.Wires.{told}
+use Rattle.dep_host.specs.declared.seat.Seat.{Seat}
+use Rattle.dep_host.specs.Hosting.{Position, slot, Tells, Deed, Opens, Takes, Replies, Declines, Closes}
+
+-- The records of the deeds, from what each connection held at first to what it holds now: a piece is
+-- held until the items of it are answered, and a part of what is held arrives with each answer.
+pub data Follows (first : ℕ → List ℕ) : List Deed → List Record → (ℕ → List ℕ) → Type 0 where
+  begins : Follows first [] [] first
+  opens : {deeds : List Deed} {records : List Record} {held : ℕ → List ℕ} (at n : ℕ)
+      → Follows first deeds records held
+      → Follows first (deeds ++ Opens at n ∷ [])
+      (records ++ record { event = Connect n; sent = [] } ∷ []) held
+  takes : {deeds : List Deed} {records : List Record} {held : ℕ → List ℕ} (at n : ℕ)
+      (piece : List ℕ) → Follows first deeds records held
+      → Follows first (deeds ++ Takes at n piece ∷ []) records (with_held n (held n ++ piece) held)
+  replies : {deeds : List Deed} {records : List Record} {held : ℕ → List ℕ} (at n moment : ℕ)
+      (part rest sent : List ℕ) → Follows first deeds records held → held n ≡ part ++ rest
+      → Follows first (deeds ++ Replies at n moment sent ∷ [])
+      (records ++ record { event = Arrive n part moment; sent = sent } ∷ []) (with_held n rest held)
+  declines : {deeds : List Deed} {records : List Record} {held : ℕ → List ℕ} (at n moment : ℕ)
+      (piece part rest sent : List ℕ) → Follows first deeds records held
+      → held n ++ piece ≡ part ++ rest
+      → Follows first (deeds ++ Declines at n piece moment sent ∷ [])
+      (records ++ record { event = Arrive n part moment; sent = sent } ∷ []) (with_held n rest held)
+  closes : {deeds : List Deed} {records : List Record} {held : ℕ → List ℕ} (at n second : ℕ)
+      → Follows first deeds records held
+      → Follows first (deeds ++ Closes at n second ∷ [])
+      (records ++ record { event = Close n; sent = [] } ∷ []) (with_held n [] held)
+
+-- behind these records the hub stands for those of the deeds
+pub record StandsBehind {A : Type 0} (condition : A → Condition) (hub : Hub A) (first : State)
+    (records : List Record) (held : ℕ → List ℕ) (deeds : List Deed) : Type 0 where
+  pub more : List Record
+  pub holds : ℕ → List ℕ
+  pub follows : Follows held deeds more holds
+  pub stands : StandsHoldingAfter condition hub first (records ++ more) holds
+
+-- the bytes that were read of a connection
+abbrev pub read_by : ℕ → Deed → List ℕ
+read_by number (Opens at n) = []
+read_by number (Takes at n piece) = if number == n then piece else []
+read_by number (Replies at n moment sent) = []
+read_by number (Declines at n piece moment sent) = if number == n then piece else []
+read_by number (Closes at n second) = []
+
+abbrev pub read_of : ℕ → List Deed → List ℕ
+read_of number deeds = flat_map (λ d. read_by number d) deeds
+
+-- the bytes that arrived of it
+abbrev pub arrived_by : ℕ → Event → List ℕ
+arrived_by number (Connect n) = []
+arrived_by number (Arrive n piece moment) = if number == n then piece else []
+arrived_by number (Close n) = []
+arrived_by number Stop = []
+
+abbrev pub arrived_of : ℕ → List Record → List ℕ
+arrived_of number records = flat_map (λ r. arrived_by number r.event) records
+
+-- it was never closed
+abbrev pub IsKept : ℕ → Deed → Type 0
+IsKept number (Opens at n) = Unit {0}
+IsKept number (Takes at n piece) = Unit {0}
+IsKept number (Replies at n moment sent) = Unit {0}
+IsKept number (Declines at n piece moment sent) = Unit {0}
+IsKept number (Closes at n second) = number ≡ n → ⊥
+
+abbrev pub StaysOpen : ℕ → List Deed → Type 0
+StaysOpen number [] = Unit {0}
+StaysOpen number (d ∷ deeds) = IsKept number d × StaysOpen number deeds
+
+-- what the records say was sent to a connection
+abbrev pub sent_for : ℕ → Event → List ℕ → List ℕ
+sent_for number (Connect n) sent = []
+sent_for number (Arrive n piece moment) sent = if n == number then sent else []
+sent_for number (Close n) sent = []
+sent_for number Stop sent = []
+
+abbrev pub sent_of : ℕ → List Record → List ℕ
+sent_of number records = flat_map (λ r. sent_for number r.event r.sent) records
+
+-- What a host did since it had no connection is a run behind the records before it. Each connection that
+-- sits there was sent what the run says, of which its socket took a front, and what was read of it has
+-- arrived, but for what is held.
+pub record KeepsPromise {A R K S : Type 0} (condition : A → Condition) (taken : K → Option (List ℕ))
+    (held : S → Option (List ℕ)) (q : Position A R K S) (first : State) (before : List Record)
+    (deeds : List Deed) : Type 0 where
+  pub behind : StandsBehind condition q.hub first before (λ n. []) deeds
+  pub sent : ((sink : K) → Tells (taken sink)) → ((spool : S) → Tells (held spool)) → (at : ℕ)
+      → (seat : Seat R K S) → slot at q.seats ≡ Some seat
+      → told taken held seat.wire ≡ Some (sent_of seat.connection behind.more)
+  pub read : (at : ℕ) → (seat : Seat R K S) → slot at q.seats ≡ Some seat
+      → read_of seat.connection deeds
+      ≡ arrived_of seat.connection behind.more ++ behind.holds seat.connection

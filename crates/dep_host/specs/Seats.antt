@@ -1,0 +1,91 @@
+-- What a turn of a connection comes to: what of it comes to the hub, and what is sent for it.
+use Rattle.std.specs.Prelude.{◌≡◌, ◌⊎◌, ◌<◌, ◌≤◌, ℕ, List, ◌++◌, length, Option, true, false}
+use Rattle.std.specs.Io.KnownBytes.{Keeps, Consumes, IsAtEnd}
+use Rattle.dep_types.specs.Conditions.{Condition}
+use Rattle.dep_server.specs.Records.{Line}
+use Rattle.dep_server.specs.Turns.{most_read}
+use Rattle.dep_server.specs.Holding.{KeepsHolding, AnswersOver, IsNext, IsRefused, arrived_by, with_held}
+use Rattle.dep_server.specs.declared.hub.Hub.{Hub}
+use Rattle.dep_server.specs.declared.arrived.Arrived.{Arrived}
+use Rattle.dep_server.specs.declared.arrived.Arrived.TheVariants as came
+use Rattle.dep_server.specs.declared.next.Next.{Next}
+use Rattle.dep_server.specs.declared.next.Next.TheVariants.{More, Waiting, Closed, Cut, NoSuch}
+use Rattle.dep_outbox.specs.Wires.{told, owed}
+use Rattle.dep_host.specs.declared.seat.Seat.{Seat}
+use Rattle.dep_host.specs.declared.course.Phase.{Phase}
+use Rattle.dep_host.specs.declared.course.Phase.TheVariants.{Open, Answering, Last, Over}
+use Rattle.dep_host.specs.Courses.{is_ended}
+
+-- how far a connection is once a piece of it was offered
+abbrev pub phase_offered : Arrived → Phase
+phase_offered came.Open = Answering
+phase_offered came.Closed = Last
+phase_offered came.Cut = Last
+phase_offered came.NoSuch = Over
+
+-- and once its next item was answered
+abbrev pub phase_answered : Next → Phase
+phase_answered More = Answering
+phase_answered Waiting = Open
+phase_answered Closed = Last
+phase_answered Cut = Last
+phase_answered NoSuch = Over
+
+module _ {A R K S : Type 0} (condition : A → Condition) (unread : R → Option (List ℕ))
+    (taken : K → Option (List ℕ)) (held : S → Option (List ℕ)) where
+  -- nothing comes to the hub, and nothing is sent
+  pub record Rests (old new : Hub A) (before after : Seat R K S) : Type 0 where
+    pub same : new ≡ old
+    pub keeps : Keeps (told taken held before.wire) (told taken held after.wire)
+    -- what is read and thrown away is of a connection that is read no more
+    pub gives : is_ended after.course.phase ≡ false
+        → Keeps (unread before.source) (unread after.source)
+    pub opens : after.course.phase ≡ Open → before.course.phase ≡ Open
+
+  -- a piece was read where nothing was owed and all that was read before was answered
+  pub record IsRead (before after : Seat R K S) (piece : List ℕ) : Type 0 where
+    pub unowed : IsAtEnd (owed held before.wire)
+    pub waits : before.course.phase ≡ Open
+    pub some : 0 < length piece
+    pub small : length piece ≤ most_read
+    pub gives : Consumes (unread before.source) (unread after.source) piece
+
+  -- the hub holds the piece, and nothing is sent
+  pub record Offers (old new : Hub A) (before after : Seat R K S) : Type 0 where
+    pub piece : List ℕ
+    pub read : IsRead before after piece
+    pub answers_next : after.course.phase ≡ Answering
+    pub keeps : Keeps (told taken held before.wire) (told taken held after.wire)
+    pub same_store : new.store ≡ old.store
+    pub holds : (lines : ℕ → Line) → (kept : ℕ → List ℕ) → KeepsHolding condition old lines kept
+        → KeepsHolding condition new lines
+        (with_held before.connection (kept before.connection ++ piece) kept)
+
+  -- memory ran out for the piece: the fixed reply for it is sent, and the connection is read no more
+  pub record Refuses (old new : Hub A) (before after : Seat R K S) (moment : ℕ) : Type 0 where
+    pub piece : List ℕ
+    pub read : IsRead before after piece
+    pub ends : is_ended after.course.phase ≡ true
+    pub answer : Arrived
+    pub answers : AnswersOver condition (told taken held before.wire) (told taken held after.wire)
+        before.wire.failures after.wire.failures old new before.connection
+        (λ kept. kept ++ piece) moment answer (IsRefused answer)
+
+  -- the next item was answered where nothing was owed, and only what was sent for it was taken
+  pub record Answers (old new : Hub A) (before after : Seat R K S) (moment : ℕ) : Type 0 where
+    pub unowed : IsAtEnd (owed held before.wire)
+    pub was_read : before.course.phase ≡ Answering
+    pub same_source : after.source ≡ before.source
+    pub next : Next
+    pub answers : AnswersOver condition (told taken held before.wire) (told taken held after.wire)
+        before.wire.failures after.wire.failures old new before.connection
+        (λ kept. kept) moment (arrived_by next) (IsNext next)
+    -- a connection is read again once no item of it is complete
+    pub opens : after.course.phase ≡ Open → next ≡ Waiting
+
+  -- a turn is one of these: at most one piece is read, and at most one item answered
+  abbrev pub TakesTurn : (old new : Hub A) → (before after : Seat R K S) → (moment : ℕ) → Type 0
+  TakesTurn old new before after moment =
+      Rests old new before after
+      ⊎ (Offers old new before after
+      ⊎ (Refuses old new before after moment ⊎ Answers old new before after moment))

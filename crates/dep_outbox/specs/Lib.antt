@@ -1,0 +1,2 @@
+pub mod Sockets
+pub mod Wires

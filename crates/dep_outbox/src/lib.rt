@@ -1,0 +1,10 @@
+//! What waits to be sent to a client: a socket whose calls never wait, and the bytes that it hasn't taken yet.
+#![tactic(auto)]
+
+mod socket;
+mod spool;
+mod wire;
+
+pub use socket::{Delivered, Received, Sink, Source};
+pub use spool::{Spool, SpoolFailed};
+pub use wire::{Flushed, Wire};

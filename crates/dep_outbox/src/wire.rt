@@ -1,0 +1,217 @@
+//! The way to a client: its socket, and the bytes that the socket hasn't taken yet.
+ghost use Rattle.std.specs.Prelude.{◌≡◌, ◌≢◌, ◌≤◌, [], length, Some, OnOk, OnErr, false};
+ghost use Rattle.std.specs.Io.KnownBytes.{Keeps, Appends, IsAtEnd};
+ghost use Rattle.dep_types.specs.Writing.{TakesPart};
+
+use crate::socket::{Delivered, Sink};
+use crate::spool::{Spool, SpoolFailed};
+use dep_types::{Outlet, WriteFailed};
+use std::alloc::{AllocError, Global};
+
+/// How many bytes wait in memory at most.
+const MOST_IN_MEMORY: usize = 262_144;
+
+/// How often a flush sends at most.
+const MOST_SENDS: u32 = 16;
+
+/// What a flush came to.
+#[derive(Clone, Copy, Debug, PartialEq, Eq)]
+pub enum Flushed {
+    /// Nothing is owed any more.
+    All,
+    /// More can be sent at once.
+    Part,
+    /// The socket takes no more now.
+    Later,
+    /// The socket or the spool failed.
+    Failed,
+}
+
+/// The way to a client: its socket, and the bytes that the socket hasn't taken yet, first those in memory
+/// and then those in a spool.
+#[derive(Drop)]
+pub struct Wire<K, S> {
+    sink: K,
+    front: Vec<u8>,
+    sent: usize,
+    spool: S,
+    failures: u64,
+    delivered: u64,
+    ghost within: { sent ≤ length front.items },
+}
+
+impl<K: Sink, S: Spool> Wire<K, S> {
+    ghost use Rattle.dep_outbox.specs.Wires.{told, owed};
+
+    /// A wire that owes what the spool holds.
+    #[tactic(auto, using(crate::proofs::WireLemmas::nothing_told))]
+    pub fn new(alloc: Global, sink: K, spool: S) -> Wire<K, S>
+        ensures sink { result.sink ≡ sink }
+        ensures spool { result.spool ≡ spool }
+        // Over a socket that took nothing and an empty spool it took nothing.
+        ensures fresh { IsAtEnd (K.taken sink) → IsAtEnd (S.held spool)
+            → IsAtEnd (told K.taken S.held result) }
+    {
+        Wire {
+            sink,
+            front: Vec::new(alloc),
+            sent: 0,
+            spool,
+            failures: 0,
+            delivered: 0,
+        }
+    }
+
+    /// Sends what is owed, as far as the socket takes it.
+    pub fn flush(&mut self) -> Flushed
+        ensures keeps { Keeps (told K.taken S.held self.old) (told K.taken S.held self.new) }
+        ensures all { result ≡ Flushed.All → IsAtEnd (owed S.held self.new) }
+        ensures failures { self.new.failures ≡ self.old.failures }
+    {
+        for _ in 0..MOST_SENDS {
+            if let Some(flushed) = self.send_once() {
+                return flushed;
+            }
+        }
+        Flushed::Part
+    }
+
+    /// Sends what is in memory once, and before that fills it from the spool where all of it is sent.
+    fn send_once(&mut self) -> Option<Flushed>
+        ensures keeps { Keeps (told K.taken S.held self.old) (told K.taken S.held self.new) }
+        ensures all { result ≡ Some Flushed.All → IsAtEnd (owed S.held self.new) }
+        ensures failures { self.new.failures ≡ self.old.failures }
+    {
+        if self.sent == self.front.len() {
+            if self.spool.is_empty() {
+                self.forget_sent();
+                return Some(Flushed::All);
+            }
+            if self.refill().is_err() {
+                return Some(Flushed::Failed);
+            }
+        }
+        self.send_front()
+    }
+
+    /// Sends what is in memory once.
+    fn send_front(&mut self) -> Option<Flushed>
+        ensures some { result ≢ Some Flushed.All }
+        ensures keeps { Keeps (told K.taken S.held self.old) (told K.taken S.held self.new) }
+        ensures failures { self.new.failures ≡ self.old.failures }
+    {
+        match self.sink.send(&self.front[self.sent..]) {
+            Delivered::Bytes(n) => {
+                self.sent += n;
+                self.delivered = self.delivered.saturating_add(n as u64);
+                None
+            }
+            Delivered::Later => Some(Flushed::Later),
+            Delivered::Failed => Some(Flushed::Failed),
+        }
+    }
+
+    /// Takes bytes out of the spool, once all in memory are sent.
+    fn refill(&mut self) -> Result<(), SpoolFailed>
+        requires { self.old.sent ≡ length self.old.front.items }
+        ensures keeps { Keeps (owed S.held self.old) (owed S.held self.new) }
+        ensures sink { self.new.sink ≡ self.old.sink }
+        ensures failures { self.new.failures ≡ self.old.failures }
+    {
+        self.forget_sent();
+        self.spool.pull(&mut self.front)
+    }
+
+    /// Forgets the bytes in memory, once all of them are sent.
+    fn forget_sent(&mut self)
+        requires { self.old.sent ≡ length self.old.front.items }
+        ensures empty { self.new.front.items ≡ [] }
+        ensures sent { self.new.sent ≡ 0 }
+        ensures sink { self.new.sink ≡ self.old.sink }
+        ensures spool { self.new.spool ≡ self.old.spool }
+        ensures failures { self.new.failures ≡ self.old.failures }
+    {
+        self.front.clear();
+        self.sent = 0;
+    }
+
+    /// Takes the bytes behind those that it took.
+    #[tactic(auto, using(crate::proofs::WireLemmas::none_taken))]
+    fn take(&mut self, bytes: &[u8]) -> Result<(), WriteFailed>
+        ensures ok { OnOk result
+            (Appends (told K.taken S.held self.old) (told K.taken S.held self.new) bytes.now) }
+        ensures err { OnErr result
+            (TakesPart (told K.taken S.held self.old) (told K.taken S.held self.new) bytes.now) }
+        ensures failures { self.new.failures ≡ self.old.failures }
+    {
+        if bytes.is_empty() {
+            return Ok(());
+        }
+        if !self.has_room(bytes) && self.spool.is_empty() && self.flush() == Flushed::Failed {
+            return Err(WriteFailed);
+        }
+        match self.hold(bytes) {
+            Ok(()) => Ok(()),
+            Err(SpoolFailed) => Err(WriteFailed),
+        }
+    }
+
+    /// Keeps the bytes behind those that are owed.
+    fn hold(&mut self, bytes: &[u8]) -> Result<(), SpoolFailed>
+        ensures ok { OnOk result (Appends (owed S.held self.old) (owed S.held self.new) bytes.now) }
+        ensures err { OnErr result
+            (TakesPart (owed S.held self.old) (owed S.held self.new) bytes.now) }
+        ensures sink { self.new.sink ≡ self.old.sink }
+        ensures failures { self.new.failures ≡ self.old.failures }
+    {
+        if self.spool.is_empty() && self.has_room(bytes) {
+            match self.front.extend_from_slice(bytes) {
+                Ok(()) => return Ok(()),
+                Err(AllocError) => {}
+            }
+        }
+        self.spool.push(bytes)
+    }
+
+    /// Whether memory may hold the bytes too.
+    fn has_room(&self, bytes: &[u8]) -> bool {
+        bytes.len() <= MOST_IN_MEMORY && self.front.len() <= MOST_IN_MEMORY - bytes.len()
+    }
+
+    /// Whether the socket hasn't taken all bytes yet.
+    pub fn owes(&self) -> bool
+        ensures { result ≡ false → IsAtEnd (owed S.held self.now) }
+    {
+        self.sent < self.front.len() || !self.spool.is_empty()
+    }
+
+    /// How many bytes the socket took, up to 2^64 - 1.
+    pub fn delivered(&self) -> u64
+        ensures { result ≡ self.now.delivered }
+    {
+        self.delivered
+    }
+
+    /// Tells the client that nothing more is sent.
+    pub fn finish(&mut self)
+        ensures taken { told K.taken S.held self.new ≡ told K.taken S.held self.old }
+    {
+        self.sink.finish();
+    }
+}
+
+impl<K: Sink, S: Spool> Outlet for Wire<K, S> {
+    ghost use Rattle.dep_outbox.specs.Wires.{told};
+
+    ghost taken = { λ w. told K.taken S.held w };
+
+    ghost failures = { λ w. w.failures };
+
+    fn write(&mut self, bytes: &[u8]) -> Result<(), WriteFailed> {
+        let taken = self.take(bytes);
+        if taken.is_err() {
+            self.failures = self.failures.saturating_add(1);
+        }
+        taken
+    }
+}
