@@ -23,8 +23,7 @@ By --uploads alone, it measures uploads of so many segments of so many KiB, by d
 the disk needs some 25). Each segment is sent to the server and then written by sqlite3, in turn, so that what else the machine
 does meets both alike: the rate of the first 100 segments, and of the last. Then come the last segment once more, the deposit by
 reference (by sqlite3: both digests, and one statement that moves the blocks), a GET of the file, the commands as above, the
-open by a server, a GET again, and a DELETE of the object. Each but the DELETE, whose one statement holds all that it deletes,
-may take 64 MiB above what the server had before.
+open by a server, a GET again, and a DELETE of the object. Each may take 64 MiB above what the server had before.
 
 The status is 1 where one of these takes more. It measures, so it is no part of checks/all: numbers of one run on a busy
 machine say little. Run it on one that does nothing else.
@@ -464,7 +463,7 @@ def large_upload(folder, count, size):
         told(f"open of {room:.0f} MiB by a server", took, room, f", {server.peak():.0f} MiB of memory")
         client, steps = Client(server), Steps(server)
         steps.step("GET of the file", lambda: client.hash_file(path), mebibytes)
-        steps.tell("DELETE of its object", lambda: client.ask(204, "DELETE", f"/objects/{item}"), mebibytes)
+        steps.step("DELETE of its object", lambda: client.ask(204, "DELETE", f"/objects/{item}"), mebibytes)
         client.connection.close()
         expect("the end of the server", server.ends(PATIENCE), (0, ""))
 
