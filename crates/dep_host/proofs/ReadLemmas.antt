@@ -7,7 +7,7 @@ use Rattle.dep_server.specs.Holding.{with_held}
 use Rattle.dep_host.specs.Hosting.{Deed, Opens, Takes, Replies, Declines, Closes, sent_by, replies_to}
 use Rattle.dep_host.specs.Runs.{Follows, begins, opens, takes, replies, declines, closes, read_by, read_of, arrived_by, arrived_of, StaysOpen, sent_for, sent_of}
 
-read_append : (n : ℕ) (xs ys : List Deed) → read_of n (xs ++ ys) ≡ read_of n xs ++ read_of n ys
+pub read_append : (n : ℕ) (xs ys : List Deed) → read_of n (xs ++ ys) ≡ read_of n xs ++ read_of n ys
 read_append n [] ys = refl
 read_append n (d ∷ xs) ys = ap (λ l. read_by n d ++ l) (read_append n xs ys) ∙ sym (append_assoc (read_by n d) (read_of n xs) (read_of n ys))
 

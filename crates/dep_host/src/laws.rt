@@ -7,6 +7,7 @@ ghost use Rattle.dep_server.specs.Holding.{StandsHoldingAfter};
 ghost use Rattle.dep_host.specs.Hosting.{Position, Deed, Steps, Tells, slot, replies_to};
 ghost use Rattle.dep_outbox.specs.Wires.{told};
 ghost use Rattle.dep_host.specs.declared.seat.Seat.{Seat};
+ghost use Rattle.dep_host.specs.Given.{IsGiven, opened_over};
 ghost use Rattle.dep_host.specs.Runs.{StandsBehind, KeepsPromise, Follows, StaysOpen, read_of, arrived_of};
 
 use dep_outbox::{Sink, Source, Spool};
@@ -72,3 +73,15 @@ pub fn hosts_keep_the_archive_promise<A: Archive, R: Source, K: Sink, S: Spool>(
     answers_make_a_run::<A>();
     connections_make_a_run::<A>();
 }
+
+/// Where sockets tell what they give: what was read of each connection, joined, is a front of what its
+/// socket had to give as it was opened, and while it is read still the rest is what its socket has.
+pub fn what_is_read_was_given<A: Archive, R: Source, K: Sink, S: Spool>()
+    ensures { (p q : Position A R K S) (deeds : List Deed)
+        → ((source : R) → Tells (R.unread source)) → ((at : ℕ) → slot at p.seats ≡ None)
+        → (steps : Steps A.condition R.unread K.taken S.held p deeds q)
+        → (at : ℕ) (seat : Seat R K S) → slot at q.seats ≡ Some seat
+        → IsGiven R.unread
+        (opened_over A.condition R.unread K.taken S.held steps seat.connection)
+        (read_of seat.connection deeds) seat }
+{}
