@@ -26,7 +26,7 @@ pub struct BlockPlace {
 }
 
 /// How many places one statement on a run of blocks goes over, so that it holds few rows.
-pub const RUN_LENGTH: u64 = 64;
+pub const RUN_LENGTH: u64 = 8;
 
 /// The key of a block.
 #[derive(Clone, Copy, Debug, PartialEq, Eq)]
@@ -67,7 +67,7 @@ pub fn is_storable_owner(owner: BlockOwner) -> bool
 /// both numbers.
 pub fn run_end(start: BlockPlace) -> BlockPlace
     ensures part { result.part ≡ min start.part (2 ^ 63 - 1) }
-    ensures place { result.place ≡ min (start.place + 64) (2 ^ 63 - 1) }
+    ensures place { result.place ≡ min (start.place + 8) (2 ^ 63 - 1) }
 {
     BlockPlace {
         part: start.part.min(LIMIT - 1),
