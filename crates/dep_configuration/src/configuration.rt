@@ -1,4 +1,9 @@
 //! The configuration of a server, and how it is read.
+ghost use Rattle.std.specs.Prelude.{IfOk};
+ghost use Rattle.json.specs.Value.{value_view};
+ghost use Rattle.dep_types.specs.Config.{IsChecked};
+ghost use Rattle.dep_configuration.specs.Configured.{HasConfig, HasConfiguration, HasLimits, IsConfiguration};
+
 use crate::fault::ConfigurationFault;
 use crate::field::Field;
 use crate::names::check_names;
@@ -49,7 +54,9 @@ impl Configuration {
     /// Reads a configuration: an object of JSON (RFC 8259) whose members are fields, each at most once. Unknown
     /// fields are refused, and so is whatever isn't written as its field asks, as a number in quotes. A field that
     /// isn't there has its default; `database`, `spool_folder` and `base` have none. Of several faults one is told.
-    pub fn read(alloc: Global, text: &str) -> Result<Configuration, ConfigurationFault> {
+    pub fn read(alloc: Global, text: &str) -> Result<Configuration, ConfigurationFault>
+        ensures read { IfOk result (λ c. IsConfiguration c text.now) }
+    {
         let mut scratch = Scratch::new(alloc);
         let value = match Value::parse(alloc, text, &mut scratch) {
             Ok(value) => value,
@@ -63,7 +70,9 @@ impl Configuration {
     }
 
     // A server can be set up so.
-    fn check(&self, alloc: Global) -> Result<(), ConfigurationFault> {
+    fn check(&self, alloc: Global) -> Result<(), ConfigurationFault>
+        ensures checked { IfOk result (λ _. IsChecked self.now.config) }
+    {
         match self.config.check(alloc) {
             Ok(()) => Ok(()),
             Err(ConfigFault::Base) => Err(ConfigurationFault::Invalid(Field::Base)),
@@ -74,7 +83,9 @@ impl Configuration {
 }
 
 #[tactic(auto, unfolding(crate::specs::Fields::wanted_of, crate::specs::Fields::bounds_of))]
-fn configuration_in(alloc: Global, value: &Value<'_>) -> Result<Configuration, ConfigurationFault> {
+fn configuration_in(alloc: Global, value: &Value<'_>) -> Result<Configuration, ConfigurationFault>
+    ensures read { IfOk result (λ c. HasConfiguration c (value_view value.now)) }
+{
     let address = address(value)?;
     let Ok(port) = u16::try_from(number(value, Field::Port, 8_080)?) else {
         return Err(ConfigurationFault::Invalid(Field::Port));
@@ -93,7 +104,9 @@ fn configuration_in(alloc: Global, value: &Value<'_>) -> Result<Configuration, C
 }
 
 #[tactic(auto, unfolding(crate::specs::Fields::wanted_of, crate::specs::Fields::bounds_of))]
-fn config_in(alloc: Global, value: &Value<'_>) -> Result<Config, ConfigurationFault> {
+fn config_in(alloc: Global, value: &Value<'_>) -> Result<Config, ConfigurationFault>
+    ensures read { IfOk result (λ c. HasConfig c (value_view value.now)) }
+{
     let base = base(value)?;
     let title = text(value, Field::Title, "swordd")?;
     let abstract_text = text(value, Field::Abstract, "Deposit service")?;
@@ -113,7 +126,9 @@ fn config_in(alloc: Global, value: &Value<'_>) -> Result<Config, ConfigurationFa
 }
 
 #[tactic(auto, unfolding(crate::specs::Fields::wanted_of, crate::specs::Fields::bounds_of))]
-fn limits_in(value: &Value<'_>) -> Result<Limits, ConfigurationFault> {
+fn limits_in(value: &Value<'_>) -> Result<Limits, ConfigurationFault>
+    ensures read { IfOk result (λ limits. HasLimits limits (value_view value.now)) }
+{
     Ok(Limits {
         idle_seconds: number(value, Field::IdleSeconds, 60)?,
         least_rate: number(value, Field::LeastRate, 4_096)?,
