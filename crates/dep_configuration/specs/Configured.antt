@@ -1,5 +1,5 @@
 -- What a configuration is read from, and why a text is refused.
-use Rattle.std.specs.Prelude.{◌≡◌, ℕ, IsTrue, IsSomeAnd, IfOk, IfErr, MatchOption, List, Option, Some, None, Result, codes}
+use Rattle.std.specs.Prelude.{◌≡◌, ◌⊎◌, ℕ, MatchOption, List, Option, Some, codes}
 use Rattle.json.specs.Json.{Json, document}
 use Rattle.dep_types.specs.Config.{IsChecked}
 use Rattle.dep_types.specs.declared.config.Config.{Config}
@@ -9,7 +9,7 @@ use Rattle.dep_configuration.specs.declared.configuration.Configuration.{Configu
 use Rattle.dep_configuration.specs.declared.configuration.Limits.{Limits}
 use Rattle.dep_configuration.specs.declared.fault.ConfigurationFault.{ConfigurationFault}
 use Rattle.dep_configuration.specs.declared.fault.ConfigurationFault.TheVariants.{Malformed, NotObject, Unknown, Repeated, Missing, Invalid, Memory}
-use Rattle.dep_configuration.specs.declared.field.Field.TheVariants.{Port, Database, SpoolFolder, Title, Abstract, Depositor, OnBehalfOf, RequireIfMatch, MaxUpload, MaxAssembled, MaxSegments, StagingMaxIdle, IdleSeconds, LeastRate, Connections, AddressConnections, SpoolBytes, UnfinishedBytes}
+use Rattle.dep_configuration.specs.declared.field.Field.TheVariants.{Port, Database, SpoolFolder, Base, Title, Abstract, Depositor, OnBehalfOf, RequireIfMatch, MaxUpload, MaxAssembled, MaxSegments, StagingMaxIdle, IdleSeconds, LeastRate, Connections, AddressConnections, SpoolBytes, UnfinishedBytes}
 
 -- a value gives these limits
 pub record HasLimits (limits : Limits) (j : Json) : Type 0 where
@@ -43,6 +43,16 @@ pub record HasConfiguration (c : Configuration) (j : Json) : Type 0 where
   pub config : HasConfig c.config j
   pub limits : HasLimits c.limits j
 
+-- of these faults no cause is said: of names, and of what is looked at once more when all fields are read
+abbrev pub IsUnexplained : ConfigurationFault → Type 0
+IsUnexplained Malformed = ⊥
+IsUnexplained NotObject = Unit {0}
+IsUnexplained (Unknown name) = Unit {0}
+IsUnexplained (Repeated name) = Unit {0}
+IsUnexplained (Missing field) = ⊥
+IsUnexplained (Invalid field) = (field ≡ Port) ⊎ (field ≡ Base) ⊎ (field ≡ MaxUpload)
+IsUnexplained Memory = Unit {0}
+
 -- without a value it is refused for these alone
 abbrev pub IsUnread : ConfigurationFault → Type 0
 IsUnread Malformed = Unit {0}
@@ -55,7 +65,7 @@ IsUnread Memory = Unit {0}
 
 -- why a text is refused that has this value
 abbrev pub HasCauseIn : ConfigurationFault → Option Json → Type 0
-HasCauseIn e d = MatchOption d (IsUnread e) (λ j. HasCause e j)
+HasCauseIn e d = MatchOption d (IsUnread e) (λ j. HasCause e j ⊎ IsUnexplained e)
 
 -- a text is the configuration, which a server can be set up with
 pub record IsConfiguration (c : Configuration) (text : List ℕ) : Type 0 where

@@ -1,8 +1,10 @@
 //! The configuration of a server, and how it is read.
-ghost use Rattle.std.specs.Prelude.{IfOk};
+ghost use Rattle.std.specs.Prelude.{◌⊎◌, IfOk, IfErr};
+ghost use Rattle.json.specs.Json.{document};
 ghost use Rattle.json.specs.Value.{value_view};
 ghost use Rattle.dep_types.specs.Config.{IsChecked};
-ghost use Rattle.dep_configuration.specs.Configured.{HasConfig, HasConfiguration, HasLimits, IsConfiguration};
+ghost use Rattle.dep_configuration.specs.Configured.{HasCauseIn, HasConfig, HasConfiguration, HasLimits, IsConfiguration, IsUnexplained};
+ghost use Rattle.dep_configuration.specs.Readings.{HasCause};
 
 use crate::fault::ConfigurationFault;
 use crate::field::Field;
@@ -56,6 +58,7 @@ impl Configuration {
     /// isn't there has its default; `database`, `spool_folder` and `base` have none. Of several faults one is told.
     pub fn read(alloc: Global, text: &str) -> Result<Configuration, ConfigurationFault>
         ensures read { IfOk result (λ c. IsConfiguration c text.now) }
+        ensures refused { IfErr result (λ e. HasCauseIn e (document text.now)) }
     {
         let mut scratch = Scratch::new(alloc);
         let value = match Value::parse(alloc, text, &mut scratch) {
@@ -72,6 +75,7 @@ impl Configuration {
     // A server can be set up so.
     fn check(&self, alloc: Global) -> Result<(), ConfigurationFault>
         ensures checked { IfOk result (λ _. IsChecked self.now.config) }
+        ensures refused { IfErr result (λ e. IsUnexplained e) }
     {
         match self.config.check(alloc) {
             Ok(()) => Ok(()),
@@ -85,6 +89,7 @@ impl Configuration {
 #[tactic(auto, unfolding(crate::specs::Fields::wanted_of, crate::specs::Fields::bounds_of))]
 fn configuration_in(alloc: Global, value: &Value<'_>) -> Result<Configuration, ConfigurationFault>
     ensures read { IfOk result (λ c. HasConfiguration c (value_view value.now)) }
+    ensures refused { IfErr result (λ e. HasCause e (value_view value.now) ⊎ IsUnexplained e) }
 {
     let address = address(value)?;
     let Ok(port) = u16::try_from(number(value, Field::Port, 8_080)?) else {
@@ -106,6 +111,7 @@ fn configuration_in(alloc: Global, value: &Value<'_>) -> Result<Configuration, C
 #[tactic(auto, unfolding(crate::specs::Fields::wanted_of, crate::specs::Fields::bounds_of))]
 fn config_in(alloc: Global, value: &Value<'_>) -> Result<Config, ConfigurationFault>
     ensures read { IfOk result (λ c. HasConfig c (value_view value.now)) }
+    ensures refused { IfErr result (λ e. HasCause e (value_view value.now)) }
 {
     let base = base(value)?;
     let title = text(value, Field::Title, "swordd")?;
@@ -128,6 +134,7 @@ fn config_in(alloc: Global, value: &Value<'_>) -> Result<Config, ConfigurationFa
 #[tactic(auto, unfolding(crate::specs::Fields::wanted_of, crate::specs::Fields::bounds_of))]
 fn limits_in(value: &Value<'_>) -> Result<Limits, ConfigurationFault>
     ensures read { IfOk result (λ limits. HasLimits limits (value_view value.now)) }
+    ensures refused { IfErr result (λ e. HasCause e (value_view value.now)) }
 {
     Ok(Limits {
         idle_seconds: number(value, Field::IdleSeconds, 60)?,
