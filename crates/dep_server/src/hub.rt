@@ -6,13 +6,14 @@ ghost use Rattle.dep_types.specs.Conditions.{StandsFor, Leaves};
 ghost use Rattle.dep_server.specs.Records.{Connect, Close, Record, Line, World, Run, Absent, Live, stopped, first_world};
 ghost use Rattle.dep_server.specs.Numbers.{Ascends, Ascends-prop, most_connections, last_number};
 
+use crate::access_log::{AccessLog, NoLog};
 use crate::archive::Archive;
 use crate::arrived::Arrived;
 use crate::connections::{ConnId, Connection, index_among};
 use crate::faults::{ConnectFault, HubFault};
 use crate::next::Next;
 use crate::serving::{Piece, answer_next, give_up, serve};
-use crate::site::Site;
+use crate::site::{Context, Site};
 use dep_message::Intake;
 use dep_moment::Moment;
 use dep_types::{Config, ConfigFault, Outlet};
@@ -180,13 +181,19 @@ impl<A: Archive> Hub<A> {
         let kept = &mut self.connections[i];
         match kept.intake.feed(piece) {
             Ok(()) => Arrived::Open,
-            Err(AllocError) => give_up(&mut kept.intake, out),
+            Err(AllocError) => give_up(&mut kept.intake, out, &mut NoLog),
         }
     }
 
     /// Answers the next item of a connection, where one is complete in what was offered. It sends one
-    /// reply at most.
-    pub fn answer<O: Outlet>(&mut self, connection: ConnId, moment: Moment, out: &mut O) -> Next
+    /// reply at most, and the log is told of the request and the reply.
+    pub fn answer<O: Outlet, L: AccessLog>(
+        &mut self,
+        connection: ConnId,
+        moment: Moment,
+        out: &mut O,
+        log: &mut L,
+    ) -> Next
         ensures config { self.new.config ≡ self.old.config }
         ensures next { self.new.next ≡ self.old.next }
         ensures absent { intake_of self.old.connections.items connection ≡ None
@@ -204,7 +211,11 @@ impl<A: Archive> Hub<A> {
             return Next::NoSuch;
         };
         let kept = &mut self.connections[i];
-        answer_next(&self.config, &mut self.store, &mut kept.intake, moment, out)
+        let context = Context {
+            site: &self.config,
+            moment,
+        };
+        answer_next(&context, &mut self.store, &mut kept.intake, out, log)
     }
 
     /// Forgets a connection.
