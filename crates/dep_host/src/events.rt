@@ -1,8 +1,8 @@
 //! What comes to a host from outside.
 ghost use Rattle.std.specs.Prelude.{◌≡◌, IsTrue, Bool};
-ghost use Rattle.dep_host.specs.Coming.{IsFresh};
+ghost use Rattle.dep_host.specs.Coming.{IsFresh, origin, comes_from};
 
-use crate::seat::Time;
+use crate::seat::{Seat, Time};
 use dep_outbox::{Sink, Source, Spool, Wire};
 use std::net::IpAddr;
 
@@ -28,6 +28,36 @@ impl<R, K, S> Client<R, K, S> {
             wire,
             address: address.to_canonical(),
         }
+    }
+}
+
+/// A number for those addresses that one client may have: an IPv4 address, or all IPv6 addresses of
+/// the same first 64 bits.
+pub fn origin(address: IpAddr) -> u128
+    ensures { result ≡ origin address }
+{
+    match address {
+        IpAddr::V4(ip) => ip.to_bits() as u128,
+        IpAddr::V6(ip) => ip.to_bits() / MOST_HOSTS + FIRST_NETWORK,
+    }
+}
+
+/// How many IPv6 addresses have the same first 64 bits.
+const MOST_HOSTS: u128 = 0x1_0000_0000_0000_0000;
+
+/// The number of the first of these networks, behind all IPv4 addresses.
+const FIRST_NETWORK: u128 = 0x1_0000_0000;
+
+/// Whether who sits at a place comes from there.
+pub(crate) fn comes_from<R: Source, K: Sink, S: Spool>(
+    place: &Option<Seat<R, K, S>>,
+    from: u128,
+) -> bool
+    ensures { result ≡ comes_from from place.now }
+{
+    match place {
+        Some(seat) => origin(seat.address()) == from,
+        None => false,
     }
 }
 

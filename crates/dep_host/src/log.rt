@@ -1,6 +1,6 @@
 //! What is told of each connection, for a log of them.
 
-use dep_server::{ConnId, Next};
+use dep_server::{AccessLog, ConnId, Next};
 use std::net::IpAddr;
 
 /// Why a client was turned away.
@@ -36,8 +36,9 @@ pub struct Bytes {
     pub sent: u64,
 }
 
-/// What a host tells of its connections. Nothing of what is sent or kept hangs on it.
-pub trait HostLog {
+/// What a host tells of its connections. Nothing of what is sent or kept hangs on it. Of what an
+/// `AccessLog` is told it is told between `answering` and `answered`.
+pub trait HostLog: AccessLog {
     /// A client was let in.
     fn opened(&mut self, connection: ConnId, address: IpAddr);
 
@@ -45,7 +46,7 @@ pub trait HostLog {
     fn refused(&mut self, address: IpAddr, refusal: Refusal);
 
     /// The next item of a connection is answered, where one is complete: what is told up to
-    /// `answered` is of it.
+    /// `answered` is of it. None may be.
     fn answering(&mut self, connection: ConnId, address: IpAddr);
 
     /// What that came to, how many bytes were read of the connection since the item before, and how
