@@ -431,7 +431,7 @@ class Steps:
 def kept_upload(folder, count, size):
     """Sends an upload, deposits it and reads the file. Returns the file's path."""
     mebibytes, made = count * size / MIB, []
-    with Server(1, folder) as server:
+    with Server(1, folder, env={**os.environ, **GIVES_BACK}) as server:
         client, store = Client(server), PlainUpload(folder)
         client.deposit(os.urandom(SMALL))
         steps = Steps(server)
