@@ -1,5 +1,5 @@
 -- What stood when a connection was closed.
-use Rattle.std.proofs.Common.{◌≡◌, ◌⊎◌, inl, inr, ℕ, List, [], ◌∷◌, ◌++◌, Option, None, Some, refl, sym, ap, subst, ◌∙◌, length, arith, IsTrue}
+use Rattle.std.proofs.Common.{◌≡◌, ◌⊎◌, inl, inr, ℕ, List, [], ◌∷◌, ◌++◌, Option, None, Some, refl, sym, ap, subst, ◌∙◌, arith, IsTrue}
 use Rattle.std.proofs.lemmas.List.{append-nil}
 use Rattle.dep_types.specs.Conditions.{Condition}
 use Rattle.dep_types.specs.State.{State}
@@ -8,7 +8,7 @@ use Rattle.dep_server.specs.Holding.{StandsHoldingAfter}
 use Rattle.dep_server.specs.Standing.{IsClean}
 use Rattle.dep_server.specs.declared.hub.Hub.{Hub}
 use Rattle.dep_host.specs.declared.seat.Seat.{Seat}
-use Rattle.dep_host.specs.Hosting.{Position, slot, Deed, Opens, Takes, Replies, Declines, Closes, Step, refused, comes, rests, offers, refuses, answers, leaves, Steps, begins, goes_on, GoesOn}
+use Rattle.dep_host.specs.Hosting.{Position, slot, Deed, Opens, Takes, Replies, Declines, Closes, Step, refused, asks, comes, rests, offers, refuses, answers, leaves, Steps, begins, goes_on, GoesOn}
 use Rattle.dep_host.specs.Runs.{KeepsPromise, Promises}
 
 abbrev head_or : {X : Type 0} → X → List X → X
@@ -72,6 +72,7 @@ module _ {A R K S : Type 0} (condition : A → Condition) (unread : R → Option
   -- a store that is open was open before
   pub clean_before : {p q : Position A R K S} {more : List Deed} → Step condition unread taken held p q more → IsClean condition q.hub → IsClean condition p.hub
   clean_before {p = p} {q = q} (refused r) clean = same_store_clean p.hub q.hub r.same_store clean
+  clean_before {p = p} {q = q} (asks r) clean = r.clean clean
   clean_before {p = p} {q = q} (comes r) clean = same_store_clean p.hub q.hub r.same_store clean
   clean_before {p = p} {q = q} (rests t r) clean = t.clean clean
   clean_before {p = p} {q = q} (offers t o) clean = t.clean clean
@@ -100,6 +101,7 @@ module _ {A R K S : Type 0} (condition : A → Condition) (unread : R → Option
       → Steps condition unread taken held p ds m → ((later : List Deed) → ds ≡ done ++ Closes at n second ∷ later → Stood p done at n)
       → ds ++ more ≡ done ++ Closes at n second ∷ later → Stood p done at n
   stood_step {ds = ds} done later at n second (refused r) clean s before h = before later (sym (append-nil ds) ∙ h)
+  stood_step {ds = ds} done later at n second (asks r) clean s before h = before later (sym (append-nil ds) ∙ h)
   stood_step {ds = ds} done later at n second (rests t r) clean s before h = before later (sym (append-nil ds) ∙ h)
   stood_step done later at n second (comes {at = place} {seat = seat} r) clean s before h = another (Opens place seat.connection) done later at n second refl before h
   stood_step done later at n second (offers {at = place} {before = old} t o) clean s before h = another (Takes place old.connection o.piece) done later at n second refl before h

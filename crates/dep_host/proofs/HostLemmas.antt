@@ -18,7 +18,7 @@ use Rattle.dep_host.specs.declared.log.Closing.{Closing}
 use Rattle.dep_host.specs.declared.log.Closing.TheVariants.{Large}
 use Rattle.dep_host.specs.declared.course.Phase.TheVariants.{Open}
 use Rattle.dep_host.specs.Seats.{TakesTurn}
-use Rattle.dep_host.specs.Hosting.{Position, slot, HasTime, MayGo, Deed, Takes, Replies, Declines, Closes, answers_at, pieces_at, unfinished_of, unfinished_in, AreClosedAt, HasTurn, Goes, Step, refused, rests, offers, refuses, answers, leaves, Steps, begins, goes_on, GoesOn, Serves, GoesRound, Sheds}
+use Rattle.dep_host.specs.Hosting.{Position, slot, HasTime, MayGo, Deed, Takes, Replies, Declines, Closes, answers_at, pieces_at, unfinished_of, unfinished_in, AreClosedAt, HasTurn, Goes, Asks, Step, refused, asks, rests, offers, refuses, answers, leaves, Steps, begins, goes_on, GoesOn, Serves, GoesRound, Sheds}
 
 -- what was read at a place is what stands there
 pub slot_read : {X : Type 0} (at : ℕ) (seats : List (Option X)) (x : Option X) → at < length seats → x ≡ get_or seats at x → slot at seats ≡ x
@@ -161,11 +161,16 @@ module _ {A R K S : Type 0} (condition : A → Condition) (unread : R → Option
       → Steps condition unread taken held p [] q
   same_seats p q at x hub limits seats there read = goes_on begins (unchanged p q at x hub limits seats there read)
 
+  -- the hub was asked whether its store is open
+  pub asked : (p q : Position A R K S) → Asks condition unread taken held p q → Steps condition unread taken held p [] q
+  asked p q a = goes_on begins (asks a)
+
   -- a connection took note of something, and neither its bytes nor its phase changed
   pub woken : (p q : Position A R K S) (at : ℕ) (before after : Seat R K S) → at < length p.seats → slot at p.seats ≡ Some before → q.seats ≡ set p.seats at (Some after)
-      → q.hub ≡ p.hub → q.limits ≡ p.limits → after.connection ≡ before.connection → after.source ≡ before.source → after.wire ≡ before.wire → after.course.phase ≡ before.course.phase
+      → q.hub ≡ p.hub → q.limits ≡ p.limits → after.connection ≡ before.connection → after.source ≡ before.source → after.wire ≡ before.wire
+      → (after.course.phase ≡ Open → before.course.phase ≡ Open) → (is_ended before.course.phase ≡ true → is_ended after.course.phase ≡ true)
       → after.course.unfinished ≡ before.course.unfinished → Steps condition unread taken held p [] q
-  woken p q at before after there sat sits hub limits number source wire phase count = goes_on begins (rests {at = at} {before = before} {after = after} (record {
+  woken p q at before after there sat sits hub limits number source wire opens ended count = goes_on begins (rests {at = at} {before = before} {after = after} (record {
     there = there;
     sat = sat;
     sits = sits;
@@ -174,13 +179,13 @@ module _ {A R K S : Type 0} (condition : A → Condition) (unread : R → Option
     same_config = ap (λ (h : Hub A). h.config) hub;
     clean = λ h. subst (λ (k : Hub A). IsClean condition k) hub h;
     honest = λ h. subst (λ (k : Hub A). IsHonest condition k) hub h;
-    ended = λ h. ap is_ended phase ∙ h;
+    ended = ended;
     same_limits = limits;
   }) (record {
     same = hub;
     keeps = subst (λ (w : Wire K S). Keeps (told taken held before.wire) (told taken held w)) (sym wire) (Keeps-refl (told taken held before.wire));
     gives = λ h. subst (λ (r : R). Keeps (unread before.source) (unread r)) (sym source) (Keeps-refl (unread before.source));
-    opens = λ h. sym phase ∙ h;
+    opens = opens;
     keeps_count = λ h. count;
   }))
 

@@ -10,7 +10,7 @@ use Rattle.dep_server.specs.Holding.{KeepsHolding, StandsHoldingAfter, MovesLine
 use Rattle.dep_server.specs.declared.hub.Hub.{Hub}
 use Rattle.dep_server.specs.declared.arrived.Arrived.{Arrived}
 use Rattle.dep_host.proofs.CloseLemmas.{clean_before}
-use Rattle.dep_host.specs.Hosting.{Position, Deed, Step, refused, comes, rests, offers, refuses, answers, leaves, Steps, begins, goes_on}
+use Rattle.dep_host.specs.Hosting.{Position, Deed, Step, refused, asks, comes, rests, offers, refuses, answers, leaves, Steps, begins, goes_on}
 use Rattle.dep_host.specs.Runs.{Follows, begins as follows_none, opens, takes, replies, declines, closes, StandsBehind}
 
 module _ {A R K S : Type 0} (condition : A → Condition) (unread : R → Option (List ℕ)) (taken : K → Option (List ℕ)) (held : S → Option (List ℕ))
@@ -51,6 +51,12 @@ module _ {A R K S : Type 0} (condition : A → Condition) (unread : R → Option
     holds = m.holds;
     follows = subst (λ (l : List Deed). Follows holds l m.more m.holds) (sym (append-nil deeds)) m.follows;
     stands = moved p.hub q.hub first (records ++ m.more) m.holds m.holds r.same_store r.same_config (λ lines h. r.keeps lines m.holds h) m.stands;
+  }
+  step_run {p = p} {q = q} {deeds = deeds} first records holds m (asks r) clean = record {
+    more = m.more;
+    holds = m.holds;
+    follows = subst (λ (l : List Deed). Follows holds l m.more m.holds) (sym (append-nil deeds)) m.follows;
+    stands = r.stands clean first (records ++ m.more) m.holds m.stands;
   }
   step_run {p = p} {q = q} {deeds = deeds} first records holds m (rests t r) clean = record {
     more = m.more;

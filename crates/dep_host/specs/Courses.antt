@@ -52,6 +52,14 @@ counts_anew c second limits = not c.is_due || (is_past c.mark second limits && n
 abbrev pub is_under_way : Course → (owes : Bool) → Bool
 is_under_way c owes = owes || nat_lt 0 c.unfinished
 
+-- how far it is once it is read no more
+abbrev pub shut : Phase → Phase
+shut Open = Last
+shut Answering = Answering
+shut Last = Last
+shut Draining = Draining
+shut Over = Over
+
 -- nothing of what its client sends comes to the hub any more
 abbrev pub is_ended : Phase → Bool
 is_ended Open = false

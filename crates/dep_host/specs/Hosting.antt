@@ -1,11 +1,12 @@
 -- How a host goes on: what becomes of its places, what comes to its hub, and what its wires take for it.
-use Rattle.std.specs.Prelude.{◌≡◌, ◌⊎◌, ◌<◌, ◌≤◌, ◌+◌, ◌==◌, ℕ, Bool, List, [], ◌∷◌, ◌++◌, length, get_or, set, Option, None, Some, if◌then◌else◌, true, false}
+use Rattle.std.specs.Prelude.{◌≡◌, ◌⊎◌, ◌<◌, ◌≤◌, ◌+◌, ◌==◌, ℕ, Bool, List, [], ◌∷◌, ◌++◌, length, get_or, set, Option, None, Some, if◌then◌else◌, true}
 use Rattle.std.specs.List.{flat_map}
 use Rattle.std.specs.Io.KnownBytes.{IsAtEnd}
 use Rattle.dep_types.specs.Conditions.{Condition}
-use Rattle.dep_server.specs.Records.{Line, Live, Absent}
+use Rattle.dep_types.specs.State.{State}
+use Rattle.dep_server.specs.Records.{Record, Line, Live, Absent}
 use Rattle.dep_server.specs.Standing.{IsClean, IsHonest}
-use Rattle.dep_server.specs.Holding.{KeepsHolding, MovesLine, with_held}
+use Rattle.dep_server.specs.Holding.{KeepsHolding, MovesLine, StandsHoldingAfter, with_held}
 use Rattle.dep_server.specs.declared.hub.Hub.{Hub}
 use Rattle.dep_outbox.specs.Wires.{told}
 use Rattle.dep_host.specs.declared.course.Phase.TheVariants.{Open}
@@ -143,6 +144,18 @@ module _ {A R K S : Type 0} (condition : A → Condition) (unread : R → Option
     pub same_config : q.hub.config ≡ p.hub.config
     pub same_limits : q.limits ≡ p.limits
 
+  -- the hub is asked whether its store is open
+  pub record Asks (p q : Position A R K S) : Type 0 where
+    pub sits : q.seats ≡ p.seats
+    pub next : q.hub.next ≡ p.hub.next
+    pub same_config : q.hub.config ≡ p.hub.config
+    pub clean : IsClean condition q.hub → IsClean condition p.hub
+    pub honest : IsHonest condition q.hub → IsHonest condition p.hub
+    pub stands : IsClean condition q.hub → (first : State) → (records : List Record)
+        → (kept : ℕ → List ℕ) → StandsHoldingAfter condition p.hub first records kept
+        → StandsHoldingAfter condition q.hub first records kept
+    pub same_limits : q.limits ≡ p.limits
+
   -- a connection has its turn, and no other place changes
   pub record HasTurn (p q : Position A R K S) (at : ℕ) (before after : Seat R K S) : Type 0 where
     pub there : at < length p.seats
@@ -172,6 +185,7 @@ module _ {A R K S : Type 0} (condition : A → Condition) (unread : R → Option
   -- one step of a host, and what it does in it
   pub data Step (p q : Position A R K S) : List Deed → Type 0 where
     refused : Refused p q → Step p q []
+    asks : Asks p q → Step p q []
     comes : {at : ℕ} {seat : Seat R K S} → Comes p q at seat
         → Step p q (Opens at seat.connection ∷ [])
     rests : {at : ℕ} {before after : Seat R K S} → HasTurn p q at before after

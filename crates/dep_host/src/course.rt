@@ -1,6 +1,6 @@
 //! How far a connection is, and what it does next.
 ghost use Rattle.std.specs.Prelude.{◌≡◌, ◌+◌, ◌^◌, ◌-◌, ◌||◌, nat_lt, min, if◌then◌else◌, true, false};
-ghost use Rattle.dep_host.specs.Courses.{duty, closing, counts_anew, is_under_way, is_past, is_silent, is_slow};
+ghost use Rattle.dep_host.specs.Courses.{duty, closing, counts_anew, is_under_way, shut, is_past, is_silent, is_slow};
 
 use crate::limits::Limits;
 use crate::log::Closing;
@@ -140,6 +140,16 @@ impl Course {
         ensures { result ≡ counts_anew self.now second limits.now }
     {
         !self.is_due || is_past(self.mark, second, limits) && self.moved >= limits.least_rate
+    }
+
+    /// It is read no more, once what was read is answered.
+    pub fn shut(&mut self)
+        ensures phase { self.new.phase ≡ shut self.old.phase }
+        ensures unfinished { self.new.unfinished ≡ self.old.unfinished }
+    {
+        if self.phase == Phase::Open {
+            self.phase = Phase::Last;
+        }
     }
 
     /// Takes note that so many bytes were read or taken.

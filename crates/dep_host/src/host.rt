@@ -1,5 +1,5 @@
 //! All connections, over one hub.
-ghost use Rattle.std.specs.Prelude.{◌≡◌, ◌⊎◌, ◌<◌, ◌≤◌, ℕ, List, [], None, Some, Option, length, nat_lt, IfOk, IfErr, IfSome, IsSomeAnd, MatchOption, true, false};
+ghost use Rattle.std.specs.Prelude.{◌≡◌, ◌⊎◌, ◌<◌, ◌≤◌, ℕ, List, [], None, Some, Option, length, nat_lt, IfOk, IfErr, IfSome, IsSomeAnd, IsTrue, MatchOption, true, false};
 ghost use Rattle.std.specs.Io.KnownBytes.{IsAtEnd};
 ghost use Rattle.dep_server.specs.Turns.{most_read};
 ghost use Rattle.dep_outbox.specs.Wires.{told};
@@ -25,6 +25,8 @@ pub struct Host<A, R, K, S> {
     hub: Hub<A>,
     seats: Vec<Option<Seat<R, K, S>>>,
     limits: Limits,
+    /// Whether it was told that the store is shut.
+    is_shut: bool,
 }
 
 impl<A: Archive, R: Source + Drop, K: Sink + Drop, S: Spool + Drop> Host<A, R, K, S> {
@@ -38,7 +40,12 @@ impl<A: Archive, R: Source + Drop, K: Sink + Drop, S: Spool + Drop> Host<A, R, K
         let Ok(seats) = empty_seats(alloc) else {
             return Err(hub);
         };
-        Ok(Host { hub, seats, limits })
+        Ok(Host {
+            hub,
+            seats,
+            limits,
+            is_shut: false,
+        })
     }
 
     /// Hands the hub back. The connections are closed by `Hub::close`, or end with it.
@@ -49,8 +56,34 @@ impl<A: Archive, R: Source + Drop, K: Sink + Drop, S: Spool + Drop> Host<A, R, K
             hub,
             seats: _,
             limits: _,
+            is_shut: _,
         } = self;
         hub
+    }
+
+    /// What bounds its connections.
+    pub fn limits(&self) -> Limits
+        ensures { result ≡ self.now.limits }
+    {
+        self.limits
+    }
+
+    /// Whether the store is open, as far as it can be told. Once it is told that it isn't, no
+    /// connection is read any more, and there is no vacancy.
+    pub fn is_open(&mut self) -> bool
+        ensures goes { Steps A.condition R.unread K.taken S.held (position self.old) []
+            (position self.new) }
+        ensures shut { result ≡ false
+            → ¬ IsTrue (A.condition self.new.hub.store).is_open }
+        ensures seats { self.new.seats ≡ self.old.seats }
+    {
+        match self.hub.is_open() {
+            Ok(false) => {
+                self.is_shut = true;
+                false
+            }
+            Ok(true) | Err(_) => true,
+        }
     }
 
     /// Where a further connection can be seated.
@@ -58,6 +91,9 @@ impl<A: Archive, R: Source + Drop, K: Sink + Drop, S: Spool + Drop> Host<A, R, K
         ensures { IfSome result (λ at. (at < length self.now.seats.items)
             × (slot at self.now.seats.items ≡ None)) }
     {
+        if self.is_shut {
+            return None;
+        }
         for at in 0..self.seats.len() {
             if self.seats[at].is_none() {
                 return Some(at);
@@ -251,7 +287,7 @@ impl<A: Archive, R: Source + Drop, K: Sink + Drop, S: Spool + Drop> Host<A, R, K
         ensures limits { self.new.limits ≡ self.old.limits }
     {
         if let Some(seat) = &mut self.seats[at] {
-            seat.begin_turn(second, &self.limits);
+            seat.begin_turn(second, &self.limits, self.is_shut);
         }
     }
 
@@ -303,14 +339,14 @@ impl<A: Archive, R: Source + Drop, K: Sink + Drop, S: Spool + Drop> Host<A, R, K
         ensures limits { self.new.limits ≡ self.old.limits }
     {
         if let Some(at) = self.largest() {
-            if self.is_full() && self.is_open(at) {
+            if self.is_full() && self.is_read(at) {
                 self.close(at, second, Closing::Large, log);
             }
         }
     }
 
     /// Whether the connection there is read, and none of its requests may be complete.
-    fn is_open(&self, at: usize) -> bool
+    fn is_read(&self, at: usize) -> bool
         requires there { at < length self.now.seats.items }
         ensures { result ≡ true → IsSomeAnd (slot at self.now.seats.items)
             (λ seat. seat.course.phase ≡ Open) }

@@ -1,5 +1,5 @@
 //! A connection that is served.
-ghost use Rattle.std.specs.Prelude.{◌≡◌, ◌<◌, ◌≤◌, ◌⊎◌, ◌+◌, ◌-◌, ◌^◌, ◌||◌, min, nat_lt, ℕ, Bool, length, true, false};
+ghost use Rattle.std.specs.Prelude.{◌≡◌, ◌≢◌, ◌<◌, ◌≤◌, ◌⊎◌, ◌+◌, ◌-◌, ◌^◌, ◌||◌, min, nat_lt, ℕ, Bool, length, true, false};
 ghost use Rattle.std.specs.Io.KnownBytes.{Keeps, Consumes, IsAtEnd};
 ghost use Rattle.dep_server.specs.Holding.{ComesToNext, OffersTo};
 ghost use Rattle.dep_server.specs.Standing.{IsClean, IsHonest};
@@ -120,17 +120,24 @@ impl<R: Source, K: Sink, S: Spool> Seat<R, K, S> {
         self.course.is_writable = self.course.is_writable || is_writable;
     }
 
-    /// Begins its turn.
-    pub(crate) fn begin_turn(&mut self, second: u64, limits: &Limits)
+    /// Begins its turn. Once the store is shut it is read no more.
+    pub(crate) fn begin_turn(&mut self, second: u64, limits: &Limits, is_shut: bool)
         ensures source { self.new.source ≡ self.old.source }
         ensures wire { self.new.wire ≡ self.old.wire }
         ensures number { self.new.connection ≡ self.old.connection }
         ensures address { self.new.address ≡ self.old.address }
-        ensures phase { self.new.course.phase ≡ self.old.course.phase }
+        ensures opens { self.new.course.phase ≡ Phase.Open
+            → self.old.course.phase ≡ Phase.Open }
+        ensures ended { is_ended self.old.course.phase ≡ true
+            → is_ended self.new.course.phase ≡ true }
+        ensures shut { is_shut ≡ true → self.new.course.phase ≢ Phase.Open }
         ensures unfinished { self.new.course.unfinished ≡ self.old.course.unfinished }
     {
         let owes = self.wire.owes();
         self.course.begin_turn(owes, second, limits);
+        if is_shut {
+            self.course.shut();
+        }
     }
 
     /// Why it is closed now, if it is.

@@ -1,8 +1,8 @@
 //! Serving all clients until no more comes.
-ghost use Rattle.std.specs.Prelude.{◌≡◌, ◌<◌, ◌≤◌, None, Option, length, IfSome, IsTrue};
+ghost use Rattle.std.specs.Prelude.{◌≡◌, ◌≢◌, ◌<◌, ◌≤◌, [], None, Err, Option, length, IfOk, IfSome, IsTrue};
 ghost use Rattle.dep_server.specs.Turns.{most_read};
 ghost use Rattle.dep_host.specs.Coming.{IsFresh};
-ghost use Rattle.dep_host.specs.Hosting.{GoesOn, position, slot};
+ghost use Rattle.dep_host.specs.Hosting.{GoesOn, Steps, position, slot};
 ghost use Rattle.dep_host.specs.Runs.{Promises};
 
 use crate::events::{Client, Event, Events};
@@ -17,6 +17,8 @@ use dep_server::Archive;
 pub enum Ended {
     /// No more comes.
     Events,
+    /// A fault has shut the store. All was sent, or an idle time has passed since.
+    Shut,
     /// 2^64 - 1 events came.
     Spent,
 }
@@ -26,6 +28,8 @@ pub enum Ended {
 struct Now {
     vacancy: Option<usize>,
     is_busy: bool,
+    /// The second at which it was told that the store is shut.
+    shut_since: Option<u64>,
 }
 
 /// Serves all clients until no more comes. The room is for the bytes that are read at once. It
@@ -45,17 +49,20 @@ pub fn serve<
     ensures promise { Promises A.condition R.unread K.taken S.held (position host.old)
         (position host.new) }
     ensures end { result ≡ Ended.Events → IsTrue (E.is_over events.new) }
+    ensures shut { result ≡ Ended.Shut
+        → ¬ IsTrue (A.condition host.new.hub.store).is_open }
 {
     hosts_keep_the_archive_promise::<A, R, K, S>();
     let mut now = Now {
         vacancy: host.vacancy(),
         is_busy: true,
+        shut_since: None,
     };
     for _ in 0..u64::MAX {
         let event = events.next(now.vacancy, now.is_busy);
         match meet(host, now, event, room, log) {
-            Some(next) => now = next,
-            None => return Ended::Events,
+            Ok(next) => now = next,
+            Err(ended) => return ended,
         }
     }
     Ended::Spent
@@ -68,17 +75,19 @@ fn meet<A: Archive, R: Source + Drop, K: Sink + Drop, S: Spool + Drop, L: HostLo
     event: Event<R, K, S>,
     room: &mut [u8],
     log: &mut L,
-) -> Option<Now>
+) -> Result<Now, Ended>
     requires room { length room.old ≤ most_read }
     requires fresh { IsFresh K.taken S.held event }
     requires free { IfSome now.vacancy (λ at. (at < length host.old.seats.items)
         × (slot at host.old.seats.items ≡ None)) }
     ensures goes { GoesOn A.condition R.unread K.taken S.held (position host.old)
         (position host.new) }
-    ensures free { IfSome result (λ next. IfSome next.vacancy
+    ensures free { IfOk result (λ next. IfSome next.vacancy
         (λ at. (at < length host.new.seats.items)
         × (slot at host.new.seats.items ≡ None))) }
-    ensures end { result ≡ None → event ≡ Event.End }
+    ensures end { result ≡ Err Ended.Events → event ≡ Event.End }
+    ensures shut { result ≡ Err Ended.Shut
+        → ¬ IsTrue (A.condition host.new.hub.store).is_open }
 {
     match event {
         Event::Ready {
@@ -87,24 +96,58 @@ fn meet<A: Archive, R: Source + Drop, K: Sink + Drop, S: Spool + Drop, L: HostLo
             is_writable,
         } => {
             host.awake(at, is_readable, is_writable);
-            Some(now)
+            Ok(now)
         }
         Event::Client(client) => {
             let_in(host, now.vacancy, client, log);
-            Some(Now {
+            Ok(Now {
                 vacancy: host.vacancy(),
                 is_busy: true,
+                shut_since: now.shut_since,
             })
         }
         Event::Round(time) => {
             let is_busy = host.round(room, &time, log);
-            Some(Now {
-                vacancy: host.vacancy(),
-                is_busy,
-            })
+            go_on(host, Now { is_busy, ..now }, time.second)
         }
-        Event::End => None,
+        Event::End => Err(Ended::Events),
     }
+}
+
+/// Goes on after a round: once the store is shut until all connections are closed, or an idle time
+/// has passed.
+fn go_on<A: Archive, R: Source + Drop, K: Sink + Drop, S: Spool + Drop>(
+    host: &mut Host<A, R, K, S>,
+    now: Now,
+    second: u64,
+) -> Result<Now, Ended>
+    ensures goes { Steps A.condition R.unread K.taken S.held (position host.old) []
+        (position host.new) }
+    ensures free { IfOk result (λ next. IfSome next.vacancy
+        (λ at. (at < length host.new.seats.items)
+        × (slot at host.new.seats.items ≡ None))) }
+    ensures end { result ≢ Err Ended.Events }
+    ensures shut { result ≡ Err Ended.Shut
+        → ¬ IsTrue (A.condition host.new.hub.store).is_open }
+{
+    if host.is_open() {
+        return Ok(Now {
+            vacancy: host.vacancy(),
+            ..now
+        });
+    }
+    let since = match now.shut_since {
+        Some(since) => since,
+        None => second,
+    };
+    if host.is_empty() || second.saturating_sub(since) > host.limits().idle_seconds {
+        return Err(Ended::Shut);
+    }
+    Ok(Now {
+        vacancy: None,
+        is_busy: now.is_busy,
+        shut_since: Some(since),
+    })
 }
 
 /// Lets a client in, or turns it away.

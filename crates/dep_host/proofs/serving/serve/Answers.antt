@@ -1,5 +1,4 @@
-use Rattle.std.proofs.Common.{◌≤◌, length, arith}
-use Rattle.dep_server.specs.Turns.{most_read}
+use Rattle.std.proofs.Common.{arith}
 use Rattle.dep_host.proofs.HostLemmas.{no_step, both}
 use Rattle.dep_host.proofs.CloseLemmas.{promised}
 use Rattle.dep_host.proofs.serving.serve.Goals as goal
@@ -14,15 +13,15 @@ loop-init g c = record {
 pub loop-preserved : goal.loop-preserved
 loop-preserved g c = record {
   goes = both g.A.Archive.condition g.R.Source.unread g.K.Sink.taken g.S.Spool.held _ _ _ c.loop.invariant.goes c.meet.ensures.goes;
-  free = c.in-Some.ensures.free;
+  free = c.in-Ok.ensures.free;
   room = omega (arith, c.meet.auto.room, c.loop.invariant.room);
 }
 
-pub returns-in-None-clause-goes : goal.returns-in-None-clause-goes
-returns-in-None-clause-goes g c = both g.A.Archive.condition g.R.Source.unread g.K.Sink.taken g.S.Spool.held _ _ _ c.loop.invariant.goes c.meet.ensures.goes
+pub returns-in-Err-clause-goes : goal.returns-in-Err-clause-goes
+returns-in-Err-clause-goes g c = both g.A.Archive.condition g.R.Source.unread g.K.Sink.taken g.S.Spool.held _ _ _ c.loop.invariant.goes c.meet.ensures.goes
 
-pub returns-in-None-clause-promise : goal.returns-in-None-clause-promise
-returns-in-None-clause-promise g c =
+pub returns-in-Err-clause-promise : goal.returns-in-Err-clause-promise
+returns-in-Err-clause-promise g c =
     promised g.A.Archive.condition g.R.Source.unread g.K.Sink.taken g.S.Spool.held c.hosts_keep_the_archive_promise.ensures _ _
     (both g.A.Archive.condition g.R.Source.unread g.K.Sink.taken g.S.Spool.held _ _ _ c.loop.invariant.goes c.meet.ensures.goes)
 

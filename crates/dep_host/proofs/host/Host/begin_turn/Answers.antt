@@ -8,7 +8,7 @@ pub returns-in-Some-clause-goes : goal.returns-in-Some-clause-goes
 returns-in-Some-clause-goes g c =
     woken g.A.Archive.condition g.R.Source.unread g.K.Sink.taken g.S.Spool.held _ _ c.args.at c.in-Some.seat c.begin_turn.new.self c.requires.there
     (slot_read _ _ _ c.requires.there c.index_mut.ensures.value ∙ c.in-Some.is) refl refl refl
-    c.begin_turn.ensures.number c.begin_turn.ensures.source c.begin_turn.ensures.wire c.begin_turn.ensures.phase c.begin_turn.ensures.unfinished
+    c.begin_turn.ensures.number c.begin_turn.ensures.source c.begin_turn.ensures.wire c.begin_turn.ensures.opens c.begin_turn.ensures.ended c.begin_turn.ensures.unfinished
 
 pub returns-in_default-clause-goes : goal.returns-in_default-clause-goes
 returns-in_default-clause-goes g c =

@@ -1,5 +1,5 @@
-use Rattle.std.proofs.Common.{sym, ◌∙◌}
-use Rattle.dep_host.proofs.HostLemmas.{slot_read, closing_there, none_there}
+use Rattle.std.proofs.Common.{◌∙◌}
+use Rattle.dep_host.proofs.HostLemmas.{slot_read, closing_there}
 use Rattle.dep_host.proofs.host.Host.closing.Goals as goal
 
 pub returns-in-Some : goal.returns-in-Some

@@ -1,6 +1,4 @@
-use Rattle.std.proofs.Common.{arith, ap, ◌∙◌, sym, nat_lt}
-use Rattle.std.proofs.lemmas.List.{take_all}
-use Rattle.dep_host.specs.Hosting.{unfinished_in}
+use Rattle.std.proofs.Common.{arith}
 use Rattle.dep_host.proofs.HostLemmas.{kept_more}
 use Rattle.dep_host.proofs.host.Host.is_full.Goals as goal
 

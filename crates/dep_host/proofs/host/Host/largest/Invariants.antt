@@ -1,4 +1,4 @@
-use Rattle.std.proofs.Common.{◌≡◌, ◌≤◌, ◌<◌, ℕ}
+use Rattle.std.proofs.Common.{◌≤◌, ◌<◌, ℕ}
 use Rattle.dep_host.specs.Hosting.{slot, unfinished_of}
 use Rattle.dep_host.proofs.host.Host.largest.Given as goal
 

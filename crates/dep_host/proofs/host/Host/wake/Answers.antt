@@ -1,4 +1,5 @@
-use Rattle.std.proofs.Common.{refl, [], ◌∙◌}
+use Rattle.dep_host.specs.Courses.{is_ended}
+use Rattle.std.proofs.Common.{sym, ap, refl, [], ◌∙◌}
 use Rattle.dep_host.proofs.HostLemmas.{slot_read, woken, same_seats, free_set, free_same}
 use Rattle.dep_host.proofs.host.Host.wake.Goals as goal
 
@@ -7,7 +8,7 @@ returns-in-Some-clause-goes g c = (
   [],
   woken g.A.Archive.condition g.R.Source.unread g.K.Sink.taken g.S.Spool.held _ _ c.args.at c.in-Some.seat c.awake.new.self c.requires.there
       (slot_read _ _ _ c.requires.there c.index_mut.ensures.value ∙ c.in-Some.is) refl refl refl
-      c.awake.ensures.number c.awake.ensures.source c.awake.ensures.wire c.awake.ensures.phase c.awake.ensures.unfinished,
+      c.awake.ensures.number c.awake.ensures.source c.awake.ensures.wire (λ h. sym c.awake.ensures.phase ∙ h) (λ h. ap is_ended c.awake.ensures.phase ∙ h) c.awake.ensures.unfinished,
 )
 
 pub returns-in_default-clause-goes : goal.returns-in_default-clause-goes
