@@ -16,7 +16,7 @@ use crate::serving::{Piece, answer_next, give_up, serve};
 use crate::site::{Context, Site};
 use dep_message::Intake;
 use dep_moment::Moment;
-use dep_types::{Config, ConfigFault, Outlet};
+use dep_types::{Config, ConfigFault, Outlet, StoreFault};
 use std::alloc::{AllocError, Global};
 
 /// All connections, and the one store that they share.
@@ -36,7 +36,8 @@ const LAST_NUMBER: u64 = 4_000_000_000_000_000_000;
 
 impl<A: Archive> Hub<A> {
     ghost use Rattle.dep_server.specs.Standing.{StandsAfter, StandsAt, IsClean, IsHonest, store_of, Adds, Moves, ComesTo, intake_of};
-    ghost use Rattle.dep_server.specs.Holding.{KeepsHolding, MovesLine, OffersTo, ComesToNext, with_held};
+    ghost use Rattle.dep_server.specs.Holding.{KeepsHolding, StandsHoldingAfter, MovesLine, OffersTo, ComesToNext, with_held};
+    ghost use Rattle.dep_server.specs.Shut.{LeavesNoMore, TellsOpen};
 
     /// A hub over the store, without connections. A refusal hands the store back.
     pub fn new(alloc: Global, config: Config, store: A) -> Result<Hub<A>, (HubFault, A)>
@@ -216,6 +217,35 @@ impl<A: Archive> Hub<A> {
             moment,
         };
         answer_next(&context, &mut self.store, &mut kept.intake, out, log)
+    }
+
+    /// Whether the store is open, as far as it can be told (`Archive::is_open`). No connection has a
+    /// part in it, so it is no event of a run.
+    pub fn is_open(&mut self) -> Result<bool, StoreFault>
+        ensures told { IfOk result (TellsOpen (store_of A.condition self.new)) }
+        // The hub stands for the same records, and so does what a stop now leaves.
+        ensures stands { IsClean A.condition self.new
+            → (first : State) (records : List Record) (held : ℕ → List ℕ)
+            → StandsHoldingAfter A.condition self.old first records held
+            → StandsHoldingAfter A.condition self.new first records held }
+        ensures stops { IsHonest A.condition self.new
+            → (first : State) (records : List Record) (held : ℕ → List ℕ)
+            → StandsHoldingAfter A.condition self.old first records held
+            → Leaves (store_of A.condition self.new)
+            (λ found. Run self.old.config first (records ++ stopped ∷ []) (first_world found)) }
+        ensures kept { IsClean A.condition self.new → (s : State)
+            → StandsFor (store_of A.condition self.old) s
+            → StandsFor (store_of A.condition self.new) s }
+        ensures left { IsHonest A.condition self.new
+            → LeavesNoMore (store_of A.condition self.old) (store_of A.condition self.new) }
+        // The store is open after it only where it was before, and the disk honest.
+        ensures clean { IsClean A.condition self.new → IsClean A.condition self.old }
+        ensures honest { IsHonest A.condition self.new → IsHonest A.condition self.old }
+        ensures config { self.new.config ≡ self.old.config }
+        ensures connections { self.new.connections ≡ self.old.connections }
+        ensures next { self.new.next ≡ self.old.next }
+    {
+        self.store.is_open()
     }
 
     /// Forgets a connection.
