@@ -266,8 +266,12 @@ def texts_of(path):
 
 
 def play_file(words, path, lengths):
-    """Returns how many examples came out right, were left out, and were wrong."""
+    """Returns how many examples came out right, were left out, and were wrong. Those of a host are about sockets and deadlines,
+    which this server doesn't have."""
     numbered, starts = numbered_lines(path)
+    if numbered[0][1] == "host":
+        print(f"{path}: 0 examples, {len(starts)} left out, 0 wrong")
+        return 0, len(starts), 0
     words.update(played(words, numbered[:starts[0] if starts else None], "whole", lengths).words)
     right, left_out, failed = 0, 0, 0
     for at, end in zip(starts, [*starts[1:], len(numbered)]):

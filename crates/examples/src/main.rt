@@ -9,6 +9,7 @@ mod sockets;
 
 use crate::archive::MemoryArchive;
 use crate::sockets::play_socket;
+use example_host::{is_of_a_host, play_host_file};
 use example_player::{Verdict, play_file};
 use example_text::Words;
 use std::process::ExitCode;
@@ -41,6 +42,9 @@ fn main(rt: HostRuntime) -> io::Result<ExitCode> {
 // Plays a file, and tells what came of it.
 fn played(rt: &HostRuntime, words: &mut Words, name: &str) -> io::Result<Verdict> {
     match fs::read_to_string(rt, name) {
+        Ok(text) if is_of_a_host(text.as_str()) => {
+            play_host_file::<MemoryArchive>(rt, rt.alloc(), words, name, text.as_str())
+        }
         Ok(text) => play_file::<MemoryArchive>(rt, rt.alloc(), words, name, text.as_str()),
         Err(error) => {
             println!(rt; "{name}: {error}")?;

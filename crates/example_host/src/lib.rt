@@ -1,0 +1,11 @@
+//! Plays examples of many connections at once: a host over clients, spools and clocks that a script tells what to do.
+//! docs/EXAMPLES.md explains the files.
+#![tactic(auto)]
+
+mod client;
+mod file;
+mod log;
+mod script;
+mod spool;
+
+pub use file::{is_of_a_host, play_host_file};
