@@ -1,7 +1,7 @@
 -- The lines of the access log.
 use Rattle.std.specs.Prelude.{ℕ, List, codes}
 use Rattle.dep_configuration.specs.declared.access_log.Reason.{Reason}
-use Rattle.dep_configuration.specs.declared.access_log.Reason.TheVariants.{Idle, Slow, AddressLimit, UnfinishedLimit, SpoolFull, StoreShut}
+use Rattle.dep_configuration.specs.declared.access_log.Reason.TheVariants.{Idle, Slow, AddressLimit, UnfinishedLimit, SpoolFull, StoreShut, Full, Memory}
 
 abbrev pub reason_name : Reason → List ℕ
 reason_name Idle = codes "idle"
@@ -10,3 +10,5 @@ reason_name AddressLimit = codes "address_limit"
 reason_name UnfinishedLimit = codes "unfinished_limit"
 reason_name SpoolFull = codes "spool_full"
 reason_name StoreShut = codes "store_shut"
+reason_name Full = codes "full"
+reason_name Memory = codes "memory"

@@ -34,7 +34,7 @@ pub struct Exchange<'a> {
     pub microseconds: u64,
 }
 
-/// Why a connection was closed before its client ended it.
+/// Why a connection was closed before its client ended it, or a client was turned away.
 #[derive(Clone, Copy, Debug, PartialEq, Eq)]
 pub enum Reason {
     /// It was silent for the idle time.
@@ -49,6 +49,10 @@ pub enum Reason {
     SpoolFull,
     /// A fault of the disk has shut the store.
     StoreShut,
+    /// No further connection can be opened.
+    Full,
+    /// There was no memory.
+    Memory,
 }
 
 impl Reason {
@@ -63,17 +67,19 @@ impl Reason {
             Reason::UnfinishedLimit => "unfinished_limit",
             Reason::SpoolFull => "spool_full",
             Reason::StoreShut => "store_shut",
+            Reason::Full => "full",
+            Reason::Memory => "memory",
         }
     }
 }
 
-/// A connection that the server closed.
+/// A connection that the server closed, or a client that it turned away.
 #[derive(Clone, Copy)]
 pub struct Closing<'a> {
     /// The whole seconds since 1970.
     pub moment: u64,
-    /// The number of the connection.
-    pub connection: u64,
+    /// The number of the connection; a client that was turned away has none.
+    pub connection: Option<u64>,
     /// The client's address and port.
     pub peer: &'a str,
     pub reason: Reason,
@@ -102,10 +108,16 @@ pub fn exchange_line(alloc: Global, exchange: &Exchange<'_>) -> Result<Vec<u8>, 
     ended(out)
 }
 
-/// The line of a connection that the server closed.
+/// The line of a connection that the server closed, or of a client that it turned away.
 pub fn closing_line(alloc: Global, closing: &Closing<'_>) -> Result<Vec<u8>, AllocError> {
-    let mut out = begun(alloc, "closed", closing.moment)?;
-    add_number(&mut out, "connection", closing.connection)?;
+    let mut out = match closing.connection {
+        Some(connection) => {
+            let mut out = begun(alloc, "closed", closing.moment)?;
+            add_number(&mut out, "connection", connection)?;
+            out
+        }
+        None => begun(alloc, "refused", closing.moment)?,
+    };
     add_text(&mut out, "peer", closing.peer)?;
     add_text(&mut out, "reason", closing.reason.name())?;
     ended(out)
@@ -145,11 +157,7 @@ fn add_limits(out: &mut Writer, limits: &Limits) -> Result<(), AllocError> {
     if let Some(connections) = limits.connections {
         add_number(out, "connections", connections)?;
     }
-    add_number(
-        out,
-        "address_connections",
-        limits.address_connections,
-    )?;
+    add_number(out, "address_connections", limits.address_connections)?;
     add_number(out, "spool_bytes", limits.spool_bytes)?;
     add_number(out, "unfinished_bytes", limits.unfinished_bytes)
 }

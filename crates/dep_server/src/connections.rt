@@ -30,7 +30,7 @@ impl ConnId {
     }
 
     /// Its number, which a hub gives from 0 on.
-    pub(crate) fn number(self) -> u64
+    pub fn number(self) -> u64
         ensures { result ≡ self }
     {
         self.number

@@ -1,0 +1,35 @@
+-- What the words of the command line ask for.
+use Rattle.std.specs.Prelude.{ℕ, ◌==◌, List, [], ◌∷◌, Option, Some, None, Bool, false, codes, bytes_eq, if◌then◌else◌}
+use Rattle.swordd_host.specs.declared.command.Command.{Command}
+use Rattle.swordd_host.specs.declared.command.Command.TheVariants as command
+
+-- a configuration file is served or looked at, or an example of one is printed
+pub data Asked : Type 0 where
+  serve : (file : List ℕ) → Asked
+  check : (file : List ℕ) → Asked
+  example : Asked
+
+-- a word that begins with a hyphen names no file
+abbrev pub is_option : List ℕ → Bool
+is_option [] = false
+is_option (c ∷ word) = c == 45
+
+-- what one word asks for
+abbrev pub asked_of_one : List ℕ → Option Asked
+asked_of_one word =
+    if bytes_eq word (codes "--example") then Some example
+    else if is_option word then None
+    else Some (serve word)
+
+-- what the words ask for, if they do
+abbrev pub asked_of : List (List ℕ) → Option Asked
+asked_of (word ∷ []) = asked_of_one word
+asked_of (word ∷ file ∷ []) =
+    if bytes_eq word (codes "--check") then Some (check file) else None
+asked_of _ = None
+
+-- what a command is
+abbrev pub asked_in : Command → Asked
+asked_in (command.Serve file) = serve file.now
+asked_in (command.Check file) = check file.now
+asked_in command.Example = example

@@ -1,0 +1,52 @@
+//! The words of the command line.
+ghost use Rattle.std.specs.Prelude.{◌≡◌, map, string_bytes, option_map};
+ghost use Rattle.swordd_host.specs.Commands.{asked_in, asked_of, asked_of_one, is_option};
+
+/// What the words ask for.
+#[derive(Clone, Copy)]
+pub enum Command<'a> {
+    /// The store that a configuration file names is served.
+    Serve(&'a str),
+    /// It is told what would be served.
+    Check(&'a str),
+    /// A configuration file is printed in which each field is explained.
+    Example,
+}
+
+impl<'a> Command<'a> {
+    /// Reads the words after the program's name. There is no command where they are none of these.
+    pub fn read(words: &'a [String]) -> Option<Command<'a>>
+        ensures { option_map asked_in result ≡ asked_of (map string_bytes words.now) }
+    {
+        match words {
+            [word] => of_one(word.as_str()),
+            [word, file] => {
+                if word.as_str() == "--check" {
+                    Some(Command::Check(file.as_str()))
+                } else {
+                    None
+                }
+            }
+            _ => None,
+        }
+    }
+}
+
+fn of_one<'a>(word: &'a str) -> Option<Command<'a>>
+    ensures { option_map asked_in result ≡ asked_of_one word.now }
+{
+    if word == "--example" {
+        return Some(Command::Example);
+    }
+    if is_option(word) {
+        return None;
+    }
+    Some(Command::Serve(word))
+}
+
+/// Whether a word is no name of a file.
+fn is_option(word: &str) -> bool
+    ensures { result ≡ is_option word.now }
+{
+    matches!(word.as_bytes().first(), Some(b'-'))
+}

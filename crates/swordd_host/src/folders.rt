@@ -1,0 +1,64 @@
+//! The folders that a configuration names.
+
+use dep_configuration::{Configuration, Field};
+use std::error::Error;
+use std::fmt;
+use std::fs::{self, Files};
+
+/// A folder that a configuration needs isn't there. It is displayed as one line, which begins with the field's name.
+#[derive(Clone, Copy, Debug, PartialEq, Eq)]
+pub enum FolderFault {
+    /// That in which the database's file stands.
+    OfDatabase,
+    /// That for what is to be sent to slow clients.
+    OfSpools,
+}
+
+impl fmt::Display for FolderFault {
+    fn fmt<W: fmt::Write>(&self, f: &mut fmt::Formatter<W>) -> fmt::Result {
+        match self {
+            FolderFault::OfDatabase => {
+                write!(
+                    f,
+                    "{}: a file in a folder that is there",
+                    Field::Database.name()
+                )
+            }
+            FolderFault::OfSpools => {
+                write!(f, "{}: a folder that is there", Field::SpoolFolder.name())
+            }
+        }
+    }
+}
+
+impl Error for FolderFault {}
+
+/// Looks whether the folders are there.
+pub fn check_folders<R: Files>(
+    files: &R,
+    configuration: &Configuration,
+) -> Result<(), FolderFault> {
+    if !is_folder(files, folder_of(configuration.database.as_str())) {
+        return Err(FolderFault::OfDatabase);
+    }
+    if !is_folder(files, configuration.spool_folder.as_str()) {
+        return Err(FolderFault::OfSpools);
+    }
+    Ok(())
+}
+
+fn is_folder<R: Files>(files: &R, path: &str) -> bool {
+    match fs::metadata(files, path) {
+        Ok(metadata) => metadata.is_dir(),
+        Err(_) => false,
+    }
+}
+
+/// The folder in which a file stands.
+fn folder_of(file: &str) -> &str {
+    match file.rsplit_once('/') {
+        Some(("", _)) => "/",
+        Some((folder, _)) => folder,
+        None => ".",
+    }
+}

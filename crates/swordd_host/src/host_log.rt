@@ -1,0 +1,189 @@
+//! What a host tells, in lines of JSON on standard error.
+
+use crate::start::microseconds_since;
+use dep_configuration::{
+    Closing as Closed, Exchange, GREATEST_PATH, Reason, closing_line, exchange_line,
+    refusal_of_front, status_of_front,
+};
+use dep_host::{Bytes, Closing, HostLog, Refusal};
+use dep_program::moment_of;
+use dep_server::{AccessLog, ConnId, Next};
+use std::alloc::AllocError;
+use std::io::Write;
+use std::net::IpAddr;
+use std::time::{Instant, SystemTime};
+
+/// How many bytes of a method are told.
+const MOST_METHOD: usize = 32;
+
+/// The log of a host on standard error. A line that can't be written is left out.
+#[derive(Drop)]
+pub struct StandardErrorLog<'a> {
+    rt: &'a HostRuntime,
+    /// The item that is answered.
+    item: Item,
+}
+
+/// What is known of an item that is answered.
+#[derive(Drop)]
+struct Item {
+    connection: u64,
+    address: Option<IpAddr>,
+    method: String,
+    path: String,
+    /// The status of its reply, once there is one.
+    status: Option<u16>,
+    /// The name of the refusal; empty where there is none.
+    refusal: String,
+    begun: Option<Instant>,
+}
+
+impl<'a> StandardErrorLog<'a> {
+    pub fn new(rt: &'a HostRuntime) -> StandardErrorLog<'a> {
+        StandardErrorLog {
+            rt,
+            item: Item {
+                connection: 0,
+                address: None,
+                method: String::new(rt.alloc()),
+                path: String::new(rt.alloc()),
+                status: None,
+                refusal: String::new(rt.alloc()),
+                begun: None,
+            },
+        }
+    }
+
+    // The whole seconds since 1970.
+    fn moment(&self) -> u64 {
+        moment_of(SystemTime::now(self.rt)).secs()
+    }
+
+    fn write(&self, line: Result<Vec<u8>, AllocError>) {
+        if let Ok(line) = line {
+            let _ = self.rt.stderr().write_all(line.as_slice());
+        }
+    }
+
+    fn write_closing(&self, connection: Option<u64>, address: IpAddr, reason: Reason) {
+        let Ok(peer) = format!(in self.rt.alloc(); "{address}") else {
+            return;
+        };
+        let closed = Closed {
+            moment: self.moment(),
+            connection,
+            peer: peer.as_str(),
+            reason,
+        };
+        self.write(closing_line(self.rt.alloc(), &closed));
+    }
+
+    // The line of an item that was answered.
+    fn write_exchange(&self, address: IpAddr, status: u16, bytes: Bytes) {
+        let item = &self.item;
+        let Ok(peer) = format!(in self.rt.alloc(); "{address}") else {
+            return;
+        };
+        let exchange = Exchange {
+            moment: self.moment(),
+            connection: item.connection,
+            peer: peer.as_str(),
+            method: item.method.as_str(),
+            path: item.path.as_str(),
+            status,
+            refusal: item.refusal(),
+            bytes_in: bytes.received,
+            bytes_out: bytes.sent,
+            microseconds: microseconds_since(self.rt, item.begun),
+        };
+        self.write(exchange_line(self.rt.alloc(), &exchange));
+    }
+}
+
+impl Item {
+    fn begin(&mut self, connection: ConnId, address: IpAddr, begun: Option<Instant>) {
+        self.connection = connection.number();
+        self.address = Some(address);
+        self.method.clear();
+        self.path.clear();
+        self.status = None;
+        self.refusal.clear();
+        self.begun = begun;
+    }
+
+    fn note_request(&mut self, method: &[u8], path: &str) {
+        let front = method.get(..MOST_METHOD).unwrap_or(method);
+        let _ = self.method.push_str(str::from_utf8(front).unwrap_or(""));
+        let end = path.floor_char_boundary(GREATEST_PATH);
+        let _ = self.path.push_str(&path[..end]);
+    }
+
+    fn refusal(&self) -> Option<&str> {
+        if self.refusal.is_empty() {
+            None
+        } else {
+            Some(self.refusal.as_str())
+        }
+    }
+
+    fn note_reply(&mut self, front: &[u8]) {
+        self.status = status_of_front(front);
+        self.refusal.clear();
+        let _ = self.refusal.push_str(refusal_of_front(front).unwrap_or(""));
+    }
+}
+
+impl AccessLog for StandardErrorLog<'_> {
+    fn request(&mut self, method: &[u8], path: &str, _length: u64) {
+        self.item.note_request(method, path);
+    }
+
+    fn reply(&mut self, front: &[u8]) {
+        self.item.note_reply(front);
+    }
+}
+
+impl HostLog for StandardErrorLog<'_> {
+    fn opened(&mut self, _connection: ConnId, _address: IpAddr) {}
+
+    fn refused(&mut self, address: IpAddr, refusal: Refusal) {
+        self.write_closing(None, address, reason_of_refusal(refusal));
+    }
+
+    fn answering(&mut self, connection: ConnId, address: IpAddr) {
+        self.item
+            .begin(connection, address, Instant::now(self.rt).ok());
+    }
+
+    // What tells a client to go on has no line.
+    fn answered(&mut self, _next: Next, bytes: Bytes) {
+        if let (Some(address), Some(status)) = (self.item.address, self.item.status) {
+            self.write_exchange(address, status, bytes);
+        }
+    }
+
+    fn closed(&mut self, connection: ConnId, address: IpAddr, closing: Closing, _bytes: Bytes) {
+        if let Some(reason) = reason_of_closing(closing) {
+            self.write_closing(Some(connection.number()), address, reason);
+        }
+    }
+}
+
+// A client that ends its connection has no line.
+fn reason_of_closing(closing: Closing) -> Option<Reason> {
+    match closing {
+        Closing::Over => None,
+        Closing::Silent => Some(Reason::Idle),
+        Closing::Slow => Some(Reason::Slow),
+        Closing::Large => Some(Reason::UnfinishedLimit),
+    }
+}
+
+fn reason_of_refusal(refusal: Refusal) -> Reason {
+    match refusal {
+        Refusal::Address => Reason::AddressLimit,
+        Refusal::Full => Reason::Full,
+        Refusal::Memory => Reason::Memory,
+        Refusal::Shut => Reason::StoreShut,
+    }
+}

@@ -1,0 +1,113 @@
+//! `swordd_host`, the deposit server of a repository for many connections at once.
+#![tactic(auto)]
+
+mod command;
+mod folders;
+mod host_log;
+mod report;
+mod service;
+mod start;
+
+use crate::command::Command;
+use crate::folders::check_folders;
+use crate::report::print_configuration;
+use crate::service::serve_store;
+use dep_configuration::{Configuration, ConfigurationFault, EXAMPLE, explain};
+use dep_program::Outcome;
+use std::process::ExitCode;
+use std::{env, fs, io};
+
+const USAGE: &str = "usage: swordd_host CONFIGURATION | --example | --check CONFIGURATION";
+
+fn main(rt: HostRuntime) -> ExitCode {
+    ExitCode::from(run(&rt).status())
+}
+
+fn run(rt: &HostRuntime) -> Outcome {
+    let Ok(words) = words(rt) else {
+        return usage(rt);
+    };
+    match Command::read(&words) {
+        None => usage(rt),
+        Some(Command::Example) => print_example(rt),
+        Some(Command::Check(file)) => check_file(rt, file),
+        Some(Command::Serve(file)) => serve_file(rt, file),
+    }
+}
+
+fn usage(rt: &HostRuntime) -> Outcome {
+    let _ = eprintln!(rt; "{USAGE}");
+    Outcome::Usage
+}
+
+// Prints a configuration, and to standard error what its fields are for.
+fn print_example(rt: &HostRuntime) -> Outcome {
+    let mut lines = String::new(rt.alloc());
+    if explain(&mut lines).is_err() {
+        return Outcome::StoreFault;
+    }
+    let _ = eprint!(rt; "{lines}");
+    match print!(rt; "{EXAMPLE}") {
+        Ok(()) => Outcome::Done,
+        Err(_) => Outcome::TransferFault,
+    }
+}
+
+// Prints the configuration, if it can be served.
+fn check_file(rt: &HostRuntime, file: &str) -> Outcome {
+    match configuration_in(rt, file) {
+        Ok(configuration) => match print_configuration(&mut rt.stdout(), &configuration) {
+            Ok(()) => Outcome::Done,
+            Err(_) => Outcome::TransferFault,
+        },
+        Err(outcome) => outcome,
+    }
+}
+
+// Serves the store of the configuration, if it can be served.
+fn serve_file(rt: &HostRuntime, file: &str) -> Outcome {
+    match configuration_in(rt, file) {
+        Ok(configuration) => serve_store(rt, configuration),
+        Err(outcome) => outcome,
+    }
+}
+
+// The configuration in a file, whose folders are there. A fault is told, by the field that it is of.
+fn configuration_in(rt: &HostRuntime, file: &str) -> Result<Configuration, Outcome> {
+    let Ok(text) = fs::read_to_string(rt, file) else {
+        let _ = eprintln!(rt; "swordd_host: {file}: the file can't be read");
+        return Err(Outcome::Usage);
+    };
+    let configuration = match Configuration::read(rt.alloc(), text.as_str()) {
+        Ok(configuration) => configuration,
+        Err(fault) => {
+            let _ = eprintln!(rt; "swordd_host: {file}: {fault}");
+            return Err(outcome_of(&fault));
+        }
+    };
+    match check_folders(rt, &configuration) {
+        Ok(()) => Ok(configuration),
+        Err(fault) => {
+            drop(configuration);
+            let _ = eprintln!(rt; "swordd_host: {file}: {fault}");
+            Err(Outcome::Usage)
+        }
+    }
+}
+
+// What it comes to where a configuration is refused.
+fn outcome_of(fault: &ConfigurationFault) -> Outcome {
+    match fault {
+        ConfigurationFault::Memory => Outcome::StoreFault,
+        _ => Outcome::Usage,
+    }
+}
+
+// The words after the program's name.
+fn words(rt: &HostRuntime) -> io::Result<Vec<String>> {
+    let mut words = Vec::new(rt.alloc());
+    for word in env::args(rt)?.skip(1) {
+        words.push(word)?;
+    }
+    Ok(words)
+}

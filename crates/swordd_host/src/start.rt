@@ -1,0 +1,39 @@
+//! The line that tells the start of a server.
+
+use dep_configuration::{Limits, Start, start_line};
+use dep_program::moment_of;
+use std::io::Write;
+use std::net::SocketAddr;
+use std::time::{Instant, SystemTime};
+
+/// The version of the server.
+const VERSION: &str = "1.0";
+
+/// Writes the line to standard error, where the opening of the database began at that instant. A line that can't be
+/// written is left out.
+pub fn write_start(rt: &HostRuntime, address: SocketAddr, limits: Limits, begun: Option<Instant>) {
+    let Ok(listened_at) = format!(in rt.alloc(); "{address}") else {
+        return;
+    };
+    let start = Start {
+        moment: moment_of(SystemTime::now(rt)).secs(),
+        version: VERSION,
+        address: listened_at.as_str(),
+        limits,
+        open_microseconds: microseconds_since(rt, begun),
+    };
+    if let Ok(line) = start_line(rt.alloc(), &start) {
+        let _ = rt.stderr().write_all(line.as_slice());
+    }
+}
+
+/// How long ago that was; 0 where a clock can't be read.
+pub fn microseconds_since(rt: &HostRuntime, begun: Option<Instant>) -> u64 {
+    let Some(begun) = begun else {
+        return 0;
+    };
+    match begun.elapsed(rt) {
+        Ok(elapsed) => u64::try_from(elapsed.as_micros()).unwrap_or(u64::MAX),
+        Err(_) => 0,
+    }
+}
