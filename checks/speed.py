@@ -5,6 +5,7 @@ with the same durability (write-ahead log, synchronous=FULL) on the same disk, i
     checks/speed.py [--segmented MIB] [--before PROGRAM]
     checks/speed.py --digests [--before PROGRAM]
     checks/speed.py --uploads [COUNTxKIB ..]
+    checks/speed.py --host
 
 It prints deposits of 1 KiB and of 16 MiB, reads of both, a file of 512 MiB in segments and its deposit by reference, and
 the greatest memory that the server had: after the deposits and reads, after as many again, and at the end. Then it
@@ -25,6 +26,10 @@ does meets both alike: the rate of the first 100 segments, and of the last. Then
 reference (by sqlite3: both digests, and one statement that moves the blocks), a GET of the file, the commands as above, the
 open by a server, a GET again, and a DELETE of the object. Each may take 64 MiB above what the server had before.
 
+By --host alone, it measures `swordd_host` under 1 to 1,000 clients at once, beside nginx with the same file from disk and
+`swordd serve`, and how long others wait while one client deposits 16 MiB, or 512 MiB by reference, or reads 512 MiB
+(checks/host_speed.py).
+
 The status is 1 where one of these takes more. It measures, so it is no part of checks/all: numbers of one run on a busy
 machine say little. Run it on one that does nothing else.
 """
@@ -44,6 +49,7 @@ import sys
 import tempfile
 import time
 
+import host_speed
 import older_store
 from crates import built_program
 from expectations import expect, wrong
@@ -474,7 +480,10 @@ def main():
     options.add_argument("--before", type=pathlib.Path, metavar="PROGRAM")
     options.add_argument("--digests", action="store_true")
     options.add_argument("--uploads", nargs="*", metavar="COUNTxKIB")
+    options.add_argument("--host", action="store_true")
     given = options.parse_args()
+    if given.host:
+        return host_speed.main()
     if given.uploads is not None:
         for count, kibibytes in (map(int, it.split("x")) for it in given.uploads or UPLOADS):
             with tempfile.TemporaryDirectory() as folder:
