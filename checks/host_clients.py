@@ -18,9 +18,10 @@ from hosted import ADDRESS, MIB, PATIENCE, Host, until
 
 SEATS, CROWD = 1024, 1100
 GET = b"GET /service HTTP/1.1\r\nHost: a\r\n\r\n"
-# Each line of a request has these.
-FIELDS = {"moment": int, "connection": int, "peer": str, "method": str, "path": str, "status": int, "refusal": (str, type(None)),
-          "bytes_in": int, "bytes_out": int, "microseconds": int}
+# The line of each request has these, and that of one that was refused its refusal.
+FIELDS = {"event": str, "moment": int, "connection": int, "peer": str, "method": str, "path": str, "status": int, "bytes_in": int,
+          "bytes_out": int, "microseconds": int}
+ELSEWHERE = "127.0.0.2"
 # How many bytes the system keeps of what a client doesn't read.
 SMALL_ROOM = 4096
 
@@ -29,7 +30,7 @@ class Client:
     """A client over one connection, which it keeps."""
 
     def __init__(self, host, source=ADDRESS):
-        self.host, self.longest, self.asked = host, 0, []
+        self.host, self.source, self.longest, self.asked = host, source, 0, []
         self.connection = http.client.HTTPConnection(ADDRESS, host.port, timeout=PATIENCE, source_address=(source, 0))
 
     def ask(self, status, method, path, body=None, headers=None):
@@ -38,7 +39,7 @@ class Client:
         reply = self.connection.getresponse()
         content = reply.read()
         self.longest = max(self.longest, time.monotonic() - began)
-        self.asked.append((method, path, reply.status))
+        self.asked.append((self.source, method, path, reply.status))
         expect(f"{method} {path}", reply.status, status)
         return reply, content
 
@@ -112,13 +113,13 @@ def are_served(host, count=20):
 
 def deposits(host, number):
     """Four deposits that no other client makes, each read again."""
-    with Client(host) as client:
+    with Client(host, (ADDRESS, ELSEWHERE)[number % 2]) as client:
         for turn in range(4):
             content, media = os.urandom(random.randint(1, 100_000)), f"text/of-{number}-{turn}"
             path, told = client.deposit(content, media)
             expect("the media type that a deposit is told", told, media)
             expect("the media type of the file", client.read(path, content), media)
-        return client.longest, client.asked, client.connection.sock.getsockname()[1]
+        return client
 
 
 def busy():
@@ -126,8 +127,8 @@ def busy():
         silent = [host.connect() for _ in range(300)]
         for number, wire in enumerate(silent):
             wire.sendall((b"", GET[:20], GET[:-1])[number % 3])
-        clients = at_once([partial(deposits, host, number) for number in range(50)])
-        longest = max((it[0] for it in clients if it), default=None)
+        clients = [it for it in at_once([partial(deposits, host, number) for number in range(50)]) if it]
+        longest = max((it.longest for it in clients), default=0)
         for wire in silent:
             expect("whether a silent client was left", is_gone(wire), False)
         wire = silent[2]
@@ -139,39 +140,29 @@ def busy():
         with Client(host) as last:
             last.ask(404, "GET", "/nothing")
             last.ask(405, "PUT", "/service")
-            asked = [sent for it in clients if it for sent in it[1]] + [("GET", "/service", 200)] + last.asked
-            ports = {it[2] for it in clients if it}
-        look_at_log(host, asked, ports)
+        asked = [sent for it in [*clients, last] for sent in it.asked] + [(ADDRESS, "GET", "/service", 200)]
+        look_at_log(host, asked)
         return f"200 deposits and as many reads, the longest {longest:.2f} s, {host.peak():.0f} MiB of memory"
 
 
-def requests_in(host):
-    """The lines of its log that are of requests, and all of them."""
-    lines = []
-    for line in host.said().splitlines():
-        try:
-            lines.append(json.loads(line))
-        except ValueError:
-            expect("a line of the log", line, "JSON")
-    return [it for it in lines if "method" in it], lines
-
-
-def look_at_log(host, asked, ports):
-    """One line for each request, with all its fields."""
-    expect("whether each request has a line", until(lambda: len(requests_in(host)[0]) >= len(asked), 10), True)
-    told, lines = requests_in(host)
+def look_at_log(host, asked):
+    """One line for each request, with all its fields, behind one for the start."""
+    expect("whether each request has a line", until(lambda: len(host.lines("exchange")) >= len(asked), 10), True)
+    lines = host.lines()
+    expect("what the first line tells", lines[0]["event"] if lines else None, "started")
+    told = host.lines("exchange")
     for it in told:
-        expect("the fields of a line", {name for name, kind in FIELDS.items() if isinstance(it.get(name), kind)}, set(FIELDS))
+        expect("the fields of a line", [name for name, kind in FIELDS.items() if not isinstance(it.get(name), kind)], [])
     told = [it for it in told if set(FIELDS) <= set(it)]
-    expect("the requests of the log", sorted((it["method"], it["path"], it["status"]) for it in told), sorted(asked))
-    expect("the refusals of the log", sorted(it["refusal"] for it in told if it["refusal"]), ["MethodNotAllowed", "NotFound"])
+    expect("the requests of the log", sorted((it["peer"], it["method"], it["path"], it["status"]) for it in told), sorted(asked))
+    refusals = sorted((it["status"], it["refusal"]) for it in told if it.get("refusal"))
+    expect("the refusals of the log", refusals, [(404, "NotFound"), (405, "MethodNotAllowed")])
     peers = {it["connection"]: it["peer"] for it in told}
     expect("whether a connection has one peer", all(peers[it["connection"]] == it["peer"] for it in told), True)
-    expect("whether the peers are the clients", ports <= {int(it["peer"].rpartition(":")[2]) for it in told}, True)
+    expect("how many connections it tells", len(peers), 52)
     deposited = [it for it in told if it["status"] == 201]
     expect("whether the bytes of a deposit came in", all(it["bytes_in"] > 100 and it["bytes_out"] > 500 for it in deposited), True)
     expect("whether the moments are now", all(abs(it["moment"] - time.time()) < 600 for it in told), True)
-    expect("a line at the start", len(lines) > len(told) and "method" not in lines[0], True)
 
 
 # ---- unread ----
@@ -307,6 +298,8 @@ def slow():
         began = time.monotonic()
         works = [partial(it, host, began) for it in (silent_for, drop_by_drop)]
         times = at_once([*works, partial(sip_by_sip, host, path, began), partial(steady, host)])
+        reasons = host.reasons()
+        expect(f"the reasons that it tells, {reasons}", reasons["idle"] >= 1 <= reasons["slow"] and sum(reasons.values()) == 3, True)
         told = ", ".join("never" if it is None else f"{it:.1f}" for it in times[:3])
         return f"of {IDLE} s to be silent in, closed after {told} s; one that goes on is served"
 
@@ -424,9 +417,10 @@ def address():
         for client in mine:
             client.ask(200, "GET", "/service")
         expect("whether one more is served", [is_served(host, ADDRESS) for _ in range(10)], [False] * 10)
-        expect("whether one from elsewhere is", [is_served(host, "127.0.0.2") for _ in range(10)], [True] * 10)
+        expect("whether one from elsewhere is", [is_served(host, ELSEWHERE) for _ in range(10)], [True] * 10)
         for client in mine:
             client.ask(200, "GET", "/service")
+        expect("the reasons that it tells", host.reasons(), {"address_limit": 10})
         mine.pop().connection.close()
         expect("whether one more is served once another has left", until(lambda: is_served(host, ADDRESS)), True)
         for client in mine:
@@ -477,6 +471,7 @@ def unfinished():
         expect(f"whether as many stay as have room, {len(rest)}", most / size - 2 <= len(rest) <= most / size, True)
         expect("whether these are read to their end", until(lambda: all([it.go_on(0) for it in rest])), True)
         expect("whether these are deposited", [it.is_deposited() for it in rest], [True] * len(rest))
+        expect("the reasons that it tells", host.reasons(), {"unfinished_limit": count - len(rest)})
         for it in senders:
             it.wire.close()
         return (f"of {count} clients with {size // MIB} MiB {len(rest)} stayed, {above:.0f} MiB of memory, "

@@ -134,11 +134,18 @@ def deposited(server, content):
     return server.path_of(json.loads(document)["links"][0]["@id"])
 
 
+def is_at_rest(port):
+    """Whether no connection of the server is left: what was sent on those that are closed is answered."""
+    lines = [line.split() for line in pathlib.Path("/proc/net/tcp").read_text().splitlines()[1:]]
+    return not any(line[1].endswith(f":{port:04X}") and line[3] in ("01", "08") for line in lines)
+
+
 def many_clients(name, server, counts):
     content = b"x" * 1024
     path = deposited(server, content)
     for what, asked in (("GET of 1 KiB", ("GET", path, None)), ("deposit of 1 KiB", ("POST", "/service", content))):
         for count in counts:
+            assert until(lambda: is_at_rest(server.port)), "the server goes on"
             server.forget_peak()
             told(f"{name}: {what}", count, *load(server.port, count, *asked), server.peak())
 

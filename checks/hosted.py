@@ -8,8 +8,10 @@ import shutil
 import socket
 import subprocess
 import time
+from collections import Counter
 
 from crates import built_program
+from expectations import expect
 from served import Served
 
 # So many seconds may anything take that a host has to do, however busy the machine is.
@@ -52,6 +54,20 @@ class Host(Served):
 
     def said(self):
         return self.log.read_text(errors="replace")
+
+    def lines(self, event=None):
+        """The lines of its log, or those of an event."""
+        lines = []
+        for line in self.said().split("\n")[:-1]:
+            try:
+                lines.append(json.loads(line))
+            except ValueError:
+                expect("a line of the log", line, "JSON")
+        return [it for it in lines if event in (None, it.get("event"))]
+
+    def reasons(self):
+        """How often it closed a connection for each reason that it tells."""
+        return Counter(it.get("reason") for it in self.lines("closed"))
 
     def spools(self):
         """The sizes of the spools that it has open."""
