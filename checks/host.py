@@ -98,17 +98,17 @@ WRONG_VALUES = {
 
 
 def ends(words, status, text):
-    """The program has to end by itself with this status, with this text in its one line on standard error."""
+    """The program has to end by itself with this status, with this text in its one line on standard error. Whether it ends."""
     how = {"stdin": subprocess.DEVNULL, "stdout": subprocess.DEVNULL, "stderr": subprocess.PIPE}
     with begin(*words, **how) as program:
         try:
             said = program.communicate(timeout=PATIENCE)[1].decode(errors="replace")
         except subprocess.TimeoutExpired:
             program.kill()
-            said = "it does not end"
+            return expect(f"the end of {words}", "it goes on", status)
     what = f"the end by {text or 'no fault'}"
     expect(what, program.returncode, status)
-    expect(f"{what}, in {said!r}", text in said and said.count("\n") <= 1, True)
+    return expect(f"{what}, in {said!r}", text in said and said.count("\n") <= 1, True)
 
 
 def configurations(settings):
@@ -124,18 +124,32 @@ def configurations(settings):
     yield "{", ""
 
 
+def example(folder, settings):
+    """The configuration that is printed has each field but one explained, and is taken once its folders are there."""
+    with begin("--example", stdout=subprocess.PIPE, stderr=subprocess.PIPE, text=True) as program:
+        printed, explained = program.communicate(timeout=PATIENCE)
+    expect("the status of an example", program.returncode, 0)
+    printed = json.loads(printed)
+    expect("the fields that no example has", sorted(set(WRONG_VALUES) - set(printed)), ["connections"])
+    expect("the fields that aren't explained", [name for name in WRONG_VALUES if f"{name}:" not in explained], [])
+    file = folder / "example.json"
+    file.write_text(json.dumps({**printed, "database": settings["database"], "spool_folder": settings["spool_folder"]}))
+    ends(["--check", file], 0, "")
+
+
 def statuses():
     with Host(connections=3) as host:
         settings, folder = host.settings, host.folder
         for _ in range(3):
             host.ask(200, "GET", "/service")
         expect("the status once all connections were served", host.ends()[0], 0)
+        example(folder, settings)
         number = 0
         for number, (value, field) in enumerate(configurations(settings)):
             file = folder / f"wrong-{number}.json"
             file.write_text(value if isinstance(value, str) else json.dumps(value))
-            ends([file], 1, field)
-            ends(["--check", file], 1, field)
+            if not (ends(["--check", file], 1, field) and ends([file], 1, field)):
+                break
         for words in ([], [folder / "none.json"], ["--check"], ["--example", "x"], [file, file]):
             ends(words, 1, "")
         good, other = folder / "good.json", folder / "other.db"

@@ -66,8 +66,8 @@ class Host(Served):
         return [it for it in lines if event in (None, it.get("event"))]
 
     def reasons(self):
-        """How often it closed a connection for each reason that it tells."""
-        return Counter(it.get("reason") for it in self.lines("closed"))
+        """How often it closed a connection, or turned a client away, for each reason that it tells."""
+        return Counter(it.get("reason") for it in self.lines("closed") + self.lines("refused"))
 
     def spools(self):
         """The sizes of the spools that it has open."""
