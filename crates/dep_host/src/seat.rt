@@ -13,7 +13,7 @@ ghost use Rattle.dep_host.specs.Seats.{TakesTurn, Rests, Answers, phase_offered,
 use crate::course::{Course, Duty, Phase};
 use dep_moment::Moment;
 use dep_outbox::{Flushed, Received, Sink, Source, Spool, Wire};
-use dep_server::{Archive, Arrived, ConnId, Hub, Next};
+use dep_server::{Archive, Arrived, ConnId, Hub, Next, NoLog};
 
 /// When something happens.
 #[derive(Clone, Copy, Debug, PartialEq, Eq)]
@@ -139,7 +139,7 @@ impl<R: Source, K: Sink, S: Spool> Seat<R, K, S> {
             self.old.wire.failures self.new.wire.failures hub.old hub.new self.old.connection
             moment next × (self.new.course.phase ≡ phase_answered next) }
     {
-        self.course.phase = match hub.answer(self.connection, moment, &mut self.wire) {
+        self.course.phase = match hub.answer(self.connection, moment, &mut self.wire, &mut NoLog) {
             Next::More => Phase::Answering,
             Next::Waiting => Phase::Open,
             Next::Closed | Next::Cut => Phase::Last,
