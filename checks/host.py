@@ -6,7 +6,7 @@
 Without PART all parts are played, one after another. Each has a line, and what came otherwise has one before it:
 
     busy         50 clients with deposits beside 300 that are silent, and the line of each request in the log
-    unread       20 clients that ask for 16 MiB and don't read it
+    unread       20 clients that ask for 16 MiB three times at once, and don't read
     crowd        1,100 connections at once, where 1,024 have room
     slow         clients that are silent, send a byte now and then, or read so
     broken       one that stops in the midst of a segment, and comes back with the rest of the upload

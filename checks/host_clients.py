@@ -74,7 +74,7 @@ def at_once(works):
         return list(pool.map(done, works))
 
 
-def reply_head(path, extra=""):
+def request_head(path, extra=""):
     return f"GET {path} HTTP/1.1\r\nHost: a\r\n{extra}\r\n".encode()
 
 
@@ -167,27 +167,28 @@ def look_at_log(host, asked):
 
 # ---- unread ----
 
-def ask_and_wait(host, path):
-    """A client that asks for a file and doesn't read."""
+def ask_and_wait(host, path, times=1):
+    """A client that asks for a file so often at once, and doesn't read."""
     wire = host.connect(room=SMALL_ROOM)
-    wire.sendall(reply_head(path, "Connection: close\r\n"))
+    wire.sendall((times - 1) * request_head(path) + request_head(path, "Connection: close\r\n"))
     return wire
 
 
 def unread():
-    content, count = os.urandom(16 * MIB), 20
+    content, count, times = os.urandom(16 * MIB), 20, 3
     with Host(idle_seconds=600) as host:
         with Client(host) as client:
             path, _ = client.deposit(content)
         before = host.peak()
-        lazy = [ask_and_wait(host, path) for _ in range(count)]
+        lazy = [ask_and_wait(host, path, times) for _ in range(count)]
         expect("whether each client has its spool", until(lambda: len(host.spools()) == count), True)
         longest, spooled = are_served(host), sum(host.spools())
+        expect("whether the spools have more than one reply for each", spooled > count * (len(content) + 1000), False)
         expect("the names in the folder of spools", list(host.spool_folder.iterdir()), [])
         expect(f"whether memory holds what they don't read: {host.peak():.0f} MiB", host.peak() > before + 100, False)
-        head, _, came = read_to_end(lazy[0])[0].partition(b"\r\n\r\n")
-        expect("the head of the one that reads", head[:15], b"HTTP/1.1 200 OK")
-        expect("whether it gets every byte", came == content, True)
+        came = read_to_end(lazy[0])[0].split(b"HTTP/1.1 200 OK\r\n")
+        expect("what comes before the replies of the one that reads", came[0], b"")
+        expect("whether it gets every byte", [it.partition(b"\r\n\r\n")[2] == content for it in came[1:]], [True] * times)
         for wire in lazy:
             wire.close()
         expect("whether the spools go with their connections", until(lambda: not host.spools()), True)
