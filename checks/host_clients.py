@@ -413,7 +413,7 @@ def is_served(host, source):
 
 def address():
     most = 5
-    with Host(connections_per_address=most, idle_seconds=600) as host:
+    with Host(address_connections=most, idle_seconds=600) as host:
         mine = [Client(host) for _ in range(most)]
         for client in mine:
             client.ask(200, "GET", "/service")
