@@ -2,13 +2,13 @@ use Rattle.std.proofs.Common.{◌≡◌, ◌≤◌, ◌<◌, ℕ, length}
 use Rattle.dep_server.specs.Turns.{most_read}
 use Rattle.dep_host.specs.Hosting.{HasTime, position, slot}
 use Rattle.dep_host.proofs.HostLemmas.{RoundSoFar}
-use Rattle.dep_host.proofs.host.Host.round.Given as goal
+use Rattle.dep_host.proofs.host.Host.serve_each.Given as goal
 
 abbrev pub invariant-loop-at : goal.invariant-loop-at
 invariant-loop-at g l = record {
-  goes : RoundSoFar g.A.Archive.condition g.R.Source.unread g.K.Sink.taken g.S.Spool.held (position l.fn.self) (position l.self) l.at l.time.second;
-  left : (place : ℕ) → place < l.at → HasTime l.time.second l.self.idle (slot place l.self.seats.items);
+  goes : RoundSoFar g.A.Archive.condition g.R.Source.unread g.K.Sink.taken g.S.Spool.held (position l.fn.self) (position l.self) l.at l.turn.time.second l.turn.is_full l.turn.is_shut;
+  left : (place : ℕ) → place < l.at → HasTime l.turn.time.second l.self.limits (slot place l.self.seats.items);
   seats : length l.self.seats.items ≡ length l.fn.self.seats.items;
   room : length l.room ≤ most_read;
-  idle : l.self.idle ≡ l.fn.self.idle;
+  limits : l.self.limits ≡ l.fn.self.limits;
 }
