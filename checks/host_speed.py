@@ -48,15 +48,24 @@ http {{
 """
 
 
-def told(what, count, rate, half, most, memory):
-    room = "" if memory is None else f" {memory:8.0f} MiB"
-    print(f"{what:<34}{count:6} clients {rate:10.0f} a second {half:10.2f} ms {most:10.2f} ms{room}", flush=True)
+def used(process):
+    """The processor time that a process of one thread has used, in seconds."""
+    return int(pathlib.Path(f"/proc/{process}/schedstat").read_text().split()[0]) / 1e9
+
+
+def measure(what, process, port, count, method, path, body, memory=None):
+    """Has so many clients ask for a time, and prints what that came to."""
+    before = used(process)
+    requests, rate, half, most = load(port, count, method, path, body)
+    each = 1e6 * (used(process) - before) / requests
+    room = "" if memory is None else f"{memory():8.0f} MiB"
+    print(f"{what:<34}{count:6} clients {rate:8.0f} a second {half:9.2f} ms {most:9.2f} ms {each:8.0f} us {room}", flush=True)
 
 
 # ---- clients ----
 
 def wrk(port, count, method, path, body):
-    """Requests a second, and the 50th and 99th hundredth of the times in milliseconds, by wrk."""
+    """How many requests were answered, how many a second, and the 50th and 99th hundredth of the times in milliseconds, by wrk."""
     with tempfile.NamedTemporaryFile("w", suffix=".lua") as script:
         script.write(f'wrk.method = "{method}"\n')
         if body is not None:
@@ -70,7 +79,7 @@ def wrk(port, count, method, path, body):
     rate = float(re.search(r"Requests/sec: +([0-9.]+)", said).group(1))
     unit = {"us": 0.001, "ms": 1.0, "s": 1000.0, "m": 60_000.0}
     half, most = (float(number) * unit[name] for number, name in re.findall(r"(?:50|99)% +([0-9.]+)([a-z]+)", said))
-    return rate, half, most
+    return int(re.search(r"(\d+) requests in", said).group(1)), rate, half, most
 
 
 def connect(port):
@@ -109,7 +118,7 @@ def by_selectors(port, count, method, path, body):
     for wire in waiting:
         wire.close()
     times.sort()
-    return len(times) / took, 1000 * statistics.median(times), 1000 * times[int(0.99 * len(times))]
+    return len(times), len(times) / took, 1000 * statistics.median(times), 1000 * times[int(0.99 * len(times))]
 
 
 def load(*what):
@@ -147,33 +156,32 @@ def many_clients(name, server, counts):
         for count in counts:
             assert until(lambda: is_at_rest(server.port)), "the server goes on"
             server.forget_peak()
-            told(f"{name}: {what}", count, *load(server.port, count, *asked), server.peak())
+            measure(f"{name}: {what}", server.process.pid, server.port, count, *asked, server.peak)
 
 
 @contextlib.contextmanager
 def nginx(folder, content):
-    """The port of an nginx that has the content under /file."""
+    """The port of an nginx that has the content under /file, and the process that serves it."""
     port, files = free_port(), folder / "files"
     files.mkdir()
     (files / "file").write_bytes(content)
     (folder / "nginx.conf").write_text(NGINX.format(folder=folder, address=ADDRESS, port=port))
     folder.chmod(0o755)
     with subprocess.Popen(["nginx", "-c", folder / "nginx.conf", "-e", folder / "nginx-errors"]) as process:
-        def listens():
-            with contextlib.suppress(OSError):
-                socket.create_connection((ADDRESS, port)).close()
-                return True
-        assert until(listens), "nginx doesn't listen"
-        yield port
-        process.terminate()
+        try:
+            children = pathlib.Path(f"/proc/{process.pid}/task/{process.pid}/children")
+            assert until(lambda: children.read_text().split()), "nginx has no worker"
+            yield port, children.read_text().split()[0]
+        finally:
+            process.terminate()
 
 
 def beside_others():
     with tempfile.TemporaryDirectory() as name:
         if shutil.which("nginx"):
-            with nginx(pathlib.Path(name), b"x" * 1024) as port:
+            with nginx(pathlib.Path(name), b"x" * 1024) as (port, worker):
                 for count in CLIENTS:
-                    told("nginx: GET of 1 KiB", count, *load(port, count, "GET", "/file", None), None)
+                    measure("nginx: GET of 1 KiB", worker, port, count, "GET", "/file", None)
         else:
             print("skipped: nginx, which isn't installed")
     with Server(1_000_000) as server:
@@ -202,15 +210,15 @@ def beside(host, what, size, work):
     other.start()
     time.sleep(0.3)
     host.forget_peak()
-    began = time.perf_counter()
+    began, before = time.perf_counter(), used(host.process.pid)
     result = work()
-    took = time.perf_counter() - began
+    took, spent = time.perf_counter() - began, used(host.process.pid) - before
     time.sleep(0.1)
     ended.set()
     waits = sorted(found.get())
     other.join()
     most = GOAL * max(1, size / SEGMENT)
-    print(f"{what:<48} {took:7.2f} s; another waits {1000 * waits[-1]:7.0f} ms at most, {1000 * waits[int(0.99 * len(waits))]:6.1f} ms "
+    print(f"{what:<48} {took:7.2f} s, {spent:6.2f} s of the processor; another waits {1000 * waits[-1]:7.0f} ms at most, {1000 * waits[int(0.99 * len(waits))]:6.1f} ms "
           f"by the 99th hundredth of {len(waits)}{'' if waits[-1] <= most else f', above {1000 * most:.0f}'}; {host.peak():.0f} MiB",
           flush=True)
     return result
@@ -273,7 +281,7 @@ def one_beside_others(host):
 def main():
     load_now, name = os.getloadavg(), "wrk" if shutil.which("wrk") else "Python's selectors"
     print(f"{time.strftime('%Y-%m-%d %H:%M UTC', time.gmtime())}, {os.cpu_count()} processors, load {load_now[0]:.1f}; clients by {name}")
-    print(f"{'':<34}{'':>14} {'':>19} {'50th':>13} {'99th':>13} {'memory':>12}")
+    print(f"{'':<34}{'':>14} {'':>17} {'50th':>10} {'99th':>12} {'processor':>11} {'memory':>12}")
     with Host() as host:
         many_clients("swordd_host", host, CLIENTS)
     beside_others()
