@@ -23,16 +23,20 @@ def free_port():
         return probe.getsockname()[1]
 
 
-class Server:
-    """A server that ends after so many connections, over the store `deposits.db` of a folder. It may open that for
-    `patience` seconds. `how` is what `subprocess.Popen` takes besides."""
+class Served:
+    """A program that serves HTTP at a port of 127.0.0.1, over the store `deposits.db` of a folder. It may open that for
+    `patience` seconds."""
 
-    def __init__(self, count, folder=None, port=None, patience=60, **how):
+    def __init__(self, folder, port, patience):
         self.kept = tempfile.TemporaryDirectory() if folder is None else None
-        self.store = pathlib.Path(folder or self.kept.name) / "deposits.db"
-        self.port, self.patience = port or free_port(), patience
+        self.folder = pathlib.Path(folder or self.kept.name)
+        self.store = self.folder / "deposits.db"
+        self.port, self.patience, self.process = port or free_port(), patience, None
         self.base = f"http://127.0.0.1:{self.port}"
-        self.process = start("serve", str(self.port), self.store, str(count), stderr=subprocess.PIPE, **how)
+
+    def said(self):
+        """What it wrote on standard error."""
+        raise NotImplementedError
 
     def wait_until_it_listens(self):
         """Looks into the table of sockets, since a connection would be counted."""
@@ -41,7 +45,7 @@ class Server:
             if wanted in pathlib.Path("/proc/net/tcp").read_text():
                 return self
             if self.process.poll() is not None:
-                raise RuntimeError(f"the server ended: {self.process.stderr.read().decode()}")
+                raise RuntimeError(f"the server ended: {self.said()}")
             time.sleep(0.01)
         raise RuntimeError("the server does not listen")
 
@@ -54,7 +58,7 @@ class Server:
         for line in pathlib.Path(f"/proc/{self.process.pid}/status").read_text().splitlines():
             if line.startswith("VmHWM:"):
                 return int(line.split()[1]) / 1024
-        return None
+        return 0.0
 
     def ask(self, status, method, path, body=None, headers=None):
         """One request over a connection of its own: its status has to be this one. Returns the reply and its content."""
@@ -73,8 +77,12 @@ class Server:
     def ends(self, patience=60):
         """Its exit status, once it has served all its connections, and what it wrote on standard error. That may take so many
         seconds, since the log is copied into the file then."""
-        status = self.process.wait(patience)
-        return status, self.process.stderr.read().decode()
+        return self.process.wait(patience), self.said()
+
+    def kill(self):
+        if self.process.poll() is None:
+            self.process.kill()
+            self.process.wait()
 
     def __enter__(self):
         try:
@@ -84,9 +92,21 @@ class Server:
             raise
 
     def __exit__(self, *_):
-        if self.process.poll() is None:
-            self.process.kill()
-            self.process.wait()
-        self.process.stderr.close()
+        self.kill()
         if self.kept:
             self.kept.cleanup()
+
+
+class Server(Served):
+    """`swordd serve`, which ends after so many connections. `how` is what `subprocess.Popen` takes besides."""
+
+    def __init__(self, count, folder=None, port=None, patience=60, **how):
+        super().__init__(folder, port, patience)
+        self.process = start("serve", str(self.port), self.store, str(count), stderr=subprocess.PIPE, **how)
+
+    def said(self):
+        return self.process.stderr.read().decode()
+
+    def __exit__(self, *_):
+        super().__exit__()
+        self.process.stderr.close()

@@ -6,6 +6,7 @@ with the same durability (write-ahead log, synchronous=FULL) on the same disk, i
     checks/speed.py --digests [--before PROGRAM]
     checks/speed.py --uploads [COUNTxKIB ..]
     checks/speed.py --pictures FOLDER
+    checks/speed.py --host
 
 It prints deposits of 1 KiB and of 16 MiB, reads of both, a file of 512 MiB in segments and its deposit by reference, and
 the greatest memory that the server had: after the deposits and reads, after as many again, and at the end. Then it
@@ -30,6 +31,10 @@ By --pictures alone, it draws into a folder what docs/SPEED.md shows: each workl
 of what took turns (beside-sqlite3.svg), the greatest memory that the server had by then (memory.svg), and the processor time of
 each kind of request over the number of objects, by growth.py (objects.svg).
 
+By --host alone, it measures `swordd_host` under 1 to 1,000 clients at once, beside nginx with the same file from disk and
+`swordd serve`, and how long others wait while one client deposits 16 MiB, or 512 MiB by reference, or reads 512 MiB
+(checks/host_speed.py).
+
 The status is 1 where one of these takes more. It measures, so it is no part of checks/all: numbers of one run on a busy
 machine say little. Run it on one that does nothing else.
 """
@@ -51,6 +56,7 @@ import tempfile
 import time
 
 import growth
+import host_speed
 import older_store
 import pictures
 from crates import built_program
@@ -551,7 +557,10 @@ def main():
     options.add_argument("--digests", action="store_true")
     options.add_argument("--uploads", nargs="*", metavar="COUNTxKIB")
     options.add_argument("--pictures", type=pathlib.Path, metavar="FOLDER")
+    options.add_argument("--host", action="store_true")
     given = options.parse_args()
+    if given.host:
+        return host_speed.main()
     if given.pictures is not None:
         draw(given.pictures)
         return 1 if wrong else 0
