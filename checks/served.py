@@ -23,11 +23,6 @@ def free_port():
         return probe.getsockname()[1]
 
 
-def is_listening(port):
-    """Whether something listens at this port of 127.0.0.1: by the table of sockets, since a connection would be counted."""
-    return f"0100007F:{port:04X} 00000000:0000 0A" in pathlib.Path("/proc/net/tcp").read_text(encoding="ascii")
-
-
 class Server:
     """A server that ends after so many connections, over the store `deposits.db` of a folder. It may open that for
     `patience` seconds. `how` is what `subprocess.Popen` takes besides."""
@@ -40,8 +35,10 @@ class Server:
         self.process = start("serve", str(self.port), self.store, str(count), stderr=subprocess.PIPE, **how)
 
     def wait_until_it_listens(self):
+        """Looks into the table of sockets, since a connection would be counted."""
+        wanted = f"0100007F:{self.port:04X} 00000000:0000 0A"
         for _ in range(100 * self.patience):
-            if is_listening(self.port):
+            if wanted in pathlib.Path("/proc/net/tcp").read_text():
                 return self
             if self.process.poll() is not None:
                 raise RuntimeError(f"the server ended: {self.process.stderr.read().decode()}")
