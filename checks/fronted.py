@@ -5,6 +5,7 @@ import json
 import os
 import pathlib
 import shutil
+import signal
 import socket
 import ssl
 import subprocess
@@ -92,20 +93,45 @@ def fitted(text, changes):
     return text
 
 
-class Proxy:
-    """nginx in front of the server at a port of 127.0.0.1."""
+class Nginx:
+    """nginx over a site: a text that is read inside of `http`."""
 
-    def __init__(self, folder, port):
-        self.folder, self.behind = pathlib.Path(folder), port
-        self.port, self.clear_port = free_port(), free_port()
-        self.certificate, self.url = self.folder / "deposit.crt", f"https://127.0.0.1:{self.port}"
-        self.make_secrets()
-        (self.folder / "site.conf").write_text(fitted(SITE.read_text(encoding="utf-8"), {
-            "127.0.0.1:8080": f"127.0.0.1:{port}", "listen 80;": f"listen 127.0.0.1:{self.clear_port};",
-            "listen 443 ssl;": f"listen 127.0.0.1:{self.port} ssl;", "/etc/nginx/": f"{self.folder}/"}), encoding="utf-8")
+    def __init__(self, folder, site, port):
+        self.folder, self.port, self.process = pathlib.Path(folder), port, None
+        self.write(site)
         user = "root" if os.geteuid() == 0 else os.environ.get("USER", "nobody")
         (self.folder / "nginx.conf").write_text(MAIN.format(folder=self.folder, user=user), encoding="utf-8")
-        self.process = None
+
+    def write(self, site):
+        (self.folder / "site.conf").write_text(site, encoding="utf-8")
+
+    def reload(self, site):
+        """From here on this site; requests that are under way end by the one of before."""
+        self.write(site)
+        self.process.send_signal(signal.SIGHUP)
+
+    def __enter__(self):
+        command = [program("nginx"), "-c", self.folder / "nginx.conf", "-p", self.folder]
+        self.process = subprocess.Popen(command, stdin=subprocess.DEVNULL, stderr=subprocess.DEVNULL)
+        wait_for_listener(self.port, self.process, self.folder / "error.log")
+        return self
+
+    def __exit__(self, *_):
+        self.process.terminate()
+        self.process.wait()
+
+
+class Proxy(Nginx):
+    """deploy/nginx.conf in front of the server at a port of 127.0.0.1."""
+
+    def __init__(self, folder, behind):
+        folder, self.clear_port = pathlib.Path(folder), free_port()
+        port, self.certificate = free_port(), folder / "deposit.crt"
+        self.url = f"https://127.0.0.1:{port}"
+        super().__init__(folder, fitted(SITE.read_text(encoding="utf-8"), {
+            "127.0.0.1:8080": f"127.0.0.1:{behind}", "listen 80;": f"listen 127.0.0.1:{self.clear_port};",
+            "listen 443 ssl;": f"listen 127.0.0.1:{port} ssl;", "/etc/nginx/": f"{folder}/"}), port)
+        self.make_secrets()
 
     def make_secrets(self):
         """A certificate for the public name, and one user's password."""
@@ -123,13 +149,3 @@ class Proxy:
         """A connection with TLS, which nothing is sent on yet."""
         clear = socket.create_connection(("127.0.0.1", self.port), timeout=60)
         return self.context().wrap_socket(clear, server_hostname=NAME)
-
-    def __enter__(self):
-        command = [program("nginx"), "-c", self.folder / "nginx.conf", "-p", self.folder]
-        self.process = subprocess.Popen(command, stdin=subprocess.DEVNULL, stderr=subprocess.DEVNULL)
-        wait_for_listener(self.port, self.process, self.folder / "error.log")
-        return self
-
-    def __exit__(self, *_):
-        self.process.terminate()
-        self.process.wait()
