@@ -7,6 +7,7 @@ its clock.
 import base64
 import contextlib
 import hashlib
+import os
 import re
 import select
 import socket
@@ -19,6 +20,10 @@ WRITTEN = b"127.0.0.1:8080"
 OTHER_SPELLINGS = re.compile(rb"127\.1:8080|0x7f\.0\.0\.1:8080|127\.0\.0\.1:08080")
 ALGORITHMS = ("sha256", "sha512")
 MOST_SENT = 65_536
+# The fields that a proxy sets for its own connection.
+HOPS = (b"connection:", b"keep-alive:", b"server:")
+# What nginx answers by itself to a request that it doesn't take for one.
+ANSWERED_BY_NGINX = re.compile(rb"HTTP/1.1 (?:400|405|414|501|505) .*<center>nginx</center>", re.S)
 # The seconds that are waited for the rest of what is already wrong.
 WAIT_FOR_REST = 0.2
 # The seconds in which a server has to take connections once it has an empty store.
@@ -98,6 +103,44 @@ def moved_message(head, end, content, authority):
     return head.replace(WRITTEN, authority) + end + new
 
 
+def replies(stream, lacking=()):
+    """The replies of a stream: head and content of each. Those of these places have no content, as the replies to a HEAD."""
+    found = []
+    while stream:
+        head, end, stream = stream.partition(b"\r\n\r\n")
+        told = re.search(rb"(?im)^content-length: *(\d+)", head) if end else None
+        length = int(told[1]) if told and len(found) not in lacking else 0
+        found.append((head + end, stream[:length], len(stream) >= length and bool(end)))
+        stream = stream[length:]
+    return found
+
+
+def lacking_content(want):
+    """The places of the replies that were written without the content whose length they tell."""
+    lacking, stream = set(), want
+    for place in range(len(want)):
+        head, end, stream = stream.partition(b"\r\n\r\n")
+        told = re.search(rb"(?im)^content-length: *(\d+)", head)
+        length = int(told[1]) if told else 0
+        if length and (len(stream) < length or stream.startswith(b"HTTP/1.1 ")):
+            lacking.add(place)
+            length = 0
+        stream = stream[length:]
+        if not stream:
+            break
+    return lacking
+
+
+def without_hops(stream, lacking):
+    """The replies with their fields in the order of their names, without those that a proxy sets."""
+    parts = []
+    for head, content, _ in replies(stream, lacking):
+        first, *lines = head.rstrip(b"\r\n").split(b"\r\n")
+        kept = sorted(it for it in lines if not it.lower().startswith(HOPS))
+        parts += [b"\r\n".join([first, *kept]), b"\r\n\r\n", content]
+    return bytearray(b"".join(parts))
+
+
 class Clock:
     """What a server's clock may tell while an example is played: the moments from its beginning to now, and some seconds
     about them, since two clocks differ."""
@@ -131,12 +174,12 @@ class Clock:
 class Place:
     """A server at a URL: its sockets, and what gives it an empty store."""
 
-    def __init__(self, url, freshen, patience=5.0, is_single=False, seconds=2, piece="whole"):
+    def __init__(self, url, freshen, patience=5.0, is_single=False, seconds=2, piece="whole", is_proxied=False):
         parts = urlsplit(url)
         self.address = parts.hostname, parts.port or 80
         self.authority = parts.netloc.encode()
         self.freshen, self.patience, self.is_single = freshen, patience, is_single
-        self.seconds, self.piece, self.is_fresh = seconds, piece, False
+        self.seconds, self.piece, self.is_proxied, self.is_fresh = seconds, piece, is_proxied, False
 
     def empty(self, configured):
         """An empty store by this configuration, where the one that is there isn't so."""
@@ -161,6 +204,23 @@ class Place:
                 if time.monotonic() > until:
                     raise
                 time.sleep(0.01)
+
+
+def folder_in_memory():
+    """The system's folder in memory, for a store that is made some thousand times, or None."""
+    return "/dev/shm" if os.path.isdir("/dev/shm") else None
+
+
+def free_short_port():
+    """A port of four digits, so that the base has as many letters as the one that is written."""
+    for port in range(8081, 9999):
+        with socket.socket() as probe:
+            try:
+                probe.bind(("127.0.0.1", port))
+                return port
+            except OSError:
+                pass
+    raise OSError("no port of four digits is free")
 
 
 class Line:
@@ -202,6 +262,18 @@ class Line:
             came += self.read()
         self.is_closed = self.is_closed or self.is_at_end()
         return clock.as_written(want, came)
+
+    def receive_replies(self, came, want, clock, is_last):
+        """The same from a proxy, which sends other fields in another order. Returns what came, and what is wanted, alike."""
+        came, lacking = bytearray(came), lacking_content(want)
+        wanted = len(replies(want, lacking))
+        while not self.is_closed and (is_last or sum(it[2] for it in replies(bytes(came), lacking)) < wanted):
+            if not self.is_readable(self.place.patience):
+                break
+            came += self.read()
+        self.is_closed = self.is_closed or self.is_at_end()
+        want = bytes(without_hops(want, lacking))
+        return clock.as_written(want, without_hops(bytes(came), lacking)), want
 
     def is_readable(self, seconds):
         return bool(select.select([self.socket], [], [], max(seconds, 0))[0])
@@ -275,7 +347,12 @@ class SocketPlay(Play):
         came = line.send(stream)
         if word == "ended":
             line.half_close()
-        came = line.receive(came, want, self.clock, word != "open")
+        if self.place.is_proxied:
+            came, want = line.receive_replies(came, want, self.clock, word != "open")
+            if ANSWERED_BY_NGINX.search(came):
+                raise Skipped("a proxy that hands each request on")
+        else:
+            came = line.receive(came, want, self.clock, word != "open")
         self.want = want
         self.compare(came, "closed" if line.is_closed else "open", "open" if word == "open" else "closed")
         self.stream, self.want = b"", b""
