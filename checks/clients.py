@@ -128,6 +128,20 @@ def folder_broken_off(server, relay, place):
     expect("the object", (again, manifest(server, path)), (url, wanted))
 
 
+def folder_of_many(server, place):
+    """Many small files come by reference, a hundred at a time, and an empty one."""
+    folder = place / "many"
+    folder.mkdir()
+    contents = {f"{number:03}": b"%d" % number * (number % 7) for number in range(230)}
+    for name, content in contents.items():
+        (folder / name).write_bytes(content)
+    url = run("a folder of many files", [sys.executable, TOOL, server.base, folder], place, dict(os.environ)).strip()
+    wanted = sorted(f"{hashlib.sha256(content).hexdigest()} {name}" for name, content in contents.items())
+    expect("the files of a folder of many", manifest(server, server.path_of(url)), wanted)
+    _, document = server.ask(200, "GET", server.path_of(url))
+    expect("how many came by reference", document.count(b"terms/byReferenceDeposit"), 230 - 33)
+
+
 def bar_of_progress(server, place):
     """On a terminal it shows how far it came."""
     folder = place / "shown"
@@ -162,6 +176,7 @@ def main():
             recipes_by_curl(server, relay, place / "curl")
         recipes_by_python(server, relay, place / "python", 4 if has_curl else 1)
         folder_broken_off(server, relay, place)
+        folder_of_many(server, place)
         bar_of_progress(server, place)
         statuses_of_the_tool(server, place)
         expect("whether connections were broken", relay.broken > 3, True)

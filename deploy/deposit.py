@@ -9,7 +9,7 @@ printed. Where a deposit is broken off, the same command goes on with it: what t
 the URLs of the object and of the uploads are kept in a journal beside the folder (FOLDER.deposit, or --journal).
 
 A file in a subfolder is named by its path with `__` in place of `/` (--separator). A file longer than a segment (--segment,
-8 MiB by default) comes in segments. The password of --user is read from the variable DEPOSIT_PASSWORD, or asked for.
+8 MiB by default) comes in segments, and those of a folder of many files are deposited a hundred at a time. The password of --user is read from the variable DEPOSIT_PASSWORD, or asked for.
 
 The status is 0 where all is deposited, 1 where the server refused something or has another content, 2 for wrong words or
 files that can't be deposited, and 3 where the server couldn't be reached: run the command again.
@@ -32,6 +32,9 @@ from urllib.parse import quote, urlsplit
 
 BLOCK = 1 << 20
 LONGEST_NAME = 255
+# A folder of more files is deposited by reference, so many of them at once, or so many bytes: each deposit is answered by a
+# document that names all files of the object.
+MANY, MOST_IN_BATCH = 100, 64 << 20
 # What a server or a proxy answers where the same request may fare better later.
 PASSING = {429, 500, 502, 503, 504}
 IS_REACHED = (OSError, http.client.HTTPException)
@@ -95,10 +98,6 @@ class Journal:
             file.flush()
             os.fsync(file.fileno())
         new.replace(self.path)
-
-    def keep_upload(self, name, upload):
-        uploads = {key: value for key, value in self.kept["uploads"].items() if key != name}
-        self.keep(uploads={**uploads, name: upload} if upload else uploads)
 
 
 class Server:
@@ -208,13 +207,18 @@ class Deposit:
         self.segment, self.most_segments = min(self.given.segment, service["maxUploadSize"]), service["maxSegments"]
         url = self.journal.kept["object"] or self.create()
         there = self.manifest(url)
+        batch = []
         for file in self.files:
             if (file.name, file.sha256) in there:
                 self.progress.add(file.size, file.name)
-            elif file.size > self.segment:
-                self.send_in_segments(url, file)
+            elif file.size > self.segment or file.size and len(self.files) > MANY:
+                batch.append((self.send_in_segments(file), file))
             else:
                 self.send_whole(url, file)
+            if len(batch) == MANY or sum(it.size for _, it in batch) >= MOST_IN_BATCH:
+                self.deposit_batch(url, batch)
+                batch = []
+        self.deposit_batch(url, batch)
         self.progress.end()
         self.check(url)
         self.journal.keep(uploads={})
@@ -254,14 +258,20 @@ class Deposit:
         self.server.insist(send)
         self.progress.add(file.size, file.name)
 
-    def send_in_segments(self, url, file):
-        """A file in segments: those that its upload expects, and then by reference. An upload that is gone is opened anew."""
+    def send_in_segments(self, file):
+        """A file in the segments that its upload still expects. An upload that is gone is opened anew. Returns the upload."""
         upload = self.journal.kept["uploads"].get(file.name)
         if not upload or upload["sha256"] != file.sha256 or self.server.get(upload["url"], (200, 404, 410))[0] != 200:
             upload = self.open_upload(file)
         self.server.insist(lambda: self.send_missing(upload, file))
-        self.server.insist(lambda: self.refer(url, upload, file))
-        self.journal.keep_upload(file.name, None)
+        return upload
+
+    def deposit_batch(self, url, batch):
+        """The deposit of whole uploads, of all or of none of them."""
+        if batch:
+            self.server.insist(lambda: self.refer(url, batch))
+            done = {file.name for _, file in batch}
+            self.journal.keep(uploads={name: it for name, it in self.journal.kept["uploads"].items() if name not in done})
 
     def open_upload(self, file):
         size = max(self.segment, -(-file.size // self.most_segments))
@@ -270,7 +280,7 @@ class Deposit:
                                          f"digest=SHA-256={file.sha256}"}
         _, headers, _ = self.server.insist(lambda: self.server.ask("POST", "/staging", fields=fields))
         upload = {"url": headers["Location"], "sha256": file.sha256, "segment_size": size, "count": count}
-        self.journal.keep_upload(file.name, upload)
+        self.journal.keep(uploads={**self.journal.kept["uploads"], file.name: upload})
         return upload
 
     def send_missing(self, upload, file):
@@ -292,18 +302,19 @@ class Deposit:
             self.progress.done = before
             raise
 
-    def refer(self, url, upload, file):
-        """The deposit of the whole upload. Where its reply was lost, the upload is gone, and the manifest has the file."""
-        status, _, _ = self.server.ask("GET", upload["url"], wanted=(200, 404))
+    def refer(self, url, batch):
+        """One request for all of them. Where its reply was lost, the uploads are gone, and the manifest has the files."""
+        status, _, _ = self.server.ask("GET", batch[0][0]["url"], wanted=(200, 404))
         if status == 404:
-            if (file.name, file.sha256) not in self.manifest(url):
-                raise Refused(f"{file.path}: its upload is gone, and the object doesn't have it")
+            there = self.manifest(url)
+            if any((file.name, file.sha256) not in there for _, file in batch):
+                raise Refused(f"{batch[0][1].path}: its upload is gone, and the object doesn't have it")
             return
-        entry = {"@id": upload["url"], "contentDisposition": disposition(file.name), "contentType": "application/octet-stream",
-                 "contentLength": file.size, "digest": f"SHA-256={file.sha256}"}
+        entries = [{"@id": upload["url"], "contentDisposition": disposition(file.name), "contentType": "application/octet-stream",
+                    "contentLength": file.size, "digest": f"SHA-256={file.sha256}"} for upload, file in batch]
         fields = {"Content-Disposition": "attachment; by-reference=true", "Content-Type": "application/json",
                   "In-Progress": "true"}
-        self.server.ask("POST", url, json.dumps({"byReferenceFiles": [entry]}).encode(), fields)
+        self.server.ask("POST", url, json.dumps({"byReferenceFiles": entries}).encode(), fields)
 
     def check(self, url):
         """Each file stands in the manifest of the object's bag by its SHA-256."""
