@@ -266,6 +266,19 @@ def compare(stores, kinds, growths):
             expect(f"{kind}: growth with the {what}, {times:.2f}", times > MOST_TIMES, False)
 
 
+def medians_by_objects(stack, room):
+    """Each kind of request, with its medians in stores of more and more objects."""
+    stores = []
+    for objects in OBJECTS:
+        folder = room()
+        fill(serve(folder, 1, 0), objects, 0)
+        stores.append(Asked(stack.enter_context(Server(1, folder)), objects))
+    found = measured(stores, KINDS)
+    for it in stores:
+        it.client.connection.close()
+    return list(found.items())
+
+
 def compare_archives(stack, room):
     """Stores of more and more objects, and of more and more open uploads."""
     stores = []

@@ -5,6 +5,7 @@ with the same durability (write-ahead log, synchronous=FULL) on the same disk, i
     checks/speed.py [--segmented MIB] [--before PROGRAM]
     checks/speed.py --digests [--before PROGRAM]
     checks/speed.py --uploads [COUNTxKIB ..]
+    checks/speed.py --pictures FOLDER
 
 It prints deposits of 1 KiB and of 16 MiB, reads of both, a file of 512 MiB in segments and its deposit by reference, and
 the greatest memory that the server had: after the deposits and reads, after as many again, and at the end. Then it
@@ -25,11 +26,16 @@ does meets both alike: the rate of the first 100 segments, and of the last. Then
 reference (by sqlite3: both digests, and one statement that moves the blocks), a GET of the file, the commands as above, the
 open by a server, a GET again, and a DELETE of the object. Each may take 64 MiB above what the server had before.
 
+By --pictures alone, it draws into a folder what docs/SPEED.md shows: each workload beside sqlite3, by the ratio of the medians
+of what took turns (beside-sqlite3.svg), the greatest memory that the server had by then (memory.svg), and the processor time of
+each kind of request over the number of objects, by growth.py (objects.svg).
+
 The status is 1 where one of these takes more. It measures, so it is no part of checks/all: numbers of one run on a busy
 machine say little. Run it on one that does nothing else.
 """
 
 import argparse
+import contextlib
 import hashlib
 import http.client
 import json
@@ -44,7 +50,9 @@ import sys
 import tempfile
 import time
 
+import growth
 import older_store
+import pictures
 from crates import built_program
 from expectations import expect, wrong
 from served import Server
@@ -135,7 +143,9 @@ class Plain:
         self.database = sqlite3.connect(pathlib.Path(folder) / "plain.db", isolation_level=None)
         for text in ("PRAGMA journal_mode=WAL", "PRAGMA synchronous=FULL",
                      "CREATE TABLE files (file INTEGER PRIMARY KEY, size INTEGER, sha256 BLOB) STRICT",
-                     "CREATE TABLE blocks (file INTEGER, place INTEGER, bytes BLOB, PRIMARY KEY (file, place)) STRICT"):
+                     "CREATE TABLE blocks (file INTEGER, place INTEGER, bytes BLOB, PRIMARY KEY (file, place)) STRICT",
+                     "CREATE TABLE metadata (object INTEGER, name TEXT, place INTEGER, value TEXT, "
+                     "PRIMARY KEY (object, name, place)) STRICT"):
             self.database.execute(text)
         self.next = 0
 
@@ -151,6 +161,16 @@ class Plain:
     def read(self):
         rows = self.database.execute("SELECT bytes FROM blocks WHERE file = ? ORDER BY place", (self.next,))
         return b"".join(row[0] for row in rows)
+
+    def describe(self, texts):
+        self.database.execute("BEGIN IMMEDIATE")
+        self.database.execute("DELETE FROM metadata WHERE object = 1")
+        rows = ((place, it) for place, it in enumerate(texts))
+        self.database.executemany("INSERT INTO metadata VALUES (1, 'dc:title', ?, ?)", rows)
+        self.database.execute("COMMIT")
+
+    def names(self):
+        return self.database.execute("SELECT file, size, sha256 FROM files WHERE file = ?", (self.next,)).fetchall()
 
 
 class PlainUpload:
@@ -431,7 +451,7 @@ class Steps:
 def kept_upload(folder, count, size):
     """Sends an upload, deposits it and reads the file. Returns the file's path."""
     mebibytes, made = count * size / MIB, []
-    with Server(1, folder) as server:
+    with Server(1, folder, env={**os.environ, **GIVES_BACK}) as server:
         client, store = Client(server), PlainUpload(folder)
         client.deposit(os.urandom(SMALL))
         steps = Steps(server)
@@ -468,13 +488,73 @@ def large_upload(folder, count, size):
         expect("the end of the server", server.ends(PATIENCE), (0, ""))
 
 
+def in_turns(count, *works):
+    """The median seconds of each of these, which are done in turn so often."""
+    took = [[seconds_of(work) for work in works] for _ in range(count)]
+    return [statistics.median(it) for it in zip(*took)]
+
+
+def workloads(client, store, upload):
+    """The name of each workload with what the server does, what sqlite3 does, and how often."""
+    small, large, part = os.urandom(SMALL), os.urandom(LARGE), os.urandom(MIB)
+    titles, fields = json.dumps({"dc:title": ["T", "U"]}), {"Content-Type": "application/json"}
+    path = client.deposit(small)
+    yield "deposit of 1 KiB", 300, lambda: client.deposit(small), lambda: store.write(small)
+    yield "read of 1 KiB", 300, lambda: client.read(path, small), store.read
+    whole = path.rsplit("/", 2)[0]
+    yield "PUT of metadata", 300, lambda: client.ask(204, "PUT", f"{whole}/metadata", titles, fields), lambda: store.describe(("T", "U"))
+    yield "list of a bag", 300, lambda: client.ask(200, "GET", f"{whole}/bag"), store.names
+    yield "deposit of 16 MiB", 8, lambda: client.deposit(large), lambda: store.write(large)
+    path = client.deposit(large)
+    yield "read of 16 MiB", 8, lambda: client.read(path, large), store.read
+    url, _ = client.open_upload(64, MIB), upload
+    places = [iter(range(1, 65)), iter(range(1, 65))]
+    yield "segment of 1 MiB", 64, lambda: client.segment(url, next(places[0]), part), lambda: upload.segment(next(places[1]), part)
+    yield "deposit of 64 of these", 1, lambda: client.deposit_upload(url), upload.deposit
+
+
+def measure_beside(folder):
+    """The ratio of each workload, and the greatest memory that the server had once it was done."""
+    ratios, peaks = [], []
+    with Server(1, folder) as server, tempfile.TemporaryDirectory() as beside:
+        client, store, upload = Client(server), Plain(folder), PlainUpload(beside)
+        peaks.append(("at rest", server.peak()))
+        for name, count, served, plainly in workloads(client, store, upload):
+            took, other = in_turns(count, served, plainly)
+            print(f"{name:<28} {1000 * took:10.2f} ms, by sqlite3 {1000 * other:10.2f} ms: {took / other:6.2f}", flush=True)
+            ratios.append((name, took / other))
+            peaks.append((name, server.peak()))
+        client.connection.close()
+        expect("the end of the server", server.ends(), (0, ""))
+        store.database.close()
+        upload.end()
+    return ratios, peaks
+
+
+def draw(folder):
+    folder.mkdir(exist_ok=True)
+    with tempfile.TemporaryDirectory() as room:
+        ratios, peaks = measure_beside(room)
+    with contextlib.ExitStack() as stack:
+        medians = growth.medians_by_objects(stack, lambda: stack.enter_context(tempfile.TemporaryDirectory()))
+    for name, picture in (
+            ("beside-sqlite3", pictures.bars("time beside sqlite3 with the same durability", ratios, 1)),
+            ("memory", pictures.bars("the greatest memory that the server had by then, in MiB", peaks)),
+            ("objects", pictures.lines("processor time of a request by objects, in microseconds", growth.OBJECTS, medians))):
+        (folder / f"{name}.svg").write_text(picture, encoding="utf-8")
+
+
 def main():
     options = argparse.ArgumentParser(description=__doc__, formatter_class=argparse.RawTextHelpFormatter)
     options.add_argument("--segmented", type=int, default=512, metavar="MIB")
     options.add_argument("--before", type=pathlib.Path, metavar="PROGRAM")
     options.add_argument("--digests", action="store_true")
     options.add_argument("--uploads", nargs="*", metavar="COUNTxKIB")
+    options.add_argument("--pictures", type=pathlib.Path, metavar="FOLDER")
     given = options.parse_args()
+    if given.pictures is not None:
+        draw(given.pictures)
+        return 1 if wrong else 0
     if given.uploads is not None:
         for count, kibibytes in (map(int, it.split("x")) for it in given.uploads or UPLOADS):
             with tempfile.TemporaryDirectory() as folder:

@@ -1,16 +1,12 @@
 -- What stands at the paths of a bag.
-use Rattle.std.proofs.Common.{◌≡◌, ℕ, Bool, true, false, cond, List, [], ◌∷◌, ◌++◌, Option, Some, None, refl, sym, ap, ◌∙◌, map as each, nat_cmp, ◌==◌, arith, All}
+use Rattle.std.proofs.Common.{◌≡◌, ℕ, Bool, true, false, cond, List, [], ◌∷◌, ◌++◌, Option, Some, None, refl, sym, ap, ◌∙◌, map as each, All}
 use Rattle.std.specs.Prelude.{find, bytes_eq, option_map}
-use Rattle.std.specs.Ordering.{eq_by_cmp}
 use Rattle.std.specs.Cmp.{nat_cmp_total}
 use Rattle.std.specs.FinMap as finmap
-use Rattle.std.specs.FinMap.Entries as entries
 use Rattle.std.proofs.lemmas.List.Elements.{All-head, All-tail}
-use Rattle.std.proofs.lemmas.Bool.Decides.{nat_tests}
 use Rattle.std.proofs.lemmas.Slice.Eq.{bytes_eq-Decides}
 use Rattle.dep_types.specs.State.{Object, File}
 use Rattle.dep_types.specs.Rows.{file_row, object_view}
-use Rattle.dep_types.specs.declared.rows.FileRow.{FileRow}
 use Rattle.dep_types.specs.declared.rows.ObjectView.{ObjectView}
 use Rattle.dep_types.specs.Sinks.{Entry}
 use Rattle.dep_bag.specs.Parts.{told_parts, told_part, text_part, stored_part}
@@ -70,7 +66,7 @@ either_way g true x o r e = refl
 either_way g false x o r e = e
 
 -- a function that keeps the paths can be put before or behind a search
-found_through : {X Y : Type 0} (path : List ℕ) (of : X → List ℕ) (to : Y → List ℕ) (g : X → Y) → ((x : X) → to (g x) ≡ of x)
+pub found_through : {X Y : Type 0} (path : List ℕ) (of : X → List ℕ) (to : Y → List ℕ) (g : X → Y) → ((x : X) → to (g x) ≡ of x)
     → (xs : List X) → find (λ y. bytes_eq path (to y)) (each g xs) ≡ option_map g (find (λ x. bytes_eq path (of x)) xs)
 found_through path of to g same [] = refl
 found_through path of to g same (x ∷ xs) =
@@ -174,30 +170,3 @@ pub nothing_shown : (n : ℕ) (o : Object) (view : ObjectView) (path : List ℕ)
     → None ≡ told_part view path → shown_in_bag o path ≡ None
 nothing_shown n o view path e is =
     by_none o (part n o path) (place n o path) (both_found n o path) (is ∙ ap (λ (v : ObjectView). told_part v path) e)
-
--- ---- rows
-
-same_number : (f k : ℕ) → eq_by_cmp nat_cmp f k ≡ (k == f)
-same_number f k = grind (arith, nat_tests)
-
-same_nat : (a b : ℕ) → (a == b) ≡ true → a ≡ b
-same_nat a b e = grind (arith, nat_tests)
-
-row_among : (n f : ℕ) (es : List (ℕ × File))
-    → find (λ (row : FileRow). row.file == f) (each (λ e. file_row n e.0 e.1) es) ≡ option_map (file_row n f) (entries.find nat_cmp f es)
-row_among n f [] = refl
-row_among n f (e ∷ es) =
-    go (e.0 == f) refl (row_among n f es)
-    ∙ ap (λ (b : Bool). option_map (file_row n f) (cond b (Some e.1) (entries.find nat_cmp f es))) (sym (same_number f e.0))
-  where
-    rest : Option FileRow
-    rest = find (λ (row : FileRow). row.file == f) (each (λ x. file_row n x.0 x.1) es)
-
-    go : (b : Bool) → (e.0 == f) ≡ b → rest ≡ option_map (file_row n f) (entries.find nat_cmp f es)
-        → cond b (Some (file_row n e.0 e.1)) rest ≡ option_map (file_row n f) (cond b (Some e.1) (entries.find nat_cmp f es))
-    go true is later = ap (λ (k : ℕ). Some (file_row n k e.1)) (same_nat e.0 f is)
-    go false is later = later
-
-pub row_found : (n : ℕ) (o : Object) (f : ℕ)
-    → find (λ (row : FileRow). row.file == f) (object_view n o).files ≡ option_map (file_row n f) (finmap.get o.files f)
-row_found n o f = row_among n f (finmap.entries o.files) ∙ ap (option_map (file_row n f)) (sym (finmap.get-entries o.files f))

@@ -3,6 +3,7 @@ pub mod Rising
 pub mod ToldLemmas
 pub mod BagLemmas
 pub mod ShownReplies
+pub mod NumberedReplies
 pub mod Unbroken
 pub mod Made
 pub mod WrittenOut

@@ -1,6 +1,5 @@
 -- Replies that show files, by what was read of them.
-use Rattle.std.proofs.Common.{◌≡◌, ◌⊎◌, inl, inr, ℕ, ◌==◌, List, Option, Some, None, refl, sym, ap, subst, ◌∙◌, true}
-use Rattle.std.specs.Prelude.{find}
+use Rattle.std.proofs.Common.{◌≡◌, ◌⊎◌, inl, inr, ℕ, List, Option, Some, None, refl, sym, ap, subst, ◌∙◌, true}
 use Rattle.std.specs.Option.{option_map, option_map_or, option_and_then}
 use Rattle.std.specs.FinMap as finmap
 use Rattle.dep_types.specs.State.{State, Object, File, file_at}
@@ -23,7 +22,6 @@ use Rattle.dep_answers.specs.declared.performed.Performed.{Performed}
 use Rattle.dep_answers.specs.declared.subject.Shown.{Shown}
 use Rattle.dep_answers.specs.declared.subject.Shown.TheVariants as shown
 use Rattle.dep_answers.specs.declared.subject.Subject.TheVariants as subject
-use Rattle.dep_answers.proofs.BagLemmas.{row_found}
 
 -- the same reply, where the answer is another's
 pub says_as : (s : State) (a b : Answer) (delivery : Delivery) (said : Option Performed) → a ≡ b → Says s a delivery said → Says s b delivery said
@@ -41,7 +39,7 @@ nothing_said a e = sym (ap (λ (x : Answer). is_silent x) e)
 same_row : (x y : FileRow) → shown.File x ≡ shown.File y → x ≡ y
 same_row x y e = cc
 
-file_in : (n f : ℕ) (row : FileRow) (o : Option File)
+pub file_in : (n f : ℕ) (row : FileRow) (o : Option File)
     → shown.File row ≡ option_map_or (λ (x : File). shown.File (file_row n f x)) o shown.Nothing
     → (file : File) × ((o ≡ Some file) × (row ≡ file_row n f file))
 file_in n f row None e = absurd (cc)
@@ -52,7 +50,7 @@ abbrev pub SaysRow : FileRow → Option ℕ → Delivery → Performed → Type 
 SaysRow row tag delivery p = (s : State) (file : File) → file_at s row.object row.file ≡ Some file
     → row ≡ file_row row.object row.file file → IsReply s (answer 200 (Some (StoredContent file.media file.content)) tag None) delivery p
 
-says_row : (row : FileRow) (tag : Option ℕ) (delivery : Delivery) (p : Performed) → SaysRow row tag delivery p
+pub says_row : (row : FileRow) (tag : Option ℕ) (delivery : Delivery) (p : Performed) → SaysRow row tag delivery p
     → (s : State) (n f : ℕ) (file : File) → file_at s n f ≡ Some file → row ≡ file_row n f file
     → IsReply s (answer 200 (Some (StoredContent file.media file.content)) tag None) delivery p
 says_row row tag delivery p says s n f file there is =
@@ -72,7 +70,7 @@ file_reply_is s id row sh delivery p is e says =
     ∙ ap (λ (o : Option File). answer 200 (option_map (λ (x : File). StoredContent x.media x.content) o) (option_map (λ (x : File). x.tag) o) None) (sym there))
     (says_row row (Some row.tag) delivery p says s id.object id.file file there of)
 
-no_file : (n f : ℕ) (sh : Shown) (o : Option File) → ((row : FileRow) → sh ≡ shown.File row → ⊥)
+pub no_file : (n f : ℕ) (sh : Shown) (o : Option File) → ((row : FileRow) → sh ≡ shown.File row → ⊥)
     → sh ≡ option_map_or (λ (x : File). shown.File (file_row n f x)) o shown.Nothing → o ≡ None
 no_file n f sh None not e = refl
 no_file n f sh (Some file) not e = absurd (not (file_row n f file) e)
@@ -82,27 +80,6 @@ pub no_file_answer : (s : State) (id : FileId) (sh : Shown) → ((row : FileRow)
 no_file_answer s id sh not e =
     ap (λ (o : Option File). answer 200 (option_map (λ (x : File). StoredContent x.media x.content) o) (option_map (λ (x : File). x.tag) o) None)
     (sym (no_file id.object id.file sh (file_at s id.object id.file) not e))
-
--- ---- a file of a bag
-
-same_one : {X : Type 0} (x y : X) → Some x ≡ Some y → x ≡ y
-same_one x y e = cc
-
-pub payload_reply_is : (s : State) (n : ℕ) (o : Object) (it : File) (view : ObjectView) (f : ℕ) (row : FileRow) (delivery : Delivery) (p : Performed)
-    → finmap.get s.objects n ≡ Some o → view ≡ object_view n o → finmap.get o.files f ≡ Some it
-    → Some row ≡ find (λ (r : FileRow). r.file == f) view.files → SaysRow row None delivery p
-    → IsReply s (answer 200 (Some (StoredContent it.media it.content)) None None) delivery p
-payload_reply_is s n o it view f row delivery p there is has found says =
-    let of : row ≡ file_row n f it = same_one row (file_row n f it)
-    (found ∙ ap (λ (v : ObjectView). find (λ (r : FileRow). r.file == f) v.files) is ∙ row_found n o f ∙ ap (option_map (file_row n f)) has) in
-    says_row row None delivery p says s n f it (ap (option_and_then (λ (x : Object). finmap.get x.files f)) there ∙ has) of
-
-pub payload_there : (n : ℕ) (o : Object) (it : File) (view : ObjectView) (f : ℕ) → view ≡ object_view n o → finmap.get o.files f ≡ Some it
-    → None ≡ find (λ (r : FileRow). r.file == f) view.files → ⊥
-payload_there n o it view f is has found =
-    let none : None ≡ Some (file_row n f it) =
-    found ∙ ap (λ (v : ObjectView). find (λ (r : FileRow). r.file == f) v.files) is ∙ row_found n o f ∙ ap (option_map (file_row n f)) has in
-    cc
 
 -- ---- a bag
 
@@ -117,14 +94,14 @@ object_in n view (Some it) e = (it, (refl, same_view view (object_view n it) e))
 
 pub bag_reply_is : (s : State) (n : ℕ) (path : List ℕ) (view : ObjectView) (sh : Shown) (delivery : Delivery) (said : Option Performed)
     → sh ≡ shown.Object view → sh ≡ shown_at s (subject.Object n)
-    → ((s : State) (n : ℕ) (o : Object) → finmap.get s.objects n ≡ Some o → view ≡ object_view n o
+    → ((o : Object) → finmap.get s.objects n ≡ Some o → view ≡ object_view n o
     → Says s (answer 200 (shown_in_bag o path) None None) delivery said)
     → Says s (bag_answer s n path) delivery said
 bag_reply_is s n path view sh delivery said is e says =
     let found = object_in n view (finmap.get s.objects n) (sym is ∙ e) in
     says_as s (answer 200 (shown_in_bag found.0 path) None None) (bag_answer s n path) delivery said
     (ap (λ (o : Option Object). answer 200 (option_and_then (λ (x : Object). shown_in_bag x path) o) None None) (sym found.1.0))
-    (says s n found.0 found.1.0 found.1.1)
+    (says found.0 found.1.0 found.1.1)
 
 no_object : (n : ℕ) (sh : Shown) (o : Option Object) → ((view : ObjectView) → sh ≡ shown.Object view → ⊥)
     → sh ≡ option_map_or (λ (x : Object). shown.Object (object_view n x)) o shown.Nothing → o ≡ None

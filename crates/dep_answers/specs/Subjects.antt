@@ -1,5 +1,5 @@
 -- What has to be read of the archive for a reply, and what is read.
-use Rattle.std.specs.Prelude.{◌-◌}
+use Rattle.std.specs.Prelude.{ℕ, ◌-◌, Option, Some, None}
 use Rattle.std.specs.Option.{option_map_or}
 use Rattle.std.specs.FinMap as finmap
 use Rattle.dep_types.specs.State.{State, file_at}
@@ -9,10 +9,17 @@ use Rattle.dep_types.specs.declared.target.Resource.{Resource}
 use Rattle.dep_types.specs.declared.target.Resource.TheVariants.{Service, Object, Metadata, FileSet, File, Staging, Upload, BagList, BagFile}
 use Rattle.dep_types.specs.declared.target.Method.{Method}
 use Rattle.dep_types.specs.declared.target.Method.TheVariants.{Get, Head, Post, Put}
+use Rattle.dep_bag.specs.Numbered.{file_number}
 use Rattle.dep_answers.specs.declared.subject.Subject.{Subject}
 use Rattle.dep_answers.specs.declared.subject.Subject.TheVariants as subject
 use Rattle.dep_answers.specs.declared.subject.Shown.{Shown}
 use Rattle.dep_answers.specs.declared.subject.Shown.TheVariants as shown
+
+-- what is read to show what stands at a path of a bag: the one file that can stand there, or else all that is told of
+-- the object
+abbrev pub subject_in_bag : ℕ → (file : Option ℕ) → Subject
+subject_in_bag n None = subject.Object n
+subject_in_bag n (Some f) = subject.File (record { object = n; file = f })
 
 -- what is read to show a resource
 abbrev pub subject_at : Resource → Subject
@@ -21,7 +28,7 @@ subject_at (Metadata n) = subject.Metadata n
 subject_at (File n f) = subject.File (record { object = n; file = f })
 subject_at (Upload u) = subject.Upload u
 subject_at (BagList n) = subject.Object n
-subject_at (BagFile n path) = subject.Object n
+subject_at (BagFile n path) = subject_in_bag n (file_number path)
 subject_at resource = subject.Nothing
 
 -- what is read for the reply to a request that was accepted, by the counters that it left

@@ -1,22 +1,22 @@
 //! Replies that show the bag of an object (RFC 8493).
-ghost use Rattle.std.specs.Prelude.{◌≡◌, ◌==◌, ℕ, IfOk, IfSome, Some, None, find};
-ghost use Rattle.std.specs.Option.{option_copied};
+ghost use Rattle.std.specs.Prelude.{◌≡◌, ℕ, IfOk, IfSome, Some, None};
 ghost use Rattle.std.specs.FinMap as map;
-ghost use Rattle.dep_types.specs.State.{State, Object as StateObject, File as StateFile};
-ghost use Rattle.dep_types.specs.Rows.{object_view};
+ghost use Rattle.dep_types.specs.State.{State, Object as StateObject, File as StateFile, file_at};
+ghost use Rattle.dep_types.specs.Rows.{file_row, object_view};
+ghost use Rattle.dep_types.specs.Sound.{IsSound};
 ghost use Rattle.dep_bag.specs.Bag.{list_text};
+ghost use Rattle.dep_bag.specs.Numbered.{file_number};
 ghost use Rattle.dep_answers.specs.Answers.{answer, StoredContent};
 ghost use Rattle.dep_answers.specs.Bags.{shown_in_bag};
 ghost use Rattle.dep_answers.specs.Performing.{HasEnd, Says};
-ghost use Rattle.dep_answers.specs.Subjects.{shown_at};
+ghost use Rattle.dep_answers.specs.Subjects.{shown_at, subject_in_bag};
 ghost use Rattle.dep_answers.specs.Told.{told_list, form_at, bag_answer};
-ghost use Rattle.dep_answers.specs.declared.subject.Subject.TheVariants.{Object};
 
 use crate::answer::{Answer, Content, Form};
 use crate::performed::{Delivery, Performed};
 use crate::stored::stored_reply;
 use crate::subject::Shown;
-use dep_bag::{BagPart, bag_file, bag_paths};
+use dep_bag::{BagPart, bag_file, bag_paths, is_payload_path};
 use dep_reply::Status;
 use dep_types::{FileRow, ObjectView, Octets, Text};
 use std::alloc::{AllocError, Global};
@@ -48,31 +48,54 @@ fn list_text(alloc: Global, paths: &[Text]) -> Result<Vec<u8>, AllocError>
     Ok(text)
 }
 
-/// The reply that shows what stands at a path of an object's bag, where an object was read and something stands there.
+/// The reply that shows what stands at a path of an object's bag, where something stands there: by the row of the one file
+/// that can, or else by all that is told of the object.
 pub(crate) fn bag_reply(
     alloc: Global,
     shown: &Shown,
     path: &[u8],
     delivery: Delivery,
 ) -> Result<Option<Performed>, AllocError>
-    ensures says { IfOk result (λ said. (s : State) (n : ℕ) → shown.now ≡ shown_at s (Object n)
+    ensures says { IfOk result (λ said. (s : State) (n : ℕ) → IsSound s
+        → shown.now ≡ shown_at s (subject_in_bag n (file_number path.now))
         → Says s (bag_answer s n path.now) delivery said) }
     ensures ends { IfOk result (λ said. IfSome said HasEnd) }
 {
     match shown {
-        Shown::Object(view) => part_reply(alloc, view, path, delivery),
+        Shown::Object(view) => tag_file_reply(alloc, view, path, delivery),
+        Shown::File(row) => file_reply_at(alloc, row, path, delivery),
         _ => Ok(None),
     }
 }
 
-fn part_reply(
+// The content of the file with this row, without an entity tag, where it stands at the path.
+fn file_reply_at(
+    alloc: Global,
+    row: &FileRow,
+    path: &[u8],
+    delivery: Delivery,
+) -> Result<Option<Performed>, AllocError>
+    ensures says { IfOk result (λ said. (s : State) (n : ℕ) (f : ℕ) (it : StateFile) → IsSound s
+        → file_number path.now ≡ Some f → file_at s n f ≡ Some it → row.now ≡ file_row n f it
+        → Says s (bag_answer s n path.now) delivery said) }
+    ensures ends { IfOk result (λ said. IfSome said HasEnd) }
+{
+    if is_payload_path(path, row) {
+        Ok(Some(stored_reply(alloc, row, None, delivery)?))
+    } else {
+        Ok(None)
+    }
+}
+
+// The tag file at a path where no payload file can stand.
+fn tag_file_reply(
     alloc: Global,
     view: &ObjectView,
     path: &[u8],
     delivery: Delivery,
 ) -> Result<Option<Performed>, AllocError>
-    ensures says { IfOk result (λ said. (s : State) (n : ℕ) (o : StateObject)
-        → map.get s.objects n ≡ Some o → view.now ≡ object_view n o
+    ensures says { IfOk result (λ said. (s : State) (n : ℕ) (o : StateObject) → IsSound s
+        → file_number path.now ≡ None → map.get s.objects n ≡ Some o → view.now ≡ object_view n o
         → Says s (answer 200 (shown_in_bag o path.now) None None) delivery said) }
     ensures ends { IfOk result (λ said. IfSome said HasEnd) }
 {
@@ -80,7 +103,7 @@ fn part_reply(
         Some(BagPart::Bytes(text)) => {
             Answer::showing(Status::Ok, Content::new(form_at(path), text)).say(alloc, delivery)
         }
-        Some(BagPart::Stored(file)) => payload_reply(alloc, view, file, delivery),
+        Some(BagPart::Stored(_)) => Ok(None),
         None => Ok(None),
     }
 }
@@ -94,35 +117,4 @@ fn form_at(path: &[u8]) -> Form
     } else {
         Form::PlainText
     }
-}
-
-// The content of a file of the object, without an entity tag.
-fn payload_reply(
-    alloc: Global,
-    view: &ObjectView,
-    file: u64,
-    delivery: Delivery,
-) -> Result<Option<Performed>, AllocError>
-    ensures says { IfOk result (λ said. (s : State) (n : ℕ) (o : StateObject) (it : StateFile)
-        → map.get s.objects n ≡ Some o → view.now ≡ object_view n o
-        → map.get o.files file ≡ Some it
-        → Says s (answer 200 (Some (StoredContent it.media it.content)) None None) delivery said) }
-    ensures ends { IfOk result (λ said. IfSome said HasEnd) }
-{
-    match row_of(view.files.as_slice(), file) {
-        Some(row) => Ok(Some(stored_reply(alloc, row, None, delivery)?)),
-        None => Ok(None),
-    }
-}
-
-// The row of the file with this number.
-fn row_of(rows: &[FileRow], file: u64) -> Option<&FileRow>
-    ensures { option_copied result ≡ find (λ row. row.file == file) rows.now }
-{
-    for row in rows {
-        if row.file == file {
-            return Some(row);
-        }
-    }
-    None
 }

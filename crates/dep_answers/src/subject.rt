@@ -2,9 +2,10 @@
 ghost use Rattle.std.specs.Prelude.{◌≡◌};
 ghost use Rattle.dep_types.specs.declared.counters.Counters.{Counters as ACounters};
 ghost use Rattle.dep_types.specs.declared.target.Method.TheVariants.{Post, Put};
-ghost use Rattle.dep_answers.specs.Subjects.{subject_at, subject_of};
+ghost use Rattle.dep_answers.specs.Subjects.{subject_at, subject_in_bag, subject_of};
 
 use crate::performed::FileId;
+use dep_bag::file_number;
 use dep_rulings::Numbers;
 use dep_types::{
     Counters, FileRow, Metadata, Method, ObjectRow, ObjectView, Resource, Target, UploadRow,
@@ -77,14 +78,26 @@ impl Subject {
 fn shown_by(resource: &Resource) -> Subject
     ensures { result ≡ subject_at resource.now }
 {
-    match *resource {
-        Resource::Object(object) | Resource::BagList(object) | Resource::BagFile(object, _) => {
-            Subject::Object(object)
-        }
-        Resource::Metadata(object) => Subject::Metadata(object),
-        Resource::File(object, file) => Subject::File(FileId { object, file }),
-        Resource::Upload(upload) => Subject::Upload(upload),
+    match resource {
+        Resource::Object(object) | Resource::BagList(object) => Subject::Object(*object),
+        Resource::BagFile(object, path) => in_bag(*object, file_number(path.as_slice())),
+        Resource::Metadata(object) => Subject::Metadata(*object),
+        Resource::File(object, file) => Subject::File(FileId {
+            object: *object,
+            file: *file,
+        }),
+        Resource::Upload(upload) => Subject::Upload(*upload),
         Resource::Service | Resource::FileSet(_) | Resource::Staging => Subject::Nothing,
+    }
+}
+
+// What is read to show a path of a bag where this file alone can stand, or no file.
+fn in_bag(object: u64, file: Option<u64>) -> Subject
+    ensures { result ≡ subject_in_bag object file }
+{
+    match file {
+        Some(file) => Subject::File(FileId { object, file }),
+        None => Subject::Object(object),
     }
 }
 

@@ -11,6 +11,7 @@ pub mod Payload
 pub mod Exported
 pub mod Keys
 pub mod PayloadPaths
+pub mod Numbered
 pub mod Files
 pub mod Whole
 pub mod Tells

@@ -47,14 +47,14 @@ All-none p (x ∷ xs) h = let parts = or-parts (p x) (list_any p xs) h in All-co
 pub split_first : {X : Type 0} (p : X → Bool) (xs : List X) (y : X) (ys : List X) → list_any p xs ≡ false → p y ≡ true → slice_split p (xs ++ y ∷ ys) ≡ xs ∷ slice_split p ys
 split_first p xs y ys none passes = slice_split_at p xs y ys (All-none p xs none) passes
 
-prefix_first : {X : Type 0} (p : X → Bool) (xs : List X) (y : X) (ys : List X) → list_all p xs ≡ true → p y ≡ false → prefix_len p (xs ++ y ∷ ys) ≡ length xs
+pub prefix_first : {X : Type 0} (p : X → Bool) (xs : List X) (y : X) (ys : List X) → list_all p xs ≡ true → p y ≡ false → prefix_len p (xs ++ y ∷ ys) ≡ length xs
 prefix_first p [] y ys all stops = ap (λ b. cond b (1 + prefix_len p ys) 0) stops
 prefix_first p (x ∷ xs) y ys all stops =
     let parts = and-parts (p x) (list_all p xs) all in
     let rest = prefix_first p xs y ys parts.1 stops in
     ap (λ b. cond b (1 + prefix_len p (xs ++ y ∷ ys)) 0) parts.0 ∙ omega (arith, rest)
 
-take_front : {X : Type 0} (xs ys : List X) → take (length xs) (xs ++ ys) ≡ xs
+pub take_front : {X : Type 0} (xs ys : List X) → take (length xs) (xs ++ ys) ≡ xs
 take_front [] ys = refl
 take_front (x ∷ xs) ys = ap (λ l. x ∷ l) (take_front xs ys)
 

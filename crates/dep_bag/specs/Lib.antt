@@ -2,6 +2,7 @@ pub mod Bag
 pub mod Valid
 pub mod Named
 pub mod Parts
+pub mod Numbered
 pub mod Source
 pub mod ExportFaults
 pub mod Giving

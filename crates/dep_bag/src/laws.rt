@@ -13,6 +13,8 @@ ghost use Rattle.dep_bag.specs.Valid.{IsValidBag, Line, is_payload, lines_of};
 ghost use Rattle.dep_types.specs.Rows.{object_view};
 ghost use Rattle.dep_bag.specs.Parts.{told_parts, told_bytes, held_bytes};
 ghost use Rattle.dep_bag.specs.Named.{percent_encoded};
+ghost use Rattle.dep_bag.specs.Numbered.{file_number};
+ghost use Rattle.dep_types.specs.Limits.{IsStorable};
 
 /// The bag of each object of a sound state is valid (RFC 8493, section 3).
 pub fn bag_is_valid()
@@ -49,6 +51,12 @@ pub fn valid_bag_tells_each_file()
 pub fn good_path_is_encoded()
     ensures { (n : ℕ) (name : List ℕ) → IsTrue (is_good_name name)
         → encoded_path (payload_path n name) ≡ percent_encoded (payload_path n name) }
+{}
+
+/// The path of a payload file tells the number of its file.
+pub fn payload_path_tells_its_number()
+    ensures { (file : ℕ) (name : List ℕ) → IsStorable file
+        → file_number (payload_path file name) ≡ Some file }
 {}
 
 /// The lines of a bag's list are its paths.

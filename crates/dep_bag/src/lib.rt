@@ -15,5 +15,5 @@ mod tag_manifests;
 pub use export_fault::ExportFault;
 pub use exporting::export;
 pub use part::{BagPart, bag_file};
-pub use paths::{bag_paths, has_bag_path};
+pub use paths::{bag_paths, file_number, has_bag_path, is_payload_path};
 pub use source::BagSource;

@@ -1,12 +1,18 @@
 //! The paths of a bag.
-ghost use Rattle.std.specs.Prelude.{◌≡◌, ◌≢◌, ◌++◌, ◌∷◌, [], ℕ, List, IfOk, OnOk, MatchOption, bytes_eq, map};
-ghost use Rattle.std.specs.List.{list_any};
+ghost use Rattle.std.specs.Prelude.{◌≡◌, ◌≢◌, ◌==◌, ◌++◌, ◌∷◌, [], ℕ, List, IfOk, IfSome, OnOk, MatchOption, bytes_eq, map, position};
+ghost use Rattle.std.specs.List.{before_first, list_any};
 ghost use Rattle.dep_types.specs.BagPaths.{tag_paths};
+ghost use Rattle.dep_types.specs.Limits.{IsStorable};
 ghost use Rattle.dep_bag.specs.Parts.{in_folder, row_path, told_paths};
+ghost use Rattle.dep_bag.specs.Numbered.{file_number, number_written};
 
+use dep_octets::{Number, decimal};
 use dep_types::{FileRow, ObjectView, Text, TextList};
 use itoa::Buffer;
 use std::alloc::{AllocError, Global};
+
+/// The greatest number that a table can hold.
+const GREATEST_NUMBER: u64 = 9_223_372_036_854_775_807;
 
 pub(crate) const BAGIT: &str = "bagit.txt";
 
@@ -67,8 +73,8 @@ pub(crate) fn payload_path(alloc: Global, row: &FileRow) -> Result<Text, AllocEr
     Ok(Text::new(path))
 }
 
-/// Whether a file stands at this path.
-pub(crate) fn is_payload_path(path: &[u8], row: &FileRow) -> bool
+/// Whether the file of this row stands at the path in its object's bag. Paths are compared byte by byte.
+pub fn is_payload_path(path: &[u8], row: &FileRow) -> bool
     ensures { result ≡ bytes_eq path.now (row_path row.now) }
 {
     let mut digits = Buffer::new();
@@ -102,6 +108,43 @@ fn has_payload_path(files: &[FileRow], path: &[u8]) -> bool
     ensures { result ≡ list_any (λ row. bytes_eq path.now (row_path row)) files.now }
 {
     files.iter().any(|row| is_payload_path(path, row))
+}
+
+/// The number of the one file that can stand at this path of a bag, if one can: that of a path `data/NUMBER/NAME`, where a
+/// table can hold it. It may begin with zeros, so whether the file stands there is still to be asked.
+pub fn file_number(path: &[u8]) -> Option<u64>
+    ensures told { result ≡ file_number path.now }
+    ensures fits { IfSome result IsStorable }
+{
+    match after(path, b"data/") {
+        Some(folder) => number_written(before_slash(folder)),
+        None => None,
+    }
+}
+
+fn number_written(digits: &[u8]) -> Option<u64>
+    ensures told { result ≡ number_written digits.now }
+    ensures fits { IfSome result IsStorable }
+{
+    match decimal(digits, GREATEST_NUMBER) {
+        Number::Value(number) => Some(number),
+        Number::Above | Number::NotDigits => None,
+    }
+}
+
+fn before_slash(text: &[u8]) -> &[u8]
+    ensures { result.now ≡ before_first (λ b. b == 47) text.now }
+{
+    match first_slash(text) {
+        Some(slash) => &text[..slash],
+        None => text,
+    }
+}
+
+fn first_slash(text: &[u8]) -> Option<usize>
+    ensures { result ≡ position (λ b. b == 47) text.now }
+{
+    text.iter().position(|b| *b == b'/')
 }
 
 // What stands behind the folder of this number.

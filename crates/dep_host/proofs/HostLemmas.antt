@@ -1,9 +1,9 @@
 -- How a host goes on.
-use Rattle.std.proofs.Common.{◌≡◌, ◌<◌, ◌≤◌, ◌+◌, ◌==◌, ℕ, Bool, true, false, if◌then◌else◌, List, [], ◌∷◌, ◌++◌, Option, None, Some, refl, sym, ap, subst, ◌∙◌, append_assoc, length, get_or, set, inl, inr, arith}
-use Rattle.std.proofs.lemmas.List.{append-nil, get_or_default, set-get_or, get_or_past}
-use Rattle.std.proofs.lemmas.Bool.{ne_eqb, cases_eq, cases_lt}
+use Rattle.std.proofs.Common.{◌≡◌, ◌⊎◌, ◌<◌, ◌≤◌, ◌+◌, ◌==◌, ℕ, zero, suc, Bool, true, false, if◌then◌else◌, List, [], ◌∷◌, ◌++◌, Option, None, Some, refl, sym, ap, subst, ◌∙◌, append_assoc, length, get_or, set, take, nat_lt, add-one, inl, inr, arith}
+use Rattle.std.proofs.lemmas.List.{append-nil, get_or_default, set-get_or, get_or_past, get_or-set_other}
+use Rattle.std.proofs.lemmas.Bool.{ne_eqb, cases_eq, cases_lt, lt-ltb}
 use Rattle.std.proofs.KnownBytes.{Keeps-refl}
-use Rattle.std.specs.Prelude.{IfSome}
+use Rattle.std.specs.Prelude.{IfSome, IsSomeAnd, MatchOption}
 use Rattle.std.specs.Io.KnownBytes.{Keeps}
 use Rattle.dep_types.specs.Conditions.{Condition}
 use Rattle.dep_server.specs.Holding.{KeepsHolding}
@@ -11,10 +11,14 @@ use Rattle.dep_server.specs.declared.hub.Hub.{Hub}
 use Rattle.dep_server.specs.Standing.{IsClean, IsHonest}
 use Rattle.dep_outbox.specs.declared.wire.Wire.{Wire}
 use Rattle.dep_outbox.specs.Wires.{told}
-use Rattle.dep_host.specs.Courses.{is_ended}
+use Rattle.dep_host.specs.Courses.{is_ended, closing as why}
 use Rattle.dep_host.specs.declared.seat.Seat.{Seat}
+use Rattle.dep_host.specs.declared.limits.Limits.{Limits}
+use Rattle.dep_host.specs.declared.log.Closing.{Closing}
+use Rattle.dep_host.specs.declared.log.Closing.TheVariants.{Large}
+use Rattle.dep_host.specs.declared.course.Phase.TheVariants.{Open}
 use Rattle.dep_host.specs.Seats.{TakesTurn}
-use Rattle.dep_host.specs.Hosting.{Position, slot, HasTime, HasDone, Deed, Takes, Replies, Declines, Closes, answers_at, AreClosedAt, HasTurn, Goes, Step, refused, rests, offers, refuses, answers, leaves, Steps, begins, goes_on, GoesOn, Serves, GoesRound}
+use Rattle.dep_host.specs.Hosting.{Position, slot, HasTime, MayGo, Deed, Takes, Replies, Declines, Closes, answers_at, pieces_at, unfinished_of, unfinished_in, AreClosedAt, HasTurn, Goes, Asks, Step, refused, asks, rests, offers, refuses, answers, leaves, Steps, begins, goes_on, GoesOn, Serves, GoesRound, Sheds}
 
 -- what was read at a place is what stands there
 pub slot_read : {X : Type 0} (at : ℕ) (seats : List (Option X)) (x : Option X) → at < length seats → x ≡ get_or seats at x → slot at seats ≡ x
@@ -23,6 +27,10 @@ slot_read at seats x there read = get_or_default seats at None x there ∙ sym r
 answers_append : (place : ℕ) (xs ys : List Deed) → answers_at place (xs ++ ys) ≡ answers_at place xs + answers_at place ys
 answers_append place [] ys = let none : answers_at place [] ≡ 0 = refl in omega (arith, none)
 answers_append place (d ∷ xs) ys = let e = answers_append place xs ys in omega (arith, e)
+
+pieces_append : (place : ℕ) (xs ys : List Deed) → pieces_at place (xs ++ ys) ≡ pieces_at place xs + pieces_at place ys
+pieces_append place [] ys = let none : pieces_at place [] ≡ 0 = refl in omega (arith, none)
+pieces_append place (d ∷ xs) ys = let e = pieces_append place xs ys in omega (arith, e)
 
 closed_append : (second : ℕ) (xs ys : List Deed) → AreClosedAt second xs → AreClosedAt second ys → AreClosedAt second (xs ++ ys)
 closed_append second [] ys h k = k
@@ -36,22 +44,88 @@ none_elsewhere : (at place : ℕ) → (place ≡ at → ⊥) → (if at == place
 none_elsewhere at place ne = ap (λ (b : Bool). (if b then 1 else 0) + 0) (ne_eqb at place (λ e. ne (sym e)))
 
 -- who has time left at the places so far, and at one more
-pub left_goes_on : {R K S : Type 0} (old new : List (Option (Seat R K S))) (at next second was idle : ℕ) → ((place : ℕ) → place < at → HasTime second was (slot place old))
-    → HasTime second idle (slot at new) → idle ≡ was → ((place : ℕ) → (place ≡ at → ⊥) → slot place new ≡ slot place old) → next ≡ at + 1
-    → (place : ℕ) → place < next → HasTime second idle (slot place new)
-left_goes_on {R = R} {K = K} {S = S} old new at next second was idle before here same others e place h = elim (cases_lt place at) [
-  | inl lt ↦ subst (λ (n : ℕ). HasTime second n (slot place new)) (sym same)
+pub left_goes_on : {R K S : Type 0} (old new : List (Option (Seat R K S))) (at next second : ℕ) (was limits : Limits) → ((place : ℕ) → place < at → HasTime second was (slot place old))
+    → HasTime second limits (slot at new) → limits ≡ was → ((place : ℕ) → (place ≡ at → ⊥) → slot place new ≡ slot place old) → next ≡ at + 1
+    → (place : ℕ) → place < next → HasTime second limits (slot place new)
+left_goes_on {R = R} {K = K} {S = S} old new at next second was limits before here same others e place h = elim (cases_lt place at) [
+  | inl lt ↦ subst (λ (n : Limits). HasTime second n (slot place new)) (sym same)
       (subst (λ (x : Option (Seat R K S)). HasTime second was x) (sym (others place (λ is. omega (arith, is, lt)))) (before place lt))
-  | inr ge ↦ let is : place ≡ at = omega (arith, ge, h, e) in subst (λ (n : ℕ). HasTime second idle (slot n new)) (sym is) here
+  | inr ge ↦ let is : place ≡ at = omega (arith, ge, h, e) in subst (λ (n : ℕ). HasTime second limits (slot n new)) (sym is) here
 ]
 
 -- beyond the last place nobody sits
-pub left_ends : {R K S : Type 0} (seats : List (Option (Seat R K S))) (at second idle : ℕ) → at ≡ length seats → ((place : ℕ) → place < at → HasTime second idle (slot place seats))
-    → (place : ℕ) → HasTime second idle (slot place seats)
-left_ends {R = R} {K = K} {S = S} seats at second idle all before place = elim (cases_lt place at) [
+pub left_ends : {R K S : Type 0} (seats : List (Option (Seat R K S))) (at second : ℕ) (limits : Limits) → at ≡ length seats → ((place : ℕ) → place < at → HasTime second limits (slot place seats))
+    → (place : ℕ) → HasTime second limits (slot place seats)
+left_ends {R = R} {K = K} {S = S} seats at second limits all before place = elim (cases_lt place at) [
   | inl lt ↦ before place lt
-  | inr ge ↦ subst (λ (x : Option (Seat R K S)). HasTime second idle x) (sym (get_or_past seats place None (omega (arith, ge, all)))) tt
+  | inr ge ↦ subst (λ (x : Option (Seat R K S)). HasTime second limits x) (sym (get_or_past seats place None (omega (arith, ge, all)))) tt
 ]
+
+-- who has time left where the largest was closed
+pub left_sheds : {R K S : Type 0} (old new : List (Option (Seat R K S))) (second : ℕ) (was limits : Limits) → ((place : ℕ) → HasTime second was (slot place old)) → limits ≡ was
+    → ((place : ℕ) → (slot place new ≡ slot place old) ⊎ (slot place new ≡ None)) → (place : ℕ) → HasTime second limits (slot place new)
+left_sheds {R = R} {K = K} {S = S} old new second was limits before same stays place = elim (stays place) [
+  | inl e ↦ subst (λ (x : Option (Seat R K S)). HasTime second limits x) (sym e) (subst (λ (n : Limits). HasTime second n (slot place old)) (sym same) (before place))
+  | inr e ↦ subst (λ (x : Option (Seat R K S)). HasTime second limits x) (sym e) tt
+]
+
+-- nobody sits where nobody sat, once who sat elsewhere changed
+pub free_set : {X : Type 0} (seats : List (Option X)) (at place : ℕ) (before after : X) → slot at seats ≡ Some before → slot place seats ≡ None → slot place (set seats at (Some after)) ≡ None
+free_set seats at place before after sat free = elim (cases_eq place at) [
+  | inl e ↦ absurd (let no : None ≡ Some before = sym free ∙ (ap (λ (n : ℕ). slot n seats) e ∙ sat) in cc)
+  | inr ne ↦ get_or-set_other seats at place (Some after) None ne ∙ free
+]
+
+pub free_same : {X : Type 0} (seats : List (Option X)) (at place : ℕ) (x : Option X) → x ≡ get_or seats at x → slot place seats ≡ None → slot place (set seats at x) ≡ None
+free_same {X = X} seats at place x read free = ap (λ (l : List (Option X)). slot place l) (ap (λ (y : Option X). set seats at y) read ∙ set-get_or seats at x) ∙ free
+
+-- why who sits at a place is closed
+pub closing_there : {A R K S : Type 0} (p : Position A R K S) (at second : ℕ) (seat : Seat R K S) (found : Option Closing) → slot at p.seats ≡ Some seat → found ≡ why seat.course second p.limits
+    → MatchOption found (HasTime second p.limits (slot at p.seats)) (λ reason. MayGo p second reason (slot at p.seats))
+closing_there {R = R} {K = K} {S = S} p at second seat None sat e = subst (λ (o : Option (Seat R K S)). HasTime second p.limits o) (sym sat) (sym e)
+closing_there {R = R} {K = K} {S = S} p at second seat (Some reason) sat e = subst (λ (o : Option (Seat R K S)). MayGo p second reason o) (sym sat) (inl (sym e))
+
+pub none_there : {R K S : Type 0} (seats : List (Option (Seat R K S))) (at second : ℕ) (limits : Limits) → slot at seats ≡ None → HasTime second limits (slot at seats)
+none_there {R = R} {K = K} {S = S} seats at second limits free = subst (λ (o : Option (Seat R K S)). HasTime second limits o) (sym free) tt
+
+-- nobody sits at one place more
+pub none_more : {X : Type 0} (seats : List (Option X)) → ((at : ℕ) → slot at seats ≡ None) → (at : ℕ) → slot at (seats ++ None ∷ []) ≡ None
+none_more [] h zero = refl
+none_more [] h (suc at) = refl
+none_more (s ∷ seats) h zero = h zero
+none_more (s ∷ seats) h (suc at) = none_more seats (λ n. h (suc n)) at
+
+-- the largest may be closed
+pub too_large : {A R K S : Type 0} (p : Position A R K S) (at second : ℕ) (x : Option (Seat R K S)) → slot at p.seats ≡ x → IsSomeAnd x (λ seat. seat.course.phase ≡ Open)
+    → ((place : ℕ) → unfinished_of (slot place p.seats) ≤ unfinished_of (slot at p.seats)) → p.limits.unfinished_bytes < unfinished_in p.seats → MayGo p second Large x
+too_large p at second None e waits most full = absurd waits
+too_large {R = R} {K = K} {S = S} p at second (Some seat) e waits most full = inr (
+  refl,
+  record {
+    full = full;
+    largest = λ place. subst (λ (o : Option (Seat R K S)). unfinished_of (slot place p.seats) ≤ unfinished_of o) e (most place);
+    waits = waits;
+  },
+)
+
+-- how many bytes are kept for all at the places so far, and at one more
+kept_suc : {R K S : Type 0} (seats : List (Option (Seat R K S))) (at : ℕ) → at < length seats → unfinished_in (take (suc at) seats) ≡ unfinished_in (take at seats) + unfinished_of (slot at seats)
+kept_suc [] at h = absurd (let none : ⊥ = omega (arith, h) in none)
+kept_suc (s ∷ seats) zero h =
+    let e : unfinished_in (take (suc zero) (s ∷ seats)) ≡ unfinished_of s + unfinished_in (take zero seats) = refl in
+    let z : unfinished_in (take zero seats) ≡ 0 = refl in
+    let y : unfinished_in (take zero (s ∷ seats)) ≡ 0 = refl in
+    let f : unfinished_of (slot zero (s ∷ seats)) ≡ unfinished_of s = refl in
+    omega (arith, e, z, y, f)
+kept_suc (s ∷ seats) (suc at) h =
+    let more = kept_suc seats at (omega (arith, h)) in
+    let e : unfinished_in (take (suc (suc at)) (s ∷ seats)) ≡ unfinished_of s + unfinished_in (take (suc at) seats) = refl in
+    let y : unfinished_in (take (suc at) (s ∷ seats)) ≡ unfinished_of s + unfinished_in (take at seats) = refl in
+    let f : unfinished_of (slot (suc at) (s ∷ seats)) ≡ unfinished_of (slot at seats) = refl in
+    omega (arith, more, e, y, f)
+
+pub kept_more : {R K S : Type 0} (seats : List (Option (Seat R K S))) (at : ℕ) → at < length seats → unfinished_in (take (at + 1) seats) ≡ unfinished_in (take at seats) + unfinished_of (slot at seats)
+kept_more seats at h = ap (λ (n : ℕ). unfinished_in (take n seats)) (add-one at) ∙ kept_suc seats at h
 
 module _ {A R K S : Type 0} (condition : A → Condition) (unread : R → Option (List ℕ)) (taken : K → Option (List ℕ)) (held : S → Option (List ℕ)) where
   pub one_step : (p q : Position A R K S) (more : List Deed) → Step condition unread taken held p q more → GoesOn condition unread taken held p q
@@ -60,15 +134,19 @@ module _ {A R K S : Type 0} (condition : A → Condition) (unread : R → Option
   pub no_step : (p : Position A R K S) → GoesOn condition unread taken held p p
   no_step p = ([], begins)
 
-  steps_join : {p q r : Position A R K S} {xs ys : List Deed} → Steps condition unread taken held p xs q → Steps condition unread taken held q ys r → Steps condition unread taken held p (xs ++ ys) r
+  pub steps_join : {p q r : Position A R K S} {xs ys : List Deed} → Steps condition unread taken held p xs q → Steps condition unread taken held q ys r → Steps condition unread taken held p (xs ++ ys) r
   steps_join {p = p} {q = q} {xs = xs} s begins = subst (λ (l : List Deed). Steps condition unread taken held p l q) (sym (append-nil xs)) s
   steps_join {p = p} {r = r} {xs = xs} s (goes_on {deeds = ys} {more = more} t step) =
       subst (λ (l : List Deed). Steps condition unread taken held p l r) (append_assoc xs ys more) (goes_on (steps_join s t) step)
 
+  -- one stretch after another
+  pub both : (p q r : Position A R K S) → GoesOn condition unread taken held p q → GoesOn condition unread taken held q r → GoesOn condition unread taken held p r
+  both p q r g h = (g.0 ++ h.0, steps_join g.1 h.1)
+
   -- a place was looked at, and stands as it stood
-  unchanged : (p q : Position A R K S) (at : ℕ) (x : Option (Seat R K S)) → q.hub ≡ p.hub → q.idle ≡ p.idle → q.seats ≡ set p.seats at x → at < length p.seats → x ≡ get_or p.seats at x
+  unchanged : (p q : Position A R K S) (at : ℕ) (x : Option (Seat R K S)) → q.hub ≡ p.hub → q.limits ≡ p.limits → q.seats ≡ set p.seats at x → at < length p.seats → x ≡ get_or p.seats at x
       → Step condition unread taken held p q []
-  unchanged p q at x hub idle seats there read =
+  unchanged p q at x hub limits seats there read =
       let same : q.seats ≡ p.seats = seats ∙ (ap (λ (y : Option (Seat R K S)). set p.seats at y) read ∙ set-get_or p.seats at x) in
       refused (record {
         sits = same;
@@ -76,18 +154,23 @@ module _ {A R K S : Type 0} (condition : A → Condition) (unread : R → Option
         keeps = λ lines kept h. subst (λ (k : Hub A). KeepsHolding condition k lines kept) (sym hub) h;
         same_store = ap (λ (h : Hub A). h.store) hub;
         same_config = ap (λ (h : Hub A). h.config) hub;
-        same_idle = idle;
+        same_limits = limits;
       })
 
-  pub same_seats : (p q : Position A R K S) (at : ℕ) (x : Option (Seat R K S)) → q.hub ≡ p.hub → q.idle ≡ p.idle → q.seats ≡ set p.seats at x → at < length p.seats → x ≡ get_or p.seats at x
-      → GoesOn condition unread taken held p q
-  same_seats p q at x hub idle seats there read = one_step p q [] (unchanged p q at x hub idle seats there read)
+  pub same_seats : (p q : Position A R K S) (at : ℕ) (x : Option (Seat R K S)) → q.hub ≡ p.hub → q.limits ≡ p.limits → q.seats ≡ set p.seats at x → at < length p.seats → x ≡ get_or p.seats at x
+      → Steps condition unread taken held p [] q
+  same_seats p q at x hub limits seats there read = goes_on begins (unchanged p q at x hub limits seats there read)
 
-  -- a connection took note that its socket may be ready
+  -- the hub was asked whether its store is open
+  pub asked : (p q : Position A R K S) → Asks condition unread taken held p q → Steps condition unread taken held p [] q
+  asked p q a = goes_on begins (asks a)
+
+  -- a connection took note of something, and neither its bytes nor its phase changed
   pub woken : (p q : Position A R K S) (at : ℕ) (before after : Seat R K S) → at < length p.seats → slot at p.seats ≡ Some before → q.seats ≡ set p.seats at (Some after)
-      → q.hub ≡ p.hub → q.idle ≡ p.idle → after.connection ≡ before.connection → after.source ≡ before.source → after.wire ≡ before.wire → after.course.phase ≡ before.course.phase
-      → GoesOn condition unread taken held p q
-  woken p q at before after there sat sits hub idle number source wire phase = one_step p q [] (rests {at = at} {before = before} {after = after} (record {
+      → q.hub ≡ p.hub → q.limits ≡ p.limits → after.connection ≡ before.connection → after.source ≡ before.source → after.wire ≡ before.wire
+      → (after.course.phase ≡ Open → before.course.phase ≡ Open) → (is_ended before.course.phase ≡ true → is_ended after.course.phase ≡ true)
+      → after.course.unfinished ≡ before.course.unfinished → Steps condition unread taken held p [] q
+  woken p q at before after there sat sits hub limits number source wire opens ended count = goes_on begins (rests {at = at} {before = before} {after = after} (record {
     there = there;
     sat = sat;
     sits = sits;
@@ -96,68 +179,100 @@ module _ {A R K S : Type 0} (condition : A → Condition) (unread : R → Option
     same_config = ap (λ (h : Hub A). h.config) hub;
     clean = λ h. subst (λ (k : Hub A). IsClean condition k) hub h;
     honest = λ h. subst (λ (k : Hub A). IsHonest condition k) hub h;
-    ended = λ h. ap is_ended phase ∙ h;
-    same_idle = idle;
+    ended = ended;
+    same_limits = limits;
   }) (record {
     same = hub;
     keeps = subst (λ (w : Wire K S). Keeps (told taken held before.wire) (told taken held w)) (sym wire) (Keeps-refl (told taken held before.wire));
     gives = λ h. subst (λ (r : R). Keeps (unread before.source) (unread r)) (sym source) (Keeps-refl (unread before.source));
-    opens = λ h. sym phase ∙ h;
+    opens = opens;
+    keeps_count = λ h. count;
   }))
 
   -- nothing was done at a place
-  pub served_none : (p q : Position A R K S) (at second : ℕ) (x : Option (Seat R K S)) → q.hub ≡ p.hub → q.idle ≡ p.idle → q.seats ≡ set p.seats at x → at < length p.seats → x ≡ get_or p.seats at x
-      → Serves condition unread taken held p q at second
-  served_none p q at second x hub idle seats there read = record {
+  pub served_none : (p q : Position A R K S) (at second : ℕ) (is_full : Bool) (x : Option (Seat R K S)) → q.hub ≡ p.hub → q.limits ≡ p.limits → q.seats ≡ set p.seats at x → at < length p.seats → x ≡ get_or p.seats at x
+      → Serves condition unread taken held p q at second is_full
+  served_none p q at second is_full x hub limits seats there read = record {
     deeds = [];
-    steps = goes_on begins (unchanged p q at x hub idle seats there read);
+    steps = goes_on begins (unchanged p q at x hub limits seats there read);
     once = omega arith;
     others = λ place ne. refl;
+    waits = λ full some. refl;
+    unread_others = λ place ne. refl;
     closes = tt;
   }
 
+  -- of a request of which something is kept no more was read
+  none_read : (p : Position A R K S) (at n : ℕ) (before : Seat R K S) → slot at p.seats ≡ Some before → before.course.unfinished ≡ 0 → 0 < unfinished_of (slot at p.seats) → n ≡ 0
+  none_read p at n before sat none some = absurd (
+      let kept : unfinished_of (slot at p.seats) ≡ before.course.unfinished = ap (λ (x : Option (Seat R K S)). unfinished_of x) sat in
+      let no : ⊥ = omega (arith, kept, none, some) in no)
+
   -- a connection had its turn
-  pub took_turn : (p q : Position A R K S) (at second moment : ℕ) (before after : Seat R K S) → HasTurn condition unread taken held p q at before after
-      → TakesTurn condition unread taken held p.hub q.hub before after moment → Serves condition unread taken held p q at second
-  took_turn p q at second moment before after t (inl r) = record {
+  pub took_turn : (p q : Position A R K S) (at second moment : ℕ) (is_full : Bool) (before after : Seat R K S) → HasTurn condition unread taken held p q at before after
+      → TakesTurn condition unread taken held p.hub q.hub before after moment is_full → Serves condition unread taken held p q at second is_full
+  took_turn p q at second moment is_full before after t (inl r) = record {
     deeds = [];
     steps = goes_on begins (rests t r);
     once = omega arith;
     others = λ place ne. refl;
+    waits = λ full some. refl;
+    unread_others = λ place ne. refl;
     closes = tt;
   }
-  took_turn p q at second moment before after t (inr (inl o)) = record {
+  took_turn p q at second moment is_full before after t (inr (inl o)) = record {
     deeds = Takes at before.connection o.piece ∷ [];
     steps = goes_on begins (offers t o);
     once = omega arith;
     others = λ place ne. refl;
+    waits = λ full some. none_read p at _ before t.sat (o.read.allowed full) some;
+    unread_others = λ place ne. none_elsewhere at place ne;
     closes = (tt, tt);
   }
-  took_turn p q at second moment before after t (inr (inr (inl r))) = record {
+  took_turn p q at second moment is_full before after t (inr (inr (inl r))) = record {
     deeds = Declines at before.connection r.piece moment r.answers.sent ∷ [];
     steps = goes_on begins (refuses t r);
     once = one_at_most (at == at);
     others = λ place ne. none_elsewhere at place ne;
+    waits = λ full some. none_read p at _ before t.sat (r.read.allowed full) some;
+    unread_others = λ place ne. none_elsewhere at place ne;
     closes = (tt, tt);
   }
-  took_turn p q at second moment before after t (inr (inr (inr a))) = record {
+  took_turn p q at second moment is_full before after t (inr (inr (inr a))) = record {
     deeds = Replies at before.connection moment a.answers.sent ∷ [];
     steps = goes_on begins (answers t a);
     once = one_at_most (at == at);
     others = λ place ne. none_elsewhere at place ne;
+    waits = λ full some. refl;
+    unread_others = λ place ne. refl;
     closes = (tt, tt);
   }
 
+  -- its turn had begun before
+  pub after_begin : (p q r : Position A R K S) (at second : ℕ) (is_full : Bool) → Steps condition unread taken held p [] q → unfinished_of (slot at q.seats) ≡ unfinished_of (slot at p.seats)
+      → Serves condition unread taken held q r at second is_full → Serves condition unread taken held p r at second is_full
+  after_begin p q r at second is_full b count s = record {
+    deeds = s.deeds;
+    steps = steps_join b s.steps;
+    once = s.once;
+    others = s.others;
+    waits = λ full some. s.waits full (omega (arith, count, some));
+    unread_others = s.unread_others;
+    closes = s.closes;
+  }
+
   -- and was closed after it
-  pub then_closed : (p q r : Position A R K S) (at second : ℕ) (seat : Seat R K S) → Serves condition unread taken held p q at second → Goes condition unread taken held q r at second seat
-      → Serves condition unread taken held p r at second
-  then_closed p q r at second seat s g =
+  pub then_closed : (p q r : Position A R K S) (at second : ℕ) (is_full : Bool) (seat : Seat R K S) → Serves condition unread taken held p q at second is_full → Goes condition unread taken held q r at second seat
+      → Serves condition unread taken held p r at second is_full
+  then_closed p q r at second is_full seat s g =
       let more : List Deed = Closes at seat.connection second ∷ [] in
       record {
         deeds = s.deeds ++ more;
         steps = goes_on s.steps (leaves g);
         once = let e = answers_append at s.deeds more in let f : answers_at at more ≡ 0 = refl in let o = s.once in omega (arith, e, f, o);
         others = λ place ne. let e = answers_append place s.deeds more in let f : answers_at place more ≡ 0 = refl in let o = s.others place ne in omega (arith, e, f, o);
+        waits = λ full some. let e = pieces_append at s.deeds more in let f : pieces_at at more ≡ 0 = refl in let o = s.waits full some in omega (arith, e, f, o);
+        unread_others = λ place ne. let e = pieces_append place s.deeds more in let f : pieces_at place more ≡ 0 = refl in let o = s.unread_others place ne in omega (arith, e, f, o);
         closes = closed_append second s.deeds more s.closes (refl, tt);
       }
 
@@ -169,25 +284,37 @@ module _ {A R K S : Type 0} (condition : A → Condition) (unread : R → Option
   pub closing_none : (p q : Position A R K S) (at second : ℕ) (x : Option (Seat R K S)) → x ≡ None → IfSome x (Goes condition unread taken held p q at second)
   closing_none p q at second x e = subst (λ (o : Option (Seat R K S)). IfSome o (Goes condition unread taken held p q at second)) (sym e) tt
 
-  pub closes_served : (p q r : Position A R K S) (at second idle : ℕ) (x : Option (Seat R K S)) → Serves condition unread taken held p q at second → HasDone second idle x
-      → IfSome x (Goes condition unread taken held q r at second) → Serves condition unread taken held p r at second
-  closes_served p q r at second idle None s d g = absurd d
-  closes_served p q r at second idle (Some seat) s d g = then_closed p q r at second seat s g
+  pub closes_served : (p q r : Position A R K S) (at second : ℕ) (is_full : Bool) (reason : Closing) (x : Option (Seat R K S)) → Serves condition unread taken held p q at second is_full → MayGo q second reason x
+      → IfSome x (Goes condition unread taken held q r at second) → Serves condition unread taken held p r at second is_full
+  closes_served p q r at second is_full reason None s d g = absurd d
+  closes_served p q r at second is_full reason (Some seat) s d g = then_closed p q r at second is_full seat s g
 
   -- the places so far had their turns
-  pub record RoundSoFar (p q : Position A R K S) (at second : ℕ) : Type 0 where
+  pub record RoundSoFar (p q : Position A R K S) (at second : ℕ) (is_full : Bool) : Type 0 where
     deeds : List Deed
     steps : Steps condition unread taken held p deeds q
     once : (place : ℕ) → answers_at place deeds ≤ 1
     later : (place : ℕ) → at ≤ place → answers_at place deeds ≡ 0
+    waits : is_full ≡ true → (place : ℕ) → 0 < unfinished_of (slot place p.seats) → pieces_at place deeds ≡ 0
+    unread_later : (place : ℕ) → at ≤ place → pieces_at place deeds ≡ 0
+    stays : (place : ℕ) → at ≤ place → slot place q.seats ≡ slot place p.seats
     closes : AreClosedAt second deeds
 
-  pub round_begins : (p : Position A R K S) (second : ℕ) → RoundSoFar p p 0 second
-  round_begins p second = record { deeds = []; steps = begins; once = λ place. omega arith; later = λ place h. refl; closes = tt }
+  pub round_begins : (p : Position A R K S) (second : ℕ) (is_full : Bool) → RoundSoFar p p 0 second is_full
+  round_begins p second is_full = record {
+    deeds = [];
+    steps = begins;
+    once = λ place. omega arith;
+    later = λ place h. refl;
+    waits = λ full place some. refl;
+    unread_later = λ place h. refl;
+    stays = λ place h. refl;
+    closes = tt;
+  }
 
-  pub round_goes_on : (p q r : Position A R K S) (at next second : ℕ) → RoundSoFar p q at second → Serves condition unread taken held q r at second → next ≡ at + 1
-      → RoundSoFar p r next second
-  round_goes_on p q r at next second s t e = record {
+  pub round_goes_on : (p q r : Position A R K S) (at next second : ℕ) (is_full : Bool) → RoundSoFar p q at second is_full → Serves condition unread taken held q r at second is_full
+      → ((place : ℕ) → (place ≡ at → ⊥) → slot place r.seats ≡ slot place q.seats) → next ≡ at + 1 → RoundSoFar p r next second is_full
+  round_goes_on p q r at next second is_full s t same e = record {
     deeds = s.deeds ++ t.deeds;
     steps = steps_join s.steps t.steps;
     once = λ place. elim (cases_eq place at) [
@@ -197,9 +324,46 @@ module _ {A R K S : Type 0} (condition : A → Condition) (unread : R → Option
     ];
     later = λ place h.
         let a = answers_append place s.deeds t.deeds in let b = s.later place (omega (arith, h, e)) in
-        let c = t.others place (λ same. omega (arith, same, h, e)) in omega (arith, a, b, c);
+        let c = t.others place (λ is. omega (arith, is, h, e)) in omega (arith, a, b, c);
+    waits = λ full place some. elim (cases_eq place at) [
+      | inl h ↦ let a = pieces_append place s.deeds t.deeds in let b = s.unread_later place (omega (arith, h)) in
+          let stands = ap (λ (x : Option (Seat R K S)). unfinished_of x) (s.stays place (omega (arith, h))) in
+          let kept : 0 < unfinished_of (slot place q.seats) = omega (arith, stands, some) in
+          let c : pieces_at place t.deeds ≡ 0 = subst (λ (n : ℕ). pieces_at n t.deeds ≡ 0) (sym h) (t.waits full (subst (λ (n : ℕ). 0 < unfinished_of (slot n q.seats)) h kept)) in omega (arith, a, b, c)
+      | inr ne ↦ let a = pieces_append place s.deeds t.deeds in let b = t.unread_others place ne in let c = s.waits full place some in omega (arith, a, b, c)
+    ];
+    unread_later = λ place h.
+        let a = pieces_append place s.deeds t.deeds in let b = s.unread_later place (omega (arith, h, e)) in
+        let c = t.unread_others place (λ is. omega (arith, is, h, e)) in omega (arith, a, b, c);
+    stays = λ place h. same place (λ is. omega (arith, is, h, e)) ∙ s.stays place (omega (arith, h, e));
     closes = closed_append second s.deeds t.deeds s.closes t.closes;
   }
 
-  pub round_ends : (p q : Position A R K S) (at second : ℕ) → RoundSoFar p q at second → GoesRound condition unread taken held p q second
-  round_ends p q at second s = record { deeds = s.deeds; steps = s.steps; once = s.once; closes = s.closes }
+  pub round_ends : (p q : Position A R K S) (at second : ℕ) (is_full : Bool) → RoundSoFar p q at second is_full → is_full ≡ nat_lt p.limits.unfinished_bytes (unfinished_in p.seats)
+      → GoesRound condition unread taken held p q second
+  round_ends p q at second is_full s e = record {
+    deeds = s.deeds;
+    steps = s.steps;
+    once = s.once;
+    waits = λ more place some. s.waits (e ∙ lt-ltb p.limits.unfinished_bytes (unfinished_in p.seats) more) place some;
+    closes = s.closes;
+  }
+
+  -- the largest was closed after it
+  pub round_sheds : (p q r : Position A R K S) (second : ℕ) → GoesRound condition unread taken held p q second → Sheds condition unread taken held q r second → GoesRound condition unread taken held p r second
+  round_sheds p q r second s (inl e) = subst (λ (x : Position A R K S). GoesRound condition unread taken held p x second) (sym e) s
+  round_sheds p q r second s (inr (at, seat, g)) =
+      let more : List Deed = Closes at seat.connection second ∷ [] in
+      record {
+        deeds = s.deeds ++ more;
+        steps = goes_on s.steps (leaves g);
+        once = λ place. let e = answers_append place s.deeds more in let f : answers_at place more ≡ 0 = refl in let o = s.once place in omega (arith, e, f, o);
+        waits = λ full place some. let e = pieces_append place s.deeds more in let f : pieces_at place more ≡ 0 = refl in let o = s.waits full place some in omega (arith, e, f, o);
+        closes = closed_append second s.deeds more s.closes (refl, tt);
+      }
+
+  -- the largest was closed
+  pub shed_one : (p q : Position A R K S) (at second : ℕ) (x : Option (Seat R K S)) → IsSomeAnd x (λ seat. seat.course.phase ≡ Open) → IfSome x (Goes condition unread taken held p q at second)
+      → Sheds condition unread taken held p q second
+  shed_one p q at second None waits g = absurd waits
+  shed_one p q at second (Some seat) waits g = inr (at, seat, g)

@@ -3,3 +3,4 @@ mod HostLemmas
 mod RunLemmas
 mod TellLemmas
 mod ReadLemmas
+mod CloseLemmas

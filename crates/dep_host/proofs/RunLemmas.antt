@@ -9,7 +9,8 @@ use Rattle.dep_server.specs.Standing.{IsClean}
 use Rattle.dep_server.specs.Holding.{KeepsHolding, StandsHoldingAfter, MovesLine, PartArrives, with_held}
 use Rattle.dep_server.specs.declared.hub.Hub.{Hub}
 use Rattle.dep_server.specs.declared.arrived.Arrived.{Arrived}
-use Rattle.dep_host.specs.Hosting.{Position, Deed, Step, refused, comes, rests, offers, refuses, answers, leaves, Steps, begins, goes_on}
+use Rattle.dep_host.proofs.CloseLemmas.{clean_before}
+use Rattle.dep_host.specs.Hosting.{Position, Deed, Step, refused, asks, comes, rests, offers, refuses, answers, leaves, Steps, begins, goes_on}
 use Rattle.dep_host.specs.Runs.{Follows, begins as follows_none, opens, takes, replies, declines, closes, StandsBehind}
 
 module _ {A R K S : Type 0} (condition : A → Condition) (unread : R → Option (List ℕ)) (taken : K → Option (List ℕ)) (held : S → Option (List ℕ))
@@ -25,19 +26,6 @@ module _ {A R K S : Type 0} (condition : A → Condition) (unread : R → Option
     (closed : (old new : Hub A) (n : ℕ) (first : State) (records : List Record) (holds : ℕ → List ℕ) → StandsHoldingAfter condition old first records holds
     → new.config ≡ old.config → new.store ≡ old.store → MovesLine condition old new n Absent (with_held n [])
     → StandsHoldingAfter condition new first (records ++ record { event = Close n; sent = [] } ∷ []) (with_held n [] holds)) where
-  same_store_clean : (old new : Hub A) → new.store ≡ old.store → IsClean condition new → IsClean condition old
-  same_store_clean old new same clean = subst (λ (s : A). IsTrue (condition s).is_open) same clean
-
-  -- a store that is open was open before
-  clean_before : {p q : Position A R K S} {more : List Deed} → Step condition unread taken held p q more → IsClean condition q.hub → IsClean condition p.hub
-  clean_before {p = p} {q = q} (refused r) clean = same_store_clean p.hub q.hub r.same_store clean
-  clean_before {p = p} {q = q} (comes r) clean = same_store_clean p.hub q.hub r.same_store clean
-  clean_before {p = p} {q = q} (rests t r) clean = t.clean clean
-  clean_before {p = p} {q = q} (offers t o) clean = t.clean clean
-  clean_before {p = p} {q = q} (refuses t r) clean = t.clean clean
-  clean_before {p = p} {q = q} (answers t a) clean = t.clean clean
-  clean_before {p = p} {q = q} (leaves r) clean = same_store_clean p.hub q.hub r.same_store clean
-
   -- the hub keeps other bytes, over the same store
   moved : (old new : Hub A) (first : State) (records : List Record) (holds later : ℕ → List ℕ) → new.store ≡ old.store → new.config ≡ old.config
       → ((lines : ℕ → Line) → KeepsHolding condition old lines holds → KeepsHolding condition new lines later)
@@ -63,6 +51,12 @@ module _ {A R K S : Type 0} (condition : A → Condition) (unread : R → Option
     holds = m.holds;
     follows = subst (λ (l : List Deed). Follows holds l m.more m.holds) (sym (append-nil deeds)) m.follows;
     stands = moved p.hub q.hub first (records ++ m.more) m.holds m.holds r.same_store r.same_config (λ lines h. r.keeps lines m.holds h) m.stands;
+  }
+  step_run {p = p} {q = q} {deeds = deeds} first records holds m (asks r) clean = record {
+    more = m.more;
+    holds = m.holds;
+    follows = subst (λ (l : List Deed). Follows holds l m.more m.holds) (sym (append-nil deeds)) m.follows;
+    stands = r.stands clean first (records ++ m.more) m.holds m.stands;
   }
   step_run {p = p} {q = q} {deeds = deeds} first records holds m (rests t r) clean = record {
     more = m.more;
@@ -118,4 +112,4 @@ module _ {A R K S : Type 0} (condition : A → Condition) (unread : R → Option
     follows = follows_none;
     stands = subst (λ (l : List Record). StandsHoldingAfter condition p.hub first l holds) (sym (append-nil records)) h;
   }
-  steps_run first records holds (goes_on s t) h clean = step_run first records holds (steps_run first records holds s h (clean_before t clean)) t clean
+  steps_run first records holds (goes_on s t) h clean = step_run first records holds (steps_run first records holds s h (clean_before condition unread taken held t clean)) t clean

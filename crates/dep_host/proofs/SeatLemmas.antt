@@ -1,21 +1,24 @@
 -- What a turn of a connection comes to.
-use Rattle.std.proofs.Common.{◌≡◌, ◌⊎◌, inl, inr, ◌<◌, ◌≤◌, ℕ, List, Option, None, Some, length, take, false, true, refl, sym, subst, ap, ◌∙◌, arith}
+use Rattle.std.proofs.Common.{◌≡◌, ◌⊎◌, inl, inr, ◌<◌, ◌≤◌, ◌+◌, ◌-◌, ◌^◌, ◌||◌, min, nat_lt, ℕ, Bool, List, ◌++◌, Option, None, Some, length, take, false, true, refl, sym, subst, ap, ◌∙◌, arith}
 use Rattle.std.proofs.lemmas.List.{length-take}
+use Rattle.std.proofs.lemmas.Bool.{lt-ltb}
+use Rattle.std.proofs.Math.Bool.{or-true}
 use Rattle.std.specs.Io.KnownBytes.{Keeps, Appends, Consumes, IsAtEnd}
 use Rattle.dep_types.specs.Conditions.{Condition}
-use Rattle.dep_server.specs.Holding.{AnswersOver, ComesToNext, OffersTo, Outcome}
+use Rattle.dep_server.specs.Holding.{AnswersOver, ComesToNext, OffersTo, Outcome, IsNext, IsRefused, arrived_by}
 use Rattle.dep_server.specs.Turns.{most_read}
 use Rattle.dep_server.specs.declared.hub.Hub.{Hub}
 use Rattle.dep_server.specs.declared.arrived.Arrived.{Arrived}
 use Rattle.dep_server.specs.declared.arrived.Arrived.TheVariants as came
 use Rattle.dep_server.specs.declared.next.Next.{Next}
 use Rattle.dep_server.specs.declared.next.Next.TheVariants.{More, Waiting, Closed, Cut, NoSuch}
+use Rattle.dep_outbox.specs.declared.wire.Wire.{Wire}
 use Rattle.dep_outbox.specs.Wires.{told, owed}
 use Rattle.dep_host.specs.declared.seat.Seat.{Seat}
 use Rattle.dep_host.specs.declared.course.Phase.{Phase}
 use Rattle.dep_host.specs.declared.course.Phase.TheVariants.{Open, Answering, Last, Over}
 use Rattle.dep_host.specs.Courses.{is_ended}
-use Rattle.dep_host.specs.Seats.{Rests, Answers, IsRead, TakesTurn, phase_offered, phase_answered}
+use Rattle.dep_host.specs.Seats.{Rests, Answers, IsRead, TakesTurn, phase_offered, phase_answered, left_unfinished}
 
 appends_kept : (a b c : Option (List ℕ)) (bytes : List ℕ) → Appends a b bytes → Keeps b c → Appends a c bytes
 appends_kept None b c bytes p q = tt
@@ -62,53 +65,78 @@ module _ {A R K S : Type 0} (condition : A → Condition) (unread : R → Option
       → mid.course.phase ≡ phase_answered next → mid.source ≡ before.source
       → Keeps (told taken held mid.wire) (told taken held after.wire) → after.wire.failures ≡ mid.wire.failures → after.source ≡ mid.source
       → (after.course.phase ≡ mid.course.phase) ⊎ (after.course.phase ≡ Over)
+      → after.course.has_moved ≡ true → after.course.unfinished ≡ left_unfinished next before.course.unfinished
       → Rests condition unread taken held old new before after ⊎ Answers condition unread taken held old new before after moment
-  answered old new before mid after moment NoSuch none was c m s k f t p =
+  answered old new before mid after moment NoSuch none was c m s k f t p stirs leaves =
       let over = is_over mid.course.phase after.course.phase m p in
       inl (record {
         same = c.same;
         keeps = keeps_kept (told taken held before.wire) (told taken held mid.wire) (told taken held after.wire) c.sends_nothing k;
         gives = λ h. absurd (not_ended after.course.phase over h);
         opens = λ h. absurd (not_open after.course.phase over h);
+        keeps_count = λ h. absurd (not_ended after.course.phase over h);
       })
-  answered old new before mid after moment More none was c m s k f t p = inr (record {
+  answered old new before mid after moment More none was c m s k f t p stirs leaves = inr (record {
     unowed = none;
     was_read = was;
     same_source = t ∙ s;
     next = More;
     answers = over_kept _ _ _ _ _ _ _ _ _ _ _ _ _ c k f;
     opens = opened More mid.course.phase after.course.phase m p;
+    stirs = stirs;
+    leaves = leaves;
   })
-  answered old new before mid after moment Waiting none was c m s k f t p = inr (record {
+  answered old new before mid after moment Waiting none was c m s k f t p stirs leaves = inr (record {
     unowed = none;
     was_read = was;
     same_source = t ∙ s;
     next = Waiting;
     answers = over_kept _ _ _ _ _ _ _ _ _ _ _ _ _ c k f;
     opens = opened Waiting mid.course.phase after.course.phase m p;
+    stirs = stirs;
+    leaves = leaves;
   })
-  answered old new before mid after moment Closed none was c m s k f t p = inr (record {
+  answered old new before mid after moment Closed none was c m s k f t p stirs leaves = inr (record {
     unowed = none;
     was_read = was;
     same_source = t ∙ s;
     next = Closed;
     answers = over_kept _ _ _ _ _ _ _ _ _ _ _ _ _ c k f;
     opens = opened Closed mid.course.phase after.course.phase m p;
+    stirs = stirs;
+    leaves = leaves;
   })
-  answered old new before mid after moment Cut none was c m s k f t p = inr (record {
+  answered old new before mid after moment Cut none was c m s k f t p stirs leaves = inr (record {
     unowed = none;
     was_read = was;
     same_source = t ∙ s;
     next = Cut;
     answers = over_kept _ _ _ _ _ _ _ _ _ _ _ _ _ c k f;
     opens = opened Cut mid.course.phase after.course.phase m p;
+    stirs = stirs;
+    leaves = leaves;
   })
 
+  read_counted : (before mid after : Seat R K S) (piece : List ℕ) (is_full : Bool) → IsRead condition unread taken held before mid piece is_full → after.source ≡ mid.source
+      → (mid.course.has_moved ≡ true → after.course.has_moved ≡ true) → min mid.course.moved (2 ^ 64 - 1) ≤ after.course.moved → after.course.unfinished ≡ mid.course.unfinished
+      → IsRead condition unread taken held before after piece is_full
+  read_counted before mid after piece is_full r source stirs moves count = record {
+    unowed = r.unowed;
+    waits = r.waits;
+    some = r.some;
+    small = r.small;
+    gives = subst (λ (x : R). Consumes (unread before.source) (unread x) piece) (sym source) r.gives;
+    allowed = r.allowed;
+    stirs = stirs r.stirs;
+    moves = let m = r.moves in omega (arith, m, moves);
+    counts = count ∙ r.counts;
+  }
+
   -- a piece that was read was offered
-  offered : (old new : Hub A) (before after : Seat R K S) (piece : List ℕ) (answer : Arrived) → IsRead condition unread taken held before after piece → new.store ≡ old.store
+  offered : (old new : Hub A) (before after : Seat R K S) (piece : List ℕ) (answer : Arrived) (is_full : Bool) → IsRead condition unread taken held before after piece is_full → new.store ≡ old.store
       → OffersTo condition (told taken held before.wire) (told taken held after.wire) before.wire.failures after.wire.failures old new before.connection piece answer
-      → after.course.phase ≡ phase_offered answer → (moment : ℕ) → TakesTurn condition unread taken held old new before after moment
-  offered old new before after piece came.Open read store o p moment = inr (inl (record {
+      → after.course.phase ≡ phase_offered answer → (moment : ℕ) → TakesTurn condition unread taken held old new before after moment is_full
+  offered old new before after piece came.Open is_full read store o p moment = inr (inl (record {
     piece = piece;
     read = read;
     answers_next = p;
@@ -116,37 +144,86 @@ module _ {A R K S : Type 0} (condition : A → Condition) (unread : R → Option
     same_store = store;
     holds = o.holds;
   }))
-  offered old new before after piece came.Closed read store o p moment = inr (inr (inl (record {
+  offered old new before after piece came.Closed is_full read store o p moment = inr (inr (inl (record {
     piece = piece;
     read = read;
     ends = ap is_ended p;
     answer = came.Closed;
     answers = o moment;
   })))
-  offered old new before after piece came.Cut read store o p moment = inr (inr (inl (record {
+  offered old new before after piece came.Cut is_full read store o p moment = inr (inr (inl (record {
     piece = piece;
     read = read;
     ends = ap is_ended p;
     answer = came.Cut;
     answers = o moment;
   })))
-  offered old new before after piece came.NoSuch read store o p moment = inl (record {
+  offered old new before after piece came.NoSuch is_full read store o p moment = inl (record {
     same = o.same;
     keeps = o.sends_nothing;
     gives = λ h. absurd (not_ended after.course.phase p h);
     opens = λ h. absurd (not_open after.course.phase p h);
+    keeps_count = λ h. absurd (not_ended after.course.phase p h);
   })
 
   -- a front of the room was received, and offered
-  pub received : (old new : Hub A) (before after : Seat R K S) (got : R) (room : List ℕ) (n : ℕ) (answer : Arrived) → IsAtEnd (owed held before.wire) → before.course.phase ≡ Open
+  pub received : (old new : Hub A) (before after : Seat R K S) (got : R) (room : List ℕ) (n : ℕ) (answer : Arrived) (is_full : Bool) → IsAtEnd (owed held before.wire) → before.course.phase ≡ Open
       → 0 < n → n ≤ length room → length room ≤ most_read → Consumes (unread before.source) (unread got) (take n room) → after.source ≡ got → new.store ≡ old.store
       → OffersTo condition (told taken held before.wire) (told taken held after.wire) before.wire.failures after.wire.failures old new before.connection (take n room) answer
-      → after.course.phase ≡ phase_offered answer → (moment : ℕ) → TakesTurn condition unread taken held old new before after moment
-  received old new before after got room n answer none was some within small gives same store o p moment =
-      offered old new before after (take n room) answer (record {
+      → after.course.phase ≡ phase_offered answer → (is_full ≡ true → before.course.unfinished ≡ 0)
+      → after.course.has_moved ≡ (before.course.has_moved || nat_lt 0 (length (take n room)))
+      → after.course.moved ≡ min (before.course.moved + length (take n room)) (2 ^ 64 - 1)
+      → after.course.unfinished ≡ min (before.course.unfinished + length (take n room)) (2 ^ 64 - 1)
+      → (moment : ℕ) → TakesTurn condition unread taken held old new before after moment is_full
+  received old new before after got room n answer is_full none was some within small gives same store o p allowed stirs moved counts moment =
+      let long : 0 < length (take n room) = let e = length-take n room in omega (arith, e, some, within) in
+      offered old new before after (take n room) answer is_full (record {
         unowed = none;
         waits = was;
-        some = let e = length-take n room in omega (arith, e, some);
+        some = long;
         small = let e = length-take n room in omega (arith, e, within, small);
         gives = subst (λ (s : R). Consumes (unread before.source) (unread s) (take n room)) (sym same) gives;
+        allowed = allowed;
+        stirs = stirs ∙ (ap (λ (b : Bool). before.course.has_moved || b) (lt-ltb 0 (length (take n room)) long) ∙ or-true before.course.has_moved);
+        moves = omega (arith, moved);
+        counts = counts;
       }) store o p moment
+
+  -- what was sent in a turn was counted behind it
+  pub counted : (old new : Hub A) (before mid after : Seat R K S) (moment : ℕ) (is_full : Bool) → TakesTurn condition unread taken held old new before mid moment is_full
+      → after.wire ≡ mid.wire → after.source ≡ mid.source → after.course.phase ≡ mid.course.phase → (mid.course.has_moved ≡ true → after.course.has_moved ≡ true)
+      → min mid.course.moved (2 ^ 64 - 1) ≤ after.course.moved → after.course.unfinished ≡ mid.course.unfinished → TakesTurn condition unread taken held old new before after moment is_full
+  counted old new before mid after moment is_full (inl r) wire source phase stirs moves count = inl (record {
+    same = r.same;
+    keeps = subst (λ (w : Wire K S). Keeps (told taken held before.wire) (told taken held w)) (sym wire) r.keeps;
+    gives = λ h. subst (λ (x : R). Keeps (unread before.source) (unread x)) (sym source) (r.gives (sym (ap is_ended phase) ∙ h));
+    opens = λ h. r.opens (sym phase ∙ h);
+    keeps_count = λ h. count ∙ r.keeps_count (sym (ap is_ended phase) ∙ h);
+  })
+  counted old new before mid after moment is_full (inr (inl o)) wire source phase stirs moves count = inr (inl (record {
+    piece = o.piece;
+    read = read_counted before mid after o.piece is_full o.read source stirs moves count;
+    answers_next = phase ∙ o.answers_next;
+    keeps = subst (λ (w : Wire K S). Keeps (told taken held before.wire) (told taken held w)) (sym wire) o.keeps;
+    same_store = o.same_store;
+    holds = o.holds;
+  }))
+  counted old new before mid after moment is_full (inr (inr (inl r))) wire source phase stirs moves count = inr (inr (inl (record {
+    piece = r.piece;
+    read = read_counted before mid after r.piece is_full r.read source stirs moves count;
+    ends = ap is_ended phase ∙ r.ends;
+    answer = r.answer;
+    answers = subst (λ (w : Wire K S). AnswersOver condition (told taken held before.wire) (told taken held w) before.wire.failures w.failures old new before.connection
+        (λ kept. kept ++ r.piece) moment r.answer (IsRefused r.answer)) (sym wire) r.answers;
+  })))
+  counted old new before mid after moment is_full (inr (inr (inr a))) wire source phase stirs moves count = inr (inr (inr (record {
+    unowed = a.unowed;
+    was_read = a.was_read;
+    same_source = source ∙ a.same_source;
+    next = a.next;
+    answers = subst (λ (w : Wire K S). AnswersOver condition (told taken held before.wire) (told taken held w) before.wire.failures w.failures old new before.connection
+        (λ kept. kept) moment (arrived_by a.next) (IsNext a.next)) (sym wire) a.answers;
+    opens = λ h. a.opens (sym phase ∙ h);
+    stirs = stirs a.stirs;
+    leaves = count ∙ a.leaves;
+  })))

@@ -7,7 +7,7 @@ use Rattle.dep_types.specs.Conditions.{Condition}
 use Rattle.dep_host.specs.declared.seat.Seat.{Seat}
 use Rattle.dep_outbox.specs.Wires.{joined, told}
 use Rattle.dep_host.specs.Runs.{StaysOpen}
-use Rattle.dep_host.specs.Hosting.{Position, slot, Deed, Opens, Takes, Replies, Declines, Closes, sent_by, replies_to, Tells, Step, refused, comes, rests, offers, refuses, answers, leaves, HasTurn, Steps, begins, goes_on}
+use Rattle.dep_host.specs.Hosting.{Position, slot, Deed, Opens, Takes, Replies, Declines, Closes, sent_by, replies_to, Tells, Step, refused, asks, comes, rests, offers, refuses, answers, leaves, HasTurn, Steps, begins, goes_on}
 
 abbrev or_else : {X : Type 0} → X → Option X → X
 or_else d None = d
@@ -172,6 +172,7 @@ module _ {A R K S : Type 0} (condition : A → Condition) (unread : R → Option
 
   step_tidy : {p q : Position A R K S} {rs more : List Deed} → Tidy p rs → Step condition unread taken held p q more → Tidy q (rs ++ more)
   step_tidy {p = p} {q = q} {rs = rs} tidy (refused r) = tidy_same p q rs r.sits r.next tidy
+  step_tidy {p = p} {q = q} {rs = rs} tidy (asks r) = tidy_same p q rs r.sits r.next tidy
   step_tidy {p = p} {q = q} {rs = rs} tidy (comes {at = at} {seat = seat} r) =
       let more : List Deed = Opens at seat.connection ∷ [] in
       let later : p.hub.next ≤ q.hub.next = let e = r.next in omega (arith, e) in

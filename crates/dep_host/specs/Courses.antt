@@ -1,10 +1,13 @@
 -- What a connection does next, and when it is closed.
-use Rattle.std.specs.Prelude.{ℕ, ◌-◌, Bool, true, false, nat_lt, if◌then◌else◌}
+use Rattle.std.specs.Prelude.{ℕ, ◌-◌, Bool, true, false, not, ◌&&◌, ◌||◌, nat_lt, if◌then◌else◌, Option, None, Some}
 use Rattle.dep_host.specs.declared.course.Course.{Course}
 use Rattle.dep_host.specs.declared.course.Phase.{Phase}
 use Rattle.dep_host.specs.declared.course.Phase.TheVariants.{Open, Answering, Last, Draining, Over}
 use Rattle.dep_host.specs.declared.course.Duty.{Duty}
 use Rattle.dep_host.specs.declared.course.Duty.TheVariants.{Flush, Answer, Read, Finish, Drain, Wait}
+use Rattle.dep_host.specs.declared.limits.Limits.{Limits}
+use Rattle.dep_host.specs.declared.log.Closing.{Closing}
+use Rattle.dep_host.specs.declared.log.Closing.TheVariants as ends
 
 -- what it does next, where bytes are owed or not: they are sent before all else
 abbrev pub duty : Phase → (owes is_readable is_writable : Bool) → Duty
@@ -18,20 +21,44 @@ duty Last false r w = Finish
 duty Draining true r w = if w then Flush else Wait
 duty Draining false r w = if r then Drain else Wait
 
--- it was silent for longer than that
-abbrev pub is_overdue : Course → (second idle : ℕ) → Bool
-is_overdue c second idle = nat_lt idle (second - c.since)
+-- an idle time has passed since a second
+abbrev pub is_past : (since second : ℕ) → Limits → Bool
+is_past since second limits = nat_lt limits.idle_seconds (second - since)
 
--- it is closed now, where it was silent for too long or not
-abbrev pub is_closed : Phase → (overdue : Bool) → Bool
-is_closed Over overdue = true
-is_closed Open overdue = overdue
-is_closed Answering overdue = overdue
-is_closed Last overdue = overdue
-is_closed Draining overdue = overdue
+-- it was silent for longer than it may be
+abbrev pub is_silent : Course → (second : ℕ) → Limits → Bool
+is_silent c second limits = not c.has_moved && is_past c.since second limits
 
-abbrev pub is_done : Course → (second idle : ℕ) → Bool
-is_done c second idle = is_closed c.phase (is_overdue c second idle)
+-- a request or a reply of it is under way, and fewer bytes moved in an idle time than have to
+abbrev pub is_slow : Course → (second : ℕ) → Limits → Bool
+is_slow c second limits = not c.has_moved && (c.is_due && (is_past c.mark second limits && nat_lt c.moved limits.least_rate))
+
+-- why it is closed now, where it is
+abbrev pub closing_of : Phase → (silent slow : Bool) → Option Closing
+closing_of Over silent slow = Some ends.Over
+closing_of Open silent slow = if silent then Some ends.Silent else if slow then Some ends.Slow else None
+closing_of Answering silent slow = if silent then Some ends.Silent else if slow then Some ends.Slow else None
+closing_of Last silent slow = if silent then Some ends.Silent else if slow then Some ends.Slow else None
+closing_of Draining silent slow = if silent then Some ends.Silent else if slow then Some ends.Slow else None
+
+abbrev pub closing : Course → (second : ℕ) → Limits → Option Closing
+closing c second limits = closing_of c.phase (is_silent c second limits) (is_slow c second limits)
+
+-- its bytes are counted anew: nothing was under way, or enough moved in an idle time
+abbrev pub counts_anew : Course → (second : ℕ) → Limits → Bool
+counts_anew c second limits = not c.is_due || (is_past c.mark second limits && not (nat_lt c.moved limits.least_rate))
+
+-- a request or a reply of it is under way
+abbrev pub is_under_way : Course → (owes : Bool) → Bool
+is_under_way c owes = owes || nat_lt 0 c.unfinished
+
+-- how far it is once it is read no more
+abbrev pub shut : Phase → Phase
+shut Open = Last
+shut Answering = Answering
+shut Last = Last
+shut Draining = Draining
+shut Over = Over
 
 -- nothing of what its client sends comes to the hub any more
 abbrev pub is_ended : Phase → Bool

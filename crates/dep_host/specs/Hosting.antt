@@ -1,27 +1,31 @@
 -- How a host goes on: what becomes of its places, what comes to its hub, and what its wires take for it.
-use Rattle.std.specs.Prelude.{◌≡◌, ◌<◌, ◌≤◌, ◌+◌, ◌==◌, ℕ, List, [], ◌∷◌, ◌++◌, length, get_or, set, Option, None, Some, if◌then◌else◌, true, false}
+use Rattle.std.specs.Prelude.{◌≡◌, ◌⊎◌, ◌<◌, ◌≤◌, ◌+◌, ◌==◌, ℕ, Bool, List, [], ◌∷◌, ◌++◌, length, get_or, set, Option, None, Some, if◌then◌else◌, true}
 use Rattle.std.specs.List.{flat_map}
 use Rattle.std.specs.Io.KnownBytes.{IsAtEnd}
 use Rattle.dep_types.specs.Conditions.{Condition}
-use Rattle.dep_server.specs.Records.{Line, Live, Absent}
+use Rattle.dep_types.specs.State.{State}
+use Rattle.dep_server.specs.Records.{Record, Line, Live, Absent}
 use Rattle.dep_server.specs.Standing.{IsClean, IsHonest}
-use Rattle.dep_server.specs.Holding.{KeepsHolding, MovesLine, with_held}
+use Rattle.dep_server.specs.Holding.{KeepsHolding, MovesLine, StandsHoldingAfter, with_held}
 use Rattle.dep_server.specs.declared.hub.Hub.{Hub}
 use Rattle.dep_outbox.specs.Wires.{told}
 use Rattle.dep_host.specs.declared.course.Phase.TheVariants.{Open}
 use Rattle.dep_host.specs.declared.seat.Seat.{Seat}
 use Rattle.dep_host.specs.declared.host.Host.{Host}
-use Rattle.dep_host.specs.Courses.{is_done, is_ended}
+use Rattle.dep_host.specs.declared.limits.Limits.{Limits}
+use Rattle.dep_host.specs.declared.log.Closing.{Closing}
+use Rattle.dep_host.specs.declared.log.Closing.TheVariants as ends
+use Rattle.dep_host.specs.Courses.{closing, is_ended}
 use Rattle.dep_host.specs.Seats.{Rests, Offers, Refuses, Answers}
 
--- the hub, who sits where, and for how many seconds one may be silent
+-- the hub, who sits where, and what bounds them
 pub record Position (A R K S : Type 0) : Type 0 where
   pub hub : Hub A
   pub seats : List (Option (Seat R K S))
-  pub idle : ℕ
+  pub limits : Limits
 
 abbrev pub position : {A R K S : Type 0} → Host A R K S → Position A R K S
-position host = record { hub = host.hub; seats = host.seats.items; idle = host.idle }
+position host = record { hub = host.hub; seats = host.seats.items; limits = host.limits }
 
 abbrev pub slot : {X : Type 0} → ℕ → List (Option X) → Option X
 slot at seats = get_or seats at None
@@ -67,6 +71,27 @@ abbrev pub answers_at : ℕ → List Deed → ℕ
 answers_at place [] = 0
 answers_at place (d ∷ deeds) = answer_at place d + answers_at place deeds
 
+-- how many pieces of the connection at a place were read
+abbrev pub piece_at : ℕ → Deed → ℕ
+piece_at place (Opens at n) = 0
+piece_at place (Takes at n piece) = if at == place then 1 else 0
+piece_at place (Replies at n moment sent) = 0
+piece_at place (Declines at n piece moment sent) = if at == place then 1 else 0
+piece_at place (Closes at n second) = 0
+
+abbrev pub pieces_at : ℕ → List Deed → ℕ
+pieces_at place [] = 0
+pieces_at place (d ∷ deeds) = piece_at place d + pieces_at place deeds
+
+-- how many bytes of unfinished requests are kept for who sits at a place, and for all
+abbrev pub unfinished_of : {R K S : Type 0} → Option (Seat R K S) → ℕ
+unfinished_of None = 0
+unfinished_of (Some seat) = seat.course.unfinished
+
+abbrev pub unfinished_in : {R K S : Type 0} → List (Option (Seat R K S)) → ℕ
+unfinished_in [] = 0
+unfinished_in (s ∷ seats) = unfinished_of s + unfinished_in seats
+
 -- what is closed is closed at this second
 abbrev pub IsClosedAt : ℕ → Deed → Type 0
 IsClosedAt second (Opens at n) = Unit {0}
@@ -78,6 +103,19 @@ IsClosedAt second (Closes at n s) = s ≡ second
 abbrev pub AreClosedAt : ℕ → List Deed → Type 0
 AreClosedAt second [] = Unit {0}
 AreClosedAt second (d ∷ deeds) = IsClosedAt second d × AreClosedAt second deeds
+
+-- more bytes of unfinished requests are kept than may be, and for no connection more than this one,
+-- of which no request can be complete
+pub record IsTooLarge {A R K S : Type 0} (p : Position A R K S) (seat : Seat R K S) : Type 0 where
+  pub full : p.limits.unfinished_bytes < unfinished_in p.seats
+  pub largest : (place : ℕ) → unfinished_of (slot place p.seats) ≤ seat.course.unfinished
+  pub waits : seat.course.phase ≡ Open
+
+-- why a connection is closed
+abbrev pub HasReason : {A R K S : Type 0} → Position A R K S → (second : ℕ) → Seat R K S → Closing
+    → Type 0
+HasReason p second seat reason = (closing seat.course second p.limits ≡ Some reason)
+    ⊎ ((reason ≡ ends.Large) × IsTooLarge p seat)
 
 module _ {A R K S : Type 0} (condition : A → Condition) (unread : R → Option (List ℕ))
     (taken : K → Option (List ℕ)) (held : S → Option (List ℕ)) where
@@ -93,7 +131,8 @@ module _ {A R K S : Type 0} (condition : A → Condition) (unread : R → Option
     pub same_config : q.hub.config ≡ p.hub.config
     pub fresh : IsAtEnd (told taken held seat.wire)
     pub opens : seat.course.phase ≡ Open
-    pub same_idle : q.idle ≡ p.idle
+    pub uncounted : seat.course.unfinished ≡ 0
+    pub same_limits : q.limits ≡ p.limits
 
   -- no connection could be opened, or nothing was to be done
   pub record Refused (p q : Position A R K S) : Type 0 where
@@ -103,7 +142,19 @@ module _ {A R K S : Type 0} (condition : A → Condition) (unread : R → Option
         → KeepsHolding condition q.hub lines kept
     pub same_store : q.hub.store ≡ p.hub.store
     pub same_config : q.hub.config ≡ p.hub.config
-    pub same_idle : q.idle ≡ p.idle
+    pub same_limits : q.limits ≡ p.limits
+
+  -- the hub is asked whether its store is open
+  pub record Asks (p q : Position A R K S) : Type 0 where
+    pub sits : q.seats ≡ p.seats
+    pub next : q.hub.next ≡ p.hub.next
+    pub same_config : q.hub.config ≡ p.hub.config
+    pub clean : IsClean condition q.hub → IsClean condition p.hub
+    pub honest : IsHonest condition q.hub → IsHonest condition p.hub
+    pub stands : IsClean condition q.hub → (first : State) → (records : List Record)
+        → (kept : ℕ → List ℕ) → StandsHoldingAfter condition p.hub first records kept
+        → StandsHoldingAfter condition q.hub first records kept
+    pub same_limits : q.limits ≡ p.limits
 
   -- a connection has its turn, and no other place changes
   pub record HasTurn (p q : Position A R K S) (at : ℕ) (before after : Seat R K S) : Type 0 where
@@ -116,32 +167,35 @@ module _ {A R K S : Type 0} (condition : A → Condition) (unread : R → Option
     pub clean : IsClean condition q.hub → IsClean condition p.hub
     pub honest : IsHonest condition q.hub → IsHonest condition p.hub
     pub ended : is_ended before.course.phase ≡ true → is_ended after.course.phase ≡ true
-    pub same_idle : q.idle ≡ p.idle
+    pub same_limits : q.limits ≡ p.limits
 
-  -- a connection is closed, which was over or silent for too long
+  -- a connection is closed for a reason
   pub record Goes (p q : Position A R K S) (at second : ℕ) (seat : Seat R K S) : Type 0 where
     pub there : at < length p.seats
     pub sat : slot at p.seats ≡ Some seat
     pub gone : q.seats ≡ set p.seats at None
-    pub done : is_done seat.course second p.idle ≡ true
+    pub reason : Closing
+    pub done : HasReason p second seat reason
     pub next : q.hub.next ≡ p.hub.next
     pub moves : MovesLine condition p.hub q.hub seat.connection Absent (with_held seat.connection [])
     pub same_store : q.hub.store ≡ p.hub.store
     pub same_config : q.hub.config ≡ p.hub.config
-    pub same_idle : q.idle ≡ p.idle
+    pub same_limits : q.limits ≡ p.limits
 
   -- one step of a host, and what it does in it
   pub data Step (p q : Position A R K S) : List Deed → Type 0 where
     refused : Refused p q → Step p q []
+    asks : Asks p q → Step p q []
     comes : {at : ℕ} {seat : Seat R K S} → Comes p q at seat
         → Step p q (Opens at seat.connection ∷ [])
     rests : {at : ℕ} {before after : Seat R K S} → HasTurn p q at before after
         → Rests condition unread taken held p.hub q.hub before after → Step p q []
-    offers : {at : ℕ} {before after : Seat R K S} → HasTurn p q at before after
-        → (o : Offers condition unread taken held p.hub q.hub before after)
+    offers : {at : ℕ} {is_full : Bool} {before after : Seat R K S} → HasTurn p q at before after
+        → (o : Offers condition unread taken held p.hub q.hub before after is_full)
         → Step p q (Takes at before.connection o.piece ∷ [])
-    refuses : {at moment : ℕ} {before after : Seat R K S} → HasTurn p q at before after
-        → (r : Refuses condition unread taken held p.hub q.hub before after moment)
+    refuses : {at moment : ℕ} {is_full : Bool} {before after : Seat R K S}
+        → HasTurn p q at before after
+        → (r : Refuses condition unread taken held p.hub q.hub before after moment is_full)
         → Step p q (Declines at before.connection r.piece moment r.answers.sent ∷ [])
     answers : {at moment : ℕ} {before after : Seat R K S} → HasTurn p q at before after
         → (a : Answers condition unread taken held p.hub q.hub before after moment)
@@ -158,27 +212,37 @@ module _ {A R K S : Type 0} (condition : A → Condition) (unread : R → Option
   abbrev pub GoesOn : Position A R K S → Position A R K S → Type 0
   GoesOn first last = (deeds : List Deed) × Steps first deeds last
 
-  -- one place has its turn
-  pub record Serves (p q : Position A R K S) (at second : ℕ) : Type 0 where
+  -- one place has its turn, where too many bytes of unfinished requests are kept or not
+  pub record Serves (p q : Position A R K S) (at second : ℕ) (is_full : Bool) : Type 0 where
     pub deeds : List Deed
     pub steps : Steps p deeds q
     pub once : answers_at at deeds ≤ 1
     pub others : (place : ℕ) → (place ≡ at → ⊥) → answers_at place deeds ≡ 0
+    pub waits : is_full ≡ true → 0 < unfinished_of (slot at p.seats) → pieces_at at deeds ≡ 0
+    pub unread_others : (place : ℕ) → (place ≡ at → ⊥) → pieces_at place deeds ≡ 0
     pub closes : AreClosedAt second deeds
 
-  -- each place has its turn: of no connection more than one item is answered
+  -- each place has its turn: of no connection more than one item is answered, and where too many
+  -- bytes of unfinished requests are kept, nothing more is read of these
   pub record GoesRound (p q : Position A R K S) (second : ℕ) : Type 0 where
     pub deeds : List Deed
     pub steps : Steps p deeds q
     pub once : (place : ℕ) → answers_at place deeds ≤ 1
+    pub waits : p.limits.unfinished_bytes < unfinished_in p.seats → (place : ℕ)
+        → 0 < unfinished_of (slot place p.seats) → pieces_at place deeds ≡ 0
     pub closes : AreClosedAt second deeds
 
--- who sits at a place has time left, and is not over
-abbrev pub HasTime : {R K S : Type 0} → (second idle : ℕ) → Option (Seat R K S) → Type 0
-HasTime second idle None = Unit {0}
-HasTime second idle (Some seat) = is_done seat.course second idle ≡ false
+  -- the largest is closed, or nothing is done
+  abbrev pub Sheds : Position A R K S → Position A R K S → (second : ℕ) → Type 0
+  Sheds p q second = (q ≡ p) ⊎ ((at : ℕ) × (seat : Seat R K S) × Goes p q at second seat)
 
--- a connection sits at a place that is over, or was silent for too long
-abbrev pub HasDone : {R K S : Type 0} → (second idle : ℕ) → Option (Seat R K S) → Type 0
-HasDone second idle None = ⊥
-HasDone second idle (Some seat) = is_done seat.course second idle ≡ true
+-- who sits at a place has time left, and is not over
+abbrev pub HasTime : {R K S : Type 0} → (second : ℕ) → Limits → Option (Seat R K S) → Type 0
+HasTime second limits None = Unit {0}
+HasTime second limits (Some seat) = closing seat.course second limits ≡ None
+
+-- a connection sits at a place that may be closed for a reason
+abbrev pub MayGo : {A R K S : Type 0} → Position A R K S → (second : ℕ) → Closing
+    → Option (Seat R K S) → Type 0
+MayGo p second reason None = ⊥
+MayGo p second reason (Some seat) = HasReason p second seat reason

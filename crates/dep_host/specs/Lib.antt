@@ -2,3 +2,4 @@ pub mod Courses
 pub mod Seats
 pub mod Hosting
 pub mod Runs
+pub mod Coming

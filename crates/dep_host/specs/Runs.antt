@@ -1,14 +1,15 @@
 -- Which records the hub's machine makes of what a host does.
-use Rattle.std.specs.Prelude.{◌≡◌, ◌==◌, ℕ, List, [], ◌∷◌, ◌++◌, if◌then◌else◌, Option, Some}
+use Rattle.std.specs.Prelude.{◌≡◌, ◌==◌, ℕ, List, [], ◌∷◌, ◌++◌, if◌then◌else◌, Option, None, Some}
 use Rattle.std.specs.List.{flat_map}
 use Rattle.dep_types.specs.State.{State}
 use Rattle.dep_types.specs.Conditions.{Condition}
 use Rattle.dep_server.specs.Records.{Event, Record, Connect, Arrive, Close, Stop}
+use Rattle.dep_server.specs.Standing.{IsClean}
 use Rattle.dep_server.specs.Holding.{StandsHoldingAfter, with_held}
 use Rattle.dep_server.specs.declared.hub.Hub.{Hub}
 use Rattle.dep_outbox.specs.Wires.{told}
 use Rattle.dep_host.specs.declared.seat.Seat.{Seat}
-use Rattle.dep_host.specs.Hosting.{Position, slot, Tells, Deed, Opens, Takes, Replies, Declines, Closes}
+use Rattle.dep_host.specs.Hosting.{Position, Steps, slot, Tells, Deed, Opens, Takes, Replies, Declines, Closes}
 
 -- The records of the deeds, from what each connection held at first to what it holds now: a piece is
 -- held until the items of it are answered, and a part of what is held arrives with each answer.
@@ -99,3 +100,25 @@ pub record KeepsPromise {A R K S : Type 0} (condition : A → Condition) (taken 
   pub read : (at : ℕ) → (seat : Seat R K S) → slot at q.seats ≡ Some seat
       → read_of seat.connection deeds
       ≡ arrived_of seat.connection behind.more ++ behind.holds seat.connection
+
+-- The promise was kept at each moment at which a connection was closed, also to the one that was.
+abbrev pub KeptToTheLast : {A R K S : Type 0} → (A → Condition) → (R → Option (List ℕ))
+    → (K → Option (List ℕ)) → (S → Option (List ℕ)) → Position A R K S → State → List Record
+    → List Deed → Type 0
+KeptToTheLast {A = A} {R = R} {K = K} {S = S} condition unread taken held p first before deeds =
+    (done later : List Deed) → (at number second : ℕ)
+    → deeds ≡ done ++ Closes at number second ∷ later
+    → (m : Position A R K S) × (Steps condition unread taken held p done m
+    × (KeepsPromise condition taken held m first before done
+    × ((seat : Seat R K S) × ((slot at m.seats ≡ Some seat) × (seat.connection ≡ number)))))
+
+-- The archive promise: from a host without connections over a store that stands for a state a host
+-- comes to where it keeps its promise, while its store is open.
+abbrev pub Promises : {A R K S : Type 0} → (A → Condition) → (R → Option (List ℕ))
+    → (K → Option (List ℕ)) → (S → Option (List ℕ)) → Position A R K S → Position A R K S → Type 0
+Promises condition unread taken held p q = (first : State) → (before : List Record)
+    → ((at : ℕ) → slot at p.seats ≡ None) → StandsHoldingAfter condition p.hub first before (λ n. [])
+    → IsClean condition q.hub
+    → (deeds : List Deed) × (Steps condition unread taken held p deeds q
+    × (KeepsPromise condition taken held q first before deeds
+    × KeptToTheLast condition unread taken held p first before deeds))

@@ -1,5 +1,5 @@
 -- What a turn of a connection comes to: what of it comes to the hub, and what is sent for it.
-use Rattle.std.specs.Prelude.{◌≡◌, ◌⊎◌, ◌<◌, ◌≤◌, ℕ, List, ◌++◌, length, Option, true, false}
+use Rattle.std.specs.Prelude.{◌≡◌, ◌⊎◌, ◌<◌, ◌≤◌, ◌+◌, ◌-◌, ◌^◌, min, ℕ, Bool, List, ◌++◌, length, Option, true, false}
 use Rattle.std.specs.Io.KnownBytes.{Keeps, Consumes, IsAtEnd}
 use Rattle.dep_types.specs.Conditions.{Condition}
 use Rattle.dep_server.specs.Records.{Line}
@@ -31,6 +31,14 @@ phase_answered Closed = Last
 phase_answered Cut = Last
 phase_answered NoSuch = Over
 
+-- how many bytes were read since an item was answered last, once that was answered
+abbrev pub left_unfinished : Next → ℕ → ℕ
+left_unfinished More n = 0
+left_unfinished Waiting n = n
+left_unfinished Closed n = 0
+left_unfinished Cut n = 0
+left_unfinished NoSuch n = 0
+
 module _ {A R K S : Type 0} (condition : A → Condition) (unread : R → Option (List ℕ))
     (taken : K → Option (List ℕ)) (held : S → Option (List ℕ)) where
   -- nothing comes to the hub, and nothing is sent
@@ -41,19 +49,27 @@ module _ {A R K S : Type 0} (condition : A → Condition) (unread : R → Option
     pub gives : is_ended after.course.phase ≡ false
         → Keeps (unread before.source) (unread after.source)
     pub opens : after.course.phase ≡ Open → before.course.phase ≡ Open
+    pub keeps_count : is_ended after.course.phase ≡ false
+        → after.course.unfinished ≡ before.course.unfinished
 
-  -- a piece was read where nothing was owed and all that was read before was answered
-  pub record IsRead (before after : Seat R K S) (piece : List ℕ) : Type 0 where
+  -- a piece was read where nothing was owed and all that was read before was answered, and where too
+  -- many bytes of unfinished requests are kept, only as the first of one
+  pub record IsRead (before after : Seat R K S) (piece : List ℕ) (is_full : Bool) : Type 0 where
     pub unowed : IsAtEnd (owed held before.wire)
     pub waits : before.course.phase ≡ Open
     pub some : 0 < length piece
     pub small : length piece ≤ most_read
     pub gives : Consumes (unread before.source) (unread after.source) piece
+    pub allowed : is_full ≡ true → before.course.unfinished ≡ 0
+    pub stirs : after.course.has_moved ≡ true
+    pub moves : min (before.course.moved + length piece) (2 ^ 64 - 1) ≤ after.course.moved
+    pub counts : after.course.unfinished
+        ≡ min (before.course.unfinished + length piece) (2 ^ 64 - 1)
 
   -- the hub holds the piece, and nothing is sent
-  pub record Offers (old new : Hub A) (before after : Seat R K S) : Type 0 where
+  pub record Offers (old new : Hub A) (before after : Seat R K S) (is_full : Bool) : Type 0 where
     pub piece : List ℕ
-    pub read : IsRead before after piece
+    pub read : IsRead before after piece is_full
     pub answers_next : after.course.phase ≡ Answering
     pub keeps : Keeps (told taken held before.wire) (told taken held after.wire)
     pub same_store : new.store ≡ old.store
@@ -62,9 +78,10 @@ module _ {A R K S : Type 0} (condition : A → Condition) (unread : R → Option
         (with_held before.connection (kept before.connection ++ piece) kept)
 
   -- memory ran out for the piece: the fixed reply for it is sent, and the connection is read no more
-  pub record Refuses (old new : Hub A) (before after : Seat R K S) (moment : ℕ) : Type 0 where
+  pub record Refuses (old new : Hub A) (before after : Seat R K S) (moment : ℕ) (is_full : Bool)
+      : Type 0 where
     pub piece : List ℕ
-    pub read : IsRead before after piece
+    pub read : IsRead before after piece is_full
     pub ends : is_ended after.course.phase ≡ true
     pub answer : Arrived
     pub answers : AnswersOver condition (told taken held before.wire) (told taken held after.wire)
@@ -82,10 +99,13 @@ module _ {A R K S : Type 0} (condition : A → Condition) (unread : R → Option
         (λ kept. kept) moment (arrived_by next) (IsNext next)
     -- a connection is read again once no item of it is complete
     pub opens : after.course.phase ≡ Open → next ≡ Waiting
+    pub stirs : after.course.has_moved ≡ true
+    pub leaves : after.course.unfinished ≡ left_unfinished next before.course.unfinished
 
   -- a turn is one of these: at most one piece is read, and at most one item answered
-  abbrev pub TakesTurn : (old new : Hub A) → (before after : Seat R K S) → (moment : ℕ) → Type 0
-  TakesTurn old new before after moment =
+  abbrev pub TakesTurn : (old new : Hub A) → (before after : Seat R K S) → (moment : ℕ)
+      → (is_full : Bool) → Type 0
+  TakesTurn old new before after moment is_full =
       Rests old new before after
-      ⊎ (Offers old new before after
-      ⊎ (Refuses old new before after moment ⊎ Answers old new before after moment))
+      ⊎ (Offers old new before after is_full
+      ⊎ (Refuses old new before after moment is_full ⊎ Answers old new before after moment))

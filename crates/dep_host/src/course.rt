@@ -1,6 +1,9 @@
 //! How far a connection is, and what it does next.
-ghost use Rattle.std.specs.Prelude.{◌≡◌};
-ghost use Rattle.dep_host.specs.Courses.{duty, is_done, is_overdue};
+ghost use Rattle.std.specs.Prelude.{◌≡◌, ◌+◌, ◌^◌, ◌-◌, ◌||◌, nat_lt, min, if◌then◌else◌, true, false};
+ghost use Rattle.dep_host.specs.Courses.{duty, closing, counts_anew, is_under_way, shut, is_past, is_silent, is_slow};
+
+use crate::limits::Limits;
+use crate::log::Closing;
 
 /// How far a connection is.
 #[derive(Clone, Copy, Debug, PartialEq, Eq)]
@@ -35,7 +38,8 @@ pub enum Duty {
     Wait,
 }
 
-/// How far a connection is, whether its socket is ready, and since when it is silent.
+/// How far a connection is, whether its socket is ready, since when it is silent, and how many bytes
+/// moved in a time.
 #[derive(Clone, Copy, Debug, PartialEq, Eq)]
 pub struct Course {
     pub phase: Phase,
@@ -43,11 +47,41 @@ pub struct Course {
     pub is_readable: bool,
     /// Whether the socket may take something.
     pub is_writable: bool,
-    /// The second at which something was read, answered or taken last.
+    /// Whether something was read, answered or taken since its last turn began.
+    pub has_moved: bool,
+    /// The second of its first turn after something was read, answered or taken.
     pub since: u64,
+    /// Whether a request or a reply was under way when its last turn began.
+    pub is_due: bool,
+    /// The second since which bytes are counted.
+    pub mark: u64,
+    /// How many bytes were read or taken since then, up to 2^64 - 1.
+    pub moved: u64,
+    /// How many bytes were read since an item was answered last, up to 2^64 - 1.
+    pub unfinished: u64,
 }
 
 impl Course {
+    /// A fresh connection, whose socket may be ready.
+    pub fn new() -> Course
+        ensures phase { result.phase ≡ Phase.Open }
+        ensures moved { result.has_moved ≡ true }
+        ensures due { result.is_due ≡ false }
+        ensures unfinished { result.unfinished ≡ 0 }
+    {
+        Course {
+            phase: Phase::Open,
+            is_readable: true,
+            is_writable: true,
+            has_moved: true,
+            since: 0,
+            is_due: false,
+            mark: 0,
+            moved: 0,
+            unfinished: 0,
+        }
+    }
+
     /// What it does next, where it owes bytes or not.
     pub fn duty(&self, owes: bool) -> Duty
         ensures { result ≡ duty self.now.phase owes self.now.is_readable self.now.is_writable }
@@ -76,21 +110,96 @@ impl Course {
         }
     }
 
-    /// Whether it is closed now: it is over, or was silent for longer than so many seconds.
-    pub fn is_done(&self, second: u64, idle: u64) -> bool
-        ensures { result ≡ is_done self.now second idle }
+    /// Begins a turn: takes note of when something moved last, and counts bytes anew where nothing was
+    /// under way, or enough moved in an idle time. What moved in the last turn counts from here on,
+    /// since a turn may take long, and its client is told of the end first.
+    pub fn begin_turn(&mut self, owes: bool, second: u64, limits: &Limits)
+        ensures phase { self.new.phase ≡ self.old.phase }
+        ensures moved { self.new.has_moved ≡ false }
+        ensures since { self.new.since
+            ≡ (if self.old.has_moved then second else self.old.since) }
+        ensures due { self.new.is_due ≡ is_under_way self.old owes }
+        ensures mark { self.new.mark
+            ≡ (if counts_anew self.old second limits.now then second else self.old.mark) }
+        ensures bytes { self.new.moved
+            ≡ (if counts_anew self.old second limits.now then 0 else self.old.moved) }
+        ensures unfinished { self.new.unfinished ≡ self.old.unfinished }
+    {
+        if self.has_moved {
+            self.since = second;
+            self.has_moved = false;
+        }
+        if self.counts_anew(second, limits) {
+            self.mark = second;
+            self.moved = 0;
+        }
+        self.is_due = owes || self.unfinished > 0;
+    }
+
+    fn counts_anew(&self, second: u64, limits: &Limits) -> bool
+        ensures { result ≡ counts_anew self.now second limits.now }
+    {
+        !self.is_due || is_past(self.mark, second, limits) && self.moved >= limits.least_rate
+    }
+
+    /// It is read no more, once what was read is answered.
+    pub fn shut(&mut self)
+        ensures phase { self.new.phase ≡ shut self.old.phase }
+        ensures unfinished { self.new.unfinished ≡ self.old.unfinished }
+    {
+        if self.phase == Phase::Open {
+            self.phase = Phase::Last;
+        }
+    }
+
+    /// Takes note that so many bytes were read or taken.
+    pub fn count(&mut self, bytes: u64)
+        ensures phase { self.new.phase ≡ self.old.phase }
+        ensures has_moved { self.new.has_moved ≡ (self.old.has_moved || nat_lt 0 bytes) }
+        ensures moved { self.new.moved ≡ min (self.old.moved + bytes) (2 ^ 64 - 1) }
+        ensures since { self.new.since ≡ self.old.since }
+        ensures unfinished { self.new.unfinished ≡ self.old.unfinished }
+    {
+        if bytes > 0 {
+            self.has_moved = true;
+        }
+        self.moved = self.moved.saturating_add(bytes);
+    }
+
+    /// Why it is closed now, if it is: it is over, was silent for too long, or its client is too slow.
+    pub fn closing(&self, second: u64, limits: &Limits) -> Option<Closing>
+        ensures { result ≡ closing self.now second limits.now }
     {
         match self.phase {
-            Phase::Over => true,
+            Phase::Over => Some(Closing::Over),
             Phase::Open | Phase::Answering | Phase::Last | Phase::Draining => {
-                self.is_overdue(second, idle)
+                self.overdue(second, limits)
             }
         }
     }
 
-    fn is_overdue(&self, second: u64, idle: u64) -> bool
-        ensures { result ≡ is_overdue self.now second idle }
+    fn overdue(&self, second: u64, limits: &Limits) -> Option<Closing>
+        ensures { result ≡ (if is_silent self.now second limits.now then Some Closing.Silent
+            else if is_slow self.now second limits.now then Some Closing.Slow else None) }
     {
-        second.saturating_sub(self.since) > idle
+        if self.has_moved {
+            None
+        } else if is_past(self.since, second, limits) {
+            Some(Closing::Silent)
+        } else if self.is_due
+            && is_past(self.mark, second, limits)
+            && self.moved < limits.least_rate
+        {
+            Some(Closing::Slow)
+        } else {
+            None
+        }
     }
+}
+
+/// Whether an idle time has passed.
+fn is_past(since: u64, second: u64, limits: &Limits) -> bool
+    ensures { result ≡ is_past since second limits.now }
+{
+    second.saturating_sub(since) > limits.idle_seconds
 }

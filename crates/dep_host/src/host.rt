@@ -1,14 +1,20 @@
 //! All connections, over one hub.
-ghost use Rattle.std.specs.Prelude.{◌≡◌, ◌<◌, ◌≤◌, ℕ, List, None, Option, length, get_or, IfOk, IfErr, IfSome, true, false};
+ghost use Rattle.std.specs.Prelude.{◌≡◌, ◌⊎◌, ◌<◌, ◌≤◌, ℕ, List, [], None, Some, Option, length, nat_lt, IfOk, IfErr, IfSome, IsSomeAnd, IsTrue, MatchOption, true, false};
 ghost use Rattle.std.specs.Io.KnownBytes.{IsAtEnd};
 ghost use Rattle.dep_server.specs.Turns.{most_read};
 ghost use Rattle.dep_outbox.specs.Wires.{told};
-ghost use Rattle.dep_host.specs.Hosting.{GoesOn, Serves, Goes, GoesRound, HasTime, HasDone, position, slot};
+ghost use Rattle.dep_host.specs.Hosting.{GoesOn, Steps, Serves, Goes, GoesRound, Sheds, HasTime, MayGo, position, slot, unfinished_of, unfinished_in};
+ghost use Rattle.dep_host.specs.Coming.{origin, seated_from};
+ghost use Rattle.dep_host.specs.declared.course.Phase.TheVariants.{Open};
 
-use crate::seat::{Seat, Time};
-use dep_outbox::{Sink, Source, Spool, Wire};
+use crate::events::{Client, comes_from, origin};
+use crate::limits::Limits;
+use crate::log::{Closing, HostLog, Refusal};
+use crate::seat::{Seat, Time, Turn};
+use dep_outbox::{Sink, Source, Spool};
 use dep_server::{Archive, ConnectFault, Hub};
 use std::alloc::{AllocError, Global};
+use std::net::IpAddr;
 
 /// How many connections are served at once.
 pub const MOST_SEATS: usize = 1_024;
@@ -18,20 +24,28 @@ pub const MOST_SEATS: usize = 1_024;
 pub struct Host<A, R, K, S> {
     hub: Hub<A>,
     seats: Vec<Option<Seat<R, K, S>>>,
-    idle: u64,
+    limits: Limits,
+    /// Whether it was told that the store is shut.
+    is_shut: bool,
 }
 
 impl<A: Archive, R: Source + Drop, K: Sink + Drop, S: Spool + Drop> Host<A, R, K, S> {
-    /// A host without connections, which may be silent for so many seconds.
-    pub fn new(alloc: Global, hub: Hub<A>, idle: u64) -> Result<Host<A, R, K, S>, Hub<A>>
+    /// A host without connections, which are bounded by the limits.
+    pub fn new(alloc: Global, hub: Hub<A>, limits: Limits) -> Result<Host<A, R, K, S>, Hub<A>>
         ensures hub { IfOk result (λ host. host.hub ≡ hub) }
-        ensures idle { IfOk result (λ host. host.idle ≡ idle) }
+        ensures limits { IfOk result (λ host. host.limits ≡ limits) }
+        ensures empty { IfOk result (λ host. (at : ℕ) → slot at host.seats.items ≡ None) }
         ensures kept { IfErr result (λ handed_back. handed_back ≡ hub) }
     {
         let Ok(seats) = empty_seats(alloc) else {
             return Err(hub);
         };
-        Ok(Host { hub, seats, idle })
+        Ok(Host {
+            hub,
+            seats,
+            limits,
+            is_shut: false,
+        })
     }
 
     /// Hands the hub back. The connections are closed by `Hub::close`, or end with it.
@@ -41,9 +55,35 @@ impl<A: Archive, R: Source + Drop, K: Sink + Drop, S: Spool + Drop> Host<A, R, K
         let Host {
             hub,
             seats: _,
-            idle: _,
+            limits: _,
+            is_shut: _,
         } = self;
         hub
+    }
+
+    /// What bounds its connections.
+    pub fn limits(&self) -> Limits
+        ensures { result ≡ self.now.limits }
+    {
+        self.limits
+    }
+
+    /// Whether the store is open, as far as it can be told. Once it is told that it isn't, no
+    /// connection is read any more, and there is no vacancy.
+    pub fn is_open(&mut self) -> bool
+        ensures goes { Steps A.condition R.unread K.taken S.held (position self.old) []
+            (position self.new) }
+        ensures shut { result ≡ false
+            → ¬ IsTrue (A.condition self.new.hub.store).is_open }
+        ensures seats { self.new.seats ≡ self.old.seats }
+    {
+        match self.hub.is_open() {
+            Ok(false) => {
+                self.is_shut = true;
+                false
+            }
+            Ok(true) | Err(_) => true,
+        }
     }
 
     /// Where a further connection can be seated.
@@ -51,6 +91,9 @@ impl<A: Archive, R: Source + Drop, K: Sink + Drop, S: Spool + Drop> Host<A, R, K
         ensures { IfSome result (λ at. (at < length self.now.seats.items)
             × (slot at self.now.seats.items ≡ None)) }
     {
+        if self.is_shut {
+            return None;
+        }
         for at in 0..self.seats.len() {
             if self.seats[at].is_none() {
                 return Some(at);
@@ -64,24 +107,54 @@ impl<A: Archive, R: Source + Drop, K: Sink + Drop, S: Spool + Drop> Host<A, R, K
         self.seats.iter().all(|seat| seat.is_none())
     }
 
-    /// Opens a connection over a socket that has taken nothing, and seats it there.
-    pub fn admit(
+    /// Opens a connection over a socket that has taken nothing, and seats it there. Where it is
+    /// refused its client is cut off.
+    pub fn admit<L: HostLog>(
         &mut self,
         at: usize,
-        source: R,
-        wire: Wire<K, S>,
-        second: u64,
-    ) -> Result<(), ConnectFault>
+        client: Client<R, K, S>,
+        log: &mut L,
+    ) -> Result<(), Refusal>
         requires there { at < length self.old.seats.items }
         requires free { slot at self.old.seats.items ≡ None }
-        requires fresh { IsAtEnd (told K.taken S.held wire) }
+        requires fresh { IsAtEnd (told K.taken S.held client.wire) }
         ensures goes { GoesOn A.condition R.unread K.taken S.held (position self.old)
             (position self.new) }
         ensures seats { length self.new.seats.items ≡ length self.old.seats.items }
+        // Fewer sit there that come from its address than may, and it is refused for that where not.
+        ensures room { IfOk result (λ _. seated_from (origin client.address)
+            self.old.seats.items < self.old.limits.address_connections) }
+        ensures address { IfErr result (λ refusal. refusal ≡ Refusal.Address
+            → self.old.limits.address_connections
+            ≤ seated_from (origin client.address) self.old.seats.items) }
     {
-        let connection = self.hub.connect()?;
-        self.seats[at] = Some(Seat::new(connection, source, wire, second));
+        if self.seated_from(client.address) >= self.limits.address_connections {
+            return Err(turn_away(client, Refusal::Address, log));
+        }
+        let connection = match self.hub.connect() {
+            Ok(connection) => connection,
+            Err(ConnectFault::Full) => return Err(turn_away(client, Refusal::Full, log)),
+            Err(ConnectFault::Memory) => return Err(turn_away(client, Refusal::Memory, log)),
+        };
+        let Client {
+            source,
+            wire,
+            address,
+        } = client;
+        self.seats[at] = Some(Seat::new(connection, address, source, wire));
+        log.opened(connection, address);
         Ok(())
+    }
+
+    /// How many sit there that come from an address.
+    fn seated_from(&self, address: IpAddr) -> usize
+        ensures { result ≡ seated_from (origin address) self.now.seats.items }
+    {
+        let from = origin(address);
+        self.seats
+            .iter()
+            .filter(|seat| comes_from(*seat, from))
+            .count()
     }
 
     /// Takes note that a socket may be ready.
@@ -89,6 +162,9 @@ impl<A: Archive, R: Source + Drop, K: Sink + Drop, S: Spool + Drop> Host<A, R, K
         ensures goes { GoesOn A.condition R.unread K.taken S.held (position self.old)
             (position self.new) }
         ensures seats { length self.new.seats.items ≡ length self.old.seats.items }
+        // Nobody sits where nobody sat.
+        ensures free { (place : ℕ) → slot place self.old.seats.items ≡ None
+            → slot place self.new.seats.items ≡ None }
     {
         if at < self.seats.len() {
             self.wake(at, is_readable, is_writable);
@@ -100,27 +176,51 @@ impl<A: Archive, R: Source + Drop, K: Sink + Drop, S: Spool + Drop> Host<A, R, K
         ensures goes { GoesOn A.condition R.unread K.taken S.held (position self.old)
             (position self.new) }
         ensures seats { length self.new.seats.items ≡ length self.old.seats.items }
+        ensures free { (place : ℕ) → slot place self.old.seats.items ≡ None
+            → slot place self.new.seats.items ≡ None }
     {
         if let Some(seat) = &mut self.seats[at] {
             seat.awake(is_readable, is_writable);
         }
     }
 
-    /// Gives each connection its turn, and then closes it where it is over, or was silent for too
-    /// long. It answers whether one of them can go on at once.
-    #[tactic(auto, using(crate::proofs::HostLemmas::left_ends))]
-    pub fn round(&mut self, room: &mut [u8], time: &Time) -> bool
+    /// Gives each connection its turn, and then closes it where it is over, was silent for too long or
+    /// is too slow. Where more bytes of unfinished requests are kept than may be, it reads no more of
+    /// these, and closes the one that has most. It answers whether one of them can go on at once.
+    pub fn round<L: HostLog>(&mut self, room: &mut [u8], time: &Time, log: &mut L) -> bool
         requires room { length room.old ≤ most_read }
         ensures goes { GoesRound A.condition R.unread K.taken S.held (position self.old)
             (position self.new) time.now.second }
         ensures left { (at : ℕ)
-            → HasTime time.now.second self.new.idle (slot at self.new.seats.items) }
+            → HasTime time.now.second self.new.limits (slot at self.new.seats.items) }
         ensures seats { length self.new.seats.items ≡ length self.old.seats.items }
-        ensures idle { self.new.idle ≡ self.old.idle }
+        ensures limits { self.new.limits ≡ self.old.limits }
+    {
+        let turn = Turn {
+            time: *time,
+            is_full: self.is_full(),
+        };
+        let is_busy = self.serve_each(room, &turn, log);
+        self.shed(time.second, log);
+        is_busy
+    }
+
+    /// Gives each connection its turn, and then closes it where it is done.
+    #[tactic(auto, using(crate::proofs::HostLemmas::left_ends))]
+    fn serve_each<L: HostLog>(&mut self, room: &mut [u8], turn: &Turn, log: &mut L) -> bool
+        requires room { length room.old ≤ most_read }
+        requires full { turn.now.is_full ≡ nat_lt self.old.limits.unfinished_bytes
+            (unfinished_in self.old.seats.items) }
+        ensures goes { GoesRound A.condition R.unread K.taken S.held (position self.old)
+            (position self.new) turn.now.time.second }
+        ensures left { (at : ℕ)
+            → HasTime turn.now.time.second self.new.limits (slot at self.new.seats.items) }
+        ensures seats { length self.new.seats.items ≡ length self.old.seats.items }
+        ensures limits { self.new.limits ≡ self.old.limits }
     {
         let mut is_busy = false;
         for at in 0..self.seats.len() {
-            if self.serve(at, room, time) {
+            if self.serve_at(at, room, turn, log) {
                 is_busy = true;
             }
         }
@@ -129,37 +229,38 @@ impl<A: Archive, R: Source + Drop, K: Sink + Drop, S: Spool + Drop> Host<A, R, K
 
     /// Gives the connection there its turn, and then closes it where it is done. It answers whether it
     /// can go on at once.
-    #[tactic(auto, using(crate::proofs::HostLemmas::closes_served))]
-    fn serve(&mut self, at: usize, room: &mut [u8], time: &Time) -> bool
+    fn serve_at<L: HostLog>(&mut self, at: usize, room: &mut [u8], turn: &Turn, log: &mut L) -> bool
         requires there { at < length self.old.seats.items }
         requires room { length room.old ≤ most_read }
         ensures goes { Serves A.condition R.unread K.taken S.held (position self.old)
-            (position self.new) at time.now.second }
-        ensures here { HasTime time.now.second self.new.idle (slot at self.new.seats.items) }
+            (position self.new) at turn.now.time.second turn.now.is_full }
+        ensures here { HasTime turn.now.time.second self.new.limits
+            (slot at self.new.seats.items) }
         ensures others { (place : ℕ) → (place ≡ at → ⊥)
             → slot place self.new.seats.items ≡ slot place self.old.seats.items }
         ensures seats { length self.new.seats.items ≡ length self.old.seats.items }
-        ensures idle { self.new.idle ≡ self.old.idle }
+        ensures limits { self.new.limits ≡ self.old.limits }
     {
-        self.take_turn(at, room, time);
-        if self.is_done(at, time.second) {
-            self.close(at, time.second);
+        self.begin_turn(at, turn.time.second);
+        self.take_turn(at, room, turn, log);
+        if let Some(closing) = self.closing(at, turn.time.second) {
+            self.close(at, turn.time.second, closing, log);
             return false;
         }
         self.is_busy(at)
     }
 
-    /// Whether the connection there is closed now.
-    fn is_done(&self, at: usize, second: u64) -> bool
+    /// Why the connection there is closed now, if it is.
+    fn closing(&self, at: usize, second: u64) -> Option<Closing>
         requires there { at < length self.now.seats.items }
-        ensures done { result ≡ true
-            → HasDone second self.now.idle (slot at self.now.seats.items) }
-        ensures left { result ≡ false
-            → HasTime second self.now.idle (slot at self.now.seats.items) }
+        ensures { MatchOption result
+            (HasTime second self.now.limits (slot at self.now.seats.items))
+            (λ reason. MayGo (position self.now) second reason
+            (slot at self.now.seats.items)) }
     {
         match &self.seats[at] {
-            Some(seat) => seat.is_done(second, self.idle),
-            None => false,
+            Some(seat) => seat.closing(second, &self.limits),
+            None => None,
         }
     }
 
@@ -173,26 +274,44 @@ impl<A: Archive, R: Source + Drop, K: Sink + Drop, S: Spool + Drop> Host<A, R, K
         }
     }
 
-    /// Gives the connection there its turn.
-    fn take_turn(&mut self, at: usize, room: &mut [u8], time: &Time)
+    /// Begins the turn of the connection there.
+    fn begin_turn(&mut self, at: usize, second: u64)
         requires there { at < length self.old.seats.items }
-        requires room { length room.old ≤ most_read }
-        ensures goes { Serves A.condition R.unread K.taken S.held (position self.old)
-            (position self.new) at time.now.second }
+        ensures goes { Steps A.condition R.unread K.taken S.held (position self.old) []
+            (position self.new) }
+        ensures count { unfinished_of (slot at self.new.seats.items)
+            ≡ unfinished_of (slot at self.old.seats.items) }
         ensures others { (place : ℕ) → (place ≡ at → ⊥)
             → slot place self.new.seats.items ≡ slot place self.old.seats.items }
         ensures seats { length self.new.seats.items ≡ length self.old.seats.items }
-        ensures idle { self.new.idle ≡ self.old.idle }
+        ensures limits { self.new.limits ≡ self.old.limits }
     {
         if let Some(seat) = &mut self.seats[at] {
-            seat.take_turn(&mut self.hub, room, time);
+            seat.begin_turn(second, &self.limits, self.is_shut);
         }
     }
 
-    /// Closes the connection there, which is done.
-    fn close(&mut self, at: usize, second: u64)
+    /// Gives the connection there its turn.
+    fn take_turn<L: HostLog>(&mut self, at: usize, room: &mut [u8], turn: &Turn, log: &mut L)
         requires there { at < length self.old.seats.items }
-        requires done { HasDone second self.old.idle (slot at self.old.seats.items) }
+        requires room { length room.old ≤ most_read }
+        ensures goes { Serves A.condition R.unread K.taken S.held (position self.old)
+            (position self.new) at turn.now.time.second turn.now.is_full }
+        ensures others { (place : ℕ) → (place ≡ at → ⊥)
+            → slot place self.new.seats.items ≡ slot place self.old.seats.items }
+        ensures seats { length self.new.seats.items ≡ length self.old.seats.items }
+        ensures limits { self.new.limits ≡ self.old.limits }
+    {
+        if let Some(seat) = &mut self.seats[at] {
+            seat.take_turn(&mut self.hub, room, turn, log);
+        }
+    }
+
+    /// Closes the connection there, for a reason.
+    fn close<L: HostLog>(&mut self, at: usize, second: u64, closing: Closing, log: &mut L)
+        requires there { at < length self.old.seats.items }
+        requires done { MayGo (position self.old) second closing
+            (slot at self.old.seats.items) }
         ensures goes { IfSome (slot at self.old.seats.items)
             (Goes A.condition R.unread K.taken S.held (position self.old) (position self.new)
             at second) }
@@ -200,19 +319,106 @@ impl<A: Archive, R: Source + Drop, K: Sink + Drop, S: Spool + Drop> Host<A, R, K
         ensures others { (place : ℕ) → (place ≡ at → ⊥)
             → slot place self.new.seats.items ≡ slot place self.old.seats.items }
         ensures seats { length self.new.seats.items ≡ length self.old.seats.items }
-        ensures idle { self.new.idle ≡ self.old.idle }
+        ensures limits { self.new.limits ≡ self.old.limits }
     {
         if let Some(seat) = self.seats[at].take() {
             self.hub.close(seat.connection());
+            log.closed(seat.connection(), seat.address(), closing, seat.bytes());
             drop(seat);
         }
     }
+
+    /// Where more bytes of unfinished requests are kept than may be, closes the connection that has
+    /// most of them, unless one of its requests may be complete, which is answered first.
+    fn shed<L: HostLog>(&mut self, second: u64, log: &mut L)
+        ensures goes { Sheds A.condition R.unread K.taken S.held (position self.old)
+            (position self.new) second }
+        ensures left { (at : ℕ) → (slot at self.new.seats.items ≡ slot at self.old.seats.items)
+            ⊎ (slot at self.new.seats.items ≡ None) }
+        ensures seats { length self.new.seats.items ≡ length self.old.seats.items }
+        ensures limits { self.new.limits ≡ self.old.limits }
+    {
+        if let Some(at) = self.largest() {
+            if self.is_full() && self.is_read(at) {
+                self.close(at, second, Closing::Large, log);
+            }
+        }
+    }
+
+    /// Whether the connection there is read, and none of its requests may be complete.
+    fn is_read(&self, at: usize) -> bool
+        requires there { at < length self.now.seats.items }
+        ensures { result ≡ true → IsSomeAnd (slot at self.now.seats.items)
+            (λ seat. seat.course.phase ≡ Open) }
+    {
+        match &self.seats[at] {
+            Some(seat) => seat.is_open(),
+            None => false,
+        }
+    }
+
+    /// Where the most bytes of unfinished requests are kept.
+    fn largest(&self) -> Option<usize>
+        ensures { IfSome result (λ at. (at < length self.now.seats.items)
+            × ((place : ℕ) → unfinished_of (slot place self.now.seats.items)
+            ≤ unfinished_of (slot at self.now.seats.items))) }
+    {
+        let mut largest = 0;
+        for at in 0..self.seats.len() {
+            if self.unfinished(at) > self.unfinished(largest) {
+                largest = at;
+            }
+        }
+        if largest < self.seats.len() {
+            Some(largest)
+        } else {
+            None
+        }
+    }
+
+    /// How many bytes of unfinished requests are kept for who sits there.
+    fn unfinished(&self, at: usize) -> u64
+        requires there { at < length self.now.seats.items }
+        ensures { result ≡ unfinished_of (slot at self.now.seats.items) }
+    {
+        match &self.seats[at] {
+            Some(seat) => seat.unfinished(),
+            None => 0,
+        }
+    }
+
+    /// Whether more bytes of unfinished requests are kept than may be.
+    fn is_full(&self) -> bool
+        ensures { result ≡ nat_lt self.now.limits.unfinished_bytes
+            (unfinished_in self.now.seats.items) }
+    {
+        let mut kept: u128 = 0;
+        for at in 0..self.seats.len() {
+            kept += self.unfinished(at) as u128;
+        }
+        kept > self.limits.unfinished_bytes as u128
+    }
+}
+
+/// Cuts a client off.
+fn turn_away<R: Drop, K: Drop, S: Drop, L: HostLog>(
+    client: Client<R, K, S>,
+    refusal: Refusal,
+    log: &mut L,
+) -> Refusal
+    ensures { result ≡ refusal }
+{
+    log.refused(client.address, refusal);
+    drop(client);
+    refusal
 }
 
 /// Room for all connections.
 fn empty_seats<R: Drop, K: Drop, S: Drop>(
     alloc: Global,
-) -> Result<Vec<Option<Seat<R, K, S>>>, AllocError> {
+) -> Result<Vec<Option<Seat<R, K, S>>>, AllocError>
+    ensures { IfOk result (λ seats. (at : ℕ) → slot at seats.items ≡ None) }
+{
     let mut seats = Vec::with_capacity(alloc, MOST_SEATS)?;
     for _ in 0..MOST_SEATS {
         if let Err(refused) = seats.push(None) {

@@ -2,10 +2,18 @@
 #![tactic(auto)]
 
 mod course;
+mod events;
 mod host;
 pub mod laws;
+mod limits;
+mod log;
 mod seat;
+mod serving;
 
 pub use course::{Course, Duty, Phase};
+pub use events::{Client, Event, Events, origin};
 pub use host::{Host, MOST_SEATS};
+pub use limits::Limits;
+pub use log::{Bytes, Closing, HostLog, Refusal};
 pub use seat::{Seat, Time};
+pub use serving::{Ended, serve};

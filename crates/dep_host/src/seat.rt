@@ -1,5 +1,5 @@
 //! A connection that is served.
-ghost use Rattle.std.specs.Prelude.{◌≡◌, ◌<◌, ◌≤◌, ◌⊎◌, ℕ, length, true, false};
+ghost use Rattle.std.specs.Prelude.{◌≡◌, ◌≢◌, ◌<◌, ◌≤◌, ◌⊎◌, ◌+◌, ◌-◌, ◌^◌, ◌||◌, min, nat_lt, ℕ, Bool, length, true, false};
 ghost use Rattle.std.specs.Io.KnownBytes.{Keeps, Consumes, IsAtEnd};
 ghost use Rattle.dep_server.specs.Holding.{ComesToNext, OffersTo};
 ghost use Rattle.dep_server.specs.Standing.{IsClean, IsHonest};
@@ -7,13 +7,16 @@ ghost use Rattle.dep_server.specs.Turns.{most_read};
 ghost use Rattle.dep_server.specs.declared.arrived.Arrived.{Arrived as AnyArrived};
 ghost use Rattle.dep_server.specs.declared.next.Next.{Next as AnyNext};
 ghost use Rattle.dep_outbox.specs.Wires.{told, owed};
-ghost use Rattle.dep_host.specs.Courses.{is_done, is_ended, is_overdue};
-ghost use Rattle.dep_host.specs.Seats.{TakesTurn, Rests, Answers, phase_offered, phase_answered};
+ghost use Rattle.dep_host.specs.Courses.{closing, is_ended};
+ghost use Rattle.dep_host.specs.Seats.{TakesTurn, Rests, Answers, phase_offered, phase_answered, left_unfinished};
 
 use crate::course::{Course, Duty, Phase};
+use crate::limits::Limits;
+use crate::log::{Bytes, Closing, HostLog};
 use dep_moment::Moment;
 use dep_outbox::{Flushed, Received, Sink, Source, Spool, Wire};
 use dep_server::{Archive, Arrived, ConnId, Hub, Next};
+use std::net::IpAddr;
 
 /// When something happens.
 #[derive(Clone, Copy, Debug, PartialEq, Eq)]
@@ -24,34 +27,51 @@ pub struct Time {
     pub second: u64,
 }
 
+/// How the turns of a round go.
+#[derive(Clone, Copy)]
+pub(crate) struct Turn {
+    pub time: Time,
+    /// Whether more bytes of unfinished requests are kept than may be, so that of none of these more
+    /// is read.
+    pub is_full: bool,
+}
+
 /// A connection of the hub, the two ways to its client, and how far it is.
 #[derive(Drop)]
 pub struct Seat<R, K, S> {
     connection: ConnId,
+    address: IpAddr,
     source: R,
     wire: Wire<K, S>,
     course: Course,
+    /// How many bytes were read, up to 2^64 - 1.
+    received: u64,
 }
 
 impl<R: Source, K: Sink, S: Spool> Seat<R, K, S> {
     /// A fresh connection, whose socket may be ready.
-    pub(crate) fn new(connection: ConnId, source: R, wire: Wire<K, S>, second: u64) -> Seat<R, K, S>
+    pub(crate) fn new(
+        connection: ConnId,
+        address: IpAddr,
+        source: R,
+        wire: Wire<K, S>,
+    ) -> Seat<R, K, S>
         ensures number { result.connection ≡ connection }
+        ensures address { result.address ≡ address }
         ensures source { result.source ≡ source }
         ensures wire { result.wire ≡ wire }
         ensures phase { result.course.phase ≡ Phase.Open }
-        ensures since { result.course.since ≡ second }
+        ensures moved { result.course.has_moved ≡ true }
+        ensures due { result.course.is_due ≡ false }
+        ensures unfinished { result.course.unfinished ≡ 0 }
     {
         Seat {
             connection,
+            address,
             source,
             wire,
-            course: Course {
-                phase: Phase::Open,
-                is_readable: true,
-                is_writable: true,
-                since: second,
-            },
+            course: Course::new(),
+            received: 0,
         }
     }
 
@@ -62,22 +82,76 @@ impl<R: Source, K: Sink, S: Spool> Seat<R, K, S> {
         self.connection
     }
 
+    /// Where its client connects from.
+    pub fn address(&self) -> IpAddr
+        ensures { result ≡ self.now.address }
+    {
+        self.address
+    }
+
+    /// How many bytes were read of it, and taken by its socket.
+    pub fn bytes(&self) -> Bytes
+        ensures received { result.received ≡ self.now.received }
+        ensures sent { result.sent ≡ self.now.wire.delivered }
+    {
+        Bytes {
+            received: self.received,
+            sent: self.wire.delivered(),
+        }
+    }
+
+    /// How many bytes were read since an item was answered last.
+    pub(crate) fn unfinished(&self) -> u64
+        ensures { result ≡ self.now.course.unfinished }
+    {
+        self.course.unfinished
+    }
+
     /// Takes note that its socket may be ready.
     pub(crate) fn awake(&mut self, is_readable: bool, is_writable: bool)
         ensures source { self.new.source ≡ self.old.source }
         ensures wire { self.new.wire ≡ self.old.wire }
         ensures number { self.new.connection ≡ self.old.connection }
+        ensures address { self.new.address ≡ self.old.address }
         ensures phase { self.new.course.phase ≡ self.old.course.phase }
+        ensures unfinished { self.new.course.unfinished ≡ self.old.course.unfinished }
     {
         self.course.is_readable = self.course.is_readable || is_readable;
         self.course.is_writable = self.course.is_writable || is_writable;
     }
 
-    /// Whether it is closed now.
-    pub(crate) fn is_done(&self, second: u64, idle: u64) -> bool
-        ensures { result ≡ is_done self.now.course second idle }
+    /// Begins its turn. Once the store is shut it is read no more.
+    pub(crate) fn begin_turn(&mut self, second: u64, limits: &Limits, is_shut: bool)
+        ensures source { self.new.source ≡ self.old.source }
+        ensures wire { self.new.wire ≡ self.old.wire }
+        ensures number { self.new.connection ≡ self.old.connection }
+        ensures address { self.new.address ≡ self.old.address }
+        ensures opens { self.new.course.phase ≡ Phase.Open
+            → self.old.course.phase ≡ Phase.Open }
+        ensures ended { is_ended self.old.course.phase ≡ true
+            → is_ended self.new.course.phase ≡ true }
+        ensures shut { is_shut ≡ true → self.new.course.phase ≢ Phase.Open }
+        ensures unfinished { self.new.course.unfinished ≡ self.old.course.unfinished }
     {
-        self.course.is_done(second, idle)
+        let owes = self.wire.owes();
+        self.course.begin_turn(owes, second, limits);
+        if is_shut {
+            self.course.shut();
+        }
+    }
+
+    /// Why it is closed now, if it is.
+    pub(crate) fn closing(&self, second: u64, limits: &Limits) -> Option<Closing>
+        ensures { result ≡ closing self.now.course second limits.now }
+    {
+        self.course.closing(second, limits)
+    }
+
+    /// Whether it is read, and no request may be complete.
+    pub(crate) fn is_open(&self) -> bool
+        ensures { result ≡ true → self.now.course.phase ≡ Phase.Open }
+    {
+        self.course.phase == Phase::Open
     }
 
     /// Whether it can go on at once.
@@ -85,31 +159,82 @@ impl<R: Source, K: Sink, S: Spool> Seat<R, K, S> {
         self.course.duty(self.wire.owes()) != Duty::Wait
     }
 
-    /// Does what it does next: at most one piece is read, or one item answered.
-    pub(crate) fn take_turn<A: Archive>(&mut self, hub: &mut Hub<A>, room: &mut [u8], time: &Time)
+    /// Does what it does next: at most one piece is read, or one item answered. What it sends and
+    /// reads counts as moved.
+    pub(crate) fn take_turn<A: Archive, L: HostLog>(
+        &mut self,
+        hub: &mut Hub<A>,
+        room: &mut [u8],
+        turn: &Turn,
+        log: &mut L,
+    )
         requires room { length room.old ≤ most_read }
         ensures config { hub.new.config ≡ hub.old.config }
         ensures next { hub.new.next ≡ hub.old.next }
         ensures clean { IsClean A.condition hub.new → IsClean A.condition hub.old }
         ensures honest { IsHonest A.condition hub.new → IsHonest A.condition hub.old }
         ensures number { self.new.connection ≡ self.old.connection }
+        ensures address { self.new.address ≡ self.old.address }
         ensures ended { is_ended self.old.course.phase ≡ true
             → is_ended self.new.course.phase ≡ true }
         ensures turn { TakesTurn A.condition R.unread K.taken S.held hub.old hub.new
-            self.old self.new time.now.moment }
+            self.old self.new turn.now.time.moment turn.now.is_full }
+        // What its socket took counts.
+        ensures stirs { self.old.wire.delivered < self.new.wire.delivered
+            → self.new.course.has_moved ≡ true }
+        ensures moved { min (self.old.course.moved
+            + (self.new.wire.delivered - self.old.wire.delivered)) (2 ^ 64 - 1)
+            ≤ self.new.course.moved }
+    {
+        let before = self.wire.delivered();
+        self.act(hub, room, turn, log);
+        let sent = self.wire.delivered().saturating_sub(before);
+        self.course.count(sent);
+    }
+
+    /// Whether it is read: where too many bytes of unfinished requests are kept, only if none of these
+    /// is its.
+    fn may_read(&self, is_full: bool) -> bool
+        ensures { result ≡ true → is_full ≡ true → self.now.course.unfinished ≡ 0 }
+    {
+        !is_full || self.course.unfinished == 0
+    }
+
+    /// Does what it does next, and doesn't count what is sent.
+    fn act<A: Archive, L: HostLog>(
+        &mut self,
+        hub: &mut Hub<A>,
+        room: &mut [u8],
+        turn: &Turn,
+        log: &mut L,
+    )
+        requires room { length room.old ≤ most_read }
+        ensures config { hub.new.config ≡ hub.old.config }
+        ensures next { hub.new.next ≡ hub.old.next }
+        ensures clean { IsClean A.condition hub.new → IsClean A.condition hub.old }
+        ensures honest { IsHonest A.condition hub.new → IsHonest A.condition hub.old }
+        ensures number { self.new.connection ≡ self.old.connection }
+        ensures address { self.new.address ≡ self.old.address }
+        ensures ended { is_ended self.old.course.phase ≡ true
+            → is_ended self.new.course.phase ≡ true }
+        ensures turn { TakesTurn A.condition R.unread K.taken S.held hub.old hub.new
+            self.old self.new turn.now.time.moment turn.now.is_full }
+        ensures moved { min self.old.course.moved (2 ^ 64 - 1) ≤ self.new.course.moved }
     {
         match self.course.duty(self.wire.owes()) {
-            Duty::Flush => self.flush(time.second),
-            Duty::Answer => self.answer(hub, time),
-            Duty::Read => self.read(hub, room, time.second),
-            Duty::Finish => self.finish(time.second),
+            Duty::Flush => self.flush(),
+            Duty::Answer => self.answer(hub, turn.time.moment, log),
+            Duty::Read => if self.may_read(turn.is_full) {
+                self.read(hub, room);
+            },
+            Duty::Finish => self.finish(),
             Duty::Drain => self.drain(room),
             Duty::Wait => {}
         }
     }
 
     /// Answers the next item, and sends what is owed for it.
-    fn answer<A: Archive>(&mut self, hub: &mut Hub<A>, time: &Time)
+    fn answer<A: Archive, L: HostLog>(&mut self, hub: &mut Hub<A>, moment: Moment, log: &mut L)
         requires unowed { IsAtEnd (owed S.held self.old.wire) }
         requires phase { self.old.course.phase ≡ Phase.Answering }
         ensures config { hub.new.config ≡ hub.old.config }
@@ -117,38 +242,61 @@ impl<R: Source, K: Sink, S: Spool> Seat<R, K, S> {
         ensures clean { IsClean A.condition hub.new → IsClean A.condition hub.old }
         ensures honest { IsHonest A.condition hub.new → IsHonest A.condition hub.old }
         ensures number { self.new.connection ≡ self.old.connection }
+        ensures address { self.new.address ≡ self.old.address }
         ensures turn { Rests A.condition R.unread K.taken S.held hub.old hub.new self.old self.new
             ⊎ Answers A.condition R.unread K.taken S.held hub.old hub.new
-            self.old self.new time.now.moment }
+            self.old self.new moment }
+        ensures moved { self.new.course.moved ≡ self.old.course.moved }
     {
-        self.course.since = time.second;
-        self.answer_next(hub, time.moment);
-        self.flush(time.second);
+        log.answering(self.connection, self.address);
+        let received = self.course.unfinished;
+        let before = self.wire.written();
+        let next = self.answer_next(hub, moment, log);
+        let sent = self.wire.written().saturating_sub(before);
+        log.answered(next, Bytes { received, sent });
+        self.flush();
     }
 
     /// Answers the next item.
-    fn answer_next<A: Archive>(&mut self, hub: &mut Hub<A>, moment: Moment)
+    fn answer_next<A: Archive, L: HostLog>(
+        &mut self,
+        hub: &mut Hub<A>,
+        moment: Moment,
+        log: &mut L,
+    ) -> Next
         ensures config { hub.new.config ≡ hub.old.config }
         ensures next { hub.new.next ≡ hub.old.next }
         ensures clean { IsClean A.condition hub.new → IsClean A.condition hub.old }
         ensures honest { IsHonest A.condition hub.new → IsHonest A.condition hub.old }
         ensures number { self.new.connection ≡ self.old.connection }
+        ensures address { self.new.address ≡ self.old.address }
         ensures source { self.new.source ≡ self.old.source }
-        ensures answers { (next : AnyNext) × ComesToNext A.condition
+        ensures answers { ComesToNext A.condition
             (told K.taken S.held self.old.wire) (told K.taken S.held self.new.wire)
             self.old.wire.failures self.new.wire.failures hub.old hub.new self.old.connection
-            moment next × (self.new.course.phase ≡ phase_answered next) }
+            moment result }
+        ensures phase { self.new.course.phase ≡ phase_answered result }
+        ensures stirs { self.new.course.has_moved ≡ true }
+        ensures moved { self.new.course.moved ≡ self.old.course.moved }
+        ensures unfinished { self.new.course.unfinished
+            ≡ left_unfinished result self.old.course.unfinished }
     {
-        self.course.phase = match hub.answer(self.connection, moment, &mut self.wire) {
+        let next = hub.answer(self.connection, moment, &mut self.wire, log);
+        self.course.has_moved = true;
+        self.course.phase = match next {
             Next::More => Phase::Answering,
             Next::Waiting => Phase::Open,
             Next::Closed | Next::Cut => Phase::Last,
             Next::NoSuch => Phase::Over,
         };
+        if next != Next::Waiting {
+            self.course.unfinished = 0;
+        }
+        next
     }
 
     /// Reads a piece, and offers it.
-    fn read<A: Archive>(&mut self, hub: &mut Hub<A>, room: &mut [u8], second: u64)
+    fn read<A: Archive>(&mut self, hub: &mut Hub<A>, room: &mut [u8])
         requires room { length room.old ≤ most_read }
         requires unowed { IsAtEnd (owed S.held self.old.wire) }
         requires phase { self.old.course.phase ≡ Phase.Open }
@@ -157,31 +305,43 @@ impl<R: Source, K: Sink, S: Spool> Seat<R, K, S> {
         ensures clean { IsClean A.condition hub.new → IsClean A.condition hub.old }
         ensures honest { IsHonest A.condition hub.new → IsHonest A.condition hub.old }
         ensures number { self.new.connection ≡ self.old.connection }
-        ensures turn { (moment : ℕ) → TakesTurn A.condition R.unread K.taken S.held hub.old hub.new
-            self.old self.new moment }
+        ensures address { self.new.address ≡ self.old.address }
+        ensures turn { (moment : ℕ) (is_full : Bool)
+            → (is_full ≡ true → self.old.course.unfinished ≡ 0)
+            → TakesTurn A.condition R.unread K.taken S.held hub.old hub.new
+            self.old self.new moment is_full }
+        ensures moved { min self.old.course.moved (2 ^ 64 - 1) ≤ self.new.course.moved }
     {
         match self.source.receive(room) {
-            Received::Bytes(n) => {
-                self.course.since = second;
-                self.offer(hub, &room[..n]);
-            }
+            Received::Bytes(n) => self.offer(hub, &room[..n]),
             Received::Later => self.course.is_readable = false,
             Received::Ended | Received::Failed => self.course.phase = Phase::Over,
         }
     }
 
-    /// Offers a piece.
+    /// Offers a piece, which counts as moved.
     fn offer<A: Archive>(&mut self, hub: &mut Hub<A>, piece: &[u8])
         ensures config { hub.new.config ≡ hub.old.config }
         ensures next { hub.new.next ≡ hub.old.next }
         ensures store { hub.new.store ≡ hub.old.store }
         ensures number { self.new.connection ≡ self.old.connection }
+        ensures address { self.new.address ≡ self.old.address }
         ensures source { self.new.source ≡ self.old.source }
         ensures offers { (answer : AnyArrived) × OffersTo A.condition
             (told K.taken S.held self.old.wire) (told K.taken S.held self.new.wire)
             self.old.wire.failures self.new.wire.failures hub.old hub.new self.old.connection
             piece.now answer × (self.new.course.phase ≡ phase_offered answer) }
+        ensures has_moved { self.new.course.has_moved
+            ≡ (self.old.course.has_moved || nat_lt 0 (length piece.now)) }
+        ensures moved { self.new.course.moved
+            ≡ min (self.old.course.moved + length piece.now) (2 ^ 64 - 1) }
+        ensures unfinished { self.new.course.unfinished
+            ≡ min (self.old.course.unfinished + length piece.now) (2 ^ 64 - 1) }
     {
+        let bytes = piece.len() as u64;
+        self.course.count(bytes);
+        self.course.unfinished = self.course.unfinished.saturating_add(bytes);
+        self.received = self.received.saturating_add(bytes);
         self.course.phase = match hub.offer(self.connection, piece, &mut self.wire) {
             Arrived::Open => Phase::Answering,
             Arrived::Closed | Arrived::Cut => Phase::Last,
@@ -190,43 +350,52 @@ impl<R: Source, K: Sink, S: Spool> Seat<R, K, S> {
     }
 
     /// Sends what is owed, as far as the socket takes it.
-    fn flush(&mut self, second: u64)
+    fn flush(&mut self)
         ensures keeps { Keeps (told K.taken S.held self.old.wire)
             (told K.taken S.held self.new.wire) }
         ensures failures { self.new.wire.failures ≡ self.old.wire.failures }
         ensures number { self.new.connection ≡ self.old.connection }
+        ensures address { self.new.address ≡ self.old.address }
         ensures source { self.new.source ≡ self.old.source }
         ensures phase { (self.new.course.phase ≡ self.old.course.phase)
             ⊎ (self.new.course.phase ≡ Phase.Over) }
+        ensures stirs { self.new.course.has_moved ≡ self.old.course.has_moved }
+        ensures moved { self.new.course.moved ≡ self.old.course.moved }
+        ensures unfinished { self.new.course.unfinished ≡ self.old.course.unfinished }
     {
-        let before = self.wire.delivered();
         match self.wire.flush() {
             Flushed::All | Flushed::Part => {}
             Flushed::Later => self.course.is_writable = false,
             Flushed::Failed => self.course.phase = Phase::Over,
         }
-        if self.wire.delivered() != before {
-            self.course.since = second;
-        }
     }
 
     /// Tells the client that nothing more is sent.
-    fn finish(&mut self, second: u64)
+    fn finish(&mut self)
         ensures keeps { told K.taken S.held self.new.wire ≡ told K.taken S.held self.old.wire }
         ensures number { self.new.connection ≡ self.old.connection }
+        ensures address { self.new.address ≡ self.old.address }
         ensures phase { self.new.course.phase ≡ Phase.Draining }
+        ensures stirs { self.new.course.has_moved ≡ true }
+        ensures moved { self.new.course.moved ≡ self.old.course.moved }
+        ensures unfinished { self.new.course.unfinished ≡ 0 }
     {
         self.wire.finish();
         self.course.phase = Phase::Draining;
-        self.course.since = second;
+        self.course.has_moved = true;
+        self.course.unfinished = 0;
     }
 
-    /// Throws a piece away.
+    /// Throws a piece away, which doesn't count.
     fn drain(&mut self, room: &mut [u8])
         ensures wire { self.new.wire ≡ self.old.wire }
         ensures number { self.new.connection ≡ self.old.connection }
+        ensures address { self.new.address ≡ self.old.address }
         ensures phase { (self.new.course.phase ≡ self.old.course.phase)
             ⊎ (self.new.course.phase ≡ Phase.Over) }
+        ensures stirs { self.new.course.has_moved ≡ self.old.course.has_moved }
+        ensures moved { self.new.course.moved ≡ self.old.course.moved }
+        ensures unfinished { self.new.course.unfinished ≡ self.old.course.unfinished }
     {
         match self.source.receive(room) {
             Received::Bytes(_) => {}

@@ -37,6 +37,7 @@ pub struct Wire<K, S> {
     spool: S,
     failures: u64,
     delivered: u64,
+    written: u64,
     ghost within: { sent ≤ length front.items },
 }
 
@@ -59,6 +60,7 @@ impl<K: Sink, S: Spool> Wire<K, S> {
             spool,
             failures: 0,
             delivered: 0,
+            written: 0,
         }
     }
 
@@ -192,6 +194,13 @@ impl<K: Sink, S: Spool> Wire<K, S> {
         self.delivered
     }
 
+    /// How many bytes were written to it by writes that didn't fail, up to 2^64 - 1.
+    pub fn written(&self) -> u64
+        ensures { result ≡ self.now.written }
+    {
+        self.written
+    }
+
     /// Tells the client that nothing more is sent.
     pub fn finish(&mut self)
         ensures taken { told K.taken S.held self.new ≡ told K.taken S.held self.old }
@@ -209,8 +218,9 @@ impl<K: Sink, S: Spool> Outlet for Wire<K, S> {
 
     fn write(&mut self, bytes: &[u8]) -> Result<(), WriteFailed> {
         let taken = self.take(bytes);
-        if taken.is_err() {
-            self.failures = self.failures.saturating_add(1);
+        match taken {
+            Ok(()) => self.written = self.written.saturating_add(bytes.len() as u64),
+            Err(WriteFailed) => self.failures = self.failures.saturating_add(1),
         }
         taken
     }

@@ -1,10 +1,18 @@
 -- What a request's step is, by the ruling on it.
 use Rattle.std.proofs.Common.{◌≡◌, ℕ, Option, Some, None, Result, Ok, Err, IfOk, OnOk, IsTrue, min, inl, inr, refl, sym, ap, subst, ◌∙◌, arith}
+use Rattle.std.specs.Option.{option_map, option_map_or}
 use Rattle.sqlite.specs.Effect.{Database}
 use Rattle.sqlite.specs.State as db
 use Rattle.dep_types.specs.Limits.{greatest_moment}
 use Rattle.dep_types.specs.Numbers.{counters_after}
-use Rattle.dep_types.specs.State.{State}
+use Rattle.dep_types.specs.Maps.{◌>>=◌}
+use Rattle.dep_types.specs.Rows.{file_row}
+use Rattle.dep_types.specs.State.{State, File, file_at}
+use Rattle.dep_types.specs.declared.rows.FileRow.{FileRow}
+use Rattle.dep_types.specs.declared.target.Method.{Method}
+use Rattle.dep_types.specs.declared.target.Method.TheVariants.{Get, Head, Post, Put, Delete}
+use Rattle.dep_types.specs.declared.target.Resource.{Resource}
+use Rattle.dep_types.specs.declared.target.Resource.TheVariants as resource
 use Rattle.dep_types.specs.Sound.{IsSound}
 use Rattle.dep_types.specs.declared.config.Config.{Config}
 use Rattle.dep_types.specs.declared.counters.Counters.{Counters}
@@ -17,11 +25,13 @@ use Rattle.dep_decisions.specs.Rules.{refusal}
 use Rattle.dep_decisions.specs.declared.decision.Decision.{Decision}
 use Rattle.dep_decisions.specs.declared.operation.Operation.{Operation}
 use Rattle.dep_rulings.specs.Rulings.{IsRuling}
-use Rattle.dep_rulings.specs.Views.{true_view}
+use Rattle.dep_rulings.specs.Views.{file_in, object_in, true_view}
 use Rattle.dep_rulings.specs.declared.ruling.Ruling.{Ruling}
 use Rattle.dep_rulings.specs.declared.ruling.Ruling.TheVariants.{Do, Refuse}
 use Rattle.dep_rulings.specs.declared.view.View.{View}
+use Rattle.dep_decisions.specs.Laws.{is_read}
 use Rattle.dep_decisions.proofs.Accepted.{effect_sound}
+use Rattle.dep_decisions.proofs.ReadAlone.{reads_keep}
 use Rattle.dep_answers.specs.Performing.{IsReady, IsReply}
 use Rattle.dep_answers.specs.Replies.{answer_to, refused_answer}
 use Rattle.dep_answers.specs.Steps.{operation_step, step_by, answered_step, accepted_answer, refused_step, accepted_step, is_head}
@@ -29,6 +39,7 @@ use Rattle.dep_answers.specs.Subjects.{shown_at, subject_of}
 use Rattle.dep_answers.specs.declared.performed.Delivery.{Delivery}
 use Rattle.dep_answers.specs.declared.performed.Performed.{Performed}
 use Rattle.dep_answers.specs.declared.subject.Shown.{Shown}
+use Rattle.dep_answers.specs.declared.subject.Shown.TheVariants as shown
 use Rattle.dep_answers.specs.declared.subject.Subject.{Subject}
 use Rattle.dep_tables.specs.Clauses.{ReadsOnly, StaysWithin}
 use Rattle.dep_tables.specs.Tables.{tables_in}
@@ -127,3 +138,40 @@ shown_after s op mid new next subject (Ok shown) made of same still told = (
   told ∙ ap (shown_at s) (of ∙ ap (λ (n : Counters). subject_of n op.target.resource op.target.method) same),
 )
 shown_after s op mid new next subject (Err e) made of same still told = tt
+
+-- ---- a file that the view has
+
+by_row : (n f : ℕ) (row : FileRow) (x : Option File) → Some row ≡ option_map (file_row n f) x
+    → shown.File row ≡ option_map_or (λ (it : File). shown.File (file_row n f it)) x shown.Nothing
+by_row n f row None e = absurd (cc)
+by_row n f row (Some it) e = let same : row ≡ file_row n f it = cc in ap (λ (r : FileRow). shown.File r) same
+
+abbrev file_looked_at : State → Resource → Option FileRow
+file_looked_at s r = object_in r >>= (λ n. file_in r >>= (λ f. option_map (file_row n f) (file_at s n f)))
+
+-- what is read of a file that is shown is the row that was looked at
+row_seen : (s : State) (next : Counters) (r : Resource) (m : Method) (row : FileRow) → IsTrue (is_read m) → Some row ≡ file_looked_at s r
+    → shown.File row ≡ shown_at s (subject_of next r m)
+row_seen s next (resource.File n f) Get row h e = by_row n f row (file_at s n f) e
+row_seen s next (resource.File n f) Head row h e = by_row n f row (file_at s n f) e
+row_seen s next (resource.File n f) Post row h e = cc h
+row_seen s next (resource.File n f) Put row h e = cc h
+row_seen s next (resource.File n f) Delete row h e = cc h
+row_seen s next resource.Service m row h e = absurd (cc)
+row_seen s next (resource.Object n) m row h e = absurd (cc)
+row_seen s next (resource.Metadata n) m row h e = absurd (cc)
+row_seen s next (resource.FileSet n) m row h e = absurd (cc)
+row_seen s next resource.Staging m row h e = absurd (cc)
+row_seen s next (resource.Upload u) m row h e = absurd (cc)
+row_seen s next (resource.BagList n) m row h e = absurd (cc)
+row_seen s next (resource.BagFile n path) m row h e = absurd (cc)
+
+-- so it is at the state that such a request leaves, which is the same
+pub row_shown : (config : Config) (s : State) (op : Operation) (view : View) (row : FileRow) → IsTrue (is_read op.target.method) → view ≡ true_view config s op
+    → view.file ≡ Some row → (effect config s op ≡ s)
+    × (shown.File row ≡ shown_at (effect config s op) (subject_of (effect config s op).next op.target.resource op.target.method))
+row_shown config s op view row read seen has =
+    let kept : effect config s op ≡ s = reads_keep config s op read in
+    let looked : Some row ≡ file_looked_at s op.target.resource = sym has ∙ ap (λ (v : View). v.file) seen in
+    let told : shown.File row ≡ shown_at s (subject_of s.next op.target.resource op.target.method) = row_seen s s.next op.target.resource op.target.method row read looked in
+    (kept, told ∙ sym (ap (λ (after : State). shown_at after (subject_of after.next op.target.resource op.target.method)) kept))

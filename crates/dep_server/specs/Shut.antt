@@ -1,5 +1,5 @@
 -- What an archive that a fault shut leaves, and what is sent over one.
-use Rattle.std.specs.Prelude.{◌≡◌, ◌⊎◌, ◌↔◌, ℕ, zero, suc, List, [], ◌++◌, IsTrue}
+use Rattle.std.specs.Prelude.{◌≡◌, ◌⊎◌, ◌↔◌, ℕ, zero, suc, Bool, true, false, List, [], ◌++◌, IsTrue}
 use Rattle.dep_types.specs.State.{State}
 use Rattle.dep_types.specs.Conditions.{Condition, HasCleanDisk}
 use Rattle.dep_types.specs.Writing.{IsProperPrefix}
@@ -16,6 +16,12 @@ LeavesNoMore old new = (image : new.Image) → new.may_leave image
 -- where the earlier one was shut, and the disk has told no lie that was taken as true up to the later
 abbrev pub IfShut : (old new : Condition) → Type 0 → Type 0
 IfShut old new P = HasCleanDisk new → ¬ IsTrue old.is_open → P
+
+-- What is told of an archive: that it is open, unless its disk has told a lie that was taken as
+-- true, or that it is shut.
+abbrev pub TellsOpen : Condition → Bool → Type 0
+TellsOpen c true = HasCleanDisk c → IsTrue c.is_open
+TellsOpen c false = ¬ IsTrue c.is_open
 
 -- a client was told to go on, so often
 abbrev pub continues : ℕ → List ℕ

@@ -9,7 +9,7 @@ ghost use Rattle.dep_fields.specs.Fit.{AreFit};
 ghost use Rattle.dep_answers.specs.Steps.{operation_step};
 ghost use Rattle.dep_types.specs.Conditions.{Condition, StandsFor, HasCleanDisk, Leaves};
 ghost use Rattle.dep_server.specs.Performing.{Performs};
-ghost use Rattle.dep_server.specs.Shut.{IfShut, LeavesNoMore};
+ghost use Rattle.dep_server.specs.Shut.{IfShut, LeavesNoMore, TellsOpen};
 
 use dep_answers::{Performed, Service};
 use dep_decisions::Operation;
@@ -99,6 +99,18 @@ pub trait Archive {
             → HasRisen (O.failures out.old) (O.failures out.new) }
         ensures others { result ≢ Err StreamFault.Writer
             → O.failures out.new ≡ O.failures out.old };
+
+    /// Whether it is open, as far as it can be told: `false` where a fault has shut it, for good.
+    /// Before that is known memory may run out, or the disk fail once more: ask again then.
+    fn is_open(&mut self) -> Result<bool, StoreFault>
+        ensures told { IfOk result (TellsOpen (condition self.new)) }
+        ensures kept { IsTrue (condition self.new).is_open
+            → (s : State) → StandsFor (condition self.old) s → StandsFor (condition self.new) s }
+        ensures honest { HasCleanDisk (condition self.new) → HasCleanDisk (condition self.old) }
+        ensures open { IsTrue (condition self.new).is_open
+            → IsTrue (condition self.old).is_open }
+        ensures left { HasCleanDisk (condition self.new)
+            → LeavesNoMore (condition self.old) (condition self.new) };
 
     // An open archive has an honest disk.
     ghost honest_if_open: { (a : Self) → IsTrue (condition a).is_open

@@ -6,16 +6,17 @@ ghost use Rattle.dep_types.specs.Conditions.{StandsFor, Leaves};
 ghost use Rattle.dep_server.specs.Records.{Connect, Close, Record, Line, World, Run, Absent, Live, stopped, first_world};
 ghost use Rattle.dep_server.specs.Numbers.{Ascends, Ascends-prop, most_connections, last_number};
 
+use crate::access_log::{AccessLog, NoLog};
 use crate::archive::Archive;
 use crate::arrived::Arrived;
 use crate::connections::{ConnId, Connection, index_among};
 use crate::faults::{ConnectFault, HubFault};
 use crate::next::Next;
 use crate::serving::{Piece, answer_next, give_up, serve};
-use crate::site::Site;
+use crate::site::{Context, Site};
 use dep_message::Intake;
 use dep_moment::Moment;
-use dep_types::{Config, ConfigFault, Outlet};
+use dep_types::{Config, ConfigFault, Outlet, StoreFault};
 use std::alloc::{AllocError, Global};
 
 /// All connections, and the one store that they share.
@@ -35,7 +36,8 @@ const LAST_NUMBER: u64 = 4_000_000_000_000_000_000;
 
 impl<A: Archive> Hub<A> {
     ghost use Rattle.dep_server.specs.Standing.{StandsAfter, StandsAt, IsClean, IsHonest, store_of, Adds, Moves, ComesTo, intake_of};
-    ghost use Rattle.dep_server.specs.Holding.{KeepsHolding, MovesLine, OffersTo, ComesToNext, with_held};
+    ghost use Rattle.dep_server.specs.Holding.{KeepsHolding, StandsHoldingAfter, MovesLine, OffersTo, ComesToNext, with_held};
+    ghost use Rattle.dep_server.specs.Shut.{LeavesNoMore, TellsOpen};
 
     /// A hub over the store, without connections. A refusal hands the store back.
     pub fn new(alloc: Global, config: Config, store: A) -> Result<Hub<A>, (HubFault, A)>
@@ -180,13 +182,19 @@ impl<A: Archive> Hub<A> {
         let kept = &mut self.connections[i];
         match kept.intake.feed(piece) {
             Ok(()) => Arrived::Open,
-            Err(AllocError) => give_up(&mut kept.intake, out),
+            Err(AllocError) => give_up(&mut kept.intake, out, &mut NoLog),
         }
     }
 
     /// Answers the next item of a connection, where one is complete in what was offered. It sends one
-    /// reply at most.
-    pub fn answer<O: Outlet>(&mut self, connection: ConnId, moment: Moment, out: &mut O) -> Next
+    /// reply at most, and the log is told of the request and the reply.
+    pub fn answer<O: Outlet, L: AccessLog>(
+        &mut self,
+        connection: ConnId,
+        moment: Moment,
+        out: &mut O,
+        log: &mut L,
+    ) -> Next
         ensures config { self.new.config ≡ self.old.config }
         ensures next { self.new.next ≡ self.old.next }
         ensures absent { intake_of self.old.connections.items connection ≡ None
@@ -204,7 +212,40 @@ impl<A: Archive> Hub<A> {
             return Next::NoSuch;
         };
         let kept = &mut self.connections[i];
-        answer_next(&self.config, &mut self.store, &mut kept.intake, moment, out)
+        let context = Context {
+            site: &self.config,
+            moment,
+        };
+        answer_next(&context, &mut self.store, &mut kept.intake, out, log)
+    }
+
+    /// Whether the store is open, as far as it can be told (`Archive::is_open`). No connection has a
+    /// part in it, so it is no event of a run.
+    pub fn is_open(&mut self) -> Result<bool, StoreFault>
+        ensures told { IfOk result (TellsOpen (store_of A.condition self.new)) }
+        // The hub stands for the same records, and so does what a stop now leaves.
+        ensures stands { IsClean A.condition self.new
+            → (first : State) (records : List Record) (held : ℕ → List ℕ)
+            → StandsHoldingAfter A.condition self.old first records held
+            → StandsHoldingAfter A.condition self.new first records held }
+        ensures stops { IsHonest A.condition self.new
+            → (first : State) (records : List Record) (held : ℕ → List ℕ)
+            → StandsHoldingAfter A.condition self.old first records held
+            → Leaves (store_of A.condition self.new)
+            (λ found. Run self.old.config first (records ++ stopped ∷ []) (first_world found)) }
+        ensures kept { IsClean A.condition self.new → (s : State)
+            → StandsFor (store_of A.condition self.old) s
+            → StandsFor (store_of A.condition self.new) s }
+        ensures left { IsHonest A.condition self.new
+            → LeavesNoMore (store_of A.condition self.old) (store_of A.condition self.new) }
+        // The store is open after it only where it was before, and the disk honest.
+        ensures clean { IsClean A.condition self.new → IsClean A.condition self.old }
+        ensures honest { IsHonest A.condition self.new → IsHonest A.condition self.old }
+        ensures config { self.new.config ≡ self.old.config }
+        ensures connections { self.new.connections ≡ self.old.connections }
+        ensures next { self.new.next ≡ self.old.next }
+    {
+        self.store.is_open()
     }
 
     /// Forgets a connection.

@@ -1,6 +1,7 @@
 //! All connections over one store, from the bytes of requests to the bytes of replies.
 #![tactic(auto)]
 
+mod access_log;
 mod archive;
 mod arrived;
 mod connection;
@@ -14,6 +15,7 @@ mod serving;
 mod site;
 mod step;
 
+pub use access_log::{AccessLog, NoLog};
 pub use archive::Archive;
 pub use arrived::Arrived;
 pub use connection::{Served, serve_connection};

@@ -8,11 +8,12 @@ ghost use Rattle.dep_server.specs.Sending.{outside};
 ghost use Rattle.dep_server.specs.Serving.{ServesOver, IsDeadIfShut, arrival_of, answer_after};
 ghost use Rattle.dep_server.specs.Nexts.{AnswersNext, ended_as};
 
+use crate::access_log::{AccessLog, NoLog};
 use crate::archive::Archive;
 use crate::arrived::Arrived;
 use crate::next::Next;
 use crate::sending::{Answered, send_want_of_memory};
-use crate::site::Site;
+use crate::site::{Context, Site};
 use crate::step::{StreamRefusal, answer_continue, answer_fault, answer_message};
 use dep_message::{Intake, Step, closes};
 use dep_moment::Moment;
@@ -44,10 +45,14 @@ pub(crate) fn serve<A: Archive, O: Outlet>(
     ensures there { result ≢ Arrived.NoSuch }
 {
     if let Err(AllocError) = intake.feed(piece.bytes) {
-        return give_up(intake, out);
+        return give_up(intake, out, &mut NoLog);
     }
+    let context = Context {
+        site,
+        moment: piece.moment,
+    };
     loop {
-        match answer_next(site, store, intake, piece.moment, out) {
+        match answer_next(&context, store, intake, out, &mut NoLog) {
             Next::More => {}
             Next::Waiting => return Arrived::Open,
             Next::Closed => return Arrived::Closed,
@@ -58,14 +63,14 @@ pub(crate) fn serve<A: Archive, O: Outlet>(
 }
 
 /// Answers the next item, where one is complete. It is never `NoSuch`.
-pub(crate) fn answer_next<A: Archive, O: Outlet>(
-    site: &Site,
+pub(crate) fn answer_next<A: Archive, O: Outlet, L: AccessLog>(
+    context: &Context<'_>,
     store: &mut A,
     intake: &mut Intake,
-    moment: Moment,
     out: &mut O,
+    log: &mut L,
 ) -> Next
-    ensures answers { AnswersNext site.now intake.old moment
+    ensures answers { AnswersNext context.now.site.now intake.old context.now.moment
         (outside (O.taken out.old) (O.failures out.old) (A.condition store.old))
         (outside (O.taken out.new) (O.failures out.new) (A.condition store.new))
         intake.new.place result }
@@ -75,21 +80,21 @@ pub(crate) fn answer_next<A: Archive, O: Outlet>(
         → left_to_read intake.new.place < left_to_read intake.old.place }
 {
     match intake.next() {
-        Err(AllocError) => last(give_up(intake, out)),
+        Err(AllocError) => last(give_up(intake, out, log)),
         Ok(Step::NeedMore) => Next::Waiting,
         Ok(Step::Dead) => Next::Closed,
         Ok(Step::Refused(refusal, is_bare)) => {
             let fault = StreamRefusal { refusal, is_bare };
-            let answer = answer_fault(site, store, fault, moment, out);
+            let answer = answer_fault(context, store, fault, out, log);
             last(end(intake, answer))
         }
-        Ok(Step::Continue100) => match answer_continue(store, out) {
+        Ok(Step::Continue100) => match answer_continue(store, out, log) {
             Answered::Sent => Next::More,
             answer => last(end(intake, answer)),
         },
         Ok(Step::Message(message)) => {
             let is_last = closes(&message.head);
-            match answer_message(site, store, message, moment, out) {
+            match answer_message(context, store, message, out, log) {
                 Answered::Sent => {
                     if is_last {
                         last(end(intake, Answered::Sent))
@@ -114,14 +119,18 @@ fn last(ended: Arrived) -> Next
 }
 
 /// Ends a connection for want of memory: the fixed reply for it is sent, and nothing is read any more.
-pub(crate) fn give_up<O: Outlet>(intake: &mut Intake, out: &mut O) -> Arrived
+pub(crate) fn give_up<O: Outlet, L: AccessLog>(
+    intake: &mut Intake,
+    out: &mut O,
+    log: &mut L,
+) -> Arrived
     ensures sent { (sent : List ℕ) × Appends (O.taken out.old) (O.taken out.new) sent
         × SendsUpTo want_of_memory sent result }
     ensures shut { intake.new ≡ shut_reading intake.old }
     ensures cause { result ≡ Arrived.Cut → HasRisen (O.failures out.old) (O.failures out.new) }
     ensures there { result ≢ Arrived.NoSuch }
 {
-    let answer = send_want_of_memory(out);
+    let answer = send_want_of_memory(out, log);
     end(intake, answer)
 }
 

@@ -4,6 +4,7 @@ ghost use Rattle.std.specs.String.{string_bytes};
 ghost use Rattle.dep_router.specs.Targets.{target};
 
 use dep_answers::Service;
+use dep_moment::Moment;
 use dep_router::{Routed, Routes};
 use dep_types::Config;
 use std::alloc::{AllocError, Global};
@@ -15,6 +16,13 @@ use std::marker::Model;
 pub(crate) struct Site {
     service: Service,
     routes: Routes,
+}
+
+/// What an item is answered from, and when.
+#[derive(Clone, Copy)]
+pub(crate) struct Context<'a> {
+    pub site: &'a Site,
+    pub moment: Moment,
 }
 
 impl Model for Site {

@@ -14,9 +14,10 @@ ghost use Rattle.dep_server.specs.Machine.{operation_of, routed_step};
 ghost use Rattle.dep_server.specs.Sending.{outside};
 ghost use Rattle.dep_server.specs.Serving.{Answers};
 
+use crate::access_log::AccessLog;
 use crate::archive::Archive;
 use crate::sending::{Answered, send, send_fault, send_performed};
-use crate::site::Site;
+use crate::site::{Context, Site};
 use dep_answers::{Delivery, Performed, Service, refused};
 use dep_decisions::Operation;
 use dep_fields::SwordFields;
@@ -36,74 +37,80 @@ pub(crate) struct StreamRefusal {
 }
 
 /// Steps a whole message: the clock goes on, and then the message is answered.
-pub(crate) fn answer_message<A: Archive, O: Outlet>(
-    site: &Site,
+pub(crate) fn answer_message<A: Archive, O: Outlet, L: AccessLog>(
+    context: &Context<'_>,
     store: &mut A,
     message: Message,
-    moment: Moment,
     out: &mut O,
+    log: &mut L,
 ) -> Answered
-    ensures { Answers site.now
+    ensures { Answers context.now.site.now
         (outside (O.taken out.old) (O.failures out.old) (A.condition store.old))
         (outside (O.taken out.new) (O.failures out.new) (A.condition store.new))
-        (Request message) moment result }
+        (Request message) context.now.moment result }
 {
-    match store.tick(site.config(), moment) {
-        Ok(clock) => match perform(site, store, message, clock) {
+    let length = message.content.as_slice().len() as u64;
+    log.request(message.head.method(), message.head.path(), length);
+    match store.tick(context.site.config(), context.moment) {
+        Ok(clock) => match perform(context.site, store, message, clock) {
             Ok(performed) => {
-                let answered = send_performed(store, &performed, out);
+                let answered = send_performed(store, &performed, out, log);
                 drop(performed);
                 answered
             }
-            Err(fault) => send_fault(fault, out),
+            Err(fault) => send_fault(fault, out, log),
         },
         Err(fault) => {
             drop(message);
-            send_fault(fault, out)
+            send_fault(fault, out, log)
         }
     }
 }
 
 /// Tells the client that it may send the body (RFC 9110, section 15.2.1). The clock stays.
-pub(crate) fn answer_continue<A: Archive, O: Outlet>(store: &A, out: &mut O) -> Answered
+pub(crate) fn answer_continue<A: Archive, O: Outlet, L: AccessLog>(
+    store: &A,
+    out: &mut O,
+    log: &mut L,
+) -> Answered
     ensures { (config : Settings) (moment : ℕ) → Answers config
         (outside (O.taken out.old) (O.failures out.old) (A.condition store.now))
         (outside (O.taken out.new) (O.failures out.new) (A.condition store.now))
         Continue moment result }
 {
-    send(out, b"HTTP/1.1 100 Continue\r\n\r\n")
+    send(out, log, b"HTTP/1.1 100 Continue\r\n\r\n")
 }
 
 /// Steps a fault of a stream: the clock goes on, and the connection is closed after the reply.
-pub(crate) fn answer_fault<A: Archive, O: Outlet>(
-    site: &Site,
+pub(crate) fn answer_fault<A: Archive, O: Outlet, L: AccessLog>(
+    context: &Context<'_>,
     store: &mut A,
     fault: StreamRefusal,
-    moment: Moment,
     out: &mut O,
+    log: &mut L,
 ) -> Answered
-    ensures { Answers site.now
+    ensures { Answers context.now.site.now
         (outside (O.taken out.old) (O.failures out.old) (A.condition store.old))
         (outside (O.taken out.new) (O.failures out.new) (A.condition store.new))
-        (Fault fault.refusal fault.is_bare) moment result }
+        (Fault fault.refusal fault.is_bare) context.now.moment result }
 {
-    match store.tick(site.config(), moment) {
+    match store.tick(context.site.config(), context.moment) {
         Ok(clock) => {
             let delivery = Delivery {
                 clock,
                 is_bare: fault.is_bare,
                 closes: true,
             };
-            match refused(site.alloc(), fault.refusal, None, delivery) {
+            match refused(context.site.alloc(), fault.refusal, None, delivery) {
                 Ok(performed) => {
-                    let answered = send_performed(store, &performed, out);
+                    let answered = send_performed(store, &performed, out, log);
                     drop(performed);
                     answered
                 }
-                Err(AllocError) => send_fault(StoreFault::Memory, out),
+                Err(AllocError) => send_fault(StoreFault::Memory, out, log),
             }
         }
-        Err(store_fault) => send_fault(store_fault, out),
+        Err(store_fault) => send_fault(store_fault, out, log),
     }
 }
 

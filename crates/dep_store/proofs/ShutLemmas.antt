@@ -1,7 +1,12 @@
 -- A store that a fault shut: what fails on it, and what stands again once a statement was given back.
-use Rattle.std.proofs.Common.{◌∙◌, Result, Ok, Err, OnOk, OnErr, IsErr, IsTrue, inl, inr, arith}
+use Rattle.std.proofs.Common.{◌≡◌, ◌∙◌, ℕ, List, [], Result, Ok, Err, OnOk, IsErr, IsTrue, inl, inr, sym, subst, arith}
 use Rattle.sqlite.specs.State as db
-use Rattle.sqlite.specs.State.{HasCleanDisk, Survives}
+use Rattle.sqlite.specs.State.{HasCleanDisk, Survives, IsNotRun, store_error}
+use Rattle.sqlite.specs.declared.error.ErrorCode.TheVariants as code
+use Rattle.sqlite.specs.declared.error.Error.{Error}
+use Rattle.sqlite.specs.declared.error.Error.TheVariants.{SqliteFailure}
+use Rattle.sqlite_trees.specs.declared.error.StoreError.{StoreError}
+use Rattle.sqlite_trees.specs.declared.error.StoreError.TheVariants.{OutOfMemory, Io, Corrupt, Full, Broken, Unstorable}
 use Rattle.dep_types.specs.State.{State}
 use Rattle.dep_tables.specs.Tables.{Tables}
 use Rattle.sqlite.specs.Schema.{Schema}
@@ -53,3 +58,26 @@ fails_back old new (Err e) Makes failed settled back survives = record {
   was_open = λ is_open. (back is_open).0;
   stop = λ clean t stands trees h. inl (left_still old new t (settled stands.is_open) stands survives clean trees h);
 }
+
+by_cause : (old new : db.State) (cause : StoreError) → SqliteFailure code.Closed ≡ store_error cause → db.HasCause old new ⊥ cause → IsTrue old.is_open → ⊥
+by_cause old new OutOfMemory e has is_open = cc e
+by_cause old new Io e has is_open = cc e
+by_cause old new Corrupt e has is_open = cc e
+by_cause old new Full e has is_open = cc e
+by_cause old new Broken e has is_open = let it = sym is_open ∙ has in cc it
+by_cause old new Unstorable e has is_open = absurd has
+
+closed_at : (old new : db.State) (sql : List ℕ) → IsNotRun old new sql [] (SqliteFailure code.Closed) → ¬ IsTrue new.is_open
+unfolding IsNotRun
+closed_at old new sql (inl (none, unchanged)) is_open = elim none [
+  | inl (fault, is, e) ↦ cc e
+  | inr (c, is, why) ↦ elim why [
+    | inl (more, e) ↦ cc e
+    | inr other ↦ elim other [ inl (count, e) ↦ cc e | inr (formats, e) ↦ cc e ]
+  ]
+]
+closed_at old new sql (inr (cause, e, has, rolled, told)) is_open = by_cause old new cause e has (rolled.was_open is_open)
+
+-- a statement is refused as one of a store that is shut only by a store that is
+pub closed_if_shut : (old new : db.State) (sql : List ℕ) (e : Error) → IsNotRun old new sql [] e → e ≡ SqliteFailure code.Closed → ¬ IsTrue new.is_open
+closed_if_shut old new sql e refused closed = closed_at old new sql (subst (λ (x : Error). IsNotRun old new sql [] x) closed refused)

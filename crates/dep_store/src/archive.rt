@@ -30,6 +30,10 @@ impl<S: Alter> Archive for Store<S> {
         self.stream(file, out)
     }
 
+    fn is_open(&mut self) -> Result<bool, StoreFault> {
+        self.is_open()
+    }
+
     ghost honest_if_open = { λ store is_open.
         clean_if_open (S.Store.view store.store) (S.Store.shut_if_dirty store.store) is_open };
 

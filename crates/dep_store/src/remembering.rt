@@ -1,12 +1,15 @@
 //! What a store remembers of the archive, so that a request for the service document asks no tables.
 
-ghost use Rattle.std.specs.Prelude.{◌≡◌, ◌≤◌, ℕ, Some, false, IsTrue, IfOk, OnOk, ◌↔◌};
+ghost use Rattle.std.specs.Prelude.{◌≡◌, ◌≤◌, ℕ, Some, false, IsTrue, IfOk, IfErr, OnOk, ◌↔◌};
 ghost use Rattle.sqlite.specs.State.{HasCleanDisk, Survives};
 ghost use Rattle.sqlite.specs.Held.{state};
 ghost use Rattle.dep_types.specs.State.{State};
 ghost use Rattle.dep_types.specs.Sound.{IsSound};
 ghost use Rattle.dep_tables.specs.Clauses.{StaysWithin};
+ghost use Rattle.dep_tables.specs.Faults.{fault_for};
 ghost use Rattle.dep_row_maps.specs.Clauses.{FromMaps};
+ghost use Rattle.dep_server.specs.Shut.{TellsOpen};
+ghost use Rattle.dep_store.specs.Archive.{shown_by};
 ghost use Rattle.dep_store.specs.Remembering.{Recalls, IsRecalled, is_left};
 ghost use Rattle.dep_schema.specs.Transactions.{IsBackAt};
 
@@ -14,7 +17,7 @@ use dep_objects::counters;
 use dep_schema::Lent;
 use dep_tables::{Statements, fault_of, left_before};
 use dep_types::{Config, Counters, StoreFault};
-use sqlite::{Alter, Connection};
+use sqlite::{Alter, Connection, Error, ErrorCode};
 
 /// The clock and the counters, at which no upload is idle.
 #[derive(Clone, Copy)]
@@ -95,7 +98,34 @@ fn look_back<S: Alter>(
     Ok(found)
 }
 
-/// Prepares a statement, which fails where the store was shut.
+/// What the error of a statement tells: that the store was shut, or why it tells nothing.
+fn told_by(error: Error) -> Result<bool, StoreFault>
+    ensures shut { IfOk result
+        (λ is_open. (is_open ≡ false) × (error ≡ Error.SqliteFailure ErrorCode.Closed)) }
+    ensures fault { IfErr result (λ fault. fault ≡ fault_for error) }
+{
+    match error {
+        Error::SqliteFailure(ErrorCode::Closed) => Ok(false),
+        other => Err(fault_of(other)),
+    }
+}
+
+/// Whether the store is open: a statement is prepared, which one that was shut refuses.
+pub(crate) fn tell_open<S: Alter>(connection: &mut Connection<S>) -> Result<bool, StoreFault>
+    requires settled { (state S.Store connection.old).in_transaction ≡ false }
+    ensures told { IfOk result (TellsOpen (shown_by (state S.Store connection.new))) }
+    ensures back { IsBackAt (state S.Store connection.old) (state S.Store connection.new) }
+    ensures mode { (state S.Store connection.new).in_transaction ≡ false }
+    ensures survives { Survives (state S.Store connection.old) (state S.Store connection.new) (λ _. ⊥) }
+{
+    let _between = connection.is_autocommit();
+    if let Err(error) = connection.prepare("SELECT 1") {
+        return told_by(error);
+    }
+    Ok(true)
+}
+
+/// Fails where the store was shut.
 pub(crate) fn check_open<S: Alter>(connection: &mut Connection<S>) -> Result<(), StoreFault>
     requires settled { (state S.Store connection.old).in_transaction ≡ false }
     ensures opened { HasCleanDisk (state S.Store connection.new)
@@ -104,10 +134,10 @@ pub(crate) fn check_open<S: Alter>(connection: &mut Connection<S>) -> Result<(),
     ensures mode { (state S.Store connection.new).in_transaction ≡ false }
     ensures survives { Survives (state S.Store connection.old) (state S.Store connection.new) (λ _. ⊥) }
 {
-    let _between = connection.is_autocommit();
-    match connection.prepare("SELECT 1") {
-        Ok(_) => Ok(()),
-        Err(error) => Err(fault_of(error)),
+    if tell_open(connection)? {
+        Ok(())
+    } else {
+        Err(StoreFault::Store)
     }
 }
 

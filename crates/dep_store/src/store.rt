@@ -22,11 +22,13 @@ ghost use Rattle.dep_schema.specs.States.{StandsFor, IsLeftAs, Leaves};
 ghost use Rattle.dep_schema.specs.Performing.{Performs};
 ghost use Rattle.dep_upgrading.specs.Causes.{FailsToOpenTables, FindsOrUpgrades};
 ghost use Rattle.dep_upgrading.specs.Migrating.{Keeps, OpenLeaves, OpensOlder, Stood};
+ghost use Rattle.dep_server.specs.Shut.{TellsOpen};
+ghost use Rattle.dep_store.specs.Archive.{condition_of};
 ghost use Rattle.dep_store.specs.Shut.{LeavesNoMore};
 
 use crate::auditing::audit_object;
 use crate::reading::{find_next, view_object};
-use crate::remembering::{Remembered, check_open};
+use crate::remembering::{Remembered, check_open, tell_open};
 use crate::showing::serve;
 use crate::ticking::advance;
 use dep_answers::{Performed, Service};
@@ -316,6 +318,31 @@ impl<S: Alter> Store<S> {
         }
         self.remembered = None;
         audit_object(&mut self.connection, self.alloc, object, watch)
+    }
+
+    /// Whether the store is open, as far as it can be told: `false` where a fault has shut it, for
+    /// good. Before that is known memory may run out, or the disk fail once more; ask again then.
+    pub fn is_open(&mut self) -> Result<bool, StoreFault>
+        ensures told { IfOk result (TellsOpen (condition_of S.Store self.new)) }
+        ensures kept { IsTrue (state S.Store self.new).is_open
+            → (s : State) → StandsFor (state S.Store self.old) s
+            → StandsFor (state S.Store self.new) s }
+        ensures honest { HasCleanDisk (state S.Store self.new) → HasCleanDisk (state S.Store self.old) }
+        ensures open { IsTrue (state S.Store self.new).is_open
+            → IsTrue (state S.Store self.old).is_open }
+        ensures left { HasCleanDisk (state S.Store self.new)
+            → (trees : Trees) → (state S.Store self.new).may_leave trees
+            → (state S.Store self.old).may_leave trees }
+    {
+        match self.remembered {
+            Some(_) => Ok(true),
+            None => {
+                if !self.connection.is_autocommit() {
+                    return Err(StoreFault::Store);
+                }
+                tell_open(&mut self.connection)
+            }
+        }
     }
 
     /// While the store stands for a state, a crash leaves that state.

@@ -1,20 +1,24 @@
 //! What is there at the numbers of an object and of a file, and at a path of a bag.
 
-ghost use Rattle.std.specs.Prelude.{◌≡◌, IfOk, IfErr, IsTrue};
-ghost use Rattle.std.specs.Option.{option_copied};
+ghost use Rattle.std.specs.Prelude.{◌≡◌, ◌++◌, ⊤, IfOk, IsTrue, bytes_eq, map};
+ghost use Rattle.std.specs.List.{list_any};
+ghost use Rattle.std.specs.Option.{option_copied, option_to_list};
+ghost use Rattle.dep_types.specs.BagPaths.{tag_paths};
+ghost use Rattle.dep_bag.specs.Parts.{row_path};
+ghost use Rattle.dep_types.specs.Sound.{IsSound};
 ghost use Rattle.dep_rulings.specs.Views.{has_path, touched_file, touched_object};
 ghost use Rattle.dep_tables.specs.Clauses.{ReadsOnly, FailsReading, StaysWithin};
 ghost use Rattle.dep_row_maps.specs.Clauses.{FromMaps};
 ghost use Rattle.dep_row_maps.specs.Causes.{FailsByOne, FailsByStatement, FailsSince};
 ghost use Rattle.dep_views.specs.Causes.{AreStorable};
+ghost use Rattle.dep_views.specs.Seen.{file_at_path};
 
-use dep_bag::has_bag_path;
-use dep_files::{find_file, load_files};
+use dep_bag::{file_number, has_bag_path};
+use dep_files::find_file;
 use dep_objects::find_object;
 use dep_rulings::Touched;
 use dep_tables::Statements;
 use dep_types::{FileRow, ObjectRow, StoreFault};
-use std::alloc::Global;
 
 /// The row of the object.
 pub(crate) fn find_touched_object<T: Statements>(
@@ -56,28 +60,57 @@ pub(crate) fn find_touched_file<T: Statements>(
     }
 }
 
-/// Whether the object, which was found so, has the path in its bag.
+// The row of the one file of the object that can stand at the path.
+fn find_file_at_path<T: Statements>(
+    tx: &mut T,
+    object: u64,
+    path: &[u8],
+) -> Result<Option<FileRow>, StoreFault>
+    ensures map { FromMaps (T.state tx.old) (T.state tx.new)
+        (λ s. IfOk result (λ found. found ≡ file_at_path s object path.now)) }
+    ensures same { IsTrue (T.state tx.old).is_open
+        → ReadsOnly (T.state tx.old) (T.state tx.new) result }
+    ensures cause { FailsByOne T.state tx.old tx.new result ⊤ FailsByStatement }
+    ensures err { FailsReading (T.state tx.old) (T.state tx.new) result }
+    ensures stays { StaysWithin T.lenders T.state tx.old tx.new result }
+{
+    match file_number(path) {
+        Some(file) => find_file(tx, object, file),
+        None => Ok(None),
+    }
+}
+
+// Whether a bag with this payload file, or with none, has the path.
+fn has_path_with(file: Option<FileRow>, path: &[u8]) -> bool
+    ensures { result ≡ list_any (bytes_eq path.now) (tag_paths ++ map row_path (option_to_list file)) }
+{
+    match file {
+        Some(row) => has_bag_path(&[row], path),
+        None => has_bag_path(&[], path),
+    }
+}
+
+/// Whether the object, which was found so, has the path in its bag. No more of its files is read than the one whose
+/// number the path has.
 pub(crate) fn find_touched_path<T: Statements>(
     tx: &mut T,
-    alloc: Global,
     touched: &Touched,
     object: Option<&ObjectRow>,
 ) -> Result<bool, StoreFault>
     ensures map { FromMaps (T.state tx.old) (T.state tx.new)
-        (λ s. option_copied object.entry ≡ touched_object s touched.now
+        (λ s. IsSound s → option_copied object.entry ≡ touched_object s touched.now
         → IfOk result (λ has. has ≡ has_path s touched.now)) }
     ensures same { IsTrue (T.state tx.old).is_open
         → ReadsOnly (T.state tx.old) (T.state tx.new) result }
-    ensures cause { FromMaps (T.state tx.old) (T.state tx.new)
-        (λ s. option_copied object.entry ≡ touched_object s touched.now → AreStorable touched.now
-        → IfErr result (FailsSince T.state FailsByStatement tx.old tx.new)) }
+    ensures cause { FailsByOne T.state tx.old tx.new result ⊤ FailsByStatement }
     ensures err { FailsReading (T.state tx.old) (T.state tx.new) result }
     ensures stays { StaysWithin T.lenders T.state tx.old tx.new result }
 {
     match (object, &touched.path) {
         (Some(object), Some(path)) => {
-            let files = load_files(tx, alloc, object.object)?;
-            Ok(has_bag_path(files.as_slice(), path.as_slice()))
+            let path = path.as_slice();
+            let file = find_file_at_path(tx, object.object, path)?;
+            Ok(has_path_with(file, path))
         }
         _ => Ok(false),
     }

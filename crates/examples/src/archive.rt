@@ -43,6 +43,10 @@ impl Archive for MemoryArchive {
         self.store.stream(file, out)
     }
 
+    fn is_open(&mut self) -> Result<bool, StoreFault> {
+        self.store.is_open()
+    }
+
     ghost honest_if_open = { λ a _. memory_is_clean a.store };
 
     ghost settled = { λ a s stands. leaves_as_was _ s (λ trees left. left) stands };

@@ -1,4 +1,4 @@
-use Rattle.std.proofs.Common.{◌∙◌, ap}
+use Rattle.std.proofs.Common.{◌∙◌, ℕ, List, ap, sym}
 use Rattle.std.proofs.lemmas.Result.{IfOk-weaker}
 use Rattle.dep_types.specs.declared.config.Config.{Config}
 use Rattle.dep_types.specs.declared.target.Resource.TheVariants as resource
@@ -65,3 +65,11 @@ returns-in-File-clause-says c =
 pub returns-in-FileSet-clause-says : goal.returns-in-FileSet-clause-says
 returns-in-FileSet-clause-says c = λ s sound e.
     nothing_said (shown_answer c.args.service.now s c.args.resource.now) (unread c.args.service.now s c.args.resource.now c.in-FileSet.is)
+
+pub returns-in-BagFile-clause-says : goal.returns-in-BagFile-clause-says
+returns-in-BagFile-clause-says c =
+    IfOk-weaker c.bag_reply.result _ _
+    (λ p says s sound. shows c.args.service.now s c.args.shown.now c.args.delivery p c.args.resource.now (resource.BagFile c.in-BagFile.field-0 c.as_slice.result.now)
+    (c.in-BagFile.is ∙ ap (λ (path : List ℕ). resource.BagFile c.in-BagFile.field-0 path) (sym c.as_slice.ensures))
+    (λ e. says s c.in-BagFile.field-0 sound e))
+    c.bag_reply.ensures.says

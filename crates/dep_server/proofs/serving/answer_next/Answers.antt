@@ -15,7 +15,7 @@ returns-in-Err g c =
     let store = g.A.Archive.condition c.args.store.now in
     let shut = c.give_up.ensures.shut in
     record {
-      answers = ends_out c.args.site.now c.args.intake.now c.args.moment
+      answers = ends_out c.args.context.now.site.now c.args.intake.now c.args.context.now.moment
           (outside (g.O.Outlet.taken c.args.out.now) (g.O.Outlet.failures c.args.out.now) store) (outside (g.O.Outlet.taken c.give_up.new.out) (g.O.Outlet.failures c.give_up.new.out) store)
           c.give_up.new.intake.place (ap (λ (r : Reading). r.place) shut) c.give_up.result
           (runs_out c.args.intake.now.place (g.O.Outlet.taken c.args.out.now) (g.O.Outlet.taken c.give_up.new.out) (g.O.Outlet.failures c.args.out.now) (g.O.Outlet.failures c.give_up.new.out) store
@@ -45,7 +45,7 @@ pub returns-in-Ok-Dead : goal.returns-in-Ok-Dead
 returns-in-Ok-Dead g c =
     let h = rw c.in-Ok-Dead.field-0-is at c.in-Ok-Dead.ensures in
     record {
-      answers = dead_ends c.args.site.now c.args.intake.now c.args.moment
+      answers = dead_ends c.args.context.now.site.now c.args.intake.now c.args.context.now.moment
           (outside (g.O.Outlet.taken c.args.out.now) (g.O.Outlet.failures c.args.out.now) (g.A.Archive.condition c.args.store.now)) c.next.new.self h.0 h.1;
       limit = ap (λ (r : Reading). r.limit) h.0;
       dead = λ dead. subst IsDeadIfShut (sym h.0) dead;
@@ -57,7 +57,7 @@ returns-in-Ok-Refused g c =
     let h = rw c.in-Ok-Refused.field-0-is at c.in-Ok-Refused.ensures in
     let item : Item = Fault c.in-Ok-Refused.refusal c.in-Ok-Refused.is_bare in
     record {
-      answers = ends_last c.args.site.now c.args.intake.now c.args.moment
+      answers = ends_last c.args.context.now.site.now c.args.intake.now c.args.context.now.moment
           (outside (g.O.Outlet.taken c.args.out.now) (g.O.Outlet.failures c.args.out.now) (g.A.Archive.condition c.args.store.now))
           (outside (g.O.Outlet.taken c.answer_fault-answer.new.out) (g.O.Outlet.failures c.answer_fault-answer.new.out) (g.A.Archive.condition c.answer_fault-answer.new.store))
           c.end.new.intake.place (ap (λ (r : Reading). r.place) c.end.ensures.shut) item c.next.new.self.place c.answer_fault-answer.result h.first
@@ -75,7 +75,7 @@ returns-in-Sent g c =
         item = Continue;
         first = h.first;
         is_open = is_there c.next.new.self.place (continue_goes_on _ _ _ h.first);
-        answers = c.in-Sent.ensures c.args.site.now c.args.moment;
+        answers = c.in-Sent.ensures c.args.context.now.site.now c.args.context.now.moment;
       };
       limit = h.limit;
       dead = λ dead shut. absurd (continue_goes_on _ _ _ h.first shut);
@@ -88,11 +88,11 @@ returns-in_default g c =
     let store = g.A.Archive.condition c.args.store.now in
     let shut = c.end-in_default.ensures.shut in
     record {
-      answers = ends_last c.args.site.now c.args.intake.now c.args.moment
+      answers = ends_last c.args.context.now.site.now c.args.intake.now c.args.context.now.moment
           (outside (g.O.Outlet.taken c.args.out.now) (g.O.Outlet.failures c.args.out.now) store)
           (outside (g.O.Outlet.taken c.answer_continue.new.out) (g.O.Outlet.failures c.answer_continue.new.out) store)
           c.end-in_default.new.intake.place (ap (λ (r : Reading). r.place) shut) Continue c.next.new.self.place c.answer_continue.result h.first
-          (λ sent. absurd (c.in_default.not-Sent sent)) (c.answer_continue.ensures c.args.site.now c.args.moment)
+          (λ sent. absurd (c.in_default.not-Sent sent)) (c.answer_continue.ensures c.args.context.now.site.now c.args.context.now.moment)
           c.end-in_default.result c.end-in_default.ensures.answer
           c.last-in_default.result c.last-in_default.ensures;
       limit = ap (λ (r : Reading). r.limit) shut ∙ h.limit;
@@ -106,7 +106,7 @@ returns-then-is_last g c =
     let ends : closes c.in-Ok-Message.message.head ≡ true = sym c.closes-is_last.ensures ∙ c.if-is_last.true in
     let shut = c.end-then-is_last.ensures.shut in
     record {
-      answers = ends_last c.args.site.now c.args.intake.now c.args.moment
+      answers = ends_last c.args.context.now.site.now c.args.intake.now c.args.context.now.moment
           (outside (g.O.Outlet.taken c.args.out.now) (g.O.Outlet.failures c.args.out.now) (g.A.Archive.condition c.args.store.now))
           (outside (g.O.Outlet.taken c.answer_message.new.out) (g.O.Outlet.failures c.answer_message.new.out) (g.A.Archive.condition c.answer_message.new.store))
           c.end-then-is_last.new.intake.place (ap (λ (r : Reading). r.place) shut) (Request c.in-Ok-Message.message) c.next.new.self.place Sent h.first
@@ -138,7 +138,7 @@ returns-in_default-answer_message g c =
     let h = rw c.in-Ok-Message.field-0-is at c.in-Ok-Message.ensures in
     let shut = c.end-in_default-answer_message.ensures.shut in
     record {
-      answers = ends_last c.args.site.now c.args.intake.now c.args.moment
+      answers = ends_last c.args.context.now.site.now c.args.intake.now c.args.context.now.moment
           (outside (g.O.Outlet.taken c.args.out.now) (g.O.Outlet.failures c.args.out.now) (g.A.Archive.condition c.args.store.now))
           (outside (g.O.Outlet.taken c.answer_message.new.out) (g.O.Outlet.failures c.answer_message.new.out) (g.A.Archive.condition c.answer_message.new.store))
           c.end-in_default-answer_message.new.intake.place (ap (λ (r : Reading). r.place) shut)

@@ -13,7 +13,7 @@ use Rattle.dep_server.proofs.step.answer_fault.Goals as goal
 pub returns-in-Ok-refused : goal.returns-in-Ok-refused
 unfolding step
 returns-in-Ok-refused g c =
-    let config = c.args.site.now in
+    let config = c.args.context.now.site.now in
     let delivery : Delivery = record { clock = c.in-Ok.clock; is_bare = c.args.fault.is_bare; closes = true } in
     let x = c.send_performed-answered.ensures in
     record {
@@ -25,10 +25,10 @@ returns-in-Ok-refused g c =
       };
       steps = λ disk s stands.
           let t = (rw c.config.ensures at c.in-Ok.ensures.ok) (x.passes.honest disk) s stands in
-          let now = tick config s c.args.moment in
-          made_from config s (Fault c.args.fault.refusal c.args.fault.is_bare) c.args.moment x.sent _ _ _ c.send_performed-answered.result refl
-          (answers_from config s (Fault c.args.fault.refusal c.args.fault.is_bare) c.args.moment x.sent _ _ c.send_performed-answered.result
-          (x.sends disk (step config s (Fault c.args.fault.refusal c.args.fault.is_bare) c.args.moment)
+          let now = tick config s c.args.context.now.moment in
+          made_from config s (Fault c.args.fault.refusal c.args.fault.is_bare) c.args.context.now.moment x.sent _ _ _ c.send_performed-answered.result refl
+          (answers_from config s (Fault c.args.fault.refusal c.args.fault.is_bare) c.args.context.now.moment x.sent _ _ c.send_performed-answered.result
+          (x.sends disk (step config s (Fault c.args.fault.refusal c.args.fault.is_bare) c.args.context.now.moment)
           (record { state = t.1; ready = refusal_ready now delivery c.in-Ok-refused.performed c.args.fault.refusal None c.args.fault.is_bare true t.0 refl refl c.in-Ok-refused.ensures })));
       shut = λ disk none. absurd (none (c.in-Ok.ensures.opened (x.passes.honest disk)));
     }
@@ -36,17 +36,17 @@ returns-in-Ok-refused g c =
 pub returns-in-Err-refused : goal.returns-in-Err-refused
 unfolding step
 returns-in-Err-refused g c =
-    let config = c.args.site.now in
+    let config = c.args.context.now.site.now in
     let new = g.A.Archive.condition c.tick.new.self in
-    answers_fixed config (outside (g.O.Outlet.taken c.args.out.now) (g.O.Outlet.failures c.args.out.now) (g.A.Archive.condition c.args.store.now)) (outside (g.O.Outlet.taken c.send_fault.new.out) (g.O.Outlet.failures c.send_fault.new.out) (g.A.Archive.condition c.tick.new.self)) (Fault c.args.fault.refusal c.args.fault.is_bare) c.args.moment Memory
+    answers_fixed config (outside (g.O.Outlet.taken c.args.out.now) (g.O.Outlet.failures c.args.out.now) (g.A.Archive.condition c.args.store.now)) (outside (g.O.Outlet.taken c.send_fault.new.out) (g.O.Outlet.failures c.send_fault.new.out) (g.A.Archive.condition c.tick.new.self)) (Fault c.args.fault.refusal c.args.fault.is_bare) c.args.context.now.moment Memory
     c.tick.ensures.honest c.tick.ensures.open
     (λ disk s stands.
     let t = (rw c.config.ensures at c.in-Ok.ensures.ok) disk s stands in record {
-      left = tick config s c.args.moment;
+      left = tick config s c.args.context.now.moment;
       is_left = inr refl;
       stands = λ _. t.1;
       stop = leaves_wider new _ _ (λ found e. inr (inl e))
-          (stays_as new (tick config s c.args.moment) (g.met.A.Archive.settled c.tick.new.self) t.1);
+          (stays_as new (tick config s c.args.context.now.moment) (g.met.A.Archive.settled c.tick.new.self) t.1);
     })
     (λ sent answer h. h) (λ disk none. absurd (none (c.in-Ok.ensures.opened disk)))
     c.send_fault.result c.send_fault.ensures.sends c.send_fault.ensures.cause
@@ -55,7 +55,7 @@ pub returns-in-Err : goal.returns-in-Err
 unfolding step
 returns-in-Err g c =
     let new = g.A.Archive.condition c.tick.new.self in
-    answers_fixed c.args.site.now (outside (g.O.Outlet.taken c.args.out.now) (g.O.Outlet.failures c.args.out.now) (g.A.Archive.condition c.args.store.now)) (outside (g.O.Outlet.taken c.send_fault-in-Err.new.out) (g.O.Outlet.failures c.send_fault-in-Err.new.out) (g.A.Archive.condition c.tick.new.self)) (Fault c.args.fault.refusal c.args.fault.is_bare) c.args.moment c.in-Err.store_fault
+    answers_fixed c.args.context.now.site.now (outside (g.O.Outlet.taken c.args.out.now) (g.O.Outlet.failures c.args.out.now) (g.A.Archive.condition c.args.store.now)) (outside (g.O.Outlet.taken c.send_fault-in-Err.new.out) (g.O.Outlet.failures c.send_fault-in-Err.new.out) (g.A.Archive.condition c.tick.new.self)) (Fault c.args.fault.refusal c.args.fault.is_bare) c.args.context.now.moment c.in-Err.store_fault
     c.tick.ensures.honest c.tick.ensures.open
     (λ disk s stands. record {
       left = s;

@@ -11,7 +11,7 @@ use Rattle.dep_server.proofs.step.answer_message.Goals as goal
 pub returns-in-Ok-perform : goal.returns-in-Ok-perform
 unfolding step
 returns-in-Ok-perform g c =
-    let config = c.args.site.now in
+    let config = c.args.context.now.site.now in
     let m : Message = c.args.message in
     let x = c.send_performed-answered.ensures in
     record {
@@ -24,26 +24,26 @@ returns-in-Ok-perform g c =
       steps = λ disk s stands.
           let between = x.passes.honest disk in
           let t = (rw c.config.ensures at c.in-Ok.ensures.ok) (c.perform.ensures.honest between) s stands in
-          let p = c.in-Ok-perform.ensures.ok between (tick config s c.args.moment) t.1 t.0 in
-          made_from config s (Request m) c.args.moment x.sent _ _ _ c.send_performed-answered.result refl
-          (answers_from config s (Request m) c.args.moment x.sent _ _ c.send_performed-answered.result (x.sends disk (step config s (Request m) c.args.moment) p));
+          let p = c.in-Ok-perform.ensures.ok between (tick config s c.args.context.now.moment) t.1 t.0 in
+          made_from config s (Request m) c.args.context.now.moment x.sent _ _ _ c.send_performed-answered.result refl
+          (answers_from config s (Request m) c.args.context.now.moment x.sent _ _ c.send_performed-answered.result (x.sends disk (step config s (Request m) c.args.context.now.moment) p));
       shut = λ disk none. absurd (none (c.in-Ok.ensures.opened (c.perform.ensures.honest (x.passes.honest disk))));
     }
 
 pub returns-in-Err-perform : goal.returns-in-Err-perform
 unfolding step
 returns-in-Err-perform g c =
-    let config = c.args.site.now in
+    let config = c.args.context.now.site.now in
     let m : Message = c.args.message in
     let new = g.A.Archive.condition c.perform.new.store in
-    answers_fixed config (outside (g.O.Outlet.taken c.args.out.now) (g.O.Outlet.failures c.args.out.now) (g.A.Archive.condition c.args.store.now)) (outside (g.O.Outlet.taken c.send_fault.new.out) (g.O.Outlet.failures c.send_fault.new.out) (g.A.Archive.condition c.perform.new.store)) (Request m) c.args.moment c.in-Err-perform.fault
+    answers_fixed config (outside (g.O.Outlet.taken c.args.out.now) (g.O.Outlet.failures c.args.out.now) (g.A.Archive.condition c.args.store.now)) (outside (g.O.Outlet.taken c.send_fault.new.out) (g.O.Outlet.failures c.send_fault.new.out) (g.A.Archive.condition c.perform.new.store)) (Request m) c.args.context.now.moment c.in-Err-perform.fault
     (λ h. c.tick.ensures.honest (c.perform.ensures.honest h)) (λ h. c.tick.ensures.open (c.perform.ensures.open h))
     (λ disk s stands.
     let t = (rw c.config.ensures at c.in-Ok.ensures.ok) (c.perform.ensures.honest disk) s stands in record {
-      left = tick config s c.args.moment;
+      left = tick config s c.args.context.now.moment;
       is_left = inr refl;
-      stands = λ is_open. c.in-Err-perform.ensures.err is_open (tick config s c.args.moment) t.1;
-      stop = leaves_wider new _ _ (λ found e. inr e) (c.perform.ensures.stop disk (tick config s c.args.moment) t.1);
+      stands = λ is_open. c.in-Err-perform.ensures.err is_open (tick config s c.args.context.now.moment) t.1;
+      stop = leaves_wider new _ _ (λ found e. inr e) (c.perform.ensures.stop disk (tick config s c.args.context.now.moment) t.1);
     })
     (λ sent answer h. h) (λ disk none. absurd (none (c.in-Ok.ensures.opened (c.perform.ensures.honest disk))))
     c.send_fault.result c.send_fault.ensures.sends c.send_fault.ensures.cause
@@ -52,7 +52,7 @@ pub returns-in-Err : goal.returns-in-Err
 unfolding step
 returns-in-Err g c =
     let new = g.A.Archive.condition c.tick.new.self in
-    answers_fixed c.args.site.now (outside (g.O.Outlet.taken c.args.out.now) (g.O.Outlet.failures c.args.out.now) (g.A.Archive.condition c.args.store.now)) (outside (g.O.Outlet.taken c.send_fault-in-Err.new.out) (g.O.Outlet.failures c.send_fault-in-Err.new.out) (g.A.Archive.condition c.tick.new.self)) (Request c.args.message) c.args.moment c.in-Err.fault
+    answers_fixed c.args.context.now.site.now (outside (g.O.Outlet.taken c.args.out.now) (g.O.Outlet.failures c.args.out.now) (g.A.Archive.condition c.args.store.now)) (outside (g.O.Outlet.taken c.send_fault-in-Err.new.out) (g.O.Outlet.failures c.send_fault-in-Err.new.out) (g.A.Archive.condition c.tick.new.self)) (Request c.args.message) c.args.context.now.moment c.in-Err.fault
     c.tick.ensures.honest c.tick.ensures.open
     (λ disk s stands. record {
       left = s;

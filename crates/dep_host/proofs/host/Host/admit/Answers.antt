@@ -4,19 +4,34 @@ use Rattle.dep_server.specs.Records.{Live}
 use Rattle.dep_server.specs.Holding.{MovesLine}
 use Rattle.dep_outbox.specs.Wires.{told}
 use Rattle.dep_host.specs.Hosting.{refused, comes}
-use Rattle.dep_host.proofs.HostLemmas.{one_step}
+use Rattle.dep_host.proofs.HostLemmas.{one_step, no_step}
 use Rattle.dep_host.proofs.host.Host.admit.Goals as goal
 
-pub returns-in_err-connection-clause-goes : goal.returns-in_err-connection-clause-goes
-returns-in_err-connection-clause-goes g c =
+pub returns-then-seated_from-self-clause-goes : goal.returns-then-seated_from-self-clause-goes
+returns-then-seated_from-self-clause-goes g c = no_step g.A.Archive.condition g.R.Source.unread g.K.Sink.taken g.S.Spool.held _
+
+pub returns-in-Err-Full-clause-goes : goal.returns-in-Err-Full-clause-goes
+returns-in-Err-Full-clause-goes g c =
     one_step g.A.Archive.condition g.R.Source.unread g.K.Sink.taken g.S.Spool.held _ _ _
     (refused (record {
       sits = refl;
-      next = c.in_err-connection.ensures.kept;
-      keeps = c.in_err-connection.ensures.holding;
+      next = c.in-Err-Full.ensures.kept;
+      keeps = c.in-Err-Full.ensures.holding;
       same_store = c.connect.ensures.store;
       same_config = c.connect.ensures.config;
-      same_idle = refl;
+      same_limits = refl;
+    }))
+
+pub returns-in-Err-Memory-clause-goes : goal.returns-in-Err-Memory-clause-goes
+returns-in-Err-Memory-clause-goes g c =
+    one_step g.A.Archive.condition g.R.Source.unread g.K.Sink.taken g.S.Spool.held _ _ _
+    (refused (record {
+      sits = refl;
+      next = c.in-Err-Memory.ensures.kept;
+      keeps = c.in-Err-Memory.ensures.holding;
+      same_store = c.connect.ensures.store;
+      same_config = c.connect.ensures.config;
+      same_limits = refl;
     }))
 
 pub returns-clause-goes : goal.returns-clause-goes
@@ -26,12 +41,13 @@ returns-clause-goes g c =
       there = c.requires.there;
       free = c.requires.free;
       sits = refl;
-      is_next = c.new.ensures.number ∙ c.in_ok-connection.ensures.next.0;
-      next = c.in_ok-connection.ensures.next.1;
-      moves = subst (λ n. MovesLine g.A.Archive.condition c.args.self.now.hub c.connect.new.self n (Live []) (λ kept. kept)) (sym c.new.ensures.number) c.in_ok-connection.ensures.holding;
+      is_next = c.new.ensures.number ∙ c.in-Ok.ensures.next.0;
+      next = c.in-Ok.ensures.next.1;
+      moves = subst (λ n. MovesLine g.A.Archive.condition c.args.self.now.hub c.connect.new.self n (Live []) (λ kept. kept)) (sym c.new.ensures.number) c.in-Ok.ensures.holding;
       same_store = c.connect.ensures.store;
       same_config = c.connect.ensures.config;
       fresh = subst (λ w. IsAtEnd (told g.K.Sink.taken g.S.Spool.held w)) (sym c.new.ensures.wire) c.requires.fresh;
       opens = c.new.ensures.phase;
-      same_idle = refl;
+      uncounted = c.new.ensures.unfinished;
+      same_limits = refl;
     }))

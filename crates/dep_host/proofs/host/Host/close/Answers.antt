@@ -2,7 +2,7 @@ use Rattle.std.proofs.Common.{[], None, refl, sym, ap, subst, set, ◌∙◌}
 use Rattle.std.proofs.lemmas.List.{get_or-set_same, get_or-set_other}
 use Rattle.dep_server.specs.Records.{Absent}
 use Rattle.dep_server.specs.Holding.{MovesLine, with_held}
-use Rattle.dep_host.specs.Hosting.{HasDone}
+use Rattle.dep_host.specs.Hosting.{MayGo, position}
 use Rattle.dep_host.proofs.HostLemmas.{slot_read, closing, closing_none}
 use Rattle.dep_host.proofs.host.Host.close.Goals as goal
 
@@ -13,12 +13,13 @@ returns-in-Some-clause-goes g c =
       there = c.requires.there;
       sat = sat;
       gone = ap (λ y. set c.args.self.now.seats.items c.args.at y) c.take.ensures.after;
-      done = subst (λ o. HasDone c.args.second c.args.self.now.idle o) sat c.requires.done;
+      reason = c.args.closing;
+      done = subst (λ o. MayGo (position c.args.self.now) c.args.second c.args.closing o) sat c.requires.done;
       next = c.close.ensures.next;
       moves = subst (λ n. MovesLine g.A.Archive.condition c.args.self.now.hub c.close.new.self n Absent (with_held n [])) c.connection.ensures c.close.ensures.holding;
       same_store = c.close.ensures.store;
       same_config = c.close.ensures.config;
-      same_idle = refl;
+      same_limits = refl;
     })
 
 pub returns-in_default-clause-goes : goal.returns-in_default-clause-goes

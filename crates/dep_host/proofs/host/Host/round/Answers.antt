@@ -1,24 +1,8 @@
-use Rattle.std.proofs.Common.{refl, ◌∙◌, arith}
-use Rattle.dep_host.proofs.HostLemmas.{round_begins, round_goes_on, round_ends, left_goes_on}
+use Rattle.dep_host.proofs.HostLemmas.{round_sheds, left_sheds}
 use Rattle.dep_host.proofs.host.Host.round.Goals as goal
 
-pub loop-at-init : goal.loop-at-init
-loop-at-init g c = record {
-  goes = round_begins g.A.Archive.condition g.R.Source.unread g.K.Sink.taken g.S.Spool.held _ _;
-  left = λ place h. absurd (let none : ⊥ = omega (arith, h) in none);
-  seats = refl;
-  room = c.requires.room;
-  idle = refl;
-}
-
-pub loop-at-preserved : goal.loop-at-preserved
-loop-at-preserved g c = record {
-  goes = round_goes_on g.A.Archive.condition g.R.Source.unread g.K.Sink.taken g.S.Spool.held _ _ _ _ _ _ c.loop-at.invariant.goes c.serve.ensures.goes refl;
-  left = left_goes_on _ _ _ _ _ _ _ c.loop-at.invariant.left c.serve.ensures.here c.serve.ensures.idle c.serve.ensures.others refl;
-  seats = c.serve.ensures.seats ∙ c.loop-at.invariant.seats;
-  room = omega (arith, c.serve.auto.room, c.loop-at.invariant.room);
-  idle = c.serve.ensures.idle ∙ c.loop-at.invariant.idle;
-}
-
 pub returns-clause-goes : goal.returns-clause-goes
-returns-clause-goes g c = round_ends g.A.Archive.condition g.R.Source.unread g.K.Sink.taken g.S.Spool.held _ _ _ _ c.loop-at.invariant.goes
+returns-clause-goes g c = round_sheds g.A.Archive.condition g.R.Source.unread g.K.Sink.taken g.S.Spool.held _ _ _ _ c.serve_each-is_busy.ensures.goes c.shed.ensures.goes
+
+pub returns-clause-left : goal.returns-clause-left
+returns-clause-left g c = left_sheds _ _ _ _ _ c.serve_each-is_busy.ensures.left c.shed.ensures.limits c.shed.ensures.left

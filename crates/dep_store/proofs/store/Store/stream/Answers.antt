@@ -1,4 +1,4 @@
-use Rattle.std.proofs.Common.{rules, IsTrue, [], inl, refl, sym, subst}
+use Rattle.std.proofs.Common.{rules, [], inl, refl, sym, subst}
 use Rattle.std.proofs.KnownBytes.{Appends-nil}
 use Rattle.sqlite.specs.Held.{state}
 use Rattle.sqlite.proofs.StateLemmas.{clean_if_open}

@@ -1,0 +1,189 @@
+#!/usr/bin/env python3
+"""Counts by callgrind how many instructions a request of each kind takes `swordd replay`, or `swordd serve`.
+
+    checks/instructions.py [--serve] [--parts] [--functions N] [--calls WORD] [KIND..]
+
+Each kind is a request that is asked over and over, on one connection over a database in memory, in an object that has one file
+of 1 KiB, or 100 of them. What one takes is what 200 more of them add, so that neither the opening of the database nor what the
+first requests prepare is in it. Behind it stands how many statements are run for it. With `--serve` it is asked over a socket,
+each request once the one before was answered, and the database is a file. A KIND chooses the kinds that have its words. `--parts` tells where the instructions are, `--functions` the N functions in which most of them are, and `--calls` how
+often a request calls the functions whose name has the word.
+
+It needs valgrind. Instructions are the same in every run, whatever else the machine does, but tell nothing of the disk: for
+time there is speed.py. It measures, so it is no part of checks/all.
+"""
+
+import argparse
+import collections
+import http.client
+import json
+import re
+import socket
+import subprocess
+import sys
+import tempfile
+import time
+from pathlib import Path
+
+from crates import built_program
+
+MOMENT, BASE = "1523836800", "http://127.0.0.1:8080"
+FEW, MORE = 100, 300
+CONTENT = bytes(range(65, 81)) * 64
+FILE = {"Content-Type": "text/plain", "Content-Disposition": "attachment; filename=a.txt"}
+DOCUMENT = {"Content-Type": "application/json"}
+TITLES = json.dumps({"dc:title": ["T", "U"]}).encode()
+MANY = 100
+OPENING = {"Content-Disposition": "segment-init; size=10240000; segment_count=10000; segment_size=1024"}
+
+
+def request(method, path, body=b"", fields=None):
+    lines = [f"{method} {path} HTTP/1.1", "Host: 127.0.0.1:8080"]
+    lines += [f"{name}: {value}" for name, value in (fields or {}).items()]
+    lines += [f"Content-Length: {len(body)}"] if body else []
+    return "\r\n".join([*lines, "", ""]).encode() + body
+
+
+DEPOSIT = request("POST", "/service", CONTENT, FILE)
+DESCRIBED = [DEPOSIT, request("PUT", "/objects/1/metadata", TITLES, DOCUMENT)]
+FULL = [*DESCRIBED, *(MANY - 1) * [request("POST", "/objects/1", CONTENT, FILE)]]
+
+
+def segment(number):
+    return request("POST", "/staging/1", CONTENT, {"Content-Disposition": f"segment; segment_number={number}"})
+
+
+# What is sent before, and the request of each place from 0.
+KINDS = {
+    "GET the service document": ([], lambda _: request("GET", "/service")),
+    "POST a file of 1 KiB to the service": ([], lambda _: DEPOSIT),
+    "GET an object": (DESCRIBED, lambda _: request("GET", "/objects/1")),
+    "GET metadata": (DESCRIBED, lambda _: request("GET", "/objects/1/metadata")),
+    "PUT metadata": (DESCRIBED, lambda _: request("PUT", "/objects/1/metadata", TITLES, DOCUMENT)),
+    "GET a file of 1 KiB": (DESCRIBED, lambda _: request("GET", "/objects/1/files/1")),
+    "PUT a file of 1 KiB": (DESCRIBED, lambda _: request("PUT", "/objects/1/files/1", CONTENT, FILE)),
+    "POST a segment of 1 KiB": ([request("POST", "/staging", b"", OPENING)], lambda at: segment(at + 1)),
+    "GET the list of a bag": (DESCRIBED, lambda _: request("GET", "/objects/1/bag")),
+    "GET a manifest": (DESCRIBED, lambda _: request("GET", "/objects/1/bag/manifest-sha256.txt")),
+    "GET a payload of 1 KiB": (DESCRIBED, lambda _: request("GET", "/objects/1/bag/data/1/a.txt")),
+    "GET an object of 100 files": (FULL, lambda _: request("GET", "/objects/1")),
+    "GET the list of a bag of 100": (FULL, lambda _: request("GET", "/objects/1/bag")),
+    "GET a manifest of 100": (FULL, lambda _: request("GET", "/objects/1/bag/manifest-sha256.txt")),
+    "GET a payload of 1 KiB of 100": (FULL, lambda _: request("GET", "/objects/1/bag/data/1/a.txt")),
+}
+
+
+# A part of the program, and the functions in it.
+PARTS = {"digests": r"sha2::", "memory": r"_?(int_)?(m|re|c)?alloc|_?int_|free|rattle_alloc|unlink_chunk|sysmalloc|.*arena",
+         "copies": r"_*mem(cpy|move|set|cmp)", "sqlite": r"<?sqlite", "requests": r"<?(httparse|dep_head|dep_message|dep_body|http_uri|memchr)",
+         "the server": r"<?dep_"}
+STATEMENT = "sqlite::connection::bind_all"
+
+
+def part_of(name):
+    return next((part for part, names in PARTS.items() if re.match(names, name or "")), "other")
+
+
+class Profile:
+    """What callgrind wrote of one run: the instructions of each function by itself, and how often it was called."""
+
+    def __init__(self, text):
+        self.own, self.calls, names = collections.Counter(), collections.Counter(), {}
+        function, is_call = None, False
+        for line in text.splitlines():
+            if named := re.match(r"(c?fn)=\((\d+)\)(?: (.*))?$", line):
+                word, number, name = named.groups()
+                names.setdefault(number, name)
+                if word == "fn":
+                    function = names[number]
+                else:
+                    called = names[number]
+            elif line.startswith("calls="):
+                self.calls[called] += int(line[6:].split()[0])
+                is_call = True
+            elif cost := re.match(r"[+\-*\d]\S* (\d+)$", line):
+                if not is_call:
+                    self.own[function] += int(cost.group(1))
+                is_call = False
+
+
+def replayed(words, requests):
+    """Gives all requests to the program at once. Returns what it answered."""
+    ran = subprocess.run([*words, "replay", MOMENT, BASE], input=b"".join(requests), capture_output=True, check=False)
+    return ran.stdout if ran.returncode == 0 else ran.stderr
+
+
+def served(words, requests, folder):
+    """Asks one request after another over a connection. Returns what was answered."""
+    with socket.socket() as free:
+        free.bind(("127.0.0.1", 0))
+        port = free.getsockname()[1]
+    with subprocess.Popen([*words, "serve", str(port), f"{folder}/db", "1"], stderr=subprocess.PIPE) as server:
+        for _ in range(600):
+            try:
+                connection = http.client.HTTPConnection("127.0.0.1", port)
+                connection.connect()
+                break
+            except ConnectionRefusedError:
+                time.sleep(0.1)
+        said = b""
+        for it in requests:
+            connection.sock.sendall(it)
+            reply = http.client.HTTPResponse(connection.sock)
+            reply.begin()
+            reply.read()
+            said += f"HTTP/1.1 {reply.status}\r\n".encode()
+        connection.close()
+        server.wait()
+    return said
+
+
+def profiled(program, kind, count, serves):
+    """The profile of a run of so many requests, each of which has to be answered well."""
+    before, ask = KINDS[kind]
+    requests = [*before, *(ask(at) for at in range(count))]
+    with tempfile.TemporaryDirectory() as folder:
+        out = Path(folder, "out")
+        words = ["valgrind", "--tool=callgrind", f"--callgrind-out-file={out}", program]
+        said = served(words, requests, folder) if serves else replayed(words, requests)
+        statuses = re.findall(rb"HTTP/1\.1 (\d+)", said)
+        if len(statuses) != len(requests) or not all(it.startswith(b"2") for it in statuses):
+            sys.exit(f"{kind}: {len(statuses)} replies to {len(requests)} requests, {set(statuses)}, {said[-300:]}")
+        return Profile(out.read_text(encoding="utf-8", errors="replace"))
+
+
+def less(more, few):
+    """What one request adds to each name, the most first."""
+    added = {name: (count - few[name]) / (MORE - FEW) for name, count in more.items()}
+    return sorted(added.items(), key=lambda it: -it[1])
+
+
+def main():
+    parser = argparse.ArgumentParser(usage=__doc__)
+    parser.add_argument("kinds", nargs="*")
+    parser.add_argument("--serve", action="store_true")
+    parser.add_argument("--parts", action="store_true")
+    parser.add_argument("--functions", type=int, default=0)
+    parser.add_argument("--calls", action="append", default=[])
+    chosen = parser.parse_args()
+    program = built_program("swordd")
+    for kind in KINDS:
+        if chosen.kinds and not any(word in kind for word in chosen.kinds):
+            continue
+        few, more = (profiled(program, kind, count, chosen.serve) for count in (FEW, MORE))
+        own, calls = less(more.own, few.own), less(more.calls, few.calls)
+        print(f"{kind:<40}{sum(count for _, count in own):12,.0f}{dict(calls).get(STATEMENT, 0):6,.0f} statements", flush=True)
+        parts = collections.Counter()
+        for name, count in own if chosen.parts else ():
+            parts[part_of(name)] += count
+        for part, count in parts.most_common():
+            print(f"    {count:12,.0f} {part}")
+        for name, count in own[:chosen.functions]:
+            print(f"    {count:12,.0f} {name}")
+        for name, count in calls:
+            if count and any(word in name for word in chosen.calls):
+                print(f"    {count:12,.2f} calls {name}")
+
+
+if __name__ == "__main__":
+    main()

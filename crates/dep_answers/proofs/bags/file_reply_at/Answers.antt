@@ -1,0 +1,20 @@
+use Rattle.std.proofs.Common.{◌∙◌, sym, ap, bytes_eq, None, Some}
+use Rattle.dep_types.specs.declared.rows.FileRow.{FileRow}
+use Rattle.dep_bag.specs.Parts.{row_path}
+use Rattle.dep_answers.specs.Answers.{StoredContent, answer}
+use Rattle.dep_answers.specs.Told.{bag_answer}
+use Rattle.dep_answers.proofs.NumberedReplies.{there_answer, elsewhere_answer}
+use Rattle.dep_answers.proofs.ShownReplies.{nothing_said, says_as, says_row}
+use Rattle.dep_answers.proofs.bags.file_reply_at.Goals as goal
+
+pub returns-in_ok-stored_reply-clause-says : goal.returns-in_ok-stored_reply-clause-says
+returns-in_ok-stored_reply-clause-says c = λ s n f it sound of there is.
+    let at = ap (λ (r : FileRow). bytes_eq c.args.path.now (row_path r)) (sym is) ∙ sym c.is_payload_path.ensures ∙ c.if-is_payload_path.true in
+    says_as s (answer 200 (Some (StoredContent it.media it.content)) None None) (bag_answer s n c.args.path.now) c.args.delivery (Some _)
+    (there_answer c.args.path.now f of s sound n it there at)
+    (says_row c.args.row.now None c.args.delivery _ c.in_ok-stored_reply.ensures.says s n f it there is)
+
+pub returns-else-is_payload_path-clause-says : goal.returns-else-is_payload_path-clause-says
+returns-else-is_payload_path-clause-says c = λ s n f it sound of there is.
+    let at = ap (λ (r : FileRow). bytes_eq c.args.path.now (row_path r)) (sym is) ∙ sym c.is_payload_path.ensures ∙ c.if-is_payload_path.false in
+    nothing_said (bag_answer s n c.args.path.now) (elsewhere_answer c.args.path.now f of s sound n it there at)

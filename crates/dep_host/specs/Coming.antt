@@ -1,0 +1,33 @@
+-- What comes to a host from outside, and from where.
+use Rattle.std.specs.Prelude.{ℕ, ◌+◌, ◌/◌, ◌==◌, Bool, false, List, Option, None, Some}
+use Rattle.std.specs.List.{count_by}
+use Rattle.std.specs.Io.KnownBytes.{IsAtEnd}
+use Rattle.std.specs.Net.Addr.{ipv4_bits, ipv6_bits}
+use Rattle.std.specs.declared.net.ip_addr.IpAddr.{IpAddr}
+use Rattle.std.specs.declared.net.ip_addr.IpAddr.TheVariants.{V4, V6}
+use Rattle.dep_outbox.specs.Wires.{told}
+use Rattle.dep_host.specs.declared.seat.Seat.{Seat}
+use Rattle.dep_host.specs.declared.events.Event.{Event}
+use Rattle.dep_host.specs.declared.events.Event.TheVariants.{Ready, Client, Round, End}
+
+-- the way to a client that connects has taken nothing
+abbrev pub IsFresh : {R K S : Type 0} → (K → Option (List ℕ)) → (S → Option (List ℕ))
+    → Event R K S → Type 0
+IsFresh taken held (Ready at r w) = Unit {0}
+IsFresh taken held (Client client) = IsAtEnd (told taken held client.wire)
+IsFresh taken held (Round time) = Unit {0}
+IsFresh taken held End = Unit {0}
+
+-- a number for those addresses that one client may have: an IPv4 address, or all IPv6 addresses of
+-- the same first 64 bits
+abbrev pub origin : IpAddr → ℕ
+origin (V4 ip) = ipv4_bits ip
+origin (V6 ip) = ipv6_bits ip / 0x1_0000_0000_0000_0000 + 0x1_0000_0000
+
+-- who sits at a place comes from there
+abbrev pub comes_from : {R K S : Type 0} → ℕ → Option (Seat R K S) → Bool
+comes_from from None = false
+comes_from from (Some seat) = origin seat.address == from
+
+abbrev pub seated_from : {R K S : Type 0} → ℕ → List (Option (Seat R K S)) → ℕ
+seated_from from seats = count_by (λ s. comes_from from s) seats

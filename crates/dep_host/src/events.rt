@@ -1,0 +1,93 @@
+//! What comes to a host from outside.
+ghost use Rattle.std.specs.Prelude.{◌≡◌, IsTrue, Bool};
+ghost use Rattle.dep_host.specs.Coming.{IsFresh, origin, comes_from};
+
+use crate::seat::{Seat, Time};
+use dep_outbox::{Sink, Source, Spool, Wire};
+use std::net::IpAddr;
+
+/// A client that connects.
+#[derive(Drop)]
+pub struct Client<R, K, S> {
+    /// The half of its socket that gives its bytes.
+    pub source: R,
+    /// The way to it.
+    pub wire: Wire<K, S>,
+    /// Where it connects from.
+    pub address: IpAddr,
+}
+
+impl<R, K, S> Client<R, K, S> {
+    /// A client at an address. One that is an IPv4 address in the form of IPv6 is taken as that.
+    pub fn new(source: R, wire: Wire<K, S>, address: IpAddr) -> Client<R, K, S>
+        ensures source { result.source ≡ source }
+        ensures wire { result.wire ≡ wire }
+    {
+        Client {
+            source,
+            wire,
+            address: address.to_canonical(),
+        }
+    }
+}
+
+/// A number for those addresses that one client may have: an IPv4 address, or all IPv6 addresses of
+/// the same first 64 bits.
+pub fn origin(address: IpAddr) -> u128
+    ensures { result ≡ origin address }
+{
+    match address {
+        IpAddr::V4(ip) => ip.to_bits() as u128,
+        IpAddr::V6(ip) => ip.to_bits() / MOST_HOSTS + FIRST_NETWORK,
+    }
+}
+
+/// How many IPv6 addresses have the same first 64 bits.
+const MOST_HOSTS: u128 = 0x1_0000_0000_0000_0000;
+
+/// The number of the first of these networks, behind all IPv4 addresses.
+const FIRST_NETWORK: u128 = 0x1_0000_0000;
+
+/// Whether who sits at a place comes from there.
+pub(crate) fn comes_from<R: Source, K: Sink, S: Spool>(
+    place: &Option<Seat<R, K, S>>,
+    from: u128,
+) -> bool
+    ensures { result ≡ comes_from from place.now }
+{
+    match place {
+        Some(seat) => origin(seat.address()) == from,
+        None => false,
+    }
+}
+
+/// What comes to a host.
+#[derive(Drop)]
+pub enum Event<R, K, S> {
+    /// The socket of the connection at a place may be ready. Where nobody sits there it is no matter.
+    Ready {
+        at: usize,
+        is_readable: bool,
+        is_writable: bool,
+    },
+    /// A client connects. It sits at the place that was offered, and is turned away where none was.
+    Client(Client<R, K, S>),
+    /// All that was ready has been told: each connection has its turn.
+    Round(Time),
+    /// No more is served.
+    End,
+}
+
+/// What tells a host what comes. Before each `Round` it has told of all sockets that it knows to be
+/// ready: only then are connections judged that were silent for too long.
+pub trait Events<R: Source, K: Sink, S: Spool> {
+    /// Whether no more comes.
+    ghost is_over: { Self → Bool };
+
+    /// The next event. A client comes to the place, where one is given, and none where it isn't, so
+    /// that further ones wait in the queue of the system. It waits for something to come only where
+    /// the host can't go on at once, and not for long, since a `Round` closes who is silent.
+    fn next(&mut self, vacancy: Option<usize>, is_busy: bool) -> Event<R, K, S>
+        ensures fresh { IsFresh K.taken S.held result }
+        ensures end { result ≡ Event.End → IsTrue (is_over self.new) };
+}

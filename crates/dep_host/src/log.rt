@@ -1,0 +1,58 @@
+//! What is told of each connection, for a log of them.
+
+use dep_server::{AccessLog, ConnId, Next};
+use std::net::IpAddr;
+
+/// Why a client was turned away.
+#[derive(Clone, Copy, Debug, PartialEq, Eq)]
+pub enum Refusal {
+    /// As many connections as may be come from its address.
+    Address,
+    /// No further connection can be opened.
+    Full,
+    /// There was no memory.
+    Memory,
+    /// The store is shut.
+    Shut,
+}
+
+/// Why a connection was closed.
+#[derive(Clone, Copy, Debug, PartialEq, Eq)]
+pub enum Closing {
+    /// It was over: its client ended it after the last reply or before, or its socket or spool failed.
+    Over,
+    /// It was silent for too long.
+    Silent,
+    /// Its client sent or took too few bytes in the time.
+    Slow,
+    /// More bytes of unfinished requests were kept than may be, and of no connection more.
+    Large,
+}
+
+/// How many bytes were read and sent.
+#[derive(Clone, Copy, Debug, PartialEq, Eq)]
+pub struct Bytes {
+    pub received: u64,
+    pub sent: u64,
+}
+
+/// What a host tells of its connections. Nothing of what is sent or kept hangs on it. Of what an
+/// `AccessLog` is told it is told between `answering` and `answered`.
+pub trait HostLog: AccessLog {
+    /// A client was let in.
+    fn opened(&mut self, connection: ConnId, address: IpAddr);
+
+    /// A client was turned away.
+    fn refused(&mut self, address: IpAddr, refusal: Refusal);
+
+    /// The next item of a connection is answered, where one is complete: what is told up to
+    /// `answered` is of it. None may be.
+    fn answering(&mut self, connection: ConnId, address: IpAddr);
+
+    /// What that came to, how many bytes were read of the connection since the item before, and how
+    /// many the wire took for the reply.
+    fn answered(&mut self, next: Next, bytes: Bytes);
+
+    /// A connection was closed, of which so many bytes were read, and so many taken by its socket.
+    fn closed(&mut self, connection: ConnId, address: IpAddr, closing: Closing, bytes: Bytes);
+}
