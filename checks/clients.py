@@ -1,0 +1,189 @@
+#!/usr/bin/env python3
+"""Runs the recipes of docs/CLIENTS.md word for word as they stand there, against `swordd serve` on a new store, through a relay
+that breaks connections; and deploy/deposit.py, which is broken off again and again. What the archive then has is compared.
+
+    checks/clients.py
+
+It needs curl, and sha256sum of the coreutils; where there is no curl, it says so and leaves those recipes out. It takes some
+four processor seconds.
+"""
+
+import hashlib
+import os
+import pathlib
+import pty
+import re
+import shutil
+import subprocess
+import sys
+import tempfile
+import time
+
+from crates import ROOT
+from expectations import expect, status_of
+from relay import Relay
+from served import Server
+
+PAGE = ROOT / "docs/CLIENTS.md"
+TOOL = ROOT / "deploy/deposit.py"
+MOST_CONNECTIONS = 1_000_000
+MOST_SECONDS = 300
+
+
+def blocks(language):
+    """The recipes of the page in a language, in their order."""
+    found = re.findall(rf"(?ms)^```{language}\n(.*?)^```$", PAGE.read_text(encoding="utf-8"))
+    expect(f"whether the page has recipes in {language}", bool(found), True)
+    return found
+
+
+def run(what, command, folder, environment):
+    """Runs a command to its end. Returns what it printed."""
+    ran = subprocess.run(command, cwd=folder, env=environment, stdin=subprocess.DEVNULL, capture_output=True, text=True,
+                         timeout=MOST_SECONDS, check=False)
+    expect(f"the end of {what}", (ran.returncode, ran.stderr), (0, ""))
+    return ran.stdout
+
+
+def environment_of(server, relay):
+    """The server's URL, and the relay as a proxy, since documents tell the server's own URL."""
+    kept = {name: value for name, value in os.environ.items() if "proxy" not in name.lower()}
+    return {**kept, "SWORD": server.base, "http_proxy": relay.url, "PATH": f"{TOOL.parent}:{os.environ['PATH']}"}
+
+
+def recipes_by_curl(server, relay, folder):
+    """Each recipe is a file that one shell reads. What sends missing segments is read until it says that none is missing."""
+    lines = []
+    for number, recipe in enumerate(blocks("sh"), 1):
+        (folder / f"{number}.sh").write_text(recipe, encoding="utf-8")
+        again = recipe.rstrip().splitlines()[-1].startswith("grep -q '\"expecting\"")
+        lines.append(f"set +e; until . ./{number}.sh; do tries=$((tries + 1)); [ $tries -lt 30 ] || exit 9; done; set -e"
+                     if again else f". ./{number}.sh")
+    (folder / "all.sh").write_text("\n".join(["set -e", *lines, ""]), encoding="utf-8")
+    ran = subprocess.run(["sh", "all.sh"], cwd=folder, env=environment_of(server, relay), capture_output=True, text=True,
+                         timeout=MOST_SECONDS, check=False)
+    expect("the recipes by curl", ran.returncode, 0)
+    if ran.returncode:
+        print(ran.stdout, ran.stderr)
+    expect("what they print", re.sub(r"[0-9a-f]{64}", "DIGEST", ran.stdout).replace(server.base, "URL").splitlines(), [
+        "deposited: URL/objects/1", "DIGEST  data/2/large.bin", "data/2/large.bin: OK", "URL/objects/3"])
+    expect("the file", server.ask(200, "GET", "/objects/1/files/1")[1], b"Observations of a day\n")
+    came = server.ask(200, "GET", "/objects/2/files/2")[1]
+    expect("whether the large file came as it is", came == (folder / "large.bin").read_bytes(), True)
+    expect("the files of the folder", names(server, "/objects/3"), ["1902__may.txt", "large.bin", "observations.txt"])
+
+
+def recipes_by_python(server, relay, folder, first):
+    """All of them are one program, whose objects are the next ones."""
+    program = folder / "recipes.py"
+    program.write_text("\n".join(blocks("python")), encoding="utf-8")
+    printed = run("the recipes by Python", [sys.executable, program], folder, environment_of(server, relay)).splitlines()
+    expect("what they print first", printed[0], f"deposited: {server.base}/objects/{first}")
+    expect("what they print last", re.sub(r"/\d+/", "/N/", printed[-1]), "data/N/large.bin is as it was deposited")
+    _, document = server.ask(200, "GET", f"/objects/{first}/metadata")
+    expect("the metadata", b'"dc:creator":["Kim","Lee"]' in document, True)
+
+
+def manifest(server, path):
+    """The digests and names of an object's files, by the manifest of its bag."""
+    _, lines = server.ask(200, "GET", f"{path}/bag/manifest-sha256.txt")
+    return sorted(re.sub("  data/[0-9]*/", " ", line).replace("%25", "%") for line in lines.decode().splitlines())
+
+
+def names(server, path):
+    return sorted(line.split(" ", 1)[1] for line in manifest(server, path))
+
+
+def make_folder(folder):
+    """Files of many names and sizes. Returns their digests and names as deposits."""
+    files = {"a.txt": b"abc", "empty": b"", "50% of it.txt": b"percent", "dépôt.txt": b"name", "deep/er/x": b"x",
+             "middle.bin": os.urandom(200_000), "large.bin": os.urandom(3_000_001)}
+    for name, content in files.items():
+        path = folder / name
+        path.parent.mkdir(parents=True, exist_ok=True)
+        path.write_bytes(content)
+    return sorted(f"{hashlib.sha256(content).hexdigest()} {name.replace('/', '__')}" for name, content in files.items())
+
+
+def folder_broken_off(server, relay, place):
+    """The tool is killed again and again until it comes to its end; the object then has each file once."""
+    folder = place / "folder"
+    wanted = make_folder(folder)
+    command = [sys.executable, TOOL, "--segment", "262144", relay.url, folder]
+    for number in range(60):
+        with subprocess.Popen(command, stdout=subprocess.PIPE, stderr=subprocess.DEVNULL, text=True) as tool:
+            try:
+                url, _ = tool.communicate(timeout=0.25 + 0.1 * number)
+                break
+            except subprocess.TimeoutExpired:
+                tool.kill()
+    expect("whether it was killed before", number > 0, True)
+    expect("how it ends", tool.returncode, 0)
+    path = server.path_of(url.strip())
+    expect("the files that were deposited", manifest(server, path), wanted)
+    _, document = server.ask(200, "GET", path)
+    expect("the state", b"state/ingested" in document, True)
+    expect("the uploads that are left in the journal", '"uploads": {}' in (place / "folder.deposit").read_text(), True)
+    again = run("the tool once more", command, place, dict(os.environ))
+    expect("the object", (again, manifest(server, path)), (url, wanted))
+
+
+def folder_of_many(server, place):
+    """Many small files come by reference, a hundred at a time, and an empty one."""
+    folder = place / "many"
+    folder.mkdir()
+    contents = {f"{number:03}": b"%d" % number * (number % 7) for number in range(230)}
+    for name, content in contents.items():
+        (folder / name).write_bytes(content)
+    url = run("a folder of many files", [sys.executable, TOOL, server.base, folder], place, dict(os.environ)).strip()
+    wanted = sorted(f"{hashlib.sha256(content).hexdigest()} {name}" for name, content in contents.items())
+    expect("the files of a folder of many", manifest(server, server.path_of(url)), wanted)
+    _, document = server.ask(200, "GET", server.path_of(url))
+    expect("how many came by reference", document.count(b"terms/byReferenceDeposit"), 230 - 33)
+
+
+def bar_of_progress(server, place):
+    """On a terminal it shows how far it came."""
+    folder = place / "shown"
+    make_folder(folder)
+    main, terminal = pty.openpty()
+    subprocess.run([sys.executable, TOOL, server.base, folder], stdout=subprocess.DEVNULL, stderr=terminal, check=False)
+    os.close(terminal)
+    shown = os.read(main, 65_536).decode()
+    expect("the bar", "[##############################] 100% 3.2 of 3.2 MB" in shown, True)
+
+
+def statuses_of_the_tool(server, place):
+    """Refused is 1, unfit 2, not reached 3."""
+    folder = place / "statuses"
+    folder.mkdir()
+    (folder / "a").write_bytes(b"abc")
+    (place / "nothing").mkdir()
+    (place / "gone").write_text('{"object": "' + server.base + '/objects/999", "uploads": {}}')
+    for status, words in ((1, ["--journal", place / "gone", server.base, folder]), (2, [server.base, place / "nothing"]),
+                          (2, ["ftp://a", folder]), (3, ["--tries", "1", "http://127.0.0.1:9", folder])):
+        ran = subprocess.run([sys.executable, TOOL, *words], capture_output=True, check=False)
+        expect(f"the status of deposit.py {words[-2]} {words[-1]}", ran.returncode, status)
+
+
+def main():
+    has_curl = bool(shutil.which("curl"))
+    with tempfile.TemporaryDirectory() as name, Server(MOST_CONNECTIONS) as server:
+        place, relay = pathlib.Path(name), Relay(server.port)
+        for folder in ("curl", "python"):
+            (place / folder).mkdir()
+        if has_curl:
+            recipes_by_curl(server, relay, place / "curl")
+        recipes_by_python(server, relay, place / "python", 4 if has_curl else 1)
+        folder_broken_off(server, relay, place)
+        folder_of_many(server, place)
+        bar_of_progress(server, place)
+        statuses_of_the_tool(server, place)
+        expect("whether connections were broken", relay.broken > 3, True)
+        relay.close()
+    left_out = "" if has_curl else ", those by curl left out, since there is none"
+    return status_of(f"clients: the recipes of the page and deposit.py, over {relay.broken} broken connections{left_out}")
+
+
+if __name__ == "__main__":
+    sys.exit(main())

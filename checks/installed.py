@@ -1,0 +1,162 @@
+#!/usr/bin/env python3
+"""Installs the server into a folder by deploy/install, starts it by the configuration that stands there, deposits, backs up,
+loses the store, restores the copy, opens and audits it; and has systemd look at the units.
+
+    checks/installed.py
+
+The status is 0 where all came as it should. It needs both programs built, Python's sqlite3, and systemd for the units; where
+there is no systemd-analyze, it says so. It takes some two processor seconds.
+"""
+
+import json
+import os
+import pathlib
+import re
+import shutil
+import sqlite3
+import subprocess
+import sys
+import tempfile
+
+from crates import ROOT, built_program
+from expectations import expect, status_of
+from fronted import Host
+from served import Server
+
+FILES = {
+    "etc/swordd/configuration.json": 0o644, "etc/systemd/system/swordd-alert@.service": 0o644,
+    "etc/systemd/system/swordd-audit.service": 0o644, "etc/systemd/system/swordd-audit.timer": 0o644,
+    "etc/systemd/system/swordd-backup.service": 0o644, "etc/systemd/system/swordd-backup.timer": 0o644,
+    "etc/systemd/system/swordd-host.service": 0o644, "usr/local/bin/swordd": 0o755, "usr/local/bin/swordd-alert": 0o755,
+    "usr/local/bin/swordd-backup": 0o755, "usr/local/bin/swordd_host": 0o755, "var/backups/swordd": 0o700,
+    "var/lib/swordd": 0o750, "var/lib/swordd/spools": 0o750}
+# What systemd makes of a unit, from 0 (safe) to 10.
+MOST_EXPOSURE = 2.0
+ask = Server.ask
+
+
+def run(status, *words, **how):
+    """A command, which has to end with this status. Returns what it printed."""
+    ran = subprocess.run([str(it) for it in words], capture_output=True, text=True, check=False, **how)
+    if not expect(f"the end of {pathlib.Path(words[0]).name} {' '.join(map(str, words[1:]))}", ran.returncode, status):
+        print(ran.stdout, ran.stderr)
+    return ran.stdout
+
+
+def install(root):
+    told = {**os.environ, "SWORDD": str(built_program("swordd").resolve()),
+            "SWORDD_HOST": str(built_program("swordd_host").resolve())}
+    for _ in range(2):
+        run(0, ROOT / "deploy/install", "--built", "--root", root, env=told)
+    for path, mode in FILES.items():
+        expect(f"the mode of {path}", oct((root / path).stat().st_mode & 0o777), oct(mode))
+    ends = {str(it.relative_to(root)) for it in root.rglob("*") if it.is_file() or not any(it.iterdir())}
+    expect("what was installed", ends | set(FILES), set(FILES))
+
+
+def units(root):
+    """systemd finds nothing in them, and the server is little exposed. Returns what was left out."""
+    if not shutil.which("systemd-analyze"):
+        return ", systemd-analyze isn't there"
+    own = root / "etc/systemd/system"
+    shutil.copytree("/usr/lib/systemd/system", root / "usr/lib/systemd/system", symlinks=True)
+    ran = subprocess.run(["systemd-analyze", "verify", "--man=no", f"--root={root}", *sorted(own.glob("*.*"))], capture_output=True,
+                         text=True, check=False)
+    said = "".join(line for line in ran.stderr.splitlines(keepends=True) if "swordd" in line)
+    expect("what systemd-analyze verify says", said, "")
+    shutil.rmtree(root / "usr/lib")
+    told = run(0, "systemd-analyze", "security", "--offline=true", "--no-pager", own / "swordd-host.service")
+    exposure = float(re.search(r"exposure level for swordd-host.service: ([0-9.]+)", told)[1])
+    expect(f"whether {exposure} is at most {MOST_EXPOSURE}", exposure <= MOST_EXPOSURE, True)
+    return ""
+
+
+def settings(root):
+    """The installed configuration, with its folders under the root."""
+    told = json.loads((root / "etc/swordd/configuration.json").read_text(encoding="utf-8"))
+    return {**told, **{name: f"{root}{told[name]}" for name in ("database", "spool_folder")}, "connections": 1_000_000}
+
+
+def hosted(root, work):
+    """A host by the installed program and configuration, at a port of its own."""
+    os.environ["SWORDD_HOST"] = str(root / "usr/local/bin/swordd_host")
+    told = settings(root)
+    return Host(work, **{name: value for name, value in told.items() if name != "port"})
+
+
+def deposits(host):
+    for number in range(3):
+        fields = {"Content-Disposition": f"attachment; filename=f{number}.txt"}
+        ask(host, 201, "POST", "/service", bytes([65 + number]) * (100_000 * number + 3), fields)
+
+
+def still_there(host):
+    for number in range(3):
+        _, content = ask(host, 200, "GET", f"/objects/{number + 1}/files/{number + 1}")
+        expect(f"file {number + 1} after the restore", content == bytes([65 + number]) * (100_000 * number + 3), True)
+    ask(host, 404, "GET", "/objects/4")
+
+
+def back_up(root, work, folder):
+    """A copy while the host would run, which it ends and starts; then a deposit that the copy hasn't."""
+    tool, store = root / "usr/local/bin/swordd-backup", settings(root)["database"]
+    with hosted(root, work) as host:
+        deposits(host)
+        pid = host.process.pid
+        end = f'kill {pid}; until [ "$(cut -d" " -f3 /proc/{pid}/stat)" = Z ]; do sleep 0.01; done'
+        copy = run(0, tool, "--stop", end, "--start", f"touch {folder}/started", store, folder / "copies").strip()
+    expect("whether the server was started", (folder / "started").exists(), True)
+    with hosted(root, work) as host:
+        ask(host, 201, "POST", "/service", b"later", {"Content-Disposition": "attachment; filename=later"})
+    return tool, pathlib.Path(store), pathlib.Path(copy)
+
+
+def restore(root, work, tool, store, copy):
+    """The store is lost, and the copy put in its place."""
+    run(1, tool, "--restore", copy, store)
+    for it in store.parent.glob("deposits.db*"):
+        it.unlink()
+    run(0, tool, "--restore", copy, store)
+    with hosted(root, work) as host:
+        still_there(host)
+    told = run(0, root / "usr/local/bin/swordd", "audit", store)
+    expect("the audit of what was restored", told, "files 3 damaged 0\n")
+
+
+def audits(root, tool, copy):
+    """The newest copy, which is sound, and then isn't."""
+    told = {**os.environ, "SWORDD": str(root / "usr/local/bin/swordd")}
+    expect("the audit of the copy", run(0, tool, "--audit", copy.parent, env=told), f"{copy}\nfiles 3 damaged 0\n")
+    database = sqlite3.connect(copy / "deposits.db")
+    database.execute("UPDATE blocks SET bytes = X'00' WHERE kind = 0 AND owner = 1")
+    database.commit()
+    database.close()
+    expect("the audit of a damaged one", run(4, tool, "--audit", copy.parent, env=told), f"{copy}\ndamaged 1 1\nfiles 3 damaged 1\n")
+    run(1, tool, "--audit", root / "var/backups/swordd", env=told)
+
+
+def copies_are_kept(tool, store, folder):
+    """The newest ones, and no more."""
+    for number in range(4):
+        (folder / f"2026010{number}T000000Z").mkdir(parents=True)
+    run(0, tool, "--keep", "2", store, folder)
+    names = sorted(it.name for it in folder.iterdir())
+    expect("the copies that are kept", (len(names), names[0]), (2, "20260103T000000Z"))
+
+
+def main():
+    with tempfile.TemporaryDirectory() as name:
+        place = pathlib.Path(name)
+        root, work, folder = place / "root", place / "work", place / "folder"
+        folder.mkdir()
+        install(root)
+        left_out = units(root)
+        tool, store, copy = back_up(root, work, folder)
+        restore(root, work, tool, store, copy)
+        audits(root, tool, copy)
+        copies_are_kept(tool, store, folder / "kept")
+    return status_of(f"installed: {len(FILES)} files and folders, a backup and its restore{left_out}")
+
+
+if __name__ == "__main__":
+    sys.exit(main())

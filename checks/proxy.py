@@ -1,0 +1,232 @@
+#!/usr/bin/env python3
+"""Plays a depositor's story through Debian's nginx with deploy/nginx.conf, over TLS and with a password, by Python's http.client
+and by curl: each reply has to be the one that comes without a proxy, but for Date, Connection and nginx's own Server. And
+clients that are slow hold nobody up.
+
+    checks/proxy.py
+
+The status is 0 where all came as it should. It needs nginx and openssl (apt-get install nginx openssl), and curl for its part;
+where something is missing, it says what it skips. It takes some five processor seconds.
+"""
+
+import base64
+import concurrent.futures
+import hashlib
+import http.client
+import json
+import os
+import pathlib
+import re
+import shutil
+import subprocess
+import sys
+import tempfile
+import time
+from typing import NamedTuple
+
+import fronted
+from crates import ROOT
+from expectations import expect, status_of
+from served import digest
+
+SEGMENT = 65_536
+NOT_COMPARED = {"date", "connection", "server", "keep-alive"}
+MOMENT = re.compile(rb"\d{4}-\d\d-\d\dT\d\d:\d\d:\d\dZ")
+SLOW, UNREAD = 30, 5
+# An object of the story that is there in the end, which gets the greatest content.
+LARGE_OBJECT = "/objects/2"
+
+
+class Request(NamedTuple):
+    method: str
+    path: str
+    content: bytes = b""
+    fields: dict = {}
+
+
+class Reply(NamedTuple):
+    """What is compared of a reply: the moments of its documents are left out."""
+
+    status: int
+    fields: tuple
+    content: bytes
+
+
+def compared(status, fields, content):
+    told = sorted((name.lower(), value) for name, value in fields if name.lower() not in NOT_COMPARED)
+    return Reply(status, tuple(told), MOMENT.sub(b"MOMENT", content))
+
+
+def story(base):
+    """Requests of each kind, in their order, over a new store."""
+    large = bytes(range(256)) * 700
+    segments = [large[at:at + SEGMENT] for at in range(0, len(large), SEGMENT)]
+    plain = {"Content-Type": "text/plain", "Content-Disposition": "attachment; filename=a.txt"}
+    as_json, metadata = {"Content-Type": "application/json"}, b'{"dc:title":"Observations"}'
+    entry = {"@id": f"{base}/staging/1", "contentDisposition": "attachment; filename=large", "digest": digest(large)}
+    opening = {"Content-Disposition": f"segment-init; size={len(large)}; segment_count={len(segments)}; "
+                                      f"segment_size={SEGMENT}; digest=SHA-512={hashlib.sha512(large).hexdigest()}"}
+    by_reference = {"Content-Disposition": "attachment; by-reference=true", **as_json}
+    numbered = [Request("POST", "/staging/1", part, {"Content-Disposition": f"segment; segment_number={number}"})
+                for number, part in enumerate(segments, 1)]
+    return [
+        Request("GET", "/service"), Request("HEAD", "/service"),
+        Request("POST", "/service", b"abc", {**plain, "Digest": digest(b"abc")}),
+        Request("POST", "/service", b"abd", {**plain, "Digest": digest(b"abc")}),
+        Request("GET", "/objects/1"), Request("GET", "/objects/1/files/1"), Request("HEAD", "/objects/1/files/1"),
+        Request("PUT", "/objects/1/metadata", metadata, as_json),
+        Request("PUT", "/objects/1/metadata", metadata, {**as_json, "If-Match": '"1"'}),
+        Request("PUT", "/objects/1/metadata", metadata, {**as_json, "If-Match": '"2"'}),
+        Request("PUT", "/objects/1/metadata", b'{"dc:title"', as_json), Request("GET", "/objects/1/metadata"),
+        Request("POST", "/staging", b"", opening), *numbered[::-1], numbered[1], Request("GET", "/staging/1"),
+        Request("POST", "/staging/1", b"other", {"Content-Disposition": "segment; segment_number=2"}),
+        Request("POST", "/objects/1", json.dumps({"byReferenceFiles": [entry]}).encode(), by_reference),
+        Request("GET", "/staging/1"), Request("GET", "/objects/1/files/2"), Request("GET", "/objects/1/bag"),
+        *[Request("GET", f"/objects/1/bag/{path}") for path in (
+            "bagit.txt", "manifest-sha256.txt", "manifest-sha512.txt", "metadata/sword.json", "data/2/large", "data/9/x")],
+        Request("POST", "/objects/1/bag"), Request("GET", "/nothing"), Request("DELETE", "/service"),
+        Request("POST", "/service", b"abc", {**plain, "Content-Type": "text/plain", "In-Progress": "perhaps"}),
+        Request("POST", "/service", b"abc", {**plain, "Packaging": "http://a/b"}),
+        Request("POST", "/service", b"abc", {**plain, "On-Behalf-Of": "lee"}),
+        Request("POST", "/service", b"abc", {"Content-Disposition": "attachment; filename*=UTF-8''d%C3%A9p%C3%B4t%25.txt"}),
+        Request("GET", "/objects/2/bag/manifest-sha256.txt"), Request("GET", "/objects/2/bag/data/3/d%C3%A9p%C3%B4t%25.txt"),
+        Request("DELETE", "/objects/1/files/2"), Request("DELETE", "/objects/1"), Request("GET", "/objects/1"),
+    ]
+
+
+def authorized(fields):
+    spelled = base64.b64encode(f"{fronted.USER}:{fronted.PASSWORD}".encode()).decode()
+    return {**fields, "Host": fronted.NAME, "Authorization": f"Basic {spelled}"}
+
+
+def by_http_client(connection, request, fields):
+    connection.request(request.method, request.path, request.content or None, fields)
+    reply = connection.getresponse()
+    return compared(reply.status, reply.getheaders(), reply.read())
+
+
+def by_curl(proxy, folder, request):
+    """The same by curl, with a connection of its own. A file name and a URL are sent as they stand."""
+    (folder / "content").write_bytes(request.content)
+    words = ["curl", "--silent", "--show-error", "--cacert", proxy.certificate, "--user", f"{fronted.USER}:{fronted.PASSWORD}",
+             "--resolve", f"{fronted.NAME}:{proxy.port}:127.0.0.1", "--http1.1", "--path-as-is", "--dump-header", folder / "head",
+             "--output", folder / "body", *[it for pair in request.fields.items() for it in ("-H", ": ".join(pair))]]
+    words += ["--head"] if request.method == "HEAD" else ["-X", request.method]
+    if request.content:
+        kind = [] if "Content-Type" in request.fields else ["-H", "Content-Type:"]
+        words += ["--data-binary", f"@{folder / 'content'}", *kind]
+    (folder / "body").write_bytes(b"")
+    ran = subprocess.run([*words, f"https://{fronted.NAME}:{proxy.port}{request.path}"], capture_output=True, text=True, check=False)
+    expect(f"what curl says of {request.method} {request.path}", (ran.returncode, ran.stderr), (0, ""))
+    first, *lines = (folder / "head").read_text(encoding="utf-8").replace("\r", "").rstrip("\n").split("\n\n")[-1].split("\n")
+    content = b"" if request.method == "HEAD" else (folder / "body").read_bytes()
+    return compared(int(first.split()[1]), [tuple(line.split(": ", 1)) for line in lines], content)
+
+
+def replies_alone():
+    """The replies of the host without a proxy."""
+    with tempfile.TemporaryDirectory() as name, fronted.Host(name) as host:
+        connection = http.client.HTTPConnection("127.0.0.1", host.port, timeout=60)
+        return [by_http_client(connection, it, it.fields) for it in story(host.base)]
+
+
+def compare(what, requests, came, wanted):
+    for request, reply, alone in zip(requests, came, wanted):
+        expect(f"{what}: {request.method} {request.path}", reply, alone)
+
+
+def tls_story(wanted):
+    with tempfile.TemporaryDirectory() as name, fronted.Host(name) as host, fronted.Proxy(name, host.port) as proxy:
+        connection = http.client.HTTPSConnection("127.0.0.1", proxy.port, timeout=60, context=proxy.context())
+        requests = story(host.base)
+        compare("by http.client", requests, [by_http_client(connection, it, authorized(it.fields)) for it in requests], wanted)
+        connection.close()
+        answers_of_its_own(proxy)
+        slow_clients(proxy)
+        tool_through_tls(proxy, pathlib.Path(name))
+
+
+def curl_story(wanted):
+    with tempfile.TemporaryDirectory() as name, fronted.Host(name) as host, fronted.Proxy(name, host.port) as proxy:
+        requests = story(host.base)
+        compare("by curl", requests, [by_curl(proxy, pathlib.Path(name), it) for it in requests], wanted)
+
+
+def ask(proxy, method, path, content=None, fields=None, has_password=True):
+    connection = http.client.HTTPSConnection("127.0.0.1", proxy.port, timeout=120, context=proxy.context())
+    connection.request(method, path, content, authorized(fields or {}) if has_password else fields or {})
+    reply = connection.getresponse()
+    content = reply.read()
+    connection.close()
+    return reply, content
+
+
+def answers_of_its_own(proxy):
+    """No password, no TLS, and a content that is too large, which is told as the server would tell it."""
+    expect("without a password", ask(proxy, "GET", "/service", has_password=False)[0].status, 401)
+    clear = http.client.HTTPConnection("127.0.0.1", proxy.clear_port, timeout=60)
+    clear.request("POST", "/service?x", b"abc", {"Host": fronted.NAME})
+    reply = clear.getresponse()
+    expect("without TLS", (reply.status, reply.headers["Location"]), (308, f"https://{fronted.NAME}/service?x"))
+    clear.close()
+    fields = {"Content-Disposition": "attachment; filename=x"}
+    expect("the greatest content", ask(proxy, "POST", LARGE_OBJECT, 16_777_216 * b"x", fields)[0].status, 200)
+    reply, document = ask(proxy, "POST", "/service", 16_777_217 * b"x", fields)
+    expect("a byte more", (reply.status, reply.headers["Content-Type"]), (413, "application/json"))
+    expect("its document", MOMENT.sub(b"MOMENT", document), (
+        b'{"@context":"https://swordapp.github.io/swordv3/swordv3.jsonld","@type":"MaxUploadSizeExceeded",'
+        b'"error":"The content is too large","log":"refusal 15","timestamp":"MOMENT"}'))
+
+
+def slow_clients(proxy):
+    """Clients that stop in their head or their content, or don't read what they asked for, hold up none that deposit."""
+    password = authorized({})["Authorization"]
+    heads = (f"POST /service HTTP/1.1\r\nHost: {fronted.NAME}\r\nAuthorization: {password}\r\nContent-Length: 100000\r\n"
+             "Content-Disposition: attachment; filename=slow\r\n", "\r\n" + 500 * "x")
+    slow = [proxy.connect() for _ in range(SLOW)]
+    for number, connection in enumerate(slow):
+        connection.sendall("".join(heads[:1 + number % 2]).encode())
+    path = json.loads(ask(proxy, "GET", LARGE_OBJECT)[1])["links"][-1]["@id"].split(fronted.NAME)[1]
+    for _ in range(UNREAD):
+        slow.append(proxy.connect())
+        slow[-1].sendall(f"GET {path} HTTP/1.1\r\nHost: {fronted.NAME}\r\nAuthorization: {password}\r\n\r\n".encode())
+
+    def deposit(number):
+        began = time.monotonic()
+        reply, _ = ask(proxy, "POST", "/service", b"abc", {"Content-Disposition": f"attachment; filename=f{number}"})
+        return reply.status, time.monotonic() - began
+    with concurrent.futures.ThreadPoolExecutor(8) as pool:
+        outcomes = list(pool.map(deposit, range(40)))
+    expect("deposits beside slow clients", {status for status, _ in outcomes}, {201})
+    expect("whether one waited for 20 seconds", max(seconds for _, seconds in outcomes) < 20, True)
+    for connection in slow:
+        connection.close()
+
+
+def tool_through_tls(proxy, folder):
+    """deploy/deposit.py with a password, and a certificate that the system is told of."""
+    files = folder / "files"
+    files.mkdir()
+    (files / "a").write_bytes(b"abc")
+    (files / "large").write_bytes(os.urandom(300_000))
+    told = {**os.environ, "SSL_CERT_FILE": str(proxy.certificate), "DEPOSIT_PASSWORD": fronted.PASSWORD}
+    words = [ROOT / "deploy/deposit.py", "--segment", "65536", "--user", fronted.USER, proxy.url, files]
+    ran = subprocess.run([sys.executable, *words], env=told, capture_output=True, text=True, check=False)
+    expect("deposit.py through TLS", (ran.returncode, ran.stderr), (0, ""))
+
+
+def main():
+    if fronted.missing():
+        print(f"proxy: skipped, since {fronted.missing()} isn't installed (apt-get install nginx openssl curl)")
+        return 0
+    wanted = replies_alone()
+    tls_story(wanted)
+    if shutil.which("curl"):
+        curl_story(wanted)
+    else:
+        print("skipped: curl, which isn't installed")
+    return status_of(f"proxy: {len(wanted)} requests, and {SLOW + UNREAD} slow clients")
+
+
+if __name__ == "__main__":
+    sys.exit(main())
