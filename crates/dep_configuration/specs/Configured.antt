@@ -46,7 +46,7 @@ pub record HasConfiguration (c : Configuration) (j : Json) : Type 0 where
 -- of these faults no cause is said: of names, and of what is looked at once more when all fields are read
 abbrev pub IsUnexplained : ConfigurationFault → Type 0
 IsUnexplained Malformed = ⊥
-IsUnexplained NotObject = Unit {0}
+IsUnexplained NotObject = ⊥
 IsUnexplained (Unknown name) = Unit {0}
 IsUnexplained (Repeated name) = Unit {0}
 IsUnexplained (Missing field) = ⊥

@@ -1,5 +1,7 @@
 //! The names of the fields that a configuration gives.
-ghost use Rattle.std.specs.Prelude.{IfErr};
+ghost use Rattle.std.specs.Prelude.{◌≡◌, ◌⊎◌, IfErr};
+ghost use Rattle.json.specs.Value.{value_view};
+ghost use Rattle.dep_configuration.specs.Readings.{is_field_name, HasCause};
 ghost use Rattle.dep_configuration.specs.Configured.{IsUnexplained};
 
 use crate::fault::ConfigurationFault;
@@ -9,7 +11,7 @@ use std::alloc::Global;
 
 /// Whether a value is an object whose members are fields, each of them once.
 pub(crate) fn check_names(alloc: Global, value: &Value<'_>) -> Result<(), ConfigurationFault>
-    ensures { IfErr result (λ e. IsUnexplained e) }
+    ensures { IfErr result (λ e. HasCause e (value_view value.now) ⊎ IsUnexplained e) }
 {
     let Value::Object(members) = value else {
         return Err(ConfigurationFault::NotObject);
@@ -31,7 +33,9 @@ fn check_members(alloc: Global, members: &[(&str, Value<'_>)]) -> Result<(), Con
     Ok(())
 }
 
-fn is_field(name: &str) -> bool {
+fn is_field(name: &str) -> bool
+    ensures { result ≡ is_field_name name.now }
+{
     FIELDS.iter().any(|field| field.name() == name)
 }
 
