@@ -367,9 +367,9 @@ def listed(names):
 
 
 def chosen_files():
-    """Those that the gate plays."""
+    """Those that the gate plays, but for those that a host of the player plays."""
     files = (DATA.parent / "args").read_text(encoding="utf-8").split()
-    return [pathlib.Path(it).name for it in files]
+    return [name for it in files if not examples.is_of_a_host(DATA / (name := pathlib.Path(it).name))]
 
 
 def play_one(hosts, told, words, lines, way):
