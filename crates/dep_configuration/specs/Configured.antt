@@ -16,7 +16,7 @@ pub record HasLimits (limits : Limits) (j : Json) : Type 0 where
   pub idle : number_of IdleSeconds 60 j ≡ Some limits.idle_seconds
   pub rate : number_of LeastRate 4096 j ≡ Some limits.least_rate
   pub all : optional (number_within (bounds_of Connections)) (given Connections j)
-    ≡ Some limits.connections
+      ≡ Some limits.connections
   pub address : number_of AddressConnections 1024 j ≡ Some limits.address_connections
   pub spool : number_of SpoolBytes 68719476736 j ≡ Some limits.spool_bytes
   pub unfinished : number_of UnfinishedBytes 1073741824 j ≡ Some limits.unfinished_bytes

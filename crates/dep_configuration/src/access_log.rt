@@ -145,11 +145,7 @@ fn add_limits(out: &mut Writer, limits: &Limits) -> Result<(), AllocError> {
     if let Some(connections) = limits.connections {
         add_number(out, "connections", connections)?;
     }
-    add_number(
-        out,
-        "address_connections",
-        limits.address_connections,
-    )?;
+    add_number(out, "address_connections", limits.address_connections)?;
     add_number(out, "spool_bytes", limits.spool_bytes)?;
     add_number(out, "unfinished_bytes", limits.unfinished_bytes)
 }

@@ -30,7 +30,9 @@ pub fn refusal_of_front(front: &[u8]) -> Option<&str> {
     }
     let reply = front.strip_prefix(CONTINUE).unwrap_or(front);
     let near = reply.get(..1_024).unwrap_or(reply);
-    let end = near.windows(4).position(|four| four == b"\r\n\r\n".as_slice())?;
+    let end = near
+        .windows(4)
+        .position(|four| four == b"\r\n\r\n".as_slice())?;
     let named = near.get(end..)?.get(4..)?.strip_prefix(BEFORE_NAME)?;
     let quote = named.iter().position(|byte| *byte == b'"')?;
     str::from_utf8(named.get(..quote)?).ok()
