@@ -1,10 +1,10 @@
 -- What a configuration is read from, and why a text is refused.
-use Rattle.std.specs.Prelude.{◌≡◌, ◌⊎◌, ℕ, MatchOption, List, Option, Some, codes}
+use Rattle.std.specs.Prelude.{◌≡◌, ◌⊎◌, ℕ, false, string_bytes, MatchOption, List, Option, Some, codes}
 use Rattle.json.specs.Json.{Json, document}
 use Rattle.dep_types.specs.Config.{IsChecked}
 use Rattle.dep_types.specs.declared.config.Config.{Config}
 use Rattle.dep_configuration.specs.Fields.{bounds_of}
-use Rattle.dep_configuration.specs.Readings.{base_text_of, filled_text_of, flag_of, given, number_of, number_within, optional, text_of, HasCause, IsAddressOf}
+use Rattle.dep_configuration.specs.Readings.{base_text_of, filled_text_of, flag_of, given, number_of, is_field_name, number_within, optional, text_of, HasCause, IsAddressOf}
 use Rattle.dep_configuration.specs.declared.configuration.Configuration.{Configuration}
 use Rattle.dep_configuration.specs.declared.configuration.Limits.{Limits}
 use Rattle.dep_configuration.specs.declared.fault.ConfigurationFault.{ConfigurationFault}
@@ -43,11 +43,11 @@ pub record HasConfiguration (c : Configuration) (j : Json) : Type 0 where
   pub config : HasConfig c.config j
   pub limits : HasLimits c.limits j
 
--- of these faults no cause is said: of names, and of what is looked at once more when all fields are read
+-- of these faults no more is said: of names, and of what is looked at once more when all fields are read
 abbrev pub IsUnexplained : ConfigurationFault → Type 0
 IsUnexplained Malformed = ⊥
 IsUnexplained NotObject = ⊥
-IsUnexplained (Unknown name) = Unit {0}
+IsUnexplained (Unknown name) = is_field_name (string_bytes name) ≡ false
 IsUnexplained (Repeated name) = Unit {0}
 IsUnexplained (Missing field) = ⊥
 IsUnexplained (Invalid field) = (field ≡ Port) ⊎ (field ≡ Base) ⊎ (field ≡ MaxUpload)

@@ -1,13 +1,13 @@
 -- What a configuration gives for its fields (RFC 8259), and why it is refused.
-use Rattle.std.specs.Prelude.{◌≡◌, ℕ, nat_le, Bool, true, false, IsTrue, IsSome, IsSomeAnd, List, [], ◌∷◌, ◌++◌, Contains, Option, Some, None, option_map, Result, Ok, Err, codes, string_bytes, bytes_eq, ◌⊎◌, if◌then◌else◌}
-use Rattle.std.specs.List.{AllPass, list_any}
+use Rattle.std.specs.Prelude.{◌≡◌, ℕ, nat_le, Bool, true, false, IsTrue, IsSome, IsSomeAnd, List, [], ◌∷◌, ◌++◌, Contains, Option, Some, None, option_map, Result, Ok, Err, string_bytes, bytes_eq, ◌⊎◌, if◌then◌else◌}
+use Rattle.std.specs.List.{list_any}
 use Rattle.std.specs.Option.{option_map_or}
 use Rattle.std.specs.Net.Grammar.{IsIpText}
 use Rattle.std.specs.declared.net.ip_addr.IpAddr.{IpAddr}
 use Rattle.std.specs.declared.net.ip_addr.IpAddr.TheVariants.{V4}
 use Rattle.json.specs.Json.{Json, object}
 use Rattle.json.specs.Json as json
-use Rattle.json.specs.Strict.{keys, AreDistinct}
+use Rattle.json.specs.Strict.{keys}
 use Rattle.json.specs.Find.{get, as_bool, as_number, as_object, as_str}
 use Rattle.dep_octets.specs.Octets.{decimal_number}
 use Rattle.dep_octets.specs.declared.numbers.Number.{Number}
