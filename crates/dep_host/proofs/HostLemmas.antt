@@ -88,6 +88,10 @@ closing_there {R = R} {K = K} {S = S} p at second seat (Some reason) sat e = sub
 pub none_there : {R K S : Type 0} (seats : List (Option (Seat R K S))) (at second : ℕ) (limits : Limits) → slot at seats ≡ None → HasTime second limits (slot at seats)
 none_there {R = R} {K = K} {S = S} seats at second limits free = subst (λ (o : Option (Seat R K S)). HasTime second limits o) (sym free) tt
 
+-- nothing is read once the store is shut
+none_shut : (is_shut : Bool) (n : ℕ) → is_shut ≡ false → is_shut ≡ true → n ≡ 0
+none_shut is_shut n unshut shut = absurd (let e : true ≡ false = sym shut ∙ unshut in cc)
+
 -- nobody sits at one place more
 pub none_more : {X : Type 0} (seats : List (Option X)) → ((at : ℕ) → slot at seats ≡ None) → (at : ℕ) → slot at (seats ++ None ∷ []) ≡ None
 none_more [] h zero = refl
@@ -190,15 +194,16 @@ module _ {A R K S : Type 0} (condition : A → Condition) (unread : R → Option
   }))
 
   -- nothing was done at a place
-  pub served_none : (p q : Position A R K S) (at second : ℕ) (is_full : Bool) (x : Option (Seat R K S)) → q.hub ≡ p.hub → q.limits ≡ p.limits → q.seats ≡ set p.seats at x → at < length p.seats → x ≡ get_or p.seats at x
-      → Serves condition unread taken held p q at second is_full
-  served_none p q at second is_full x hub limits seats there read = record {
+  pub served_none : (p q : Position A R K S) (at second : ℕ) (is_full is_shut : Bool) (x : Option (Seat R K S)) → q.hub ≡ p.hub → q.limits ≡ p.limits → q.seats ≡ set p.seats at x → at < length p.seats → x ≡ get_or p.seats at x
+      → Serves condition unread taken held p q at second is_full is_shut
+  served_none p q at second is_full is_shut x hub limits seats there read = record {
     deeds = [];
     steps = goes_on begins (unchanged p q at x hub limits seats there read);
     once = omega arith;
     others = λ place ne. refl;
     waits = λ full some. refl;
     unread_others = λ place ne. refl;
+    unread_shut = λ shut. refl;
     closes = tt;
   }
 
@@ -209,62 +214,67 @@ module _ {A R K S : Type 0} (condition : A → Condition) (unread : R → Option
       let no : ⊥ = omega (arith, kept, none, some) in no)
 
   -- a connection had its turn
-  pub took_turn : (p q : Position A R K S) (at second moment : ℕ) (is_full : Bool) (before after : Seat R K S) → HasTurn condition unread taken held p q at before after
-      → TakesTurn condition unread taken held p.hub q.hub before after moment is_full → Serves condition unread taken held p q at second is_full
-  took_turn p q at second moment is_full before after t (inl r) = record {
+  pub took_turn : (p q : Position A R K S) (at second moment : ℕ) (is_full is_shut : Bool) (before after : Seat R K S) → HasTurn condition unread taken held p q at before after
+      → TakesTurn condition unread taken held p.hub q.hub before after moment is_full is_shut → Serves condition unread taken held p q at second is_full is_shut
+  took_turn p q at second moment is_full is_shut before after t (inl r) = record {
     deeds = [];
     steps = goes_on begins (rests t r);
     once = omega arith;
     others = λ place ne. refl;
     waits = λ full some. refl;
     unread_others = λ place ne. refl;
+    unread_shut = λ shut. refl;
     closes = tt;
   }
-  took_turn p q at second moment is_full before after t (inr (inl o)) = record {
+  took_turn p q at second moment is_full is_shut before after t (inr (inl o)) = record {
     deeds = Takes at before.connection o.piece ∷ [];
     steps = goes_on begins (offers t o);
     once = omega arith;
     others = λ place ne. refl;
     waits = λ full some. none_read p at _ before t.sat (o.read.allowed full) some;
     unread_others = λ place ne. none_elsewhere at place ne;
+    unread_shut = λ shut. none_shut is_shut _ o.read.is_open shut;
     closes = (tt, tt);
   }
-  took_turn p q at second moment is_full before after t (inr (inr (inl r))) = record {
+  took_turn p q at second moment is_full is_shut before after t (inr (inr (inl r))) = record {
     deeds = Declines at before.connection r.piece moment r.answers.sent ∷ [];
     steps = goes_on begins (refuses t r);
     once = one_at_most (at == at);
     others = λ place ne. none_elsewhere at place ne;
     waits = λ full some. none_read p at _ before t.sat (r.read.allowed full) some;
     unread_others = λ place ne. none_elsewhere at place ne;
+    unread_shut = λ shut. none_shut is_shut _ r.read.is_open shut;
     closes = (tt, tt);
   }
-  took_turn p q at second moment is_full before after t (inr (inr (inr a))) = record {
+  took_turn p q at second moment is_full is_shut before after t (inr (inr (inr a))) = record {
     deeds = Replies at before.connection moment a.answers.sent ∷ [];
     steps = goes_on begins (answers t a);
     once = one_at_most (at == at);
     others = λ place ne. none_elsewhere at place ne;
     waits = λ full some. refl;
     unread_others = λ place ne. refl;
+    unread_shut = λ shut. refl;
     closes = (tt, tt);
   }
 
   -- its turn had begun before
-  pub after_begin : (p q r : Position A R K S) (at second : ℕ) (is_full : Bool) → Steps condition unread taken held p [] q → unfinished_of (slot at q.seats) ≡ unfinished_of (slot at p.seats)
-      → Serves condition unread taken held q r at second is_full → Serves condition unread taken held p r at second is_full
-  after_begin p q r at second is_full b count s = record {
+  pub after_begin : (p q r : Position A R K S) (at second : ℕ) (is_full is_shut : Bool) → Steps condition unread taken held p [] q → unfinished_of (slot at q.seats) ≡ unfinished_of (slot at p.seats)
+      → Serves condition unread taken held q r at second is_full is_shut → Serves condition unread taken held p r at second is_full is_shut
+  after_begin p q r at second is_full is_shut b count s = record {
     deeds = s.deeds;
     steps = steps_join b s.steps;
     once = s.once;
     others = s.others;
     waits = λ full some. s.waits full (omega (arith, count, some));
     unread_others = s.unread_others;
+    unread_shut = s.unread_shut;
     closes = s.closes;
   }
 
   -- and was closed after it
-  pub then_closed : (p q r : Position A R K S) (at second : ℕ) (is_full : Bool) (seat : Seat R K S) → Serves condition unread taken held p q at second is_full → Goes condition unread taken held q r at second seat
-      → Serves condition unread taken held p r at second is_full
-  then_closed p q r at second is_full seat s g =
+  pub then_closed : (p q r : Position A R K S) (at second : ℕ) (is_full is_shut : Bool) (seat : Seat R K S) → Serves condition unread taken held p q at second is_full is_shut → Goes condition unread taken held q r at second seat
+      → Serves condition unread taken held p r at second is_full is_shut
+  then_closed p q r at second is_full is_shut seat s g =
       let more : List Deed = Closes at seat.connection second ∷ [] in
       record {
         deeds = s.deeds ++ more;
@@ -273,6 +283,7 @@ module _ {A R K S : Type 0} (condition : A → Condition) (unread : R → Option
         others = λ place ne. let e = answers_append place s.deeds more in let f : answers_at place more ≡ 0 = refl in let o = s.others place ne in omega (arith, e, f, o);
         waits = λ full some. let e = pieces_append at s.deeds more in let f : pieces_at at more ≡ 0 = refl in let o = s.waits full some in omega (arith, e, f, o);
         unread_others = λ place ne. let e = pieces_append place s.deeds more in let f : pieces_at place more ≡ 0 = refl in let o = s.unread_others place ne in omega (arith, e, f, o);
+        unread_shut = λ shut. let e = pieces_append at s.deeds more in let f : pieces_at at more ≡ 0 = refl in let o = s.unread_shut shut in omega (arith, e, f, o);
         closes = closed_append second s.deeds more s.closes (refl, tt);
       }
 
@@ -284,13 +295,13 @@ module _ {A R K S : Type 0} (condition : A → Condition) (unread : R → Option
   pub closing_none : (p q : Position A R K S) (at second : ℕ) (x : Option (Seat R K S)) → x ≡ None → IfSome x (Goes condition unread taken held p q at second)
   closing_none p q at second x e = subst (λ (o : Option (Seat R K S)). IfSome o (Goes condition unread taken held p q at second)) (sym e) tt
 
-  pub closes_served : (p q r : Position A R K S) (at second : ℕ) (is_full : Bool) (reason : Closing) (x : Option (Seat R K S)) → Serves condition unread taken held p q at second is_full → MayGo q second reason x
-      → IfSome x (Goes condition unread taken held q r at second) → Serves condition unread taken held p r at second is_full
-  closes_served p q r at second is_full reason None s d g = absurd d
-  closes_served p q r at second is_full reason (Some seat) s d g = then_closed p q r at second is_full seat s g
+  pub closes_served : (p q r : Position A R K S) (at second : ℕ) (is_full is_shut : Bool) (reason : Closing) (x : Option (Seat R K S)) → Serves condition unread taken held p q at second is_full is_shut → MayGo q second reason x
+      → IfSome x (Goes condition unread taken held q r at second) → Serves condition unread taken held p r at second is_full is_shut
+  closes_served p q r at second is_full is_shut reason None s d g = absurd d
+  closes_served p q r at second is_full is_shut reason (Some seat) s d g = then_closed p q r at second is_full is_shut seat s g
 
   -- the places so far had their turns
-  pub record RoundSoFar (p q : Position A R K S) (at second : ℕ) (is_full : Bool) : Type 0 where
+  pub record RoundSoFar (p q : Position A R K S) (at second : ℕ) (is_full is_shut : Bool) : Type 0 where
     deeds : List Deed
     steps : Steps condition unread taken held p deeds q
     once : (place : ℕ) → answers_at place deeds ≤ 1
@@ -298,10 +309,11 @@ module _ {A R K S : Type 0} (condition : A → Condition) (unread : R → Option
     waits : is_full ≡ true → (place : ℕ) → 0 < unfinished_of (slot place p.seats) → pieces_at place deeds ≡ 0
     unread_later : (place : ℕ) → at ≤ place → pieces_at place deeds ≡ 0
     stays : (place : ℕ) → at ≤ place → slot place q.seats ≡ slot place p.seats
+    unread_shut : is_shut ≡ true → (place : ℕ) → pieces_at place deeds ≡ 0
     closes : AreClosedAt second deeds
 
-  pub round_begins : (p : Position A R K S) (second : ℕ) (is_full : Bool) → RoundSoFar p p 0 second is_full
-  round_begins p second is_full = record {
+  pub round_begins : (p : Position A R K S) (second : ℕ) (is_full is_shut : Bool) → RoundSoFar p p 0 second is_full is_shut
+  round_begins p second is_full is_shut = record {
     deeds = [];
     steps = begins;
     once = λ place. omega arith;
@@ -309,12 +321,13 @@ module _ {A R K S : Type 0} (condition : A → Condition) (unread : R → Option
     waits = λ full place some. refl;
     unread_later = λ place h. refl;
     stays = λ place h. refl;
+    unread_shut = λ shut place. refl;
     closes = tt;
   }
 
-  pub round_goes_on : (p q r : Position A R K S) (at next second : ℕ) (is_full : Bool) → RoundSoFar p q at second is_full → Serves condition unread taken held q r at second is_full
-      → ((place : ℕ) → (place ≡ at → ⊥) → slot place r.seats ≡ slot place q.seats) → next ≡ at + 1 → RoundSoFar p r next second is_full
-  round_goes_on p q r at next second is_full s t same e = record {
+  pub round_goes_on : (p q r : Position A R K S) (at next second : ℕ) (is_full is_shut : Bool) → RoundSoFar p q at second is_full is_shut → Serves condition unread taken held q r at second is_full is_shut
+      → ((place : ℕ) → (place ≡ at → ⊥) → slot place r.seats ≡ slot place q.seats) → next ≡ at + 1 → RoundSoFar p r next second is_full is_shut
+  round_goes_on p q r at next second is_full is_shut s t same e = record {
     deeds = s.deeds ++ t.deeds;
     steps = steps_join s.steps t.steps;
     once = λ place. elim (cases_eq place at) [
@@ -336,29 +349,37 @@ module _ {A R K S : Type 0} (condition : A → Condition) (unread : R → Option
         let a = pieces_append place s.deeds t.deeds in let b = s.unread_later place (omega (arith, h, e)) in
         let c = t.unread_others place (λ is. omega (arith, is, h, e)) in omega (arith, a, b, c);
     stays = λ place h. same place (λ is. omega (arith, is, h, e)) ∙ s.stays place (omega (arith, h, e));
+    unread_shut = λ shut place. elim (cases_eq place at) [
+      | inl h ↦ let a = pieces_append place s.deeds t.deeds in let b = s.unread_shut shut place in
+          let c : pieces_at place t.deeds ≡ 0 = subst (λ (n : ℕ). pieces_at n t.deeds ≡ 0) (sym h) (t.unread_shut shut) in omega (arith, a, b, c)
+      | inr ne ↦ let a = pieces_append place s.deeds t.deeds in let b = t.unread_others place ne in let c = s.unread_shut shut place in omega (arith, a, b, c)
+    ];
     closes = closed_append second s.deeds t.deeds s.closes t.closes;
   }
 
-  pub round_ends : (p q : Position A R K S) (at second : ℕ) (is_full : Bool) → RoundSoFar p q at second is_full → is_full ≡ nat_lt p.limits.unfinished_bytes (unfinished_in p.seats)
-      → GoesRound condition unread taken held p q second
-  round_ends p q at second is_full s e = record {
+  pub round_ends : (p q : Position A R K S) (at second : ℕ) (is_full is_shut : Bool) → RoundSoFar p q at second is_full is_shut → is_full ≡ nat_lt p.limits.unfinished_bytes (unfinished_in p.seats)
+      → GoesRound condition unread taken held p q second is_shut
+  round_ends p q at second is_full is_shut s e = record {
     deeds = s.deeds;
     steps = s.steps;
     once = s.once;
     waits = λ more place some. s.waits (e ∙ lt-ltb p.limits.unfinished_bytes (unfinished_in p.seats) more) place some;
+    unread_shut = s.unread_shut;
     closes = s.closes;
   }
 
   -- the largest was closed after it
-  pub round_sheds : (p q r : Position A R K S) (second : ℕ) → GoesRound condition unread taken held p q second → Sheds condition unread taken held q r second → GoesRound condition unread taken held p r second
-  round_sheds p q r second s (inl e) = subst (λ (x : Position A R K S). GoesRound condition unread taken held p x second) (sym e) s
-  round_sheds p q r second s (inr (at, seat, g)) =
+  pub round_sheds : (p q r : Position A R K S) (second : ℕ) (is_shut : Bool) → GoesRound condition unread taken held p q second is_shut → Sheds condition unread taken held q r second
+      → GoesRound condition unread taken held p r second is_shut
+  round_sheds p q r second is_shut s (inl e) = subst (λ (x : Position A R K S). GoesRound condition unread taken held p x second is_shut) (sym e) s
+  round_sheds p q r second is_shut s (inr (at, seat, g)) =
       let more : List Deed = Closes at seat.connection second ∷ [] in
       record {
         deeds = s.deeds ++ more;
         steps = goes_on s.steps (leaves g);
         once = λ place. let e = answers_append place s.deeds more in let f : answers_at place more ≡ 0 = refl in let o = s.once place in omega (arith, e, f, o);
         waits = λ full place some. let e = pieces_append place s.deeds more in let f : pieces_at place more ≡ 0 = refl in let o = s.waits full place some in omega (arith, e, f, o);
+        unread_shut = λ shut place. let e = pieces_append place s.deeds more in let f : pieces_at place more ≡ 0 = refl in let o = s.unread_shut shut place in omega (arith, e, f, o);
         closes = closed_append second s.deeds more s.closes (refl, tt);
       }
 

@@ -117,26 +117,27 @@ module _ {A R K S : Type 0} (condition : A → Condition) (unread : R → Option
     leaves = leaves;
   })
 
-  read_counted : (before mid after : Seat R K S) (piece : List ℕ) (is_full : Bool) → IsRead condition unread taken held before mid piece is_full → after.source ≡ mid.source
+  read_counted : (before mid after : Seat R K S) (piece : List ℕ) (is_full is_shut : Bool) → IsRead condition unread taken held before mid piece is_full is_shut → after.source ≡ mid.source
       → (mid.course.has_moved ≡ true → after.course.has_moved ≡ true) → min mid.course.moved (2 ^ 64 - 1) ≤ after.course.moved → after.course.unfinished ≡ mid.course.unfinished
-      → IsRead condition unread taken held before after piece is_full
-  read_counted before mid after piece is_full r source stirs moves count = record {
+      → IsRead condition unread taken held before after piece is_full is_shut
+  read_counted before mid after piece is_full is_shut r source stirs moves count = record {
     unowed = r.unowed;
     waits = r.waits;
     some = r.some;
     small = r.small;
     gives = subst (λ (x : R). Consumes (unread before.source) (unread x) piece) (sym source) r.gives;
     allowed = r.allowed;
+    is_open = r.is_open;
     stirs = stirs r.stirs;
     moves = let m = r.moves in omega (arith, m, moves);
     counts = count ∙ r.counts;
   }
 
   -- a piece that was read was offered
-  offered : (old new : Hub A) (before after : Seat R K S) (piece : List ℕ) (answer : Arrived) (is_full : Bool) → IsRead condition unread taken held before after piece is_full → new.store ≡ old.store
+  offered : (old new : Hub A) (before after : Seat R K S) (piece : List ℕ) (answer : Arrived) (is_full is_shut : Bool) → IsRead condition unread taken held before after piece is_full is_shut → new.store ≡ old.store
       → OffersTo condition (told taken held before.wire) (told taken held after.wire) before.wire.failures after.wire.failures old new before.connection piece answer
-      → after.course.phase ≡ phase_offered answer → (moment : ℕ) → TakesTurn condition unread taken held old new before after moment is_full
-  offered old new before after piece came.Open is_full read store o p moment = inr (inl (record {
+      → after.course.phase ≡ phase_offered answer → (moment : ℕ) → TakesTurn condition unread taken held old new before after moment is_full is_shut
+  offered old new before after piece came.Open is_full is_shut read store o p moment = inr (inl (record {
     piece = piece;
     read = read;
     answers_next = p;
@@ -144,21 +145,21 @@ module _ {A R K S : Type 0} (condition : A → Condition) (unread : R → Option
     same_store = store;
     holds = o.holds;
   }))
-  offered old new before after piece came.Closed is_full read store o p moment = inr (inr (inl (record {
+  offered old new before after piece came.Closed is_full is_shut read store o p moment = inr (inr (inl (record {
     piece = piece;
     read = read;
     ends = ap is_ended p;
     answer = came.Closed;
     answers = o moment;
   })))
-  offered old new before after piece came.Cut is_full read store o p moment = inr (inr (inl (record {
+  offered old new before after piece came.Cut is_full is_shut read store o p moment = inr (inr (inl (record {
     piece = piece;
     read = read;
     ends = ap is_ended p;
     answer = came.Cut;
     answers = o moment;
   })))
-  offered old new before after piece came.NoSuch is_full read store o p moment = inl (record {
+  offered old new before after piece came.NoSuch is_full is_shut read store o p moment = inl (record {
     same = o.same;
     keeps = o.sends_nothing;
     gives = λ h. absurd (not_ended after.course.phase p h);
@@ -167,56 +168,57 @@ module _ {A R K S : Type 0} (condition : A → Condition) (unread : R → Option
   })
 
   -- a front of the room was received, and offered
-  pub received : (old new : Hub A) (before after : Seat R K S) (got : R) (room : List ℕ) (n : ℕ) (answer : Arrived) (is_full : Bool) → IsAtEnd (owed held before.wire) → before.course.phase ≡ Open
+  pub received : (old new : Hub A) (before after : Seat R K S) (got : R) (room : List ℕ) (n : ℕ) (answer : Arrived) (is_full is_shut : Bool) → IsAtEnd (owed held before.wire) → before.course.phase ≡ Open
       → 0 < n → n ≤ length room → length room ≤ most_read → Consumes (unread before.source) (unread got) (take n room) → after.source ≡ got → new.store ≡ old.store
       → OffersTo condition (told taken held before.wire) (told taken held after.wire) before.wire.failures after.wire.failures old new before.connection (take n room) answer
-      → after.course.phase ≡ phase_offered answer → (is_full ≡ true → before.course.unfinished ≡ 0)
+      → after.course.phase ≡ phase_offered answer → (is_full ≡ true → before.course.unfinished ≡ 0) → is_shut ≡ false
       → after.course.has_moved ≡ (before.course.has_moved || nat_lt 0 (length (take n room)))
       → after.course.moved ≡ min (before.course.moved + length (take n room)) (2 ^ 64 - 1)
       → after.course.unfinished ≡ min (before.course.unfinished + length (take n room)) (2 ^ 64 - 1)
-      → (moment : ℕ) → TakesTurn condition unread taken held old new before after moment is_full
-  received old new before after got room n answer is_full none was some within small gives same store o p allowed stirs moved counts moment =
+      → (moment : ℕ) → TakesTurn condition unread taken held old new before after moment is_full is_shut
+  received old new before after got room n answer is_full is_shut none was some within small gives same store o p allowed is_open stirs moved counts moment =
       let long : 0 < length (take n room) = let e = length-take n room in omega (arith, e, some, within) in
-      offered old new before after (take n room) answer is_full (record {
+      offered old new before after (take n room) answer is_full is_shut (record {
         unowed = none;
         waits = was;
         some = long;
         small = let e = length-take n room in omega (arith, e, within, small);
         gives = subst (λ (s : R). Consumes (unread before.source) (unread s) (take n room)) (sym same) gives;
         allowed = allowed;
+        is_open = is_open;
         stirs = stirs ∙ (ap (λ (b : Bool). before.course.has_moved || b) (lt-ltb 0 (length (take n room)) long) ∙ or-true before.course.has_moved);
         moves = omega (arith, moved);
         counts = counts;
       }) store o p moment
 
   -- what was sent in a turn was counted behind it
-  pub counted : (old new : Hub A) (before mid after : Seat R K S) (moment : ℕ) (is_full : Bool) → TakesTurn condition unread taken held old new before mid moment is_full
+  pub counted : (old new : Hub A) (before mid after : Seat R K S) (moment : ℕ) (is_full is_shut : Bool) → TakesTurn condition unread taken held old new before mid moment is_full is_shut
       → after.wire ≡ mid.wire → after.source ≡ mid.source → after.course.phase ≡ mid.course.phase → (mid.course.has_moved ≡ true → after.course.has_moved ≡ true)
-      → min mid.course.moved (2 ^ 64 - 1) ≤ after.course.moved → after.course.unfinished ≡ mid.course.unfinished → TakesTurn condition unread taken held old new before after moment is_full
-  counted old new before mid after moment is_full (inl r) wire source phase stirs moves count = inl (record {
+      → min mid.course.moved (2 ^ 64 - 1) ≤ after.course.moved → after.course.unfinished ≡ mid.course.unfinished → TakesTurn condition unread taken held old new before after moment is_full is_shut
+  counted old new before mid after moment is_full is_shut (inl r) wire source phase stirs moves count = inl (record {
     same = r.same;
     keeps = subst (λ (w : Wire K S). Keeps (told taken held before.wire) (told taken held w)) (sym wire) r.keeps;
     gives = λ h. subst (λ (x : R). Keeps (unread before.source) (unread x)) (sym source) (r.gives (sym (ap is_ended phase) ∙ h));
     opens = λ h. r.opens (sym phase ∙ h);
     keeps_count = λ h. count ∙ r.keeps_count (sym (ap is_ended phase) ∙ h);
   })
-  counted old new before mid after moment is_full (inr (inl o)) wire source phase stirs moves count = inr (inl (record {
+  counted old new before mid after moment is_full is_shut (inr (inl o)) wire source phase stirs moves count = inr (inl (record {
     piece = o.piece;
-    read = read_counted before mid after o.piece is_full o.read source stirs moves count;
+    read = read_counted before mid after o.piece is_full is_shut o.read source stirs moves count;
     answers_next = phase ∙ o.answers_next;
     keeps = subst (λ (w : Wire K S). Keeps (told taken held before.wire) (told taken held w)) (sym wire) o.keeps;
     same_store = o.same_store;
     holds = o.holds;
   }))
-  counted old new before mid after moment is_full (inr (inr (inl r))) wire source phase stirs moves count = inr (inr (inl (record {
+  counted old new before mid after moment is_full is_shut (inr (inr (inl r))) wire source phase stirs moves count = inr (inr (inl (record {
     piece = r.piece;
-    read = read_counted before mid after r.piece is_full r.read source stirs moves count;
+    read = read_counted before mid after r.piece is_full is_shut r.read source stirs moves count;
     ends = ap is_ended phase ∙ r.ends;
     answer = r.answer;
     answers = subst (λ (w : Wire K S). AnswersOver condition (told taken held before.wire) (told taken held w) before.wire.failures w.failures old new before.connection
         (λ kept. kept ++ r.piece) moment r.answer (IsRefused r.answer)) (sym wire) r.answers;
   })))
-  counted old new before mid after moment is_full (inr (inr (inr a))) wire source phase stirs moves count = inr (inr (inr (record {
+  counted old new before mid after moment is_full is_shut (inr (inr (inr a))) wire source phase stirs moves count = inr (inr (inr (record {
     unowed = a.unowed;
     was_read = a.was_read;
     same_source = source ∙ a.same_source;

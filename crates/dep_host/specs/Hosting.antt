@@ -190,12 +190,12 @@ module _ {A R K S : Type 0} (condition : A → Condition) (unread : R → Option
         → Step p q (Opens at seat.connection ∷ [])
     rests : {at : ℕ} {before after : Seat R K S} → HasTurn p q at before after
         → Rests condition unread taken held p.hub q.hub before after → Step p q []
-    offers : {at : ℕ} {is_full : Bool} {before after : Seat R K S} → HasTurn p q at before after
-        → (o : Offers condition unread taken held p.hub q.hub before after is_full)
+    offers : {at : ℕ} {is_full is_shut : Bool} {before after : Seat R K S} → HasTurn p q at before after
+        → (o : Offers condition unread taken held p.hub q.hub before after is_full is_shut)
         → Step p q (Takes at before.connection o.piece ∷ [])
-    refuses : {at moment : ℕ} {is_full : Bool} {before after : Seat R K S}
+    refuses : {at moment : ℕ} {is_full is_shut : Bool} {before after : Seat R K S}
         → HasTurn p q at before after
-        → (r : Refuses condition unread taken held p.hub q.hub before after moment is_full)
+        → (r : Refuses condition unread taken held p.hub q.hub before after moment is_full is_shut)
         → Step p q (Declines at before.connection r.piece moment r.answers.sent ∷ [])
     answers : {at moment : ℕ} {before after : Seat R K S} → HasTurn p q at before after
         → (a : Answers condition unread taken held p.hub q.hub before after moment)
@@ -212,24 +212,28 @@ module _ {A R K S : Type 0} (condition : A → Condition) (unread : R → Option
   abbrev pub GoesOn : Position A R K S → Position A R K S → Type 0
   GoesOn first last = (deeds : List Deed) × Steps first deeds last
 
-  -- one place has its turn, where too many bytes of unfinished requests are kept or not
-  pub record Serves (p q : Position A R K S) (at second : ℕ) (is_full : Bool) : Type 0 where
+  -- one place has its turn, where too many bytes of unfinished requests are kept or not, and the store
+  -- is shut or not
+  pub record Serves (p q : Position A R K S) (at second : ℕ) (is_full is_shut : Bool) : Type 0 where
     pub deeds : List Deed
     pub steps : Steps p deeds q
     pub once : answers_at at deeds ≤ 1
     pub others : (place : ℕ) → (place ≡ at → ⊥) → answers_at place deeds ≡ 0
     pub waits : is_full ≡ true → 0 < unfinished_of (slot at p.seats) → pieces_at at deeds ≡ 0
     pub unread_others : (place : ℕ) → (place ≡ at → ⊥) → pieces_at place deeds ≡ 0
+    pub unread_shut : is_shut ≡ true → pieces_at at deeds ≡ 0
     pub closes : AreClosedAt second deeds
 
   -- each place has its turn: of no connection more than one item is answered, and where too many
-  -- bytes of unfinished requests are kept, nothing more is read of these
-  pub record GoesRound (p q : Position A R K S) (second : ℕ) : Type 0 where
+  -- bytes of unfinished requests are kept, nothing more is read of these, and once the store is shut
+  -- nothing at all
+  pub record GoesRound (p q : Position A R K S) (second : ℕ) (is_shut : Bool) : Type 0 where
     pub deeds : List Deed
     pub steps : Steps p deeds q
     pub once : (place : ℕ) → answers_at place deeds ≤ 1
     pub waits : p.limits.unfinished_bytes < unfinished_in p.seats → (place : ℕ)
         → 0 < unfinished_of (slot place p.seats) → pieces_at place deeds ≡ 0
+    pub unread_shut : is_shut ≡ true → (place : ℕ) → pieces_at place deeds ≡ 0
     pub closes : AreClosedAt second deeds
 
   -- the largest is closed, or nothing is done

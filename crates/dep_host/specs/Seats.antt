@@ -52,24 +52,25 @@ module _ {A R K S : Type 0} (condition : A → Condition) (unread : R → Option
     pub keeps_count : is_ended after.course.phase ≡ false
         → after.course.unfinished ≡ before.course.unfinished
 
-  -- a piece was read where nothing was owed and all that was read before was answered, and where too
-  -- many bytes of unfinished requests are kept, only as the first of one
-  pub record IsRead (before after : Seat R K S) (piece : List ℕ) (is_full : Bool) : Type 0 where
+  -- a piece was read where nothing was owed and all that was read before was answered, the store isn't
+  -- shut, and where too many bytes of unfinished requests are kept only as the first of one
+  pub record IsRead (before after : Seat R K S) (piece : List ℕ) (is_full is_shut : Bool) : Type 0 where
     pub unowed : IsAtEnd (owed held before.wire)
     pub waits : before.course.phase ≡ Open
     pub some : 0 < length piece
     pub small : length piece ≤ most_read
     pub gives : Consumes (unread before.source) (unread after.source) piece
     pub allowed : is_full ≡ true → before.course.unfinished ≡ 0
+    pub is_open : is_shut ≡ false
     pub stirs : after.course.has_moved ≡ true
     pub moves : min (before.course.moved + length piece) (2 ^ 64 - 1) ≤ after.course.moved
     pub counts : after.course.unfinished
         ≡ min (before.course.unfinished + length piece) (2 ^ 64 - 1)
 
   -- the hub holds the piece, and nothing is sent
-  pub record Offers (old new : Hub A) (before after : Seat R K S) (is_full : Bool) : Type 0 where
+  pub record Offers (old new : Hub A) (before after : Seat R K S) (is_full is_shut : Bool) : Type 0 where
     pub piece : List ℕ
-    pub read : IsRead before after piece is_full
+    pub read : IsRead before after piece is_full is_shut
     pub answers_next : after.course.phase ≡ Answering
     pub keeps : Keeps (told taken held before.wire) (told taken held after.wire)
     pub same_store : new.store ≡ old.store
@@ -78,10 +79,10 @@ module _ {A R K S : Type 0} (condition : A → Condition) (unread : R → Option
         (with_held before.connection (kept before.connection ++ piece) kept)
 
   -- memory ran out for the piece: the fixed reply for it is sent, and the connection is read no more
-  pub record Refuses (old new : Hub A) (before after : Seat R K S) (moment : ℕ) (is_full : Bool)
-      : Type 0 where
+  pub record Refuses (old new : Hub A) (before after : Seat R K S) (moment : ℕ)
+      (is_full is_shut : Bool) : Type 0 where
     pub piece : List ℕ
-    pub read : IsRead before after piece is_full
+    pub read : IsRead before after piece is_full is_shut
     pub ends : is_ended after.course.phase ≡ true
     pub answer : Arrived
     pub answers : AnswersOver condition (told taken held before.wire) (told taken held after.wire)
@@ -104,8 +105,8 @@ module _ {A R K S : Type 0} (condition : A → Condition) (unread : R → Option
 
   -- a turn is one of these: at most one piece is read, and at most one item answered
   abbrev pub TakesTurn : (old new : Hub A) → (before after : Seat R K S) → (moment : ℕ)
-      → (is_full : Bool) → Type 0
-  TakesTurn old new before after moment is_full =
+      → (is_full is_shut : Bool) → Type 0
+  TakesTurn old new before after moment is_full is_shut =
       Rests old new before after
-      ⊎ (Offers old new before after is_full
-      ⊎ (Refuses old new before after moment is_full ⊎ Answers old new before after moment))
+      ⊎ (Offers old new before after is_full is_shut
+      ⊎ (Refuses old new before after moment is_full is_shut ⊎ Answers old new before after moment))

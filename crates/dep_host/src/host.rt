@@ -190,7 +190,7 @@ impl<A: Archive, R: Source + Drop, K: Sink + Drop, S: Spool + Drop> Host<A, R, K
     pub fn round<L: HostLog>(&mut self, room: &mut [u8], time: &Time, log: &mut L) -> bool
         requires room { length room.old ≤ most_read }
         ensures goes { GoesRound A.condition R.unread K.taken S.held (position self.old)
-            (position self.new) time.now.second }
+            (position self.new) time.now.second self.old.is_shut }
         ensures left { (at : ℕ)
             → HasTime time.now.second self.new.limits (slot at self.new.seats.items) }
         ensures seats { length self.new.seats.items ≡ length self.old.seats.items }
@@ -199,6 +199,7 @@ impl<A: Archive, R: Source + Drop, K: Sink + Drop, S: Spool + Drop> Host<A, R, K
         let turn = Turn {
             time: *time,
             is_full: self.is_full(),
+            is_shut: self.is_shut,
         };
         let is_busy = self.serve_each(room, &turn, log);
         self.shed(time.second, log);
@@ -212,7 +213,7 @@ impl<A: Archive, R: Source + Drop, K: Sink + Drop, S: Spool + Drop> Host<A, R, K
         requires full { turn.now.is_full ≡ nat_lt self.old.limits.unfinished_bytes
             (unfinished_in self.old.seats.items) }
         ensures goes { GoesRound A.condition R.unread K.taken S.held (position self.old)
-            (position self.new) turn.now.time.second }
+            (position self.new) turn.now.time.second turn.now.is_shut }
         ensures left { (at : ℕ)
             → HasTime turn.now.time.second self.new.limits (slot at self.new.seats.items) }
         ensures seats { length self.new.seats.items ≡ length self.old.seats.items }
@@ -233,7 +234,7 @@ impl<A: Archive, R: Source + Drop, K: Sink + Drop, S: Spool + Drop> Host<A, R, K
         requires there { at < length self.old.seats.items }
         requires room { length room.old ≤ most_read }
         ensures goes { Serves A.condition R.unread K.taken S.held (position self.old)
-            (position self.new) at turn.now.time.second turn.now.is_full }
+            (position self.new) at turn.now.time.second turn.now.is_full turn.now.is_shut }
         ensures here { HasTime turn.now.time.second self.new.limits
             (slot at self.new.seats.items) }
         ensures others { (place : ℕ) → (place ≡ at → ⊥)
@@ -296,7 +297,7 @@ impl<A: Archive, R: Source + Drop, K: Sink + Drop, S: Spool + Drop> Host<A, R, K
         requires there { at < length self.old.seats.items }
         requires room { length room.old ≤ most_read }
         ensures goes { Serves A.condition R.unread K.taken S.held (position self.old)
-            (position self.new) at turn.now.time.second turn.now.is_full }
+            (position self.new) at turn.now.time.second turn.now.is_full turn.now.is_shut }
         ensures others { (place : ℕ) → (place ≡ at → ⊥)
             → slot place self.new.seats.items ≡ slot place self.old.seats.items }
         ensures seats { length self.new.seats.items ≡ length self.old.seats.items }

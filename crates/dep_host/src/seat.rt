@@ -34,6 +34,8 @@ pub(crate) struct Turn {
     /// Whether more bytes of unfinished requests are kept than may be, so that of none of these more
     /// is read.
     pub is_full: bool,
+    /// Whether the store is shut, so that nothing more is read.
+    pub is_shut: bool,
 }
 
 /// A connection of the hub, the two ways to its client, and how far it is.
@@ -178,7 +180,7 @@ impl<R: Source, K: Sink, S: Spool> Seat<R, K, S> {
         ensures ended { is_ended self.old.course.phase ≡ true
             → is_ended self.new.course.phase ≡ true }
         ensures turn { TakesTurn A.condition R.unread K.taken S.held hub.old hub.new
-            self.old self.new turn.now.time.moment turn.now.is_full }
+            self.old self.new turn.now.time.moment turn.now.is_full turn.now.is_shut }
         // What its socket took counts.
         ensures stirs { self.old.wire.delivered < self.new.wire.delivered
             → self.new.course.has_moved ≡ true }
@@ -192,12 +194,14 @@ impl<R: Source, K: Sink, S: Spool> Seat<R, K, S> {
         self.course.count(sent);
     }
 
-    /// Whether it is read: where too many bytes of unfinished requests are kept, only if none of these
-    /// is its.
-    fn may_read(&self, is_full: bool) -> bool
-        ensures { result ≡ true → is_full ≡ true → self.now.course.unfinished ≡ 0 }
+    /// Whether it is read: not once the store is shut, and where too many bytes of unfinished requests
+    /// are kept, only if none of these is its.
+    fn may_read(&self, turn: &Turn) -> bool
+        ensures first { result ≡ true → turn.now.is_full ≡ true
+            → self.now.course.unfinished ≡ 0 }
+        ensures shut { result ≡ true → turn.now.is_shut ≡ false }
     {
-        !is_full || self.course.unfinished == 0
+        !turn.is_shut && (!turn.is_full || self.course.unfinished == 0)
     }
 
     /// Does what it does next, and doesn't count what is sent.
@@ -218,13 +222,13 @@ impl<R: Source, K: Sink, S: Spool> Seat<R, K, S> {
         ensures ended { is_ended self.old.course.phase ≡ true
             → is_ended self.new.course.phase ≡ true }
         ensures turn { TakesTurn A.condition R.unread K.taken S.held hub.old hub.new
-            self.old self.new turn.now.time.moment turn.now.is_full }
+            self.old self.new turn.now.time.moment turn.now.is_full turn.now.is_shut }
         ensures moved { min self.old.course.moved (2 ^ 64 - 1) ≤ self.new.course.moved }
     {
         match self.course.duty(self.wire.owes()) {
             Duty::Flush => self.flush(),
             Duty::Answer => self.answer(hub, turn.time.moment, log),
-            Duty::Read => if self.may_read(turn.is_full) {
+            Duty::Read => if self.may_read(turn) {
                 self.read(hub, room);
             },
             Duty::Finish => self.finish(),
@@ -306,10 +310,10 @@ impl<R: Source, K: Sink, S: Spool> Seat<R, K, S> {
         ensures honest { IsHonest A.condition hub.new → IsHonest A.condition hub.old }
         ensures number { self.new.connection ≡ self.old.connection }
         ensures address { self.new.address ≡ self.old.address }
-        ensures turn { (moment : ℕ) (is_full : Bool)
-            → (is_full ≡ true → self.old.course.unfinished ≡ 0)
+        ensures turn { (moment : ℕ) (is_full is_shut : Bool)
+            → (is_full ≡ true → self.old.course.unfinished ≡ 0) → is_shut ≡ false
             → TakesTurn A.condition R.unread K.taken S.held hub.old hub.new
-            self.old self.new moment is_full }
+            self.old self.new moment is_full is_shut }
         ensures moved { min self.old.course.moved (2 ^ 64 - 1) ≤ self.new.course.moved }
     {
         match self.source.receive(room) {

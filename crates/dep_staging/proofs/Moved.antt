@@ -1,7 +1,7 @@
 -- A file that is made of the blocks of an upload.
-use Rattle.std.proofs.Common.{◌≡◌, Some, sym, ap, subst, ◌∙◌}
+use Rattle.std.proofs.Common.{◌≡◌, ℕ, Some, None, sym, ap, subst, ◌∙◌}
 use Rattle.std.specs.FinMap as finmap
-use Rattle.dep_types.specs.State.{State, Object, File, Upload}
+use Rattle.dep_types.specs.State.{State, Object, File, Upload, file_at}
 use Rattle.dep_types.specs.Rows.{file_row}
 use Rattle.dep_types.specs.Uploads.{assembled}
 use Rattle.dep_types.specs.declared.rows.UploadRow.{UploadRow}
@@ -11,8 +11,10 @@ use Rattle.dep_tables.specs.Edits.{with_blocks_moved, LacksFileRow, with_new_fil
 use Rattle.dep_tables.specs.Tables.{Tables}
 use Rattle.dep_tables.specs.declared.owner.BlockOwner.TheVariants as owner
 use Rattle.dep_row_maps.specs.Laws.{without_upload_rows}
-use Rattle.dep_row_maps.specs.TablesAre.{TablesAre}
+use Rattle.dep_row_maps.specs.TablesAre.{TablesAre, files_at}
+use Rattle.dep_row_maps.proofs.Files.{free_file}
 use Rattle.dep_row_maps.proofs.Whole.{file_assembled}
+use Rattle.dep_files.proofs.FileCalls.{file_is}
 use Rattle.dep_staging.specs.Assembling.{HasItsSegments, deposited}
 
 module _ (a b c d e f now : Tables) (upload : UploadRow) (row : FileRow)
@@ -29,8 +31,14 @@ module _ (a b c d e f now : Tables) (upload : UploadRow) (row : FileRow)
       fifth ∙ ap (with_new_sha512 (owner.File row.file) row.sha512)
       (fourth ∙ ap (without_upload_row upload.upload) (third ∙ ap (without_segment_rows upload.upload) (second ∙ ap (without_sha512 (owner.Upload upload.upload)) first)))
 
+  was_free : LacksFileRow row.file f → LacksFileRow row.file a
+  was_free free = sym (ap (λ (t : Tables). row_at t.files row.file) made_so_far) ∙ free
+
+  pub file_was_free : (s : State) → TablesAre a s → IsOrdered a.files → LacksFileRow row.file f → (n : ℕ) → file_at s n row.file ≡ None
+  file_was_free s h up free n = sym (file_is s n row.file) ∙ free_file a.files (files_at s.objects) (files_at s.objects) h.common.files up n row.file (was_free free)
+
   pub made : (s : State) (o : Object) (it : Upload) (file : File) → TablesAre a s → IsOrdered a.files → IsOrdered a.sha512s → finmap.get s.objects row.object ≡ Some o → finmap.get s.uploads upload.upload ≡ Some it → HasItsSegments it
       → row ≡ file_row row.object row.file file → file.content ≡ assembled it → LacksFileRow row.file f → TablesAre now (deposited s row.object o row.file file upload.upload)
   made s o it file h up values_up there held whole row_is content free =
       subst (λ (t : Tables). TablesAre t (deposited s row.object o row.file file upload.upload)) (sym (sixth ∙ ap (with_new_file_row row) made_so_far ∙ ap made_of row_is))
-      (file_assembled a s h up values_up row.object o there row.file file (sym (ap (λ (t : Tables). row_at t.files row.file) made_so_far) ∙ free) upload.upload it held whole.within content)
+      (file_assembled a s h up values_up row.object o there row.file file (was_free free) upload.upload it held whole.within content)

@@ -1,8 +1,8 @@
 //! A file made of an upload.
 
-ghost use Rattle.std.specs.Prelude.{◌≡◌, ◌≤◌, ◌<◌, ◌^◌, ℕ, List, Some, OnOk, IsTrue};
+ghost use Rattle.std.specs.Prelude.{◌≡◌, ◌≤◌, ◌<◌, ◌^◌, ℕ, List, Some, None, OnOk, IsTrue};
 ghost use Rattle.std.specs.FinMap as finmap;
-ghost use Rattle.dep_types.specs.State.{Object, File, Upload};
+ghost use Rattle.dep_types.specs.State.{Object, File, Upload, file_at};
 ghost use Rattle.dep_types.specs.Rows.{upload_row, file_row};
 ghost use Rattle.dep_types.specs.Uploads.{assembled, is_complete};
 ghost use Rattle.dep_tables.specs.Tables.{tables_of};
@@ -61,6 +61,8 @@ pub fn assemble<T: Statements>(
         → row.now ≡ file_row row.now.object row.now.file file → file.content ≡ assembled it
         → OnOk result (TablesAre (tables_of (T.state tx.new))
         (deposited s row.now.object o row.now.file file upload.now.upload))) }
+    ensures free { FromMaps (T.state tx.old) (T.state tx.new)
+        (λ s. OnOk result ((n : ℕ) → file_at s n row.now.file ≡ None)) }
     ensures ours { KeepsOurs (T.state tx.old) (T.state tx.new) result }
     ensures cause { FailsByOne T.state tx.old tx.new result
         (IsStorableUpload (columns_of_upload upload.now) × IsStorableFile row.now)

@@ -5,7 +5,7 @@ use Rattle.dep_row_maps.specs.Causes.{FailsByStatement}
 use Rattle.dep_row_maps.specs.Causes.FailsByStatement.{file_added, segments_deleted, sha512_added, sha512_deleted, upload_deleted}
 use Rattle.dep_row_maps.proofs.Causes.{fails_then, if_err_then, if_err_is}
 use Rattle.dep_files.proofs.Results.{ok_both, fails_behind}
-use Rattle.dep_staging.proofs.Moved.{made}
+use Rattle.dep_staging.proofs.Moved.{made, file_was_free}
 use Rattle.dep_staging.proofs.assembling.assemble.Goals as goal
 
 pub returns-clause-map : goal.returns-clause-map
@@ -30,6 +30,29 @@ returns-clause-map g c clean inside ours s are o it file there held whole upload
     ok_both c.insert_file.result (c.insert_file.ensures.ok clean fifth.shows.mode fifth.ours) (c.insert_file.ensures.free clean fifth.shows.mode fifth.ours)
     (λ leads free. made (tables_of old) (tables_of one) (tables_of two) (tables_of three) (tables_of four) (tables_of five) (tables_of new) c.args.upload.now c.args.row.now first.rows second.rows third.rows fourth.rows fifth.rows leads.rows
     s o it file are ours.trees.ordered.1.1.1.1.0 ours.trees.ordered.1.1.1.1.1.1.1.1.1.0 there held whole row_is content free)
+
+pub returns-clause-free : goal.returns-clause-free
+returns-clause-free g c clean inside ours s are =
+    let old = g.T.Statements.state c.args.tx.now in
+    let one = g.T.Statements.state c.move_content.new.tx in
+    let two = g.T.Statements.state c.delete_sha512.new.tx in
+    let three = g.T.Statements.state c.delete_segments.new.tx in
+    let four = g.T.Statements.state c.delete_upload.new.tx in
+    let five = g.T.Statements.state c.insert_sha512.new.tx in
+    let new = g.T.Statements.state c.insert_file.new.tx in
+    let clean_five = clean_before c.insert_file.ensures.stays clean in
+    let clean_four = clean_before c.insert_sha512.ensures.stays clean_five in
+    let clean_three = clean_before c.delete_upload.ensures.stays clean_four in
+    let clean_two = clean_before c.delete_segments.ensures.stays clean_three in
+    let clean_one = clean_before c.delete_sha512.ensures.stays clean_two in
+    let first = c.in_ok-move_content.ensures.ok clean_one inside ours in
+    let second = c.in_ok-delete_sha512.ensures.ok clean_two (c.in_ok-move_content.ensures.stays.inside clean_one inside) first.ours in
+    let third = c.in_ok-delete_segments.ensures.ok clean_three second.shows.mode second.ours in
+    let fourth = c.in_ok-delete_upload.ensures.ok clean_four third.shows.mode third.ours in
+    let fifth = c.in_ok-insert_sha512.ensures.ok clean_five fourth.shows.mode fourth.ours in
+    ok_both c.insert_file.result (c.insert_file.ensures.ok clean fifth.shows.mode fifth.ours) (c.insert_file.ensures.free clean fifth.shows.mode fifth.ours)
+    (λ leads free. file_was_free (tables_of old) (tables_of one) (tables_of two) (tables_of three) (tables_of four) (tables_of five) (tables_of new) c.args.upload.now c.args.row.now first.rows second.rows third.rows fourth.rows fifth.rows leads.rows
+    s are ours.trees.ordered.1.1.1.1.0 free)
 
 pub returns-in_err-delete_sha512-clause-stays : goal.returns-in_err-delete_sha512-clause-stays
 returns-in_err-delete_sha512-clause-stays g c =

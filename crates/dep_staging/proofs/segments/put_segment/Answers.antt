@@ -1,7 +1,9 @@
-use Rattle.std.proofs.Common.{subst}
+use Rattle.std.proofs.Common.{ap, sym, subst, ◌∙◌}
+use Rattle.std.specs.List.{list_any}
 use Rattle.std.specs.Prelude.{OnOk}
-use Rattle.dep_tables.specs.Tables.{tables_of}
-use Rattle.dep_tables.proofs.Results.{if_failed}
+use Rattle.dep_tables.specs.Rows.{has_segment_key}
+use Rattle.dep_tables.specs.Tables.{Tables, tables_of}
+use Rattle.dep_tables.proofs.Results.{if_failed, if_ok}
 use Rattle.dep_tables.proofs.Chains.{clean_before, stays_then, stays_err}
 use Rattle.dep_row_maps.specs.Causes.{FailsByStatement}
 use Rattle.dep_row_maps.specs.Causes.FailsByStatement.{segment_added, upload_written}
@@ -9,6 +11,7 @@ use Rattle.dep_row_maps.specs.TablesAre.{TablesAre, with_upload}
 use Rattle.dep_row_maps.proofs.Causes.{fails_then, if_err_then, if_err_is}
 use Rattle.dep_row_maps.proofs.Lens.{get_here, insert_twice}
 use Rattle.dep_files.proofs.Results.{fails_behind}
+use Rattle.dep_staging.proofs.Lacking.{lacked}
 use Rattle.dep_staging.proofs.UploadCalls.{received, received_into}
 use Rattle.dep_staging.proofs.segments.put_segment.Goals as goal
 
@@ -28,6 +31,15 @@ returns-clause-map g c clean inside ours s are was it there none is its grown ke
     let put = received (tables_of old) (tables_of one) (tables_of two) s c.args.segment.now u bytes was are ours.trees.ordered.1.1.1.1.1.1.0 ours.trees.ordered.1.1.1.1.1.1.1.1.0 there none its first.rows second.rows in
     subst (λ m. OnOk c.rewrite_upload.result (TablesAre (tables_of new) (record s { uploads = m }))) (insert_twice s.uploads u mid it)
     (c.rewrite_upload.ensures.map clean second.shows.mode second.ours (with_upload s u mid) put mid it (get_here s.uploads u mid) is grown kept)
+
+pub returns-clause-free : goal.returns-clause-free
+returns-clause-free g c clean inside ours s are =
+    let old = g.T.Statements.state c.args.tx.now in
+    let clean_two = clean_before c.rewrite_upload.ensures.stays clean in
+    let clean_one = clean_before c.insert_segment.ensures.stays clean_two in
+    let first = c.in_ok-put_blocks.ensures.ok clean_one inside ours in
+    let free = c.in_ok-insert_segment.ensures.free clean_two (c.in_ok-put_blocks.ensures.stays.inside clean_one inside) first.ours in
+    if_ok c.rewrite_upload.result (lacked (tables_of old) s c.args.segment.now are (ap (λ (t : Tables). list_any (has_segment_key c.args.segment.now) t.segments) (sym first.rows) ∙ free))
 
 pub returns-in_err-insert_segment-clause-stays : goal.returns-in_err-insert_segment-clause-stays
 returns-in_err-insert_segment-clause-stays g c =

@@ -4,7 +4,7 @@ use Rattle.dep_host.proofs.host.Host.serve_each.Goals as goal
 
 pub loop-at-init : goal.loop-at-init
 loop-at-init g c = record {
-  goes = round_begins g.A.Archive.condition g.R.Source.unread g.K.Sink.taken g.S.Spool.held _ _ _;
+  goes = round_begins g.A.Archive.condition g.R.Source.unread g.K.Sink.taken g.S.Spool.held _ _ _ _;
   left = λ place h. absurd (let none : ⊥ = omega (arith, h) in none);
   seats = refl;
   room = c.requires.room;
@@ -13,7 +13,7 @@ loop-at-init g c = record {
 
 pub loop-at-preserved : goal.loop-at-preserved
 loop-at-preserved g c = record {
-  goes = round_goes_on g.A.Archive.condition g.R.Source.unread g.K.Sink.taken g.S.Spool.held _ _ _ _ _ _ _ c.loop-at.invariant.goes c.serve_at.ensures.goes c.serve_at.ensures.others refl;
+  goes = round_goes_on g.A.Archive.condition g.R.Source.unread g.K.Sink.taken g.S.Spool.held _ _ _ _ _ _ _ _ c.loop-at.invariant.goes c.serve_at.ensures.goes c.serve_at.ensures.others refl;
   left = left_goes_on _ _ _ _ _ _ _ c.loop-at.invariant.left c.serve_at.ensures.here c.serve_at.ensures.limits c.serve_at.ensures.others refl;
   seats = c.serve_at.ensures.seats ∙ c.loop-at.invariant.seats;
   room = omega (arith, c.serve_at.auto.room, c.loop-at.invariant.room);
@@ -21,4 +21,4 @@ loop-at-preserved g c = record {
 }
 
 pub returns-clause-goes : goal.returns-clause-goes
-returns-clause-goes g c = round_ends g.A.Archive.condition g.R.Source.unread g.K.Sink.taken g.S.Spool.held _ _ _ _ _ c.loop-at.invariant.goes c.requires.full
+returns-clause-goes g c = round_ends g.A.Archive.condition g.R.Source.unread g.K.Sink.taken g.S.Spool.held _ _ _ _ _ _ c.loop-at.invariant.goes c.requires.full

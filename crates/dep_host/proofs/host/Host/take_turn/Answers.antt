@@ -5,7 +5,7 @@ use Rattle.dep_host.proofs.host.Host.take_turn.Goals as goal
 
 pub returns-in-Some-clause-goes : goal.returns-in-Some-clause-goes
 returns-in-Some-clause-goes g c =
-    took_turn g.A.Archive.condition g.R.Source.unread g.K.Sink.taken g.S.Spool.held _ _ c.args.at c.args.turn.now.time.second c.args.turn.now.time.moment c.args.turn.now.is_full c.in-Some.seat c.take_turn.new.self
+    took_turn g.A.Archive.condition g.R.Source.unread g.K.Sink.taken g.S.Spool.held _ _ c.args.at c.args.turn.now.time.second c.args.turn.now.time.moment c.args.turn.now.is_full c.args.turn.now.is_shut c.in-Some.seat c.take_turn.new.self
     (record {
       there = c.requires.there;
       sat = slot_read _ _ _ c.requires.there c.index_mut.ensures.value ∙ c.in-Some.is;
@@ -22,7 +22,7 @@ returns-in-Some-clause-goes g c =
 
 pub returns-in_default-clause-goes : goal.returns-in_default-clause-goes
 returns-in_default-clause-goes g c =
-    served_none g.A.Archive.condition g.R.Source.unread g.K.Sink.taken g.S.Spool.held _ _ c.args.at c.args.turn.now.time.second c.args.turn.now.is_full c.index_mut.result.now refl refl refl c.requires.there c.index_mut.ensures.value
+    served_none g.A.Archive.condition g.R.Source.unread g.K.Sink.taken g.S.Spool.held _ _ c.args.at c.args.turn.now.time.second c.args.turn.now.is_full c.args.turn.now.is_shut c.index_mut.result.now refl refl refl c.requires.there c.index_mut.ensures.value
 
 pub returns-in-Some-clause-others : goal.returns-in-Some-clause-others
 returns-in-Some-clause-others g c = λ place ne. get_or-set_other _ c.args.at place _ None ne

@@ -1,0 +1,12 @@
+-- The lines of the access log.
+use Rattle.std.specs.Prelude.{ℕ, List, codes}
+use Rattle.dep_configuration.specs.declared.access_log.Reason.{Reason}
+use Rattle.dep_configuration.specs.declared.access_log.Reason.TheVariants.{Idle, Slow, AddressLimit, UnfinishedLimit, SpoolFull, StoreShut}
+
+abbrev pub reason_name : Reason → List ℕ
+reason_name Idle = codes "idle"
+reason_name Slow = codes "slow"
+reason_name AddressLimit = codes "address_limit"
+reason_name UnfinishedLimit = codes "unfinished_limit"
+reason_name SpoolFull = codes "spool_full"
+reason_name StoreShut = codes "store_shut"

@@ -1,0 +1,75 @@
+-- What a configuration is read from, and why a text is refused.
+use Rattle.std.specs.Prelude.{◌≡◌, ◌⊎◌, ℕ, MatchOption, List, Option, Some, codes}
+use Rattle.json.specs.Json.{Json, document}
+use Rattle.dep_types.specs.Config.{IsChecked}
+use Rattle.dep_types.specs.declared.config.Config.{Config}
+use Rattle.dep_configuration.specs.Fields.{bounds_of}
+use Rattle.dep_configuration.specs.Readings.{base_text_of, filled_text_of, flag_of, given, number_of, number_within, optional, text_of, HasCause, IsAddressOf}
+use Rattle.dep_configuration.specs.declared.configuration.Configuration.{Configuration}
+use Rattle.dep_configuration.specs.declared.configuration.Limits.{Limits}
+use Rattle.dep_configuration.specs.declared.fault.ConfigurationFault.{ConfigurationFault}
+use Rattle.dep_configuration.specs.declared.fault.ConfigurationFault.TheVariants.{Malformed, NotObject, Unknown, Repeated, Missing, Invalid, Memory}
+use Rattle.dep_configuration.specs.declared.field.Field.TheVariants.{Port, Database, SpoolFolder, Base, Title, Abstract, Depositor, OnBehalfOf, RequireIfMatch, MaxUpload, MaxAssembled, MaxSegments, StagingMaxIdle, IdleSeconds, LeastRate, Connections, AddressConnections, SpoolBytes, UnfinishedBytes}
+
+-- a value gives these limits
+pub record HasLimits (limits : Limits) (j : Json) : Type 0 where
+  pub idle : number_of IdleSeconds 60 j ≡ Some limits.idle_seconds
+  pub rate : number_of LeastRate 4096 j ≡ Some limits.least_rate
+  pub all : optional (number_within (bounds_of Connections)) (given Connections j)
+    ≡ Some limits.connections
+  pub address : number_of AddressConnections 1024 j ≡ Some limits.address_connections
+  pub spool : number_of SpoolBytes 68719476736 j ≡ Some limits.spool_bytes
+  pub unfinished : number_of UnfinishedBytes 1073741824 j ≡ Some limits.unfinished_bytes
+
+-- a value gives what the server itself is set up with
+pub record HasConfig (config : Config) (j : Json) : Type 0 where
+  pub base : base_text_of j ≡ Some config.base
+  pub title : text_of Title (codes "swordd") j ≡ Some config.title
+  pub abstract_text : text_of Abstract (codes "Deposit service") j ≡ Some config.abstract_text
+  pub depositor : text_of Depositor (codes "depositor") j ≡ Some config.depositor
+  pub on_behalf_of : flag_of OnBehalfOf j ≡ Some config.on_behalf_of
+  pub require_if_match : flag_of RequireIfMatch j ≡ Some config.require_if_match
+  pub upload : number_of MaxUpload 16777216 j ≡ Some config.max_upload
+  pub assembled : number_of MaxAssembled 17179869184 j ≡ Some config.max_assembled
+  pub segments : number_of MaxSegments 10000 j ≡ Some config.max_segments
+  pub idle : number_of StagingMaxIdle 3600 j ≡ Some config.staging_max_idle
+
+-- a value gives this configuration
+pub record HasConfiguration (c : Configuration) (j : Json) : Type 0 where
+  pub address : IsAddressOf j c.address
+  pub port : number_of Port 8080 j ≡ Some c.port
+  pub database : filled_text_of Database j ≡ Some c.database
+  pub spool_folder : filled_text_of SpoolFolder j ≡ Some c.spool_folder
+  pub config : HasConfig c.config j
+  pub limits : HasLimits c.limits j
+
+-- of these faults no cause is said: of names, and of what is looked at once more when all fields are read
+abbrev pub IsUnexplained : ConfigurationFault → Type 0
+IsUnexplained Malformed = ⊥
+IsUnexplained NotObject = Unit {0}
+IsUnexplained (Unknown name) = Unit {0}
+IsUnexplained (Repeated name) = Unit {0}
+IsUnexplained (Missing field) = ⊥
+IsUnexplained (Invalid field) = (field ≡ Port) ⊎ (field ≡ Base) ⊎ (field ≡ MaxUpload)
+IsUnexplained Memory = Unit {0}
+
+-- without a value it is refused for these alone
+abbrev pub IsUnread : ConfigurationFault → Type 0
+IsUnread Malformed = Unit {0}
+IsUnread NotObject = ⊥
+IsUnread (Unknown name) = ⊥
+IsUnread (Repeated name) = ⊥
+IsUnread (Missing field) = ⊥
+IsUnread (Invalid field) = ⊥
+IsUnread Memory = Unit {0}
+
+-- why a text is refused that has this value
+abbrev pub HasCauseIn : ConfigurationFault → Option Json → Type 0
+HasCauseIn e d = MatchOption d (IsUnread e) (λ j. HasCause e j ⊎ IsUnexplained e)
+
+-- a text is the configuration, which a server can be set up with
+pub record IsConfiguration (c : Configuration) (text : List ℕ) : Type 0 where
+  pub json : Json
+  pub reads : document text ≡ Some json
+  pub given : HasConfiguration c json
+  pub checked : IsChecked c.config

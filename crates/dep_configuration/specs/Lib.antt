@@ -1,0 +1,4 @@
+pub mod Fields
+pub mod Readings
+pub mod AccessLog
+pub mod Configured

@@ -1,0 +1,147 @@
+//! The configuration of a server, and how it is read.
+ghost use Rattle.std.specs.Prelude.{◌⊎◌, IfOk, IfErr};
+ghost use Rattle.json.specs.Json.{document};
+ghost use Rattle.json.specs.Value.{value_view};
+ghost use Rattle.dep_types.specs.Config.{IsChecked};
+ghost use Rattle.dep_configuration.specs.Configured.{HasCauseIn, HasConfig, HasConfiguration, HasLimits, IsConfiguration, IsUnexplained};
+ghost use Rattle.dep_configuration.specs.Readings.{HasCause};
+
+use crate::fault::ConfigurationFault;
+use crate::field::Field;
+use crate::names::check_names;
+use crate::values::{address, base, filled_text, flag, given_number, number, text};
+use dep_types::{
+    Config, ConfigFault, GREATEST_MAX_ASSEMBLED, GREATEST_MAX_SEGMENTS, GREATEST_MAX_UPLOAD, Text,
+};
+use json::{Error, Scratch, Value};
+use std::alloc::Global;
+use std::net::IpAddr;
+
+/// The configuration of a server.
+#[derive(Drop)]
+pub struct Configuration {
+    /// The IP address to listen at.
+    pub address: IpAddr,
+    /// The TCP port to listen at.
+    pub port: u16,
+    /// The path of the database's file.
+    pub database: Text,
+    /// The path of the folder for what is to be sent to slow clients.
+    pub spool_folder: Text,
+    /// What the server itself is set up with.
+    pub config: Config,
+    /// What bounds its connections.
+    pub limits: Limits,
+}
+
+/// What bounds the connections of a server.
+#[derive(Clone, Copy, Debug, PartialEq, Eq)]
+pub struct Limits {
+    /// The seconds for which a connection may be silent.
+    pub idle_seconds: u64,
+    /// The bytes that a connection has to move in each idle time, as long as a request or a reply is under
+    /// way; 0 asks for none.
+    pub least_rate: u64,
+    /// The number of connections after which the server ends; it goes on where there is none.
+    pub connections: Option<u64>,
+    /// The greatest number of connections from one address at once.
+    pub address_connections: u64,
+    /// The greatest number of bytes in the spool folder.
+    pub spool_bytes: u64,
+    /// The greatest number of bytes of requests that aren't whole yet.
+    pub unfinished_bytes: u64,
+}
+
+impl Configuration {
+    /// Reads a configuration: an object of JSON (RFC 8259) whose members are fields, each at most once. Unknown
+    /// fields are refused, and so is whatever isn't written as its field asks, as a number in quotes. A field that
+    /// isn't there has its default; `database`, `spool_folder` and `base` have none. Of several faults one is told.
+    pub fn read(alloc: Global, text: &str) -> Result<Configuration, ConfigurationFault>
+        ensures read { IfOk result (λ c. IsConfiguration c text.now) }
+        ensures refused { IfErr result (λ e. HasCauseIn e (document text.now)) }
+    {
+        let mut scratch = Scratch::new(alloc);
+        let value = match Value::parse(alloc, text, &mut scratch) {
+            Ok(value) => value,
+            Err(Error::OutOfMemory) => return Err(ConfigurationFault::Memory),
+            Err(_) => return Err(ConfigurationFault::Malformed),
+        };
+        check_names(alloc, &value)?;
+        let configuration = configuration_in(alloc, &value)?;
+        configuration.check(alloc)?;
+        Ok(configuration)
+    }
+
+    // A server can be set up so.
+    fn check(&self, alloc: Global) -> Result<(), ConfigurationFault>
+        ensures checked { IfOk result (λ _. IsChecked self.now.config) }
+        ensures refused { IfErr result (λ e. IsUnexplained e) }
+    {
+        match self.config.check(alloc) {
+            Ok(()) => Ok(()),
+            Err(ConfigFault::Base) => Err(ConfigurationFault::Invalid(Field::Base)),
+            Err(ConfigFault::Limit) => Err(ConfigurationFault::Invalid(Field::MaxUpload)),
+            Err(ConfigFault::Memory) => Err(ConfigurationFault::Memory),
+        }
+    }
+}
+
+#[tactic(auto, unfolding(crate::specs::Fields::wanted_of, crate::specs::Fields::bounds_of))]
+fn configuration_in(alloc: Global, value: &Value<'_>) -> Result<Configuration, ConfigurationFault>
+    ensures read { IfOk result (λ c. HasConfiguration c (value_view value.now)) }
+    ensures refused { IfErr result (λ e. HasCause e (value_view value.now) ⊎ IsUnexplained e) }
+{
+    let address = address(value)?;
+    let Ok(port) = u16::try_from(number(value, Field::Port, 8_080)?) else {
+        return Err(ConfigurationFault::Invalid(Field::Port));
+    };
+    let limits = limits_in(value)?;
+    let database = Text::copied(alloc, filled_text(value, Field::Database)?)?;
+    let spool_folder = Text::copied(alloc, filled_text(value, Field::SpoolFolder)?)?;
+    Ok(Configuration {
+        address,
+        port,
+        database,
+        spool_folder,
+        config: config_in(alloc, value)?,
+        limits,
+    })
+}
+
+#[tactic(auto, unfolding(crate::specs::Fields::wanted_of, crate::specs::Fields::bounds_of))]
+fn config_in(alloc: Global, value: &Value<'_>) -> Result<Config, ConfigurationFault>
+    ensures read { IfOk result (λ c. HasConfig c (value_view value.now)) }
+    ensures refused { IfErr result (λ e. HasCause e (value_view value.now)) }
+{
+    let base = base(value)?;
+    let title = text(value, Field::Title, "swordd")?;
+    let abstract_text = text(value, Field::Abstract, "Deposit service")?;
+    let depositor = text(value, Field::Depositor, "depositor")?;
+    Ok(Config {
+        base: Text::copied(alloc, base)?,
+        title: Text::copied(alloc, title)?,
+        abstract_text: Text::copied(alloc, abstract_text)?,
+        depositor: Text::copied(alloc, depositor)?,
+        on_behalf_of: flag(value, Field::OnBehalfOf)?,
+        require_if_match: flag(value, Field::RequireIfMatch)?,
+        max_upload: number(value, Field::MaxUpload, GREATEST_MAX_UPLOAD)?,
+        max_assembled: number(value, Field::MaxAssembled, GREATEST_MAX_ASSEMBLED)?,
+        max_segments: number(value, Field::MaxSegments, GREATEST_MAX_SEGMENTS)?,
+        staging_max_idle: number(value, Field::StagingMaxIdle, 3_600)?,
+    })
+}
+
+#[tactic(auto, unfolding(crate::specs::Fields::wanted_of, crate::specs::Fields::bounds_of))]
+fn limits_in(value: &Value<'_>) -> Result<Limits, ConfigurationFault>
+    ensures read { IfOk result (λ limits. HasLimits limits (value_view value.now)) }
+    ensures refused { IfErr result (λ e. HasCause e (value_view value.now)) }
+{
+    Ok(Limits {
+        idle_seconds: number(value, Field::IdleSeconds, 60)?,
+        least_rate: number(value, Field::LeastRate, 4_096)?,
+        connections: given_number(value, Field::Connections)?,
+        address_connections: number(value, Field::AddressConnections, 1_024)?,
+        spool_bytes: number(value, Field::SpoolBytes, 68_719_476_736)?,
+        unfinished_bytes: number(value, Field::UnfinishedBytes, 1_073_741_824)?,
+    })
+}

@@ -1,0 +1,86 @@
+//! The example of a configuration, and what its fields are for.
+use crate::field::{FIELDS, Field};
+use std::fmt;
+
+/// A configuration in which each field stands with its default, but for `connections`, which has none, and those
+/// that have to be given. `Configuration::read` takes it as it is. JSON has no comments, so what the fields are
+/// for is told apart, by `explain`: then the example can be kept as a file and edited.
+pub const EXAMPLE: &str = "{
+  \"address\": \"127.0.0.1\",
+  \"port\": 8080,
+  \"database\": \"/var/lib/swordd/deposits.db\",
+  \"spool_folder\": \"/var/spool/swordd\",
+  \"base\": \"http://127.0.0.1:8080\",
+  \"title\": \"swordd\",
+  \"abstract\": \"Deposit service\",
+  \"depositor\": \"depositor\",
+  \"on_behalf_of\": false,
+  \"require_if_match\": false,
+  \"max_upload\": 16777216,
+  \"max_assembled\": 17179869184,
+  \"max_segments\": 10000,
+  \"staging_max_idle\": 3600,
+  \"idle_seconds\": 60,
+  \"least_rate\": 4096,
+  \"address_connections\": 1024,
+  \"spool_bytes\": 68719476736,
+  \"unfinished_bytes\": 1073741824
+}
+";
+
+impl Field {
+    /// What the field is for, and what is taken where it isn't given.
+    pub fn explanation(self) -> &'static str {
+        match self {
+            Field::Address => "the IP address to listen at; 127.0.0.1 by default",
+            Field::Port => "the TCP port to listen at; 8080 by default",
+            Field::Database => "the file of the database, which is made where it isn't there",
+            Field::SpoolFolder => "the folder for what is to be sent to slow clients",
+            Field::Base => "what all URLs of the server begin with, as clients see them",
+            Field::Title => "the title in the service document; swordd by default",
+            Field::Abstract => "the abstract in the service document; Deposit service by default",
+            Field::Depositor => "the name under which files are deposited; depositor by default",
+            Field::OnBehalfOf =>
+                "whether requests may be made on behalf of others; false by default",
+            Field::RequireIfMatch => "whether changes have to send If-Match; false by default",
+            Field::MaxUpload => "the greatest content of a request, in bytes; 16777216 by default",
+            Field::MaxAssembled => {
+                "the greatest file assembled from segments, in bytes; 17179869184 by default"
+            }
+            Field::MaxSegments => "the greatest number of segments of an upload; 10000 by default",
+            Field::StagingMaxIdle => {
+                "the seconds after which an upload left alone expires; 3600 by default"
+            }
+            Field::IdleSeconds => "the seconds for which a client may be silent; 60 by default",
+            Field::LeastRate => {
+                "the bytes that a busy connection has to move in each idle time, 0 for none; 4096 by default"
+            }
+            Field::Connections => {
+                "the number of connections after which the server ends; it goes on by default"
+            }
+            Field::AddressConnections => {
+                "the connections that one address may have at once; 1024 by default, which behind a proxy is needed"
+            }
+            Field::SpoolBytes => {
+                "the bytes that the spool folder may hold in all; 68719476736 by default"
+            }
+            Field::UnfinishedBytes => {
+                "the bytes that unfinished requests may hold in all; 1073741824 by default"
+            }
+        }
+    }
+}
+
+/// Writes a line for each field, in the order of the example: its name, what it has to be, and what it is for.
+pub fn explain<W: fmt::Write>(out: &mut W) -> fmt::Result {
+    for field in &FIELDS {
+        writeln!(
+            out,
+            "{}: {}; {}",
+            field.name(),
+            field.wanted(),
+            field.explanation()
+        )?;
+    }
+    Ok(())
+}

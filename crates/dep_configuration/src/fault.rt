@@ -1,0 +1,59 @@
+//! Why a configuration is refused.
+use crate::field::Field;
+use std::alloc::AllocError;
+use std::error::Error;
+use std::fmt;
+
+/// Why a configuration is refused. It is displayed as one line, which begins with the field's name.
+#[derive(Debug, Drop)]
+pub enum ConfigurationFault {
+    /// The text isn't JSON (RFC 8259).
+    Malformed,
+    /// The text is JSON, and no object.
+    NotObject,
+    /// There is no field of this name.
+    Unknown(String),
+    /// The field of this name is given twice.
+    Repeated(String),
+    /// This field has to be given.
+    Missing(Field),
+    /// This field is given, and isn't what it has to be.
+    Invalid(Field),
+    /// There was no memory.
+    Memory,
+}
+
+impl fmt::Display for ConfigurationFault {
+    fn fmt<W: fmt::Write>(&self, f: &mut fmt::Formatter<W>) -> fmt::Result {
+        match self {
+            ConfigurationFault::Malformed => write!(f, "the configuration is not JSON"),
+            ConfigurationFault::NotObject => write!(f, "the configuration is not an object"),
+            ConfigurationFault::Unknown(name) => {
+                write!(f, "{:?}: there is no field of this name", name.as_str())
+            }
+            ConfigurationFault::Repeated(name) => {
+                write!(f, "{}: the field is given twice", name.as_str())
+            }
+            ConfigurationFault::Missing(field) => {
+                write!(f, "{}: missing; {}", field.name(), field.wanted())
+            }
+            ConfigurationFault::Invalid(field) => {
+                write!(f, "{}: {}", field.name(), field.wanted())
+            }
+            ConfigurationFault::Memory => write!(f, "out of memory"),
+        }
+    }
+}
+
+impl Error for ConfigurationFault {}
+
+impl From<AllocError> for ConfigurationFault {
+    ghost use Rattle.std.specs.Prelude.{◌≡◌};
+    ghost use Rattle.dep_configuration.specs.declared.fault.ConfigurationFault.TheVariants.{Memory};
+
+    ghost from_gives = { λ _ e. e ≡ Memory };
+
+    fn from(_error: AllocError) -> ConfigurationFault {
+        ConfigurationFault::Memory
+    }
+}

@@ -1,0 +1,192 @@
+//! The fields of a configuration.
+ghost use Rattle.std.specs.Prelude.{◌≡◌};
+ghost use Rattle.dep_configuration.specs.Fields.{bounds, bounds_of, name_of, wanted_of};
+
+use dep_types::{
+    GREATEST_MAX_ASSEMBLED, GREATEST_MAX_SEGMENTS, GREATEST_MAX_UPLOAD, GREATEST_STAGING_MAX_IDLE,
+};
+use std::fmt;
+
+/// A field of a configuration.
+#[derive(Clone, Copy, Debug, PartialEq, Eq)]
+pub enum Field {
+    /// The IP address to listen at.
+    Address,
+    /// The TCP port to listen at.
+    Port,
+    /// The path of the database's file.
+    Database,
+    /// The path of the folder for what is to be sent to slow clients.
+    SpoolFolder,
+    /// The URL that all of the server's URLs begin with.
+    Base,
+    /// The title that the service document tells.
+    Title,
+    /// The abstract that the service document tells.
+    Abstract,
+    /// The name under which files are deposited.
+    Depositor,
+    /// Whether a request may be made on behalf of another.
+    OnBehalfOf,
+    /// Whether a change asks for the entity tag of what it changes.
+    RequireIfMatch,
+    /// The greatest content of a request, in bytes.
+    MaxUpload,
+    /// The greatest file that may be assembled from segments, in bytes.
+    MaxAssembled,
+    /// The greatest number of segments of an upload.
+    MaxSegments,
+    /// The seconds after which an upload that was left alone expires.
+    StagingMaxIdle,
+    /// The seconds for which a connection may be silent.
+    IdleSeconds,
+    /// The bytes that a connection has to move in each idle time.
+    LeastRate,
+    /// The number of connections after which the server ends.
+    Connections,
+    /// The greatest number of connections from one address at once.
+    AddressConnections,
+    /// The greatest number of bytes in the spool folder.
+    SpoolBytes,
+    /// The greatest number of bytes of requests that aren't whole yet.
+    UnfinishedBytes,
+}
+
+/// All fields, in the order in which the example has them.
+pub const FIELDS: [Field; 20] = [
+    Field::Address,
+    Field::Port,
+    Field::Database,
+    Field::SpoolFolder,
+    Field::Base,
+    Field::Title,
+    Field::Abstract,
+    Field::Depositor,
+    Field::OnBehalfOf,
+    Field::RequireIfMatch,
+    Field::MaxUpload,
+    Field::MaxAssembled,
+    Field::MaxSegments,
+    Field::StagingMaxIdle,
+    Field::IdleSeconds,
+    Field::LeastRate,
+    Field::Connections,
+    Field::AddressConnections,
+    Field::SpoolBytes,
+    Field::UnfinishedBytes,
+];
+
+/// What a whole number may be.
+#[derive(Clone, Copy, Debug, PartialEq, Eq)]
+pub struct Bounds {
+    pub least: u64,
+    pub most: u64,
+}
+
+/// What a field has to be.
+#[derive(Clone, Copy, Debug, PartialEq, Eq)]
+pub enum Wanted {
+    /// Any text.
+    AnyText,
+    /// A text of one byte or more.
+    FilledText,
+    /// True or false.
+    Flag,
+    /// The text of an IPv4 or IPv6 address, as `127.0.0.1` or `::1`.
+    Address,
+    /// The text of a base, as the check of a `Config` asks.
+    Base,
+    /// A number within these bounds, written by digits alone.
+    WholeNumber(Bounds),
+}
+
+impl fmt::Display for Wanted {
+    fn fmt<W: fmt::Write>(&self, f: &mut fmt::Formatter<W>) -> fmt::Result {
+        match self {
+            Wanted::AnyText => write!(f, "a text"),
+            Wanted::FilledText => write!(f, "a text that is not empty"),
+            Wanted::Flag => write!(f, "true or false"),
+            Wanted::Address => write!(f, "an IP address in quotes"),
+            Wanted::Base => write!(
+                f,
+                "an http URL in its normal form, without the slash at its end"
+            ),
+            Wanted::WholeNumber(bounds) => {
+                write!(f, "a whole number from {} to {}", bounds.least, bounds.most)
+            }
+        }
+    }
+}
+
+impl Field {
+    /// The name of the field in a configuration.
+    #[tactic(auto, unfolding(crate::specs::Fields::name_of))]
+    pub fn name(self) -> &'static str
+        ensures { result.now ≡ name_of self }
+    {
+        match self {
+            Field::Address => "address",
+            Field::Port => "port",
+            Field::Database => "database",
+            Field::SpoolFolder => "spool_folder",
+            Field::Base => "base",
+            Field::Title => "title",
+            Field::Abstract => "abstract",
+            Field::Depositor => "depositor",
+            Field::OnBehalfOf => "on_behalf_of",
+            Field::RequireIfMatch => "require_if_match",
+            Field::MaxUpload => "max_upload",
+            Field::MaxAssembled => "max_assembled",
+            Field::MaxSegments => "max_segments",
+            Field::StagingMaxIdle => "staging_max_idle",
+            Field::IdleSeconds => "idle_seconds",
+            Field::LeastRate => "least_rate",
+            Field::Connections => "connections",
+            Field::AddressConnections => "address_connections",
+            Field::SpoolBytes => "spool_bytes",
+            Field::UnfinishedBytes => "unfinished_bytes",
+        }
+    }
+
+    /// What the field has to be.
+    #[tactic(auto, unfolding(crate::specs::Fields::wanted_of, crate::specs::Fields::bounds_of))]
+    pub fn wanted(self) -> Wanted
+        ensures { result ≡ wanted_of self }
+    {
+        match self {
+            Field::Address => Wanted::Address,
+            Field::Base => Wanted::Base,
+            Field::Database | Field::SpoolFolder => Wanted::FilledText,
+            Field::Title | Field::Abstract | Field::Depositor => Wanted::AnyText,
+            Field::OnBehalfOf | Field::RequireIfMatch => Wanted::Flag,
+            _ => Wanted::WholeNumber(self.bounds()),
+        }
+    }
+
+    /// What a field that is a whole number may be; of any other field, 0 alone.
+    #[tactic(auto, unfolding(crate::specs::Fields::bounds_of))]
+    pub fn bounds(self) -> Bounds
+        ensures { result ≡ bounds_of self }
+    {
+        match self {
+            Field::Port => within(1, 65_535),
+            Field::MaxUpload => within(1, GREATEST_MAX_UPLOAD),
+            Field::MaxAssembled => within(1, GREATEST_MAX_ASSEMBLED),
+            Field::MaxSegments => within(1, GREATEST_MAX_SEGMENTS),
+            Field::StagingMaxIdle => within(1, GREATEST_STAGING_MAX_IDLE),
+            Field::IdleSeconds => within(1, 86_400),
+            Field::LeastRate => within(0, 1_000_000_000),
+            Field::Connections => within(1, 1_000_000_000),
+            Field::AddressConnections => within(1, 1_024),
+            Field::SpoolBytes => within(1_048_576, 1_125_899_906_842_624),
+            Field::UnfinishedBytes => within(33_554_432, 1_099_511_627_776),
+            _ => within(0, 0),
+        }
+    }
+}
+
+fn within(least: u64, most: u64) -> Bounds
+    ensures { result ≡ bounds least most }
+{
+    Bounds { least, most }
+}

@@ -1,0 +1,20 @@
+//! The configuration of a deposit server that serves many connections, and the lines of its access log.
+#![tactic(auto)]
+
+mod access_log;
+mod configuration;
+mod example;
+mod fault;
+mod field;
+mod names;
+mod reply_front;
+mod values;
+
+pub use access_log::{
+    Closing, Exchange, GREATEST_PATH, Reason, Start, closing_line, exchange_line, start_line,
+};
+pub use configuration::{Configuration, Limits};
+pub use example::{EXAMPLE, explain};
+pub use fault::ConfigurationFault;
+pub use field::{Bounds, FIELDS, Field, Wanted};
+pub use reply_front::{refusal_of_front, status_of_front};

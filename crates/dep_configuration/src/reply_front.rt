@@ -1,0 +1,37 @@
+//! What the front of a reply tells to the log.
+use dep_octets::{Number, decimal};
+
+/// What stands before a status (RFC 9112, section 4).
+const VERSION: &[u8] = b"HTTP/1.1 ";
+
+/// What may stand before a reply (RFC 9110, section 15.2.1).
+const CONTINUE: &[u8] = b"HTTP/1.1 100 Continue\r\n\r\n";
+
+/// What stands before the name of a refusal in its error document.
+const BEFORE_NAME: &[u8] =
+    b"{\"@context\":\"https://swordapp.github.io/swordv3/swordv3.jsonld\",\"@type\":\"";
+
+/// The status that a reply of the server tells, by its front: a `100 Continue` before it is passed over. The
+/// front has to hold the first 12 bytes of the reply.
+pub fn status_of_front(front: &[u8]) -> Option<u16> {
+    let reply = front.strip_prefix(CONTINUE).unwrap_or(front);
+    let behind = reply.strip_prefix(VERSION)?;
+    match decimal(behind.get(..3)?, 999) {
+        Number::Value(status) => u16::try_from(status).ok(),
+        _ => None,
+    }
+}
+
+/// The name of the refusal that a reply of the server tells, by its front: `None` where its status is below 400,
+/// its content isn't an error document, or the name doesn't stand in the front's first 1,024 bytes.
+pub fn refusal_of_front(front: &[u8]) -> Option<&str> {
+    if status_of_front(front)? < 400 {
+        return None;
+    }
+    let reply = front.strip_prefix(CONTINUE).unwrap_or(front);
+    let near = reply.get(..1_024).unwrap_or(reply);
+    let end = near.windows(4).position(|four| four == b"\r\n\r\n".as_slice())?;
+    let named = near.get(end..)?.get(4..)?.strip_prefix(BEFORE_NAME)?;
+    let quote = named.iter().position(|byte| *byte == b'"')?;
+    str::from_utf8(named.get(..quote)?).ok()
+}

@@ -1,0 +1,2 @@
+pub mod Readiness
+pub mod Totals

@@ -1,0 +1,6 @@
+-- What all spools hold together.
+use Rattle.std.specs.Prelude.{ℕ, ◌+◌, Option, Some, None, nat_lt, if◌then◌else◌}
+
+-- the total with so many bytes more, if that is not above the most
+abbrev pub total_with : (held count most : ℕ) → Option ℕ
+total_with held count most = if nat_lt most (held + count) then None else Some (held + count)

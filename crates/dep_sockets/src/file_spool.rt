@@ -1,0 +1,158 @@
+//! A spool in a file without a name.
+ghost use Rattle.std.specs.Prelude.{◌≡◌, ◌≤◌, ◌<◌, ◌+◌, length, OnOk, OnErr, vec_len};
+
+use crate::spools::Spools;
+use dep_outbox::{Spool, SpoolFailed};
+use std::fs::Files;
+use std::io;
+use std::io::{ErrorKind, Read, Seek, SeekFrom, Write};
+
+/// How many bytes are taken out of a spool at once at most.
+const MOST_PULLED: u64 = 65_536;
+
+/// A spool in a file that is made once it is needed, loses its name at once, and is gone with the spool.
+pub struct FileSpool<'a, R: Files> {
+    spools: &'a Spools<'a, R>,
+    file: Option<R::File>,
+    /// The bytes that it holds stand between these places of the file.
+    begin: u64,
+    end: u64,
+    ghost within: { begin ≤ end },
+}
+
+impl<'a, R: Files> FileSpool<'a, R> {
+    /// An empty spool.
+    pub fn new(spools: &'a Spools<'a, R>) -> FileSpool<'a, R>
+        ensures { result.begin ≡ result.end }
+    {
+        FileSpool {
+            spools,
+            file: None,
+            begin: 0,
+            end: 0,
+        }
+    }
+
+    /// Holds the bytes behind those that it holds, if all spools together may hold so many.
+    fn append(&mut self, bytes: &[u8]) -> io::Result<()>
+        ensures grown { OnOk result (self.new.end ≡ self.old.end + length bytes.now) }
+        ensures same { OnErr result (self.new.end ≡ self.old.end) }
+        ensures begin { self.new.begin ≡ self.old.begin }
+    {
+        let count = bytes.len() as u64;
+        let Some(end) = self.end.checked_add(count) else {
+            return Err(ErrorKind::FileTooLarge.into());
+        };
+        if !self.spools.charge(count) {
+            return Err(ErrorKind::StorageFull.into());
+        }
+        let written = self.write_behind(bytes);
+        if written.is_ok() {
+            self.end = end;
+        } else {
+            self.spools.give_back(count);
+        }
+        written
+    }
+
+    /// Writes the bytes behind those that it holds, which takes them once they are counted.
+    fn write_behind(&mut self, bytes: &[u8]) -> io::Result<()>
+        ensures begin { self.new.begin ≡ self.old.begin }
+        ensures end { self.new.end ≡ self.old.end }
+    {
+        if self.file.is_none() {
+            self.file = Some(self.spools.open()?);
+        }
+        let Some(file) = &mut self.file else {
+            return Err(ErrorKind::NotFound.into());
+        };
+        file.seek(SeekFrom::Start(self.end))?;
+        file.write_all(bytes)
+    }
+
+    /// Moves some of its first bytes behind those of the vector.
+    fn read_into(&mut self, into: &mut Vec<u8>) -> io::Result<()>
+        ensures moved { OnOk result
+            (vec_len into.new + self.old.begin ≡ vec_len into.old + self.new.begin) }
+        ensures some { OnOk result (self.old.begin < self.old.end
+            → self.old.begin < self.new.begin) }
+        ensures same { OnErr result (self.new.begin ≡ self.old.begin) }
+        ensures end { self.new.end ≡ self.old.end }
+    {
+        let count = (self.end - self.begin).min(MOST_PULLED);
+        let Some(file) = &mut self.file else {
+            return Err(ErrorKind::NotFound.into());
+        };
+        file.seek(SeekFrom::Start(self.begin))?;
+        read_behind(file, count, into)?;
+        self.begin += count;
+        Ok(())
+    }
+
+    /// Gives the file up, once all that it holds was taken.
+    fn forget_file(&mut self) {
+        self.spools.give_back(self.end);
+        self.begin = 0;
+        self.end = 0;
+        drop(self.file.take());
+    }
+}
+
+/// Reads so many bytes behind those of the vector, or leaves it as it was.
+fn read_behind<F: Read>(file: &mut F, count: u64, into: &mut Vec<u8>) -> io::Result<()>
+    ensures read { OnOk result (vec_len into.new ≡ vec_len into.old + count) }
+    ensures same { OnErr result (into.new.items ≡ into.old.items) }
+{
+    let before = into.len();
+    let Some(whole) = before.checked_add(count as usize) else {
+        return Err(ErrorKind::OutOfMemory.into());
+    };
+    into.resize(whole, 0)?;
+    let got = file.read_exact(&mut into[before..]);
+    if got.is_err() {
+        into.truncate(before);
+    }
+    got
+}
+
+impl<R: Files> Drop for FileSpool<'_, R> {
+    fn drop(self) {
+        let FileSpool {
+            spools,
+            file,
+            begin: _,
+            end,
+        } = self;
+        spools.give_back(end);
+        drop(file);
+    }
+}
+
+impl<R: Files> Spool for FileSpool<'_, R> {
+    fn is_empty(&self) -> bool {
+        self.begin == self.end
+    }
+
+    fn push(&mut self, bytes: &[u8]) -> Result<(), SpoolFailed> {
+        if bytes.is_empty() {
+            return Ok(());
+        }
+        match self.append(bytes) {
+            Ok(()) => Ok(()),
+            Err(_) => Err(SpoolFailed),
+        }
+    }
+
+    fn pull(&mut self, into: &mut Vec<u8>) -> Result<(), SpoolFailed> {
+        if self.begin == self.end {
+            return Err(SpoolFailed);
+        }
+        if self.read_into(into).is_err() {
+            return Err(SpoolFailed);
+        }
+        if self.begin == self.end {
+            self.forget_file();
+        }
+        Ok(())
+    }
+}

@@ -1,0 +1,46 @@
+//! What the system tells of sockets, as a host is told of it.
+ghost use Rattle.std.specs.Prelude.{◌≡◌, ◌++◌, IfSome};
+ghost use Rattle.mio.specs.Events.{items};
+ghost use Rattle.dep_sockets.specs.Readiness.{ready_of, readies_of, has_listener};
+
+use mio::event::Event;
+use mio::{Events, Token};
+
+/// A connection whose socket may be ready.
+#[derive(Clone, Copy)]
+pub(crate) struct Ready {
+    /// Its place.
+    pub(crate) at: usize,
+    pub(crate) is_readable: bool,
+    pub(crate) is_writable: bool,
+}
+
+/// Notes the connections that are told as ready behind those that were noted. It answers whether the listener is among
+/// them, or nothing where memory runs out.
+pub(crate) fn note_all(polled: &Events, listener: Token, ready: &mut Vec<Ready>) -> Option<bool>
+    ensures noted { IfSome result (λ _.
+        ready.new.items ≡ ready.old.items ++ readies_of listener.0 (items polled.now)) }
+    ensures told { IfSome result (λ told. told ≡ has_listener listener.0 (items polled.now)) }
+{
+    let mut is_waited_for = false;
+    for event in polled {
+        if event.token() == listener {
+            is_waited_for = true;
+        } else if ready.push(ready_of(event)).is_err() {
+            return None;
+        }
+    }
+    Some(is_waited_for)
+}
+
+/// What an event tells of a connection. One whose socket failed or was shut may be read and written, which tells how.
+fn ready_of(event: &Event) -> Ready
+    ensures { result ≡ ready_of event.now }
+{
+    let is_broken = event.is_error() || event.is_read_closed() || event.is_write_closed();
+    Ready {
+        at: event.token().0,
+        is_readable: event.is_readable() || is_broken,
+        is_writable: event.is_writable() || is_broken,
+    }
+}

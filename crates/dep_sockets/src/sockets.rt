@@ -1,0 +1,230 @@
+//! What happens at the sockets of the system.
+
+use crate::file_spool::FileSpool;
+use crate::readiness::{Ready, note_all};
+use crate::socket::{SocketSink, SocketSource, halves};
+use crate::spools::Spools;
+use dep_host::{Client, Event, Events, MOST_SEATS, Time};
+use dep_outbox::Wire;
+use dep_program::moment_of;
+use mio::net::{TcpListener, TcpStream};
+use mio::{Interest, Poll, Token};
+use std::alloc::Global;
+use std::fs::Files;
+use std::io;
+use std::io::ErrorKind;
+use std::net::{Net, SocketAddr};
+use std::rc::Rc;
+use std::time::{Clock, Duration, Instant, SystemTime};
+
+/// The token of the listener; those of connections are their places, which are smaller.
+const LISTENER: Token = Token(MOST_SEATS);
+
+/// How many sockets are told of at once at most: those of all connections and the listener.
+const MOST_READY: usize = MOST_SEATS + 1;
+
+/// How many seconds it sleeps at most, so that connections that are silent for too long are closed.
+const NAP: u64 = 1;
+
+/// How often accepting is tried again where a client is gone before it is let in.
+const MOST_TRIES: u32 = 64;
+
+type SocketClient<'a, R> = Client<SocketSource, SocketSink, FileSpool<'a, R>>;
+
+/// Why no more is told.
+#[derive(Clone, Copy, Debug, PartialEq, Eq)]
+pub enum SocketFault {
+    /// There was no memory.
+    Memory,
+    /// The system doesn't tell what is ready.
+    Poll,
+}
+
+/// What is told next.
+#[derive(Clone, Copy)]
+enum Stage {
+    /// Which sockets are ready, and then that a round is due.
+    Telling,
+    /// The clients that are let in, so many of them so far.
+    LettingIn(usize),
+}
+
+/// The sockets of the system: an address that is listened at, and the connections whose clients were let in there.
+#[derive(Drop)]
+pub struct Sockets<'a, R: Files> {
+    alloc: Global,
+    rt: &'a R,
+    spools: &'a Spools<'a, R>,
+    poll: Poll,
+    polled: mio::Events,
+    ready: Vec<Ready>,
+    listener: TcpListener,
+    stage: Stage,
+    /// Whether a client may wait to be let in.
+    is_waited_for: bool,
+    /// How many clients are let in yet at most.
+    remaining: u64,
+    /// Each open connection owns it too.
+    open: Rc<()>,
+    start: Instant,
+    second: u64,
+    fault: Option<SocketFault>,
+    has_ended: bool,
+}
+
+impl<'a, R: Files + Net + Clock> Sockets<'a, R> {
+    /// Listens at the address, where so many clients are let in.
+    pub fn listen(
+        alloc: Global,
+        rt: &'a R,
+        spools: &'a Spools<'a, R>,
+        address: SocketAddr,
+        clients: u64,
+    ) -> io::Result<Sockets<'a, R>> {
+        let poll = Poll::new(rt)?;
+        let mut listener = TcpListener::bind(rt, address)?;
+        poll.registry()
+            .register(&mut listener, LISTENER, Interest::READABLE)?;
+        Ok(Sockets {
+            alloc,
+            rt,
+            spools,
+            poll,
+            polled: mio::Events::with_capacity(alloc, MOST_READY)?,
+            ready: Vec::with_capacity(alloc, MOST_READY)?,
+            listener,
+            stage: Stage::LettingIn(0),
+            is_waited_for: true,
+            remaining: clients,
+            open: Rc::new(alloc, ())?,
+            start: Instant::now(rt)?,
+            second: 0,
+            fault: None,
+            has_ended: false,
+        })
+    }
+
+    /// Why it has ended, if it wasn't because all clients were served.
+    pub fn fault(&self) -> Option<SocketFault> {
+        self.fault
+    }
+
+    /// Whether all clients were let in, and have left.
+    fn is_over(&self) -> bool {
+        self.remaining == 0 && Rc::strong_count(&self.open) == 1
+    }
+
+    /// Waits until a socket is ready, or only looks where something is to be done. It answers whether it could.
+    fn wait(&mut self, is_busy: bool) -> bool {
+        let nap = Duration::from_secs(if is_busy { 0 } else { NAP });
+        if self.poll.poll(&mut self.polled, Some(nap)).is_err() {
+            self.fault = Some(SocketFault::Poll);
+            return false;
+        }
+        match note_all(&self.polled, LISTENER, &mut self.ready) {
+            Some(is_waited_for) => {
+                self.is_waited_for = self.is_waited_for || is_waited_for;
+                true
+            }
+            None => {
+                self.fault = Some(SocketFault::Memory);
+                false
+            }
+        }
+    }
+
+    /// The next client that waits, if there is a vacancy.
+    fn let_in(&mut self, vacancy: Option<usize>, count: usize) -> Option<SocketClient<'a, R>> {
+        let at = vacancy?;
+        if !self.is_waited_for || self.remaining == 0 || count >= MOST_SEATS {
+            return None;
+        }
+        let (stream, address) = self.accept()?;
+        self.stage = Stage::LettingIn(count + 1);
+        self.remaining = self.remaining.saturating_sub(1);
+        self.client(stream, address, at).ok()
+    }
+
+    /// The connection of a client that is seated there.
+    fn client(
+        &self,
+        mut stream: TcpStream,
+        address: SocketAddr,
+        at: usize,
+    ) -> io::Result<SocketClient<'a, R>> {
+        // Else a short content would wait until its client has acknowledged the head.
+        let _ = stream.set_nodelay(true);
+        let interest = Interest::READABLE | Interest::WRITABLE;
+        self.poll
+            .registry()
+            .register(&mut stream, Token(at), interest)?;
+        let open = self.open.clone()?;
+        let (source, sink) = halves(self.alloc, stream, open)?;
+        let wire = Wire::new(self.alloc, sink, FileSpool::new(self.spools));
+        Ok(Client::new(source, wire, address.ip()))
+    }
+
+    /// The next client that waits. Where the system gives none, as for want of descriptors, it is asked again in
+    /// another round.
+    fn accept(&mut self) -> Option<(TcpStream, SocketAddr)> {
+        for _ in 0..MOST_TRIES {
+            match self.listener.accept() {
+                Ok(client) => return Some(client),
+                Err(error) => match error.kind() {
+                    ErrorKind::Interrupted | ErrorKind::ConnectionAborted => {}
+                    ErrorKind::WouldBlock => {
+                        self.is_waited_for = false;
+                        return None;
+                    }
+                    _ => return None,
+                },
+            }
+        }
+        None
+    }
+
+    /// The time, of which neither part goes by the other.
+    fn time(&mut self) -> Time {
+        if let Ok(elapsed) = self.start.elapsed(self.rt) {
+            self.second = self.second.max(elapsed.as_secs());
+        }
+        Time {
+            moment: moment_of(SystemTime::now(self.rt)),
+            second: self.second,
+        }
+    }
+}
+
+impl<'a, R: Files + Net + Clock> Events<SocketSource, SocketSink, FileSpool<'a, R>>
+    for Sockets<'a, R> {
+    ghost is_over = { λ s. s.has_ended };
+
+    // Which sockets are ready, as the system tells it, then a round, then the clients that are let in, and so on.
+    fn next(
+        &mut self,
+        vacancy: Option<usize>,
+        is_busy: bool,
+    ) -> Event<SocketSource, SocketSink, FileSpool<'a, R>> {
+        if let Stage::LettingIn(count) = self.stage {
+            if let Some(client) = self.let_in(vacancy, count) {
+                return Event::Client(client);
+            }
+            if self.is_over() || !self.wait(is_busy || count > 0) {
+                self.has_ended = true;
+                return Event::End;
+            }
+            self.stage = Stage::Telling;
+        }
+        match self.ready.pop() {
+            Some(ready) => Event::Ready {
+                at: ready.at,
+                is_readable: ready.is_readable,
+                is_writable: ready.is_writable,
+            },
+            None => {
+                self.stage = Stage::LettingIn(0);
+                Event::Round(self.time())
+            }
+        }
+    }
+}
