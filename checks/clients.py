@@ -51,8 +51,9 @@ def environment_of(server, relay):
     return {**kept, "SWORD": server.base, "http_proxy": relay.url, "PATH": f"{TOOL.parent}:{os.environ['PATH']}"}
 
 
-def recipes_by_curl(server, relay, folder):
-    """Each recipe is a file that one shell reads. What sends missing segments is read until it says that none is missing."""
+def run_by_shell(folder, environment):
+    """Runs the recipes by curl: each is a file that one shell reads. What sends missing segments is read until it says that none
+    is missing. Returns what they print."""
     lines = []
     for number, recipe in enumerate(blocks("sh"), 1):
         (folder / f"{number}.sh").write_text(recipe, encoding="utf-8")
@@ -60,12 +61,23 @@ def recipes_by_curl(server, relay, folder):
         lines.append(f"set +e; until . ./{number}.sh; do tries=$((tries + 1)); [ $tries -lt 30 ] || exit 9; done; set -e"
                      if again else f". ./{number}.sh")
     (folder / "all.sh").write_text("\n".join(["set -e", *lines, ""]), encoding="utf-8")
-    ran = subprocess.run(["sh", "all.sh"], cwd=folder, env=environment_of(server, relay), capture_output=True, text=True,
-                         timeout=MOST_SECONDS, check=False)
-    expect("the recipes by curl", ran.returncode, 0)
-    if ran.returncode:
+    ran = subprocess.run(["sh", "all.sh"], cwd=folder, env=environment, capture_output=True, text=True, timeout=MOST_SECONDS,
+                         check=False)
+    if not expect("the recipes by curl", ran.returncode, 0):
         print(ran.stdout, ran.stderr)
-    expect("what they print", re.sub(r"[0-9a-f]{64}", "DIGEST", ran.stdout).replace(server.base, "URL").splitlines(), [
+    return re.sub(r"[0-9a-f]{64}", "DIGEST", ran.stdout).splitlines()
+
+
+def run_by_python(folder, environment):
+    """Runs the recipes by Python, which are one program. Returns what they print."""
+    program = folder / "recipes.py"
+    program.write_text("\n".join(blocks("python")), encoding="utf-8")
+    return run("the recipes by Python", [sys.executable, program], folder, environment).splitlines()
+
+
+def recipes_by_curl(server, relay, folder):
+    printed = run_by_shell(folder, environment_of(server, relay))
+    expect("what they print", [it.replace(server.base, "URL") for it in printed], [
         "deposited: URL/objects/1", "DIGEST  data/2/large.bin", "data/2/large.bin: OK", "URL/objects/3"])
     expect("the file", server.ask(200, "GET", "/objects/1/files/1")[1], b"Observations of a day\n")
     came = server.ask(200, "GET", "/objects/2/files/2")[1]
@@ -74,24 +86,29 @@ def recipes_by_curl(server, relay, folder):
 
 
 def recipes_by_python(server, relay, folder, first):
-    """All of them are one program, whose objects are the next ones."""
-    program = folder / "recipes.py"
-    program.write_text("\n".join(blocks("python")), encoding="utf-8")
-    printed = run("the recipes by Python", [sys.executable, program], folder, environment_of(server, relay)).splitlines()
+    """Their objects are the next ones."""
+    printed = run_by_python(folder, environment_of(server, relay))
     expect("what they print first", printed[0], f"deposited: {server.base}/objects/{first}")
     expect("what they print last", re.sub(r"/\d+/", "/N/", printed[-1]), "data/N/large.bin is as it was deposited")
     _, document = server.ask(200, "GET", f"/objects/{first}/metadata")
     expect("the metadata", b'"dc:creator":["Kim","Lee"]' in document, True)
 
 
-def manifest(server, path):
+def files_in(manifest_text):
     """The digests and names of an object's files, by the manifest of its bag."""
-    _, lines = server.ask(200, "GET", f"{path}/bag/manifest-sha256.txt")
-    return sorted(re.sub("  data/[0-9]*/", " ", line).replace("%25", "%") for line in lines.decode().splitlines())
+    return sorted(re.sub("  data/[0-9]*/", " ", line).replace("%25", "%") for line in manifest_text.splitlines())
+
+
+def names_in(manifest_text):
+    return sorted(it.split(" ", 1)[1] for it in files_in(manifest_text))
+
+
+def manifest(server, path):
+    return files_in(server.ask(200, "GET", f"{path}/bag/manifest-sha256.txt")[1].decode())
 
 
 def names(server, path):
-    return sorted(line.split(" ", 1)[1] for line in manifest(server, path))
+    return names_in(server.ask(200, "GET", f"{path}/bag/manifest-sha256.txt")[1].decode())
 
 
 def make_folder(folder):

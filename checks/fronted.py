@@ -15,7 +15,7 @@ from crates import ROOT, built_program
 from served import free_port
 
 SITE = ROOT / "deploy/nginx.conf"
-NAME, USER, PASSWORD = "deposit.example.org", "kim", "a word"
+NAME, USER, PASSWORD = "deposit.example.org", "kim", "a-word"
 MAIN = """daemon off;
 user {user};
 pid {folder}/nginx.pid;

@@ -5,7 +5,7 @@ loses the store, restores the copy, opens and audits it; and has systemd look at
     checks/installed.py
 
 The status is 0 where all came as it should. It needs both programs built, Python's sqlite3, and systemd for the units; where
-there is no systemd-analyze, it says so. It takes some two processor seconds.
+there is no systemd-analyze, or no strace to see what the server asks of the system, it says so. It takes two processor seconds.
 """
 
 import json
@@ -13,6 +13,7 @@ import os
 import pathlib
 import re
 import shutil
+import signal
 import sqlite3
 import subprocess
 import sys
@@ -68,6 +69,43 @@ def units(root):
     told = run(0, "systemd-analyze", "security", "--offline=true", "--no-pager", own / "swordd-host.service")
     exposure = float(re.search(r"exposure level for swordd-host.service: ([0-9.]+)", told)[1])
     expect(f"whether {exposure} is at most {MOST_EXPOSURE}", exposure <= MOST_EXPOSURE, True)
+    return ""
+
+
+def members(group):
+    """The system calls of a group of systemd's, as @system-service."""
+    told = run(0, "systemd-analyze", "syscall-filter", "--no-pager", group)
+    lines = [it.strip() for it in told.splitlines()[1:] if it.strip() and not it.strip().startswith("#")]
+    return {one for it in lines for one in (members(it) if it.startswith("@") else (it,))}
+
+
+def allowed(unit):
+    """The system calls that a unit allows: each line of its filter adds some, or takes some away."""
+    calls = members("@default")
+    for words in re.findall(r"(?m)^SystemCallFilter=(.*)$", unit.read_text(encoding="utf-8")):
+        named = {one for it in words.lstrip("~").split() for one in (members(it) if it.startswith("@") else (it,))}
+        calls = calls - named if words.startswith("~") else calls | named
+    return calls
+
+
+def system_calls(root, work):
+    """What the host asks of the system, from its start over deposits to the GET of a file, is allowed by its unit. Returns what
+    was left out."""
+    if not shutil.which("systemd-analyze") or not shutil.which("strace"):
+        return ", strace isn't there"
+    traced, trace = work / "traced", work / "calls"
+    work.mkdir(exist_ok=True)
+    traced.write_text(f'#!/bin/sh\nexec strace -f -o {trace} {root}/usr/local/bin/swordd_host "$@"\n', encoding="utf-8")
+    traced.chmod(0o755)
+    os.environ["SWORDD_HOST"] = str(traced)
+    with Host(work / "host") as host:
+        deposits(host)
+        ask(host, 200, "GET", "/objects/3/files/3")
+        os.kill(int(trace.read_text().split()[0]), signal.SIGTERM)
+        host.process.wait()
+    calls = set(re.findall(r"(?m)^\d+ +(\w+)\(", trace.read_text(errors="replace")))
+    expect("the system calls that the unit refuses", sorted(calls - allowed(root / "etc/systemd/system/swordd-host.service")), [])
+    expect("whether calls were seen", len(calls) > 20, True)
     return ""
 
 
@@ -150,7 +188,7 @@ def main():
         root, work, folder = place / "root", place / "work", place / "folder"
         folder.mkdir()
         install(root)
-        left_out = units(root)
+        left_out = units(root) + system_calls(root, place / "strace")
         tool, store, copy = back_up(root, work, folder)
         restore(root, work, tool, store, copy)
         audits(root, tool, copy)

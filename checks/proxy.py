@@ -24,7 +24,9 @@ import tempfile
 import time
 from typing import NamedTuple
 
+import clients
 import fronted
+from conformance import folder_in_memory
 from crates import ROOT
 from expectations import expect, status_of
 from served import digest
@@ -125,7 +127,7 @@ def by_curl(proxy, folder, request):
 
 def replies_alone():
     """The replies of the host without a proxy."""
-    with tempfile.TemporaryDirectory() as name, fronted.Host(name) as host:
+    with tempfile.TemporaryDirectory(dir=folder_in_memory()) as name, fronted.Host(name) as host:
         connection = http.client.HTTPConnection("127.0.0.1", host.port, timeout=60)
         return [by_http_client(connection, it, it.fields) for it in story(host.base)]
 
@@ -136,18 +138,20 @@ def compare(what, requests, came, wanted):
 
 
 def tls_story(wanted):
-    with tempfile.TemporaryDirectory() as name, fronted.Host(name) as host, fronted.Proxy(name, host.port) as proxy:
+    with tempfile.TemporaryDirectory(dir=folder_in_memory()) as name, fronted.Host(name) as host, \
+            fronted.Proxy(name, host.port) as proxy:
         connection = http.client.HTTPSConnection("127.0.0.1", proxy.port, timeout=60, context=proxy.context())
         requests = story(host.base)
         compare("by http.client", requests, [by_http_client(connection, it, authorized(it.fields)) for it in requests], wanted)
         connection.close()
         answers_of_its_own(proxy)
         slow_clients(proxy)
-        tool_through_tls(proxy, pathlib.Path(name))
+        recipes_through_tls(host, proxy, pathlib.Path(name))
 
 
 def curl_story(wanted):
-    with tempfile.TemporaryDirectory() as name, fronted.Host(name) as host, fronted.Proxy(name, host.port) as proxy:
+    with tempfile.TemporaryDirectory(dir=folder_in_memory()) as name, fronted.Host(name) as host, \
+            fronted.Proxy(name, host.port) as proxy:
         requests = story(host.base)
         compare("by curl", requests, [by_curl(proxy, pathlib.Path(name), it) for it in requests], wanted)
 
@@ -203,16 +207,31 @@ def slow_clients(proxy):
         connection.close()
 
 
-def tool_through_tls(proxy, folder):
-    """deploy/deposit.py with a password, and a certificate that the system is told of."""
-    files = folder / "files"
-    files.mkdir()
-    (files / "a").write_bytes(b"abc")
-    (files / "large").write_bytes(os.urandom(300_000))
-    told = {**os.environ, "SSL_CERT_FILE": str(proxy.certificate), "DEPOSIT_PASSWORD": fronted.PASSWORD}
-    words = [ROOT / "deploy/deposit.py", "--segment", "65536", "--user", fronted.USER, proxy.url, files]
-    ran = subprocess.run([sys.executable, *words], env=told, capture_output=True, text=True, check=False)
-    expect("deposit.py through TLS", (ran.returncode, ran.stderr), (0, ""))
+def recipes_through_tls(host, proxy, folder):
+    """The recipes of docs/CLIENTS.md as they stand there, with a password, and a certificate that the system is told of."""
+    for name in ("curl", "python"):
+        (folder / name).mkdir()
+    (folder / ".netrc").write_text(f"machine 127.0.0.1 login {fronted.USER} password {fronted.PASSWORD}\n", encoding="utf-8")
+    (folder / ".curlrc").write_text(f'netrc\ncacert = "{proxy.certificate}"\n', encoding="utf-8")
+    told = {**os.environ, "SWORD": proxy.url, "HOME": str(folder), "SSL_CERT_FILE": str(proxy.certificate),
+            "PATH": f"{ROOT / 'deploy'}:{os.environ['PATH']}", "SWORD_USER": f"{fronted.USER}:{fronted.PASSWORD}",
+            "DEPOSIT_USER": fronted.USER, "DEPOSIT_PASSWORD": fronted.PASSWORD}
+    if shutil.which("curl"):
+        printed = clients.run_by_shell(folder / "curl", told)
+        expect("the files of the folder", clients.names_in(manifest_of(host, printed[-1])),
+               ["1902__may.txt", "large.bin", "observations.txt"])
+        expect("what the recipes by curl print", re.sub(r"\d+", "N", printed[0]), re.sub(r"\d+", "N", f"deposited: {proxy.url}/objects/1"))
+    printed = clients.run_by_python(folder / "python", told)
+    expect("what the recipes by Python print last", re.sub(r"/\d+/", "/N/", printed[-1]), "data/N/large.bin is as it was deposited")
+
+
+def manifest_of(host, url):
+    """The manifest of an object, by the host itself."""
+    connection = http.client.HTTPConnection("127.0.0.1", host.port, timeout=60)
+    connection.request("GET", f"{url.removeprefix(host.base)}/bag/manifest-sha256.txt")
+    lines = connection.getresponse().read().decode()
+    connection.close()
+    return lines
 
 
 def main():

@@ -343,7 +343,7 @@ def read_words():
     options.add_argument("folder", metavar="FOLDER", type=pathlib.Path)
     options.add_argument("--metadata", metavar="NAME=TEXT", type=pair, action="append", default=[],
                          help="a Dublin Core element, as title=Observations; may stand several times")
-    options.add_argument("--user", metavar="NAME")
+    options.add_argument("--user", metavar="NAME", default=os.environ.get("DEPOSIT_USER"), help="by default that of DEPOSIT_USER")
     options.add_argument("--segment", metavar="BYTES", type=int, default=8 << 20)
     options.add_argument("--separator", metavar="TEXT", default="__")
     options.add_argument("--journal", metavar="FILE", type=pathlib.Path)
