@@ -16,7 +16,7 @@ use Rattle.dep_server.specs.Records.{World, Record, Run, stops, stopped, first_w
 use Rattle.dep_server.specs.Standing.{StandsAt, StandsAfter, IsClean, IsHonest}
 use Rattle.dep_server.specs.Holding.{StandsHolding, StandsHoldingAfter}
 use Rattle.dep_server.specs.declared.hub.Hub.{Hub}
-use Rattle.dep_host.specs.Hosting.{Position, Deed, Step, refused, comes, rests, offers, refuses, answers, leaves, Steps, begins, goes_on}
+use Rattle.dep_host.specs.Hosting.{Position, Deed, Step, refused, asks, comes, rests, offers, refuses, answers, leaves, Steps, begins, goes_on}
 use Rattle.dep_host.specs.Runs.{StandsBehind}
 use Rattle.dep_program.specs.declared.outcome.Outcome.{Outcome}
 use Rattle.swordd_host.specs.Hosted.{HostsHub, Hosts, LedBy, IsHosted, HostsDatabase}
@@ -27,6 +27,7 @@ module _ {A R K S : Type 0} (condition : A → Condition) (unread : R → Option
 
   honest_before : {p q : Position A R K S} {more : List Deed} → Step condition unread taken held p q more → IsHonest condition q.hub → IsHonest condition p.hub
   honest_before {p = p} {q = q} (refused r) honest = same_honest p.hub q.hub r.same_store honest
+  honest_before {p = p} {q = q} (asks r) honest = r.honest honest
   honest_before {p = p} {q = q} (comes r) honest = same_honest p.hub q.hub r.same_store honest
   honest_before {p = p} {q = q} (rests t r) honest = t.honest honest
   honest_before {p = p} {q = q} (offers t o) honest = t.honest honest
@@ -36,6 +37,7 @@ module _ {A R K S : Type 0} (condition : A → Condition) (unread : R → Option
 
   same_config : {p q : Position A R K S} {more : List Deed} → Step condition unread taken held p q more → q.hub.config ≡ p.hub.config
   same_config (refused r) = r.same_config
+  same_config (asks r) = r.same_config
   same_config (comes r) = r.same_config
   same_config (rests t r) = t.same_config
   same_config (offers t o) = t.same_config

@@ -1,5 +1,5 @@
-use Rattle.std.proofs.Common.{◌≡◌, ℕ, List, inl, inr, refl, sym, ap, ◌∙◌}
-use Rattle.dep_host.specs.Hosting.{Deed}
+use Rattle.std.proofs.Common.{None, inl, inr, sym, ap, ◌∙◌}
+use Rattle.dep_host.specs.Hosting.{position}
 use Rattle.swordd_host.proofs.HostedLemmas.{hosted_hub}
 use Rattle.swordd_host.proofs.service.serve_clients.Goals as goal
 
