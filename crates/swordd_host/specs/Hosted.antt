@@ -1,5 +1,5 @@
 -- What is made of the database of a store that many clients are served from.
-use Rattle.std.specs.Prelude.{◌≡◌, ◌⊎◌, ◌×◌, ℕ, List, [], ◌∷◌, ◌++◌, IsTrue}
+use Rattle.std.specs.Prelude.{◌≡◌, ◌⊎◌, ℕ, List, [], ◌∷◌, ◌++◌, IsTrue}
 use Rattle.sqlite.specs.State as db
 use Rattle.dep_types.specs.State.{State, empty_state}
 use Rattle.dep_types.specs.Conditions.{Condition}

@@ -58,9 +58,9 @@ pub fn serve_store(rt: &HostRuntime, configuration: Configuration) -> Outcome {
     }
 }
 
-fn serve_database<S: Alter>(
-    rt: &HostRuntime,
-    door: &Door<'_>,
+fn serve_database<'a, S: Alter>(
+    rt: &'a HostRuntime,
+    door: &Door<'a>,
     config: Config,
     connection: Connection<S>,
 ) -> (Outcome, Connection<S>)
@@ -92,46 +92,32 @@ fn outcome_of(fault: StartFault) -> Outcome
     }
 }
 
-// Hands the store back.
-fn serve_hub<A: Archive>(rt: &HostRuntime, door: &Door<'_>, hub: Hub<A>) -> (Outcome, A)
+// Serves all clients that connect, and hands the store back.
+fn serve_hub<'a, A: Archive>(rt: &'a HostRuntime, door: &Door<'a>, hub: Hub<A>) -> (Outcome, A)
     ensures hosts { Hosts A.condition hub result.1 result.0 }
 {
-    let host = match Host::new(rt.alloc(), hub, host_limits(&door.limits)) {
+    hosts_make_a_run::<A, SocketSource, SocketSink, FileSpool<'a, HostRuntime>>();
+    let Door {
+        address,
+        spool_folder,
+        limits,
+    } = *door;
+    let process = process::id(rt.process());
+    let spools = Spools::new(rt.alloc(), rt, spool_folder, process, limits.spool_bytes);
+    let clients = limits.connections.unwrap_or(u64::MAX);
+    let Ok(mut sockets) = Sockets::listen(rt.alloc(), rt, &spools, address, clients) else {
+        let _ = eprintln!(rt; "swordd_host: it can't listen at {address}");
+        return (Outcome::TransferFault, hub.into_store());
+    };
+    let mut host = match Host::new(rt.alloc(), hub, host_limits(&limits)) {
         Ok(host) => host,
         Err(hub) => return (Outcome::StoreFault, hub.into_store()),
     };
-    let process = process::id(rt.process());
-    let spools = Spools::new(
-        rt.alloc(),
-        rt,
-        door.spool_folder,
-        process,
-        door.limits.spool_bytes,
-    );
-    let clients = door.limits.connections.unwrap_or(u64::MAX);
-    match Sockets::listen(rt.alloc(), rt, &spools, door.address, clients) {
-        Ok(mut sockets) => serve_clients(rt, host, &mut sockets),
-        Err(_) => {
-            let _ = eprintln!(rt; "swordd_host: it can't listen at {}", door.address);
-            (Outcome::TransferFault, host.into_hub().into_store())
-        }
-    }
-}
-
-// Serves all clients, and hands the store back.
-fn serve_clients<'a, A: Archive>(
-    rt: &HostRuntime,
-    mut host: Host<A, SocketSource, SocketSink, FileSpool<'a, HostRuntime>>,
-    sockets: &mut Sockets<'a, HostRuntime>,
-) -> (Outcome, A)
-    ensures hosts { Hosts A.condition host.hub result.1 result.0 }
-{
-    hosts_make_a_run::<A, SocketSource, SocketSink, FileSpool<'a, HostRuntime>>();
     let Ok(mut room) = vec![in rt.alloc(); 0u8; MOST_READ] else {
         return (Outcome::StoreFault, host.into_hub().into_store());
     };
     let mut log = StandardErrorLog::new(rt);
-    let ended = serve(&mut host, sockets, room.as_mut_slice(), &mut log);
+    let ended = serve(&mut host, &mut sockets, room.as_mut_slice(), &mut log);
     (
         outcome_at(ended, sockets.fault()),
         host.into_hub().into_store(),
