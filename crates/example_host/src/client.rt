@@ -1,4 +1,6 @@
 //! A client of a script, and the two halves of its socket.
+ghost use Rattle.std.specs.Prelude.{None};
+ghost use Rattle.dep_outbox.specs.Sockets.{Receives, Delivers};
 
 use dep_host::{Closing, Refusal};
 use dep_outbox::{Delivered, Received, Sink, Source};
@@ -61,20 +63,23 @@ pub type Shared = Rc<RefCell<Client>>;
 impl Client {
     /// A client that is still outside, takes all and sends nothing.
     pub fn shared(alloc: Global) -> Result<Shared, Trouble> {
-        Ok(Rc::new(alloc, RefCell::new(Client {
-            given: Vec::new(alloc),
-            received: 0,
-            at_once: usize::MAX,
-            silence: Silence::Later,
-            taken: Vec::new(alloc),
-            room: usize::MAX,
-            is_broken: false,
-            is_finished: false,
-            spool: usize::MAX,
-            fate: Fate::Outside,
-            place: 0,
-            is_ready: true,
-        }))?)
+        Ok(Rc::new(
+            alloc,
+            RefCell::new(Client {
+                given: Vec::new(alloc),
+                received: 0,
+                at_once: usize::MAX,
+                silence: Silence::Later,
+                taken: Vec::new(alloc),
+                room: usize::MAX,
+                is_broken: false,
+                is_finished: false,
+                spool: usize::MAX,
+                fate: Fate::Outside,
+                place: 0,
+                is_ready: true,
+            }),
+        )?)
     }
 
     /// It sends these bytes too.
@@ -89,9 +94,11 @@ impl Client {
         std::mem::replace(&mut self.taken, Vec::new(alloc))
     }
 
-    fn receive(&mut self, room: &mut [u8]) -> Received {
-        let left = self.given.len().saturating_sub(self.received);
-        let count = left.min(self.at_once).min(room.len());
+    fn receive(&mut self, room: &mut [u8]) -> Received
+        ensures { Receives None None room.new result }
+    {
+        let left = self.given.get(self.received..).unwrap_or(&[]);
+        let count = left.len().min(self.at_once).min(room.len());
         if count == 0 {
             return match self.silence {
                 Silence::Later => Received::Later,
@@ -99,14 +106,14 @@ impl Client {
                 Silence::Failed => Received::Failed,
             };
         }
-        for (place, byte) in room.iter_mut().zip(self.given.iter().skip(self.received)).take(count) {
-            *place = *byte;
-        }
+        room[..count].copy_from_slice(&left[..count]);
         self.received = self.received.saturating_add(count);
         Received::Bytes(count)
     }
 
-    fn send(&mut self, bytes: &[u8]) -> Delivered {
+    fn send(&mut self, bytes: &[u8]) -> Delivered
+        ensures { Delivers None None bytes.now result }
+    {
         let count = bytes.len().min(self.room);
         if self.is_broken {
             return Delivered::Failed;

@@ -55,7 +55,11 @@ fn verdict_of(why: &Trouble) -> Verdict {
 }
 
 // Plays an example: its title, and its lines. What is wrong stands so many lines behind the title.
-fn play<A: ExampleArchive>(alloc: Global, words: &Words, lines: &str) -> Result<(), (usize, Trouble)> {
+fn play<A: ExampleArchive>(
+    alloc: Global,
+    words: &Words,
+    lines: &str,
+) -> Result<(), (usize, Trouble)> {
     let (_title, lines) = lines.split_once("\n").unwrap_or((lines, ""));
     match set_up::<A>(alloc, lines) {
         Ok((hub, limits)) => played(alloc, words, lines, hub, limits),

@@ -50,7 +50,12 @@ pub struct Script<'a> {
 
 impl<'a> Script<'a> {
     /// These lines, with texts by their names.
-    pub fn new(alloc: Global, words: &'a Words, lines: &'a str, roll: Rc<RefCell<Roll>>) -> Script<'a> {
+    pub fn new(
+        alloc: Global,
+        words: &'a Words,
+        lines: &'a str,
+        roll: Rc<RefCell<Roll>>,
+    ) -> Script<'a> {
         Script {
             alloc,
             words,
@@ -153,7 +158,11 @@ impl<'a> Script<'a> {
     }
 
     // Goes on at a client, which comes where it is the next one.
-    fn turn_to(&mut self, rest: &str, vacancy: Option<usize>) -> Result<Option<ScriptEvent>, Trouble> {
+    fn turn_to(
+        &mut self,
+        rest: &str,
+        vacancy: Option<usize>,
+    ) -> Result<Option<ScriptEvent>, Trouble> {
         self.exchange.is_answered()?;
         let (name, from) = first_word(rest);
         let index = (number(name)? as usize).wrapping_sub(1);
@@ -248,7 +257,8 @@ impl<'a> Script<'a> {
         };
         drop(client);
         self.exchange.begin();
-        self.exchange.has_come(self.alloc, taken.as_slice(), name_of(fate), word)?;
+        self.exchange
+            .has_come(self.alloc, taken.as_slice(), name_of(fate), word)?;
         self.exchange.clear();
         Ok(())
     }

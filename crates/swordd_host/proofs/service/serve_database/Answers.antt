@@ -4,11 +4,12 @@ use Rattle.swordd_host.proofs.HostedLemmas.{hosts}
 use Rattle.swordd_host.proofs.service.serve_database.Goals as goal
 
 pub returns-in-Ok : goal.returns-in-Ok
-returns-in-Ok g c =
-    hosts g.S.Store (λ h is_open. clean_if_open (g.S.Store.view h.store) (g.met.S.Store.shut_if_dirty h.store) is_open)
-    (λ h is_open trees may. g.met.S.Store.settled h.store trees is_open may) c.args.connection c.args.config c.in-Ok.hub
-    c.in-Ok.ensures.config c.in-Ok.ensures.fresh c.in-Ok.ensures.again (c.nothing_held.ensures.holds c.in-Ok.hub)
-    c.serve_hub.result.1 c.close.result c.serve_hub.result.0 c.close.ensures c.serve_hub.ensures
+returns-in-Ok g c = record {
+  hosts = hosts g.S.Store (λ h is_open. clean_if_open (g.S.Store.view h.store) (g.met.S.Store.shut_if_dirty h.store) is_open)
+      (λ h is_open trees may. g.met.S.Store.settled h.store trees is_open may) c.args.connection c.args.config c.in-Ok.hub
+      c.in-Ok.ensures.config c.in-Ok.ensures.fresh c.in-Ok.ensures.again (c.nothing_held.ensures.holds c.in-Ok.hub)
+      c.serve_hub-outcome.result.1 c.close.result c.serve_hub-outcome.result.0 c.close.ensures c.serve_hub-outcome.ensures.hosts;
+}
 
 pub returns-in-Err : goal.returns-in-Err
-returns-in-Err g c = inr c.outcome_of.ensures
+returns-in-Err g c = record { hosts = inr c.outcome_of.ensures }

@@ -14,7 +14,7 @@ returns g c =
         served.hub,
         sym (c.into_store-2.ensures.same ∙ ap (λ h. h.store) c.into_hub-2.ensures),
         subst (λ h. HostsHub g.A.Archive.condition h served.hub run.0) c.in-Ok-new.ensures.hub
-          (hosted_hub g.A.Archive.condition (λ _. None) (λ _. None) (λ _. None) (position c.in-Ok-new.host) (position served) run.0 run.1
+            (hosted_hub g.A.Archive.condition (λ _. None) (λ _. None) (λ _. None) (position c.in-Ok-new.host) (position served) run.0 run.1
             c.hosts_make_a_run.ensures),
       );
     }
