@@ -396,6 +396,7 @@ def spools():
         longest = max(longest, are_served(host))
         gone = fronts(lazy, content)
         expect("how many are cut where the folder is gone", gone, 4)
+        expect("the lines of the log for replies that were cut", host.reasons()["reply_cut"], cut + gone)
         return f"{cut} of {count} replies cut at {most // MIB} MiB, {gone} without a folder, others waited {longest:.2f} s at most"
 
 

@@ -1,14 +1,14 @@
 -- The lines of the access log.
 use Rattle.std.specs.Prelude.{ℕ, List, codes}
 use Rattle.dep_configuration.specs.declared.access_log.Reason.{Reason}
-use Rattle.dep_configuration.specs.declared.access_log.Reason.TheVariants.{Idle, Slow, AddressLimit, UnfinishedLimit, SpoolFull, StoreShut, Full, Memory}
+use Rattle.dep_configuration.specs.declared.access_log.Reason.TheVariants.{Idle, Slow, AddressLimit, UnfinishedLimit, ReplyCut, StoreShut, Full, Memory}
 
 abbrev pub reason_name : Reason → List ℕ
 reason_name Idle = codes "idle"
 reason_name Slow = codes "slow"
 reason_name AddressLimit = codes "address_limit"
 reason_name UnfinishedLimit = codes "unfinished_limit"
-reason_name SpoolFull = codes "spool_full"
+reason_name ReplyCut = codes "reply_cut"
 reason_name StoreShut = codes "store_shut"
 reason_name Full = codes "full"
 reason_name Memory = codes "memory"

@@ -45,8 +45,8 @@ pub enum Reason {
     AddressLimit,
     /// Requests that aren't whole had as many bytes as they may have.
     UnfinishedLimit,
-    /// The spool folder had no more room for it.
-    SpoolFull,
+    /// Its reply was cut: there was no more room in the spools, or its content could not be read.
+    ReplyCut,
     /// A fault of the disk has shut the store.
     StoreShut,
     /// No further connection can be opened.
@@ -65,7 +65,7 @@ impl Reason {
             Reason::Slow => "slow",
             Reason::AddressLimit => "address_limit",
             Reason::UnfinishedLimit => "unfinished_limit",
-            Reason::SpoolFull => "spool_full",
+            Reason::ReplyCut => "reply_cut",
             Reason::StoreShut => "store_shut",
             Reason::Full => "full",
             Reason::Memory => "memory",

@@ -156,9 +156,15 @@ impl HostLog for StandardErrorLog<'_> {
     }
 
     // What tells a client to go on has no line.
-    fn answered(&mut self, _next: Next, bytes: Bytes) {
-        if let (Some(address), Some(status)) = (self.item.address, self.item.status) {
+    fn answered(&mut self, next: Next, bytes: Bytes) {
+        let Some(address) = self.item.address else {
+            return;
+        };
+        if let Some(status) = self.item.status {
             self.write_exchange(address, status, bytes);
+        }
+        if next == Next::Cut {
+            self.write_closing(Some(self.item.connection), address, Reason::ReplyCut);
         }
     }
 
