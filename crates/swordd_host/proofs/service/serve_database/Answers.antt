@@ -1,4 +1,4 @@
-use Rattle.std.proofs.Common.{inr, ◌∙◌}
+use Rattle.std.proofs.Common.{inr}
 use Rattle.sqlite.proofs.StateLemmas.{clean_if_open}
 use Rattle.swordd_host.proofs.HostedLemmas.{hosts}
 use Rattle.swordd_host.proofs.service.serve_database.Goals as goal
