@@ -14,7 +14,7 @@ import socket
 import time
 from urllib.parse import urlsplit
 
-from examples import MOMENT, NAMES, Play, Wrong, pieces
+from examples import MOMENT, NAMES, Play, Wrong, pieces, play_lines
 
 WRITTEN = b"127.0.0.1:8080"
 OTHER_SPELLINGS = re.compile(rb"127\.1:8080|0x7f\.0\.0\.1:8080|127\.0\.0\.1:08080")
@@ -387,11 +387,7 @@ def play(words, lines, place):
     """Plays an example once, by these texts."""
     playing = SocketPlay(words, place)
     try:
-        for number, line in lines:
-            try:
-                playing.line(line)
-            except Wrong as wrong:
-                raise Wrong(f"line {number}: {wrong}") from None
+        play_lines(playing, lines, "line {}")
         playing.end()
     finally:
         with contextlib.suppress(Wrong):

@@ -215,13 +215,19 @@ class Play:
         return want.replace(b"Content-Length: ?", b"Content-Length: %d" % len(body))
 
 
-def played(words, lines, way, lengths):
-    play = Play(words, way, lengths)
+def play_lines(play, lines, place):
+    """Plays the lines one after another. What is wrong in one is told behind its place, in which `{}` is its number."""
     for number, line in lines:
         try:
             play.line(line)
         except Wrong as wrong:
-            raise Wrong(f"{number}, {way}: {wrong}") from None
+            raise Wrong(f"{place.format(number)}: {wrong}") from None
+
+
+def played(words, lines, way, lengths):
+    play = Play(words, way, lengths)
+    play_lines(play, lines, f"{{}}, {way}")
+    number = lines[-1][0] if lines else 0
     if play.stream or play.want:
         raise Wrong(f"{number}: no word says what the last exchange comes to")
     if play.has_faults != bool(play.looks):

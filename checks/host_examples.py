@@ -376,11 +376,7 @@ def play_one(hosts, told, words, lines, way):
     """How many exchanges came as they are written, what went wrong, and why it was left out."""
     play = SocketPlay(words, way, hosts)
     try:
-        for number, line in lines:
-            try:
-                play.line(line)
-            except Wrong as fault:
-                raise Wrong(f"{told}, {number}, {way}: {fault}") from None
+        examples.play_lines(play, lines, f"{told}, {{}}, {way}")
         return play.exchanges, None, None
     except LeftOut as reason:
         return 0, None, reason.args[0]
