@@ -1,7 +1,5 @@
-"""Starts `swordd_host`, and Debian's nginx with deploy/nginx.conf in front of it, with a certificate and a password of its own
-making, each in a folder of its own."""
+"""Starts Debian's nginx with deploy/nginx.conf in front of a host, with a certificate and a password of its own making."""
 
-import json
 import os
 import pathlib
 import shutil
@@ -9,10 +7,10 @@ import signal
 import socket
 import ssl
 import subprocess
-import time
 
-from crates import ROOT, built_program
-from served import free_port
+from crates import ROOT
+from hosted import PATIENCE, Host
+from served import free_port, wait_for_listener
 
 SITE = ROOT / "deploy/nginx.conf"
 NAME, USER, PASSWORD = "deposit.example.org", "kim", "a-word"
@@ -34,45 +32,9 @@ http {{
 """
 
 
-class Host:
-    """A host over a new store in a folder, whose base is the public name; or another one, or other settings."""
-
-    def __init__(self, folder, port=None, **settings):
-        self.folder, self.port = pathlib.Path(folder), port or free_port()
-        (self.folder / "spools").mkdir(parents=True, exist_ok=True)
-        self.store, self.log = self.folder / "deposits.db", self.folder / "host.log"
-        self.settings = {
-            "address": "127.0.0.1", "port": self.port, "database": str(self.store), "spool_folder": str(self.folder / "spools"),
-            "base": f"http://{NAME}", "title": "swordd", "abstract": "Deposit service", "depositor": "depositor",
-            "on_behalf_of": False, "require_if_match": False, "max_upload": 16_777_216, "max_assembled": 17_179_869_184,
-            "max_segments": 10_000, "staging_max_idle": 3_600, "idle_seconds": 60, "connections": 1_000_000, **settings}
-        self.base, self.process = self.settings["base"], None
-
-    def __enter__(self):
-        configuration = self.folder / "configuration.json"
-        configuration.write_text(json.dumps(self.settings), encoding="utf-8")
-        with self.log.open("ab") as log:
-            self.process = subprocess.Popen([built_program("swordd_host"), configuration], stdin=subprocess.DEVNULL, stderr=log)
-        wait_for_listener(self.port, self.process, self.log)
-        return self
-
-    def __exit__(self, *_):
-        self.process.kill()
-        self.process.wait()
-
-
-def wait_for_listener(port, process, log):
-    """Waits until a program listens at a port of 127.0.0.1."""
-    for _ in range(3000):
-        with socket.socket() as probe:
-            if probe.connect_ex(("127.0.0.1", port)) == 0:
-                return
-        if process.poll() is not None:
-            break
-        time.sleep(0.02)
-    process.kill()
-    process.wait()
-    raise RuntimeError(f"{process.args[0]} doesn't listen: {log.read_text(encoding='utf-8', errors='replace')}")
+def host(folder):
+    """A host over the store of a folder, whose base is the public name."""
+    return Host(folder, base=f"http://{NAME}")
 
 
 def missing():
@@ -113,8 +75,17 @@ class Nginx:
     def __enter__(self):
         command = [program("nginx"), "-c", self.folder / "nginx.conf", "-p", self.folder]
         self.process = subprocess.Popen(command, stdin=subprocess.DEVNULL, stderr=subprocess.DEVNULL)
-        wait_for_listener(self.port, self.process, self.folder / "error.log")
+        try:
+            wait_for_listener(self.port, self.process, self.said, PATIENCE)
+        except RuntimeError:
+            self.__exit__()
+            raise
         return self
+
+    def said(self):
+        """What it wrote into its log of errors."""
+        log = self.folder / "error.log"
+        return log.read_text(errors="replace") if log.exists() else ""
 
     def __exit__(self, *_):
         self.process.terminate()

@@ -34,19 +34,19 @@ def until(holds, patience=PATIENCE):
 
 
 class Host(Served):
-    """A host by the configuration of these settings, and of others where they are not given. It begins with a copy of this
-    store, where one is given."""
+    """A host by the configuration of these settings, and of others where they are not given, in this folder or in one of its
+    own. It begins with a copy of this store, where one is given."""
 
     def __init__(self, folder=None, begun_with=None, **settings):
         super().__init__(folder, None, PATIENCE)
+        self.spool_folder = self.folder / "spools"
+        self.spool_folder.mkdir(parents=True, exist_ok=True)
         if begun_with:
             shutil.copy(begun_with, self.store)
-        self.spool_folder = self.folder / "spools"
-        self.spool_folder.mkdir(exist_ok=True)
         self.settings = {"address": ADDRESS, "port": self.port, "database": str(self.store), "base": self.base,
                          "spool_folder": str(self.spool_folder), "title": "swordd", "abstract": "Deposit service",
                          "depositor": "depositor", **settings}
-        self.base, self.log = self.settings["base"], self.folder / "log"
+        self.store, self.base, self.log = pathlib.Path(self.settings["database"]), self.settings["base"], self.folder / "log"
         configuration = self.folder / "configuration.json"
         configuration.write_text(json.dumps(self.settings))
         with open(self.log, "wb") as log:

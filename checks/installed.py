@@ -21,8 +21,7 @@ import tempfile
 
 from crates import ROOT, built_program
 from expectations import expect, status_of
-from fronted import Host
-from served import Server
+from hosted import Host
 
 FILES = {
     "etc/swordd/configuration.json": 0o644, "etc/systemd/system/swordd-alert@.service": 0o644,
@@ -33,7 +32,6 @@ FILES = {
     "var/lib/swordd": 0o750, "var/lib/swordd/spools": 0o750}
 # What systemd makes of a unit, from 0 (safe) to 10.
 MOST_EXPOSURE = 2.0
-ask = Server.ask
 
 
 def run(status, *words, **how):
@@ -100,7 +98,7 @@ def system_calls(root, work):
     os.environ["SWORDD_HOST"] = str(traced)
     with Host(work / "host") as host:
         deposits(host)
-        ask(host, 200, "GET", "/objects/3/files/3")
+        host.ask(200, "GET", "/objects/3/files/3")
         os.kill(int(trace.read_text().split()[0]), signal.SIGTERM)
         host.process.wait()
     calls = set(re.findall(r"(?m)^\d+ +(\w+)\(", trace.read_text(errors="replace")))
@@ -125,14 +123,14 @@ def hosted(root, work):
 def deposits(host):
     for number in range(3):
         fields = {"Content-Disposition": f"attachment; filename=f{number}.txt"}
-        ask(host, 201, "POST", "/service", bytes([65 + number]) * (100_000 * number + 3), fields)
+        host.ask(201, "POST", "/service", bytes([65 + number]) * (100_000 * number + 3), fields)
 
 
 def still_there(host):
     for number in range(3):
-        _, content = ask(host, 200, "GET", f"/objects/{number + 1}/files/{number + 1}")
+        _, content = host.ask(200, "GET", f"/objects/{number + 1}/files/{number + 1}")
         expect(f"file {number + 1} after the restore", content == bytes([65 + number]) * (100_000 * number + 3), True)
-    ask(host, 404, "GET", "/objects/4")
+    host.ask(404, "GET", "/objects/4")
 
 
 def back_up(root, work, folder):
@@ -145,7 +143,7 @@ def back_up(root, work, folder):
         copy = run(0, tool, "--stop", end, "--start", f"touch {folder}/started", store, folder / "copies").strip()
     expect("whether the server was started", (folder / "started").exists(), True)
     with hosted(root, work) as host:
-        ask(host, 201, "POST", "/service", b"later", {"Content-Disposition": "attachment; filename=later"})
+        host.ask(201, "POST", "/service", b"later", {"Content-Disposition": "attachment; filename=later"})
     return tool, pathlib.Path(store), pathlib.Path(copy)
 
 

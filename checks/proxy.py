@@ -127,7 +127,7 @@ def by_curl(proxy, folder, request):
 
 def replies_alone():
     """The replies of the host without a proxy."""
-    with tempfile.TemporaryDirectory(dir=folder_in_memory()) as name, fronted.Host(name) as host:
+    with tempfile.TemporaryDirectory(dir=folder_in_memory()) as name, fronted.host(name) as host:
         connection = http.client.HTTPConnection("127.0.0.1", host.port, timeout=60)
         return [by_http_client(connection, it, it.fields) for it in story(host.base)]
 
@@ -138,7 +138,7 @@ def compare(what, requests, came, wanted):
 
 
 def tls_story(wanted):
-    with tempfile.TemporaryDirectory(dir=folder_in_memory()) as name, fronted.Host(name) as host, \
+    with tempfile.TemporaryDirectory(dir=folder_in_memory()) as name, fronted.host(name) as host, \
             fronted.Proxy(name, host.port) as proxy:
         connection = http.client.HTTPSConnection("127.0.0.1", proxy.port, timeout=60, context=proxy.context())
         requests = story(host.base)
@@ -150,7 +150,7 @@ def tls_story(wanted):
 
 
 def curl_story(wanted):
-    with tempfile.TemporaryDirectory(dir=folder_in_memory()) as name, fronted.Host(name) as host, \
+    with tempfile.TemporaryDirectory(dir=folder_in_memory()) as name, fronted.host(name) as host, \
             fronted.Proxy(name, host.port) as proxy:
         requests = story(host.base)
         compare("by curl", requests, [by_curl(proxy, pathlib.Path(name), it) for it in requests], wanted)

@@ -23,6 +23,19 @@ def free_port():
         return probe.getsockname()[1]
 
 
+def wait_for_listener(port, process, said, patience):
+    """Waits until a program listens at a port of 127.0.0.1: it looks into the table of sockets, since a connection would be
+    counted. Where the program ends, or takes longer than so many seconds, what it said is told."""
+    wanted = f"0100007F:{port:04X} 00000000:0000 0A"
+    for _ in range(100 * patience):
+        if wanted in pathlib.Path("/proc/net/tcp").read_text():
+            return
+        if process.poll() is not None:
+            raise RuntimeError(f"{process.args[0]} ended: {said()}")
+        time.sleep(0.01)
+    raise RuntimeError(f"{process.args[0]} does not listen")
+
+
 class Served:
     """A program that serves HTTP at a port of 127.0.0.1, over the store `deposits.db` of a folder. It may open that for
     `patience` seconds."""
@@ -39,15 +52,8 @@ class Served:
         raise NotImplementedError
 
     def wait_until_it_listens(self):
-        """Looks into the table of sockets, since a connection would be counted."""
-        wanted = f"0100007F:{self.port:04X} 00000000:0000 0A"
-        for _ in range(100 * self.patience):
-            if wanted in pathlib.Path("/proc/net/tcp").read_text():
-                return self
-            if self.process.poll() is not None:
-                raise RuntimeError(f"the server ended: {self.said()}")
-            time.sleep(0.01)
-        raise RuntimeError("the server does not listen")
+        wait_for_listener(self.port, self.process, self.said, self.patience)
+        return self
 
     def forget_peak(self):
         """Its greatest memory counts from here on."""

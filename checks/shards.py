@@ -23,6 +23,7 @@ import time
 import fronted
 from crates import ROOT
 from expectations import expect, status_of
+from hosted import Host
 from served import free_port
 
 SITE = ROOT / "deploy/shards.conf"
@@ -95,7 +96,7 @@ class Stores:
         self.seconds_of_move = 0
 
     def start(self, store, folder):
-        return self.kept.enter_context(fronted.Host(folder, base=f"http://{name_of(store)}"))
+        return self.kept.enter_context(Host(folder, base=f"http://{name_of(store)}"))
 
     def site(self):
         return site(self.port, [it.port for it in self.hosts])
