@@ -20,6 +20,19 @@ def listed_crates(file=ROOT / "crates.txt"):
     return lines
 
 
+def layers(file=ROOT / "crates.txt"):
+    """Returns the layers of crates.txt by their names, lowest first: what each is for, and its crates in their order."""
+    found = {}
+    for line in file.read_text(encoding="utf-8").splitlines():
+        head, colon, rest = line.partition(":")
+        if line.startswith("# Layer "):
+            found[head.split()[-1]] = (rest.strip(), [])
+            crates = found[head.split()[-1]][1]
+        elif colon and not line.startswith("#"):
+            crates.append(head.split()[0])
+    return found
+
+
 def libraries_below(name, lines):
     """Returns the repository's own libraries that the crate stands on, at any depth."""
     found = set()
