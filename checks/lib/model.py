@@ -6,7 +6,6 @@ readings of one page have to agree before a byte of an example is believed.
 
 import base64
 import binascii
-import calendar
 import copy
 import hashlib
 import ipaddress

@@ -14,7 +14,7 @@ import socket
 import time
 from urllib.parse import urlsplit
 
-from examples import MOMENT, NAMES, Play, Wrong, pieces, play_lines
+from example_play import MOMENT, NAMES, Play, Wrong, cells_of, pieces, play_lines
 
 WRITTEN = b"127.0.0.1:8080"
 OTHER_SPELLINGS = re.compile(rb"127\.1:8080|0x7f\.0\.0\.1:8080|127\.0\.0\.1:08080")
@@ -211,18 +211,6 @@ def folder_in_memory():
     return "/dev/shm" if os.path.isdir("/dev/shm") else None
 
 
-def free_short_port():
-    """A port of four digits, so that the base has as many letters as the one that is written."""
-    for port in range(8081, 9999):
-        with socket.socket() as probe:
-            try:
-                probe.bind(("127.0.0.1", port))
-                return port
-            except OSError:
-                pass
-    raise OSError("no port of four digits is free")
-
-
 class Line:
     """A connection to the server."""
 
@@ -399,18 +387,15 @@ def play_example(words, lines, place):
     need = need_of(lines)
     if need:
         raise Skipped(need)
-    names = [name.strip() for _, line in lines if line.startswith("each ") for name in line[5:].split("|")]
-    rows = [[it.strip() for it in line[1:].split("|")] for _, line in lines if line.startswith("-")] or [[]]
     played, skipped = 0, None
-    for row in rows:
-        cells = dict(zip(names, row))
+    for cells in cells_of(lines):
         try:
             play({**words, **cells}, lines, place)
             played += 1
         except Skipped as reason:
             skipped = reason
         except Wrong as wrong:
-            raise Wrong(f"row {row}: {wrong}" if cells else str(wrong)) from None
+            raise Wrong(f"row {list(cells.values())}: {wrong}" if cells else str(wrong)) from None
     if not played:
         raise skipped
     return played
