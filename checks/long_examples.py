@@ -14,7 +14,7 @@ import sys
 sys.path.insert(0, f"{sys.path[0]}/lib")
 
 from crates import DATA
-from example_play import expand, texts_of
+from example_play import expand, put, texts_of
 
 ROUNDS, CONNECTIONS = 300, 10
 ROUNDS_HEAD = """\
@@ -126,10 +126,8 @@ FILES = {"rounds.txt": rounds, "cut-requests.txt": cut_requests}
 def main():
     words, others = texts_of(DATA / "texts.txt"), []
     for name, made in FILES.items():
-        text, path = made(words), DATA / name
-        if "--check" not in sys.argv:
-            path.write_text(text)
-        elif not path.exists() or path.read_text() != text:
+        text = made(words)
+        if not put(DATA / name, text, "--check" in sys.argv):
             others.append(name)
         print(f"{name}: {text.count(chr(10))} lines, {len(text.encode())} bytes")
     print(f"long examples: {len(FILES)} files")

@@ -20,7 +20,7 @@ import sqlite3
 import tempfile
 
 from crates import DATA
-from example_play import Play, read_file, texts_of
+from example_play import Play, put, read_file, texts_of
 from older_stores import EXAMPLES, NAME, VERSION, statements
 from served import FOUR_DIGITS, Server, free_port
 
@@ -120,9 +120,7 @@ def main(words):
         sys.exit(__doc__)
     front, _, rest = EXAMPLES.read_text(encoding="utf-8").partition(f"\ntext {NAME}\n")
     text = "\n".join([f"{front}\ntext {NAME}", *written_anew(), "", rest.partition("\n\n")[2]])
-    if "--check" not in words:
-        EXAMPLES.write_text(text, encoding="utf-8")
-    elif EXAMPLES.read_text(encoding="utf-8") != text:
+    if not put(EXAMPLES, text, "--check" in words):
         sys.exit("not as it would be written")
     print(f"{NAME}: {text.count('INSERT INTO')} rows")
     return 0

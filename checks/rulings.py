@@ -20,7 +20,7 @@ from dataclasses import dataclass, field, replace
 
 import order_cases as cases
 from crates import DATA
-from example_play import expand, fill, texts_of
+from example_play import expand, fill, put, texts_of
 from order import FIELDS, accepted, key_of, refusal, sha256, sha512, told, with_settings
 
 WORDS = texts_of(DATA / "texts.txt")
@@ -709,9 +709,7 @@ def main():
         text, cases_there = file_text(name)
         count += cases_there
         print(f"{name}: {cases_there} cases, {text.count(chr(10))} lines, {len(text.encode())} bytes")
-        if "--check" not in sys.argv:
-            (DATA / name).write_text(text)
-        elif not (DATA / name).exists() or (DATA / name).read_text() != text:
+        if not put(DATA / name, text, "--check" in sys.argv):
             others.append(name)
     print(f"order of refusals: {count} cases")
     sys.exit(f"not as they would be written: {' '.join(others)}" if others else 0)

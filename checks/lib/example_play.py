@@ -290,6 +290,13 @@ def listed_files():
     return [DATA / it for it in (DATA.parent / "args").read_text(encoding="utf-8").split()]
 
 
+def put(path, text, is_check):
+    """Writes a file of examples, or leaves it as it is for a check. Returns whether the file has the text."""
+    if not is_check:
+        path.write_text(text, encoding="utf-8")
+    return path.exists() and path.read_text(encoding="utf-8") == text
+
+
 def texts_above(words, front, lengths=False):
     """The texts that the lines above the first example of a file make, and those that are given."""
     return played(words, front, "whole", lengths).words
