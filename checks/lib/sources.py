@@ -61,7 +61,8 @@ def blanked(text, has_strings):
 
 
 class Source:
-    """An .rt file: its functions, clauses, public items, and the words of specifications that it brings in."""
+    """An .rt file: its functions, clauses and public items, and of each name of a specification that it brings in the crate, the
+    file and the name there."""
 
     def __init__(self, text):
         self.text, self.lines = text, text.split("\n")
@@ -74,7 +75,8 @@ class Source:
             self.note_clause(found.end() - 1, False)
         for found in TYPE.finditer(self.bare):
             self.note_item(found.start(1), found[1])
-        self.cited = {name.strip(): (crate, path) for crate, path, names in USE.findall(text) for name in names.split(",")}
+        self.cited = {it.split()[-1]: (crate, path, it.split()[0])
+                      for crate, path, names in USE.findall(text) for it in names.split(",") if it.strip()}
 
     def line_of(self, place):
         return self.bare.count("\n", 0, place) + 1
