@@ -5,25 +5,11 @@
 # python3, sha256sum and sha512sum, and the program built (checks/built says where), and takes some seconds. The status
 # is 1 where anything came otherwise. checks/bags.py is the same story for a machine that has python3 alone.
 checks=$(cd "$(dirname "$0")" && pwd) || exit 2
-program=$("$checks/built" swordd) || exit 2
-folder=$(mktemp -d) || exit 2
-port=$((20000 + $$ % 20000))
-base=http://127.0.0.1:$port
-store=$folder/deposits.db
-server=
-trap 'kill $server 2>/dev/null; rm -r "$folder"' EXIT
-failed=0
+. "$checks/lib/served.sh"
 
-wrong() {
-    echo "WRONG: $1"
-    failed=1
-}
-
-# deposit URL FIELD FILE TYPE: one request with this Content-Disposition and Content-Type.
+# deposit STATUS URL FIELD FILE TYPE: one request with this Content-Disposition and Content-Type.
 deposit() {
-    came=$(curl --silent --retry 20 --retry-connrefused --retry-delay 1 --output /dev/null \
-        --write-out '%{http_code}' --data-binary "@$3" -H "Content-Disposition: $2" -H "Content-Type: $4" "$1")
-    case $came in 20?) ;; *) wrong "$came for $2" ;; esac
+    ask "$1" --data-binary "@$4" -H "Content-Disposition: $3" -H "Content-Type: $5" "$2"
 }
 
 # runs STATUS LINE WORDS: the program with these words has to end so, with this line on standard error.
@@ -68,17 +54,15 @@ printf abc >"$folder/abc"
 head -c 200000 /dev/urandom >"$folder/large"
 printf '{"dc:title":"T"}' >"$folder/metadata"
 
-"$program" serve $port "$store" 7 2>"$folder/served" &
-server=$!
-deposit "$base/service" 'attachment; filename=50%.txt' "$folder/abc" application/octet-stream
-deposit "$base/objects/1" 'attachment; filename=%2e%2e' "$folder/large" application/octet-stream
-deposit "$base/objects/1" "attachment; filename*=UTF-8''d%C3%A9j%C3%A0%20vu.txt" "$folder/abc" application/octet-stream
-deposit "$base/objects/1" "attachment; filename=$long" "$folder/empty" application/octet-stream
-deposit "$base/objects/1" 'attachment; metadata=true' "$folder/metadata" application/json
-deposit "$base/service" 'attachment; metadata=true' "$folder/metadata" application/json
-deposit "$base/service" 'attachment; filename=a.txt' "$folder/abc" application/octet-stream
-wait $server || wrong "the server said: $(cat "$folder/served")"
-server=
+serve 7
+deposit 201 "$base/service" 'attachment; filename=50%.txt' "$folder/abc" application/octet-stream
+deposit 200 "$base/objects/1" 'attachment; filename=%2e%2e' "$folder/large" application/octet-stream
+deposit 200 "$base/objects/1" "attachment; filename*=UTF-8''d%C3%A9j%C3%A0%20vu.txt" "$folder/abc" application/octet-stream
+deposit 200 "$base/objects/1" "attachment; filename=$long" "$folder/empty" application/octet-stream
+deposit 200 "$base/objects/1" 'attachment; metadata=true' "$folder/metadata" application/json
+deposit 201 "$base/service" 'attachment; metadata=true' "$folder/metadata" application/json
+deposit 201 "$base/service" 'attachment; filename=a.txt' "$folder/abc" application/octet-stream
+is_served
 
 tags='bagit.txt bag-info.txt manifest-sha256.txt manifest-sha512.txt metadata/sword.json'
 tags="$tags tagmanifest-sha256.txt tagmanifest-sha512.txt"

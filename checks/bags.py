@@ -9,20 +9,23 @@ It is the story of checks/bag.sh without curl, sha256sum and sqlite3. The status
 else, and takes two seconds.
 """
 
+import sys
+sys.path.insert(0, f"{sys.path[0]}/lib")
+
 import hashlib
 import os
 import pathlib
 import shutil
 import sqlite3
 import subprocess
-import sys
 import tempfile
 
 from commands import NO_SUCH_OBJECT, STORE_FAULT, TRANSFER_FAULT, USAGE, ends
+from crates import ROOT
 from expectations import expect, status_of
 from served import Server
 
-VALIDATOR = pathlib.Path(__file__).resolve().parent / "validate-bag"
+VALIDATOR = ROOT / "checks/validate-bag"
 LISTED = ["bagit.txt", "bag-info.txt", "manifest-sha256.txt", "manifest-sha512.txt", "metadata/sword.json"]
 TAGS = [*LISTED, "tagmanifest-sha256.txt", "tagmanifest-sha512.txt"]
 LONG = 255 * "y"

@@ -18,16 +18,18 @@ Each body has a line. The status is 0 where all are refused. It needs the kit. A
 seconds at a slow hour, three minutes or more, and 3.6 GB.
 """
 
+import sys
+sys.path.insert(0, f"{sys.path[0]}/lib")
+
 import pathlib
 import re
 import subprocess
-import sys
 import tempfile
 
-from crates import ROOT, begin_room, copy_parts, libraries_below, listed_crates
+from crates import DATA, ROOT, begin_room, copy_parts, libraries_below, listed_crates
 from edits import Failure, edited_texts
+from example_play import listed_files
 
-DATA = ROOT / "crates/examples/data"
 BODIES = ROOT / "checks/bodies"
 # Which file of examples refuses which body.
 PLAYED = {"always_500": "one-file.txt", "always_503": "one-file.txt", "connects_never": "hubs.txt",
@@ -127,8 +129,7 @@ def edit_of(crate, body):
 def try_alone(name, files):
     """Tries a body in a build of its own. Returns how many are refused, and how many not."""
     crate, _, body = name.partition("/")
-    listed = (ROOT / "crates/examples/args").read_text(encoding="utf-8").split()
-    files = [pathlib.Path(it) for it in files] or [DATA / it for it in listed if it != "texts.txt"]
+    files = [pathlib.Path(it) for it in files] or [it for it in listed_files() if it.name != "texts.txt"]
     statuses, printed = play([edit_of(crate, body)], {it.name: it.read_text(encoding="utf-8") for it in files})
     refusing = sorted(file for file, status in statuses.items() if status in (1, 2))
     for file in refusing:

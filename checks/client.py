@@ -8,13 +8,15 @@ It is the story of checks/curl.sh without curl and sqlite3. The status is 0 wher
 else, and takes a second.
 """
 
+import sys
+sys.path.insert(0, f"{sys.path[0]}/lib")
+
 import base64
 import hashlib
-import json
 import os
 import sqlite3
-import sys
 
+from depositing import JSON, as_file, as_segment, as_upload, by_reference
 from expectations import expect, status_of
 from served import Server
 
@@ -36,7 +38,7 @@ def deposit_a_file(server):
     _, document = server.ask(200, "GET", "/service")
     has("the service document", document, '"@type":"ServiceDocument"')
     told = f"SHA-256={in_base64(hashlib.sha256(b'abc'))}, SHA-512={in_base64(hashlib.sha512(b'abc'))}"
-    headers = {"Content-Type": "text/plain", "Content-Disposition": "attachment; filename=a.txt"}
+    headers = as_file("a.txt", "text/plain")
     reply, _ = server.ask(201, "POST", "/service", b"abc", {**headers, "Digest": told})
     expect("the object's URL", reply.headers["Location"], server.base + "/objects/1")
     path = server.path_of(reply.headers["Location"])
@@ -49,8 +51,7 @@ def deposit_a_file(server):
 
 
 def replace_metadata(server, path):
-    headers = {"Content-Type": "application/json"}
-    reply, _ = server.ask(204, "PUT", path + "/metadata", '{"dc:title":"Observations"}', headers)
+    reply, _ = server.ask(204, "PUT", path + "/metadata", '{"dc:title":"Observations"}', JSON)
     expect("the tag of the metadata", reply.headers["ETag"], '"2"')
     _, document = server.ask(200, "GET", path + "/metadata")
     has("the metadata", document, '"dc:title":"Observations"')
@@ -59,19 +60,15 @@ def replace_metadata(server, path):
 
 def deposit_in_segments(server, path, content):
     """A file in four segments, the last one first and twice, which becomes the object's second file."""
-    headers = {"Content-Disposition": f"segment-init; size={len(content)}; segment_count=4; segment_size={SEGMENT}; "
-                                      f"digest=SHA-512={hashlib.sha512(content).hexdigest()}"}
-    reply, _ = server.ask(201, "POST", "/staging", headers=headers)
+    opening = as_upload(len(content), 4, SEGMENT, f"SHA-512={hashlib.sha512(content).hexdigest()}")
+    reply, _ = server.ask(201, "POST", "/staging", None, opening)
     upload = reply.headers["Location"]
     for number in (4, 4, 1, 3, 2):
         segment = content[(number - 1) * SEGMENT:number * SEGMENT]
-        headers = {"Content-Disposition": f"segment; segment_number={number}"}
-        server.ask(204, "POST", server.path_of(upload), segment, headers)
+        server.ask(204, "POST", server.path_of(upload), segment, as_segment(number))
     _, document = server.ask(200, "GET", server.path_of(upload))
     has("the upload", document, '"expecting":[],"received":[1,2,3,4]')
-    document = {"byReferenceFiles": [{"@id": upload, "contentDisposition": "attachment; filename=large"}]}
-    headers = {"Content-Disposition": "attachment; by-reference=true", "Content-Type": "application/json"}
-    server.ask(200, "POST", path, json.dumps(document), headers)
+    server.ask(200, "POST", path, *by_reference({upload: "attachment; filename=large"}))
     server.ask(404, "GET", server.path_of(upload))
     _, came = server.ask(200, "GET", path + "/files/2")
     expect("the large file", came, content)

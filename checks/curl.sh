@@ -4,32 +4,8 @@
 # python3, and the program built (checks/built says where), and takes some seconds. The status is 1 where anything came
 # otherwise. checks/client.py is the same story for a machine that has python3 alone.
 checks=$(cd "$(dirname "$0")" && pwd) || exit 2
-program=$("$checks/built" swordd) || exit 2
-folder=$(mktemp -d) || exit 2
-port=$((20000 + $$ % 20000))
-base=http://127.0.0.1:$port
-# Each call of curl below is one connection; the server ends after the last.
-"$program" serve $port "$folder/deposits.db" 23 2>"$folder/said" &
-server=$!
-trap 'kill $server 2>/dev/null; rm -r "$folder"' EXIT
-failed=0
-number=0
-
-# ask STATUS ARGUMENTS: one request, whose status has to be this one. The body lies in $folder/body, the head in
-# $folder/head.
-ask() {
-    wanted=$1
-    shift
-    number=$((number + 1))
-    came=$(curl --silent --retry 20 --retry-connrefused --retry-delay 1 --output "$folder/body" \
-        --dump-header "$folder/head" --write-out '%{http_code}' "$@")
-    [ "$came" = "$wanted" ] || wrong "request $number: $came in place of $wanted ($*)"
-}
-
-wrong() {
-    echo "WRONG: $1"
-    failed=1
-}
+. "$checks/lib/served.sh"
+serve 23
 
 # has TEXT: the body has these letters.
 has() {
@@ -99,12 +75,10 @@ cmp -s "$folder/body" "$folder/large" || wrong 'the file of the bag came back ot
 ask 204 -X DELETE "$object"
 ask 404 "$object"
 
-wait $server
-status=$?
-[ "$status" = 0 ] || wrong "the server ended with status $status: $(cat "$folder/said")"
-[ "$(sqlite3 "$folder/deposits.db" 'PRAGMA integrity_check')" = ok ] || wrong 'the integrity check of the store'
+is_served
+[ "$(sqlite3 "$store" 'PRAGMA integrity_check')" = ok ] || wrong 'the integrity check of the store'
 for table in blocks sha512s; do
-    [ "$(sqlite3 "$folder/deposits.db" "SELECT count(*) FROM $table")" = 0 ] || wrong "rows of $table are left"
+    [ "$(sqlite3 "$store" "SELECT count(*) FROM $table")" = 0 ] || wrong "rows of $table are left"
 done
 [ $failed = 0 ] && echo "curl: $number requests, each answered as it should be"
 exit $failed

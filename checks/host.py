@@ -22,13 +22,15 @@ What has to come is waited for at most a minute, so a slow machine is no fault; 
 status is 0 where all came as it should. It needs Linux, and 4,096 files for a process.
 """
 
+import sys
+sys.path.insert(0, f"{sys.path[0]}/lib")
+
 import http.client
 import json
 import random
 import resource
 import socket
 import subprocess
-import sys
 import tempfile
 import threading
 import time
@@ -36,7 +38,7 @@ from functools import partial
 
 import host_clients
 import host_examples
-import kill
+import loads
 from expectations import expect, status_of, wrong
 from hosted import ADDRESS, MIB, PATIENCE, Host, begin
 
@@ -46,11 +48,11 @@ FILES = 4096
 
 def open_again(folder, clients):
     """What a client was answered is there, by a host that opens the store once more."""
-    kill.integrity(folder, wrong)
+    loads.integrity(folder)
     with Host(folder) as host:
         def look(known):
             connection = http.client.HTTPConnection(ADDRESS, host.port, timeout=PATIENCE)
-            kill.check(connection, known, wrong)
+            loads.check(connection, known)
             connection.close()
         host_clients.at_once([partial(look, it) for it in clients])
 
@@ -58,10 +60,10 @@ def open_again(folder, clients):
 def killed():
     rounds, count, changes = 3, 20, 0
     for _ in range(rounds):
-        clients = [kill.Known() for _ in range(count)]
+        clients = [loads.Known() for _ in range(count)]
         with tempfile.TemporaryDirectory() as folder:
             with Host(folder) as host:
-                threads = [threading.Thread(target=kill.load, args=(host.port, it)) for it in clients]
+                threads = [threading.Thread(target=loads.load, args=(host.port, it)) for it in clients]
                 for it in threads:
                     it.start()
                 time.sleep(random.uniform(0.3, 1.0))

@@ -8,10 +8,12 @@ be (1,024 bytes with its CR LF), 2 GB for 2 MiB of content. It has to be answere
 The status is 0 where it is so. It needs nothing else, and takes some ten seconds.
 """
 
+import sys
+sys.path.insert(0, f"{sys.path[0]}/lib")
+
 import os
 import resource
 import subprocess
-import sys
 import tempfile
 
 from commands import start

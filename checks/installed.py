@@ -8,6 +8,9 @@ The status is 0 where all came as it should. It needs both programs built, Pytho
 there is no systemd-analyze, or no strace to see what the server asks of the system, it says so. It takes two processor seconds.
 """
 
+import sys
+sys.path.insert(0, f"{sys.path[0]}/lib")
+
 import json
 import os
 import pathlib
@@ -16,7 +19,6 @@ import shutil
 import signal
 import sqlite3
 import subprocess
-import sys
 import tempfile
 
 from crates import ROOT, built_program

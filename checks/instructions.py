@@ -13,19 +13,20 @@ It needs valgrind. Instructions are the same in every run, whatever else the mac
 time there is speed.py. It measures, so it is no part of checks/all.
 """
 
+import sys
+sys.path.insert(0, f"{sys.path[0]}/lib")
+
 import argparse
 import collections
 import http.client
 import json
 import re
-import socket
 import subprocess
-import sys
 import tempfile
-import time
 from pathlib import Path
 
 from crates import built_program
+from served import Server
 
 MOMENT, BASE = "1523836800", "http://127.0.0.1:8080"
 FEW, MORE = 100, 300
@@ -109,23 +110,15 @@ class Profile:
 
 def replayed(words, requests):
     """Gives all requests to the program at once. Returns what it answered."""
-    ran = subprocess.run([*words, "replay", MOMENT, BASE], input=b"".join(requests), capture_output=True, check=False)
+    ran = subprocess.run([*words, built_program("swordd"), "replay", MOMENT, BASE], input=b"".join(requests), capture_output=True, check=False)
     return ran.stdout if ran.returncode == 0 else ran.stderr
 
 
 def served(words, requests, folder):
     """Asks one request after another over a connection. Returns what was answered."""
-    with socket.socket() as free:
-        free.bind(("127.0.0.1", 0))
-        port = free.getsockname()[1]
-    with subprocess.Popen([*words, "serve", str(port), f"{folder}/db", "1"], stderr=subprocess.PIPE) as server:
-        for _ in range(600):
-            try:
-                connection = http.client.HTTPConnection("127.0.0.1", port)
-                connection.connect()
-                break
-            except ConnectionRefusedError:
-                time.sleep(0.1)
+    with Server(1, folder, front=words) as server:
+        connection = http.client.HTTPConnection("127.0.0.1", server.port)
+        connection.connect()
         said = b""
         for it in requests:
             connection.sock.sendall(it)
@@ -134,17 +127,17 @@ def served(words, requests, folder):
             reply.read()
             said += f"HTTP/1.1 {reply.status}\r\n".encode()
         connection.close()
-        server.wait()
+        server.ends()
     return said
 
 
-def profiled(program, kind, count, serves):
+def profiled(kind, count, serves):
     """The profile of a run of so many requests, each of which has to be answered well."""
     before, ask = KINDS[kind]
     requests = [*before, *(ask(at) for at in range(count))]
     with tempfile.TemporaryDirectory() as folder:
         out = Path(folder, "out")
-        words = ["valgrind", "--tool=callgrind", f"--callgrind-out-file={out}", program]
+        words = ["valgrind", "--tool=callgrind", f"--callgrind-out-file={out}"]
         said = served(words, requests, folder) if serves else replayed(words, requests)
         statuses = re.findall(rb"HTTP/1\.1 (\d+)", said)
         if len(statuses) != len(requests) or not all(it.startswith(b"2") for it in statuses):
@@ -166,11 +159,10 @@ def main():
     parser.add_argument("--functions", type=int, default=0)
     parser.add_argument("--calls", action="append", default=[])
     chosen = parser.parse_args()
-    program = built_program("swordd")
     for kind in KINDS:
         if chosen.kinds and not any(word in kind for word in chosen.kinds):
             continue
-        few, more = (profiled(program, kind, count, chosen.serve) for count in (FEW, MORE))
+        few, more = (profiled(kind, count, chosen.serve) for count in (FEW, MORE))
         own, calls = less(more.own, few.own), less(more.calls, few.calls)
         print(f"{kind:<40}{sum(count for _, count in own):12,.0f}{dict(calls).get(STATEMENT, 0):6,.0f} statements", flush=True)
         parts = collections.Counter()

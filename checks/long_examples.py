@@ -10,12 +10,12 @@ reference, and then the end of the input. It shares no code with the server: wha
 texts.txt, their numbers follow from docs/PROFILE.md, and a length is counted over the text.
 """
 
-import pathlib
 import sys
+sys.path.insert(0, f"{sys.path[0]}/lib")
 
-import examples
+from crates import DATA
+from example_play import expand, put, texts_of
 
-DATA = pathlib.Path(__file__).resolve().parent.parent / "crates/examples/data"
 ROUNDS, CONNECTIONS = 300, 10
 ROUNDS_HEAD = """\
 // 300 rounds on ten connections. checks/long_examples.py writes this file, from docs/PROFILE.md alone.
@@ -76,7 +76,7 @@ open"""
 
 def length_of(words, name):
     """How many bytes the body of a reply has that texts.txt or this file names."""
-    return len(examples.expand(words, words[name]).partition(b"\r\n\r\n")[2])
+    return len(expand(words, words[name]).partition(b"\r\n\r\n")[2])
 
 
 def round_text(words, number):
@@ -115,7 +115,7 @@ open"""
 
 
 def cut_requests(words):
-    request = examples.expand(words, words["deposit-by-reference"]).decode()
+    request = expand(words, words["deposit-by-reference"]).decode()
     fronts = (request[:end].replace("\r", "\\r").replace("\n", "\\n") for end in range(1, len(request)))
     return "\n".join([CUTS, *(CUT.format(front=front) for front in fronts)]) + "\n"
 
@@ -124,12 +124,10 @@ FILES = {"rounds.txt": rounds, "cut-requests.txt": cut_requests}
 
 
 def main():
-    words, others = examples.texts_of(DATA / "texts.txt"), []
+    words, others = texts_of(DATA / "texts.txt"), []
     for name, made in FILES.items():
-        text, path = made(words), DATA / name
-        if "--check" not in sys.argv:
-            path.write_text(text)
-        elif not path.exists() or path.read_text() != text:
+        text = made(words)
+        if not put(DATA / name, text, "--check" in sys.argv):
             others.append(name)
         print(f"{name}: {text.count(chr(10))} lines, {len(text.encode())} bytes")
     print(f"long examples: {len(FILES)} files")

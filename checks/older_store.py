@@ -12,24 +12,23 @@ timed out since between the two the program was started again. The text is what 
 writes other tables, so --anew ends with status 2 there.
 """
 
-import pathlib
+import sys
+sys.path.insert(0, f"{sys.path[0]}/lib")
+
 import socket
 import sqlite3
-import sys
 import tempfile
 
-import examples
-from served import Server
+from crates import DATA
+from example_play import Play, put, read_file, texts_of
+from older_stores import EXAMPLES, NAME, VERSION, statements
+from served import FOUR_DIGITS, Server, free_port
 
-DATA = pathlib.Path(__file__).resolve().parent.parent / "crates/examples/data"
-EXAMPLES = DATA / "older-stores.txt"
-NAME = "version-1"
-VERSION = 1
 # The columns that are moments.
 MOMENTS = (("state", "clock"), ("objects", "changed"), ("files", "deposited"), ("uploads", "last"))
 
 
-class Requests(examples.Play):
+class Requests(Play):
     """Notes the requests of an example in place of asking them: for each exchange its moment, what is sent, and how many
     bytes have to come back."""
 
@@ -42,14 +41,6 @@ class Requests(examples.Play):
         self.stream, self.want = b"", b""
 
 
-def statements():
-    """The statements of the text."""
-    words = examples.texts_of(DATA / "texts.txt")
-    numbered, starts = examples.numbered_lines(EXAMPLES)
-    text = examples.played(words, numbered[:starts[0]], "whole", False).words[NAME]
-    return [f"{it};" for it in examples.fill({}, text).split(";") if it]
-
-
 def make(file):
     """Makes a new database by these statements, as a server leaves it that has ended."""
     database = sqlite3.connect(file)
@@ -60,26 +51,16 @@ def make(file):
 
 def asked_first():
     """What is asked in the first example."""
-    words = examples.texts_of(DATA / "texts.txt")
-    numbered, starts = examples.numbered_lines(EXAMPLES)
-    requests = Requests(words)
-    for _, line in numbered[:starts[0]] + numbered[starts[0] + 1:[*starts[1:], None][0]]:
+    requests = Requests(texts_of(DATA / "texts.txt"))
+    front, examples = read_file(EXAMPLES)
+    for _, line in front + examples[0].lines:
         requests.line(line)
     return requests.asked
 
 
-def four_digits():
-    """A free port of as many digits as the one of the examples, so that no length changes."""
-    for port in range(8081, 9999):
-        with socket.socket() as probe:
-            if probe.connect_ex(("127.0.0.1", port)):
-                return port
-    raise RuntimeError("no port is free")
-
-
 def ask(folder, exchanges):
     """A server on the store of the folder is sent these exchanges."""
-    port = four_digits()
+    port = free_port(FOUR_DIGITS)
     with Server(1, folder, port) as server:
         with socket.create_connection(("127.0.0.1", port)) as client:
             for stream, length in exchanges:
@@ -139,9 +120,7 @@ def main(words):
         sys.exit(__doc__)
     front, _, rest = EXAMPLES.read_text(encoding="utf-8").partition(f"\ntext {NAME}\n")
     text = "\n".join([f"{front}\ntext {NAME}", *written_anew(), "", rest.partition("\n\n")[2]])
-    if "--check" not in words:
-        EXAMPLES.write_text(text, encoding="utf-8")
-    elif EXAMPLES.read_text(encoding="utf-8") != text:
+    if not put(EXAMPLES, text, "--check" in words):
         sys.exit("not as it would be written")
     print(f"{NAME}: {text.count('INSERT INTO')} rows")
     return 0

@@ -9,6 +9,9 @@ The status is 0 where all came as it should. It needs nginx and openssl (apt-get
 where something is missing, it says what it skips. It takes some five processor seconds.
 """
 
+import sys
+sys.path.insert(0, f"{sys.path[0]}/lib")
+
 import base64
 import concurrent.futures
 import hashlib
@@ -19,17 +22,16 @@ import pathlib
 import re
 import shutil
 import subprocess
-import sys
 import tempfile
 import time
 from typing import NamedTuple
 
-import clients
 import fronted
+import recipes
 from conformance import folder_in_memory
 from crates import ROOT
+from depositing import digest
 from expectations import expect, status_of
-from served import digest
 
 SEGMENT = 65_536
 NOT_COMPARED = {"date", "connection", "server", "keep-alive"}
@@ -217,11 +219,11 @@ def recipes_through_tls(host, proxy, folder):
             "PATH": f"{ROOT / 'deploy'}:{os.environ['PATH']}", "SWORD_USER": f"{fronted.USER}:{fronted.PASSWORD}",
             "DEPOSIT_USER": fronted.USER, "DEPOSIT_PASSWORD": fronted.PASSWORD}
     if shutil.which("curl"):
-        printed = clients.run_by_shell(folder / "curl", told)
-        expect("the files of the folder", clients.names_in(manifest_of(host, printed[-1])),
+        printed = recipes.run_by_shell(folder / "curl", told)
+        expect("the files of the folder", recipes.names_in(manifest_of(host, printed[-1])),
                ["1902__may.txt", "large.bin", "observations.txt"])
         expect("what the recipes by curl print", re.sub(r"\d+", "N", printed[0]), re.sub(r"\d+", "N", f"deposited: {proxy.url}/objects/1"))
-    printed = clients.run_by_python(folder / "python", told)
+    printed = recipes.run_by_python(folder / "python", told)
     expect("what the recipes by Python print last", re.sub(r"/\d+/", "/N/", printed[-1]), "data/N/large.bin is as it was deposited")
 
 

@@ -7,16 +7,19 @@ what was answered compared byte for byte, against `swordd serve` on a new store.
 The status is 0 where all came as it should. It needs nothing else, and takes a second.
 """
 
+import sys
+sys.path.insert(0, f"{sys.path[0]}/lib")
+
 import hashlib
 import http.client
 import json
 import os
 import socket
-import sys
 import urllib.parse
 
+from depositing import as_file, as_segment, as_upload, by_reference, digest, exchange, first_file
 from expectations import expect, status_of
-from served import Server, digest
+from served import Server
 
 PLAIN = "text/plain; charset=utf-8"
 
@@ -25,14 +28,13 @@ class Client:
     def __init__(self, server):
         self.server, self.number = server, 0
         self.connection = http.client.HTTPConnection("127.0.0.1", server.port, timeout=60)
+        self.connection.connect()
+        self.socket = self.connection.sock
 
     def ask(self, status, method, path, body=None, headers=None, chunked=False):
         """One request over the connection that is kept: its status has to be this one."""
         self.number += 1
-        self.connection.request(method, path, body, headers or {}, encode_chunked=chunked)
-        self.socket = self.connection.sock
-        reply = self.connection.getresponse()
-        content = reply.read()
+        reply, content = exchange(self.connection, method, path, body, headers, encode_chunked=chunked)
         expect(f"request {self.number}, {method} {path}", reply.status, status)
         if reply.status not in (204,) and method != "HEAD":
             expect(f"length of request {self.number}", int(reply.headers["Content-Length"]), len(content))
@@ -41,12 +43,11 @@ class Client:
 
 def deposit_and_read(client):
     content = os.urandom(100_000)
-    headers = {"Content-Type": "a/b", "Content-Disposition": "attachment; filename=random", "Digest": digest(content)}
-    reply, document = client.ask(201, "POST", "/service", content, headers)
+    reply, document = client.ask(201, "POST", "/service", content, {**as_file("random", "a/b"), "Digest": digest(content)})
     status = json.loads(document)
     expect("Location", reply.headers["Location"], client.server.base + "/objects/1")
     expect("state", status["state"][0]["@id"], "http://purl.org/net/sword/3.0/state/ingested")
-    file = status["links"][0]["@id"].removeprefix(client.server.base)
+    file = client.server.path_of(first_file(document))
     reply, read = client.ask(200, "GET", file)
     expect("file", read, content)
     expect("media type", reply.headers["Content-Type"], "a/b")
@@ -58,11 +59,9 @@ def deposit_in_chunks(client):
     """A content whose length isn't told, as a generator of pieces."""
     pieces = [os.urandom(size) for size in (1, 70_000, 0, 65_536, 3)]
     content = b"".join(pieces)
-    headers = {"Content-Disposition": "attachment; filename=chunks", "Digest": digest(content),
-               "Transfer-Encoding": "chunked"}
+    headers = {**as_file("chunks"), "Digest": digest(content), "Transfer-Encoding": "chunked"}
     _, document = client.ask(201, "POST", "/service", (piece for piece in pieces if piece), headers, chunked=True)
-    file = json.loads(document)["links"][0]["@id"].removeprefix(client.server.base)
-    _, read = client.ask(200, "GET", file)
+    _, read = client.ask(200, "GET", client.server.path_of(first_file(document)))
     expect("file of chunks", read, content)
 
 
@@ -70,7 +69,7 @@ def deposit_in_progress(client):
     headers = {"Content-Disposition": "attachment; metadata=true", "Content-Type": "application/json",
                "In-Progress": "true"}
     reply, document = client.ask(201, "POST", "/service", json.dumps({"dc:title": "Grüße"}), headers)
-    path = reply.headers["Location"].removeprefix(client.server.base)
+    path = client.server.path_of(reply.headers["Location"])
     expect("links", json.loads(document)["links"], [])
     client.ask(200, "POST", path, json.dumps({"dc:title": ["2", "3"], "x": 1}), headers)
     _, document = client.ask(200, "GET", path + "/metadata")
@@ -86,23 +85,19 @@ def deposit_in_progress(client):
 def upload_in_segments(client):
     content = os.urandom(5 * 1024 * 1024 + 1)
     size = 1024 * 1024
-    headers = {"Content-Disposition": f"segment-init; size={len(content)}; segment_count=6; segment_size={size}; "
-                                      f'digest="{digest(content)}"'}
-    reply, _ = client.ask(201, "POST", "/staging", headers=headers)
+    reply, _ = client.ask(201, "POST", "/staging", None, as_upload(len(content), 6, size, f'"{digest(content)}"'))
     upload = reply.headers["Location"]
-    path = upload.removeprefix(client.server.base)
+    path = client.server.path_of(upload)
     for place in (6, 2, 1, 4, 3, 5):
         segment = content[(place - 1) * size:place * size]
-        where = {"Content-Disposition": f"segment; segment_number={place}"}
         for status, sent in ((204, segment), (204, segment), (400, segment[:-1] + bytes([segment[-1] ^ 1])), (400, segment + b"x")):
-            client.ask(status, "POST", path, sent, {**where, "Digest": digest(sent)})
+            client.ask(status, "POST", path, sent, {**as_segment(place), "Digest": digest(sent)})
     _, document = client.ask(200, "GET", path)
     expect("segments", json.loads(document)["segments"]["expecting"], [])
-    document = {"byReferenceFiles": [{"@id": upload, "contentDisposition": "attachment; filename*=UTF-8''gro%C3%9F"}]}
-    headers = {"Content-Disposition": "attachment; by-reference=true", "Content-Type": "application/json"}
-    reply, document = client.ask(201, "POST", "/service", json.dumps(document), headers)
-    object_path = reply.headers["Location"].removeprefix(client.server.base)
-    _, read = client.ask(200, "GET", json.loads(document)["links"][0]["@id"].removeprefix(client.server.base))
+    files = {upload: "attachment; filename*=UTF-8''gro%C3%9F"}
+    reply, document = client.ask(201, "POST", "/service", *by_reference(files))
+    object_path = client.server.path_of(reply.headers["Location"])
+    _, read = client.ask(200, "GET", client.server.path_of(first_file(document)))
     expect("file of segments", read, content)
     client.ask(404, "GET", path)
     return object_path

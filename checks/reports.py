@@ -4,10 +4,12 @@
     checks/reports.py
 """
 
+import sys
+sys.path.insert(0, f"{sys.path[0]}/lib")
+
 import json
 import re
 import subprocess
-import sys
 import tempfile
 import xml.etree.ElementTree as tree
 

@@ -6,23 +6,24 @@
 
 It tells how many cases each file has: requests, but those that only set something up, each once for each row.
 
-It shares no code with the server. checks/order.py is the order of refusals, written from docs/PROFILE.md alone, and
-checks/order_cases.py has the requests; each one is looked up there before it is written. What the replies are made of
-stands in texts.txt, their numbers follow from docs/PROFILE.md, and a length is counted over the text.
+It shares no code with the server. checks/lib/order.py is the order of refusals, written from docs/PROFILE.md alone,
+and order_cases.py beside it has the requests; each one is looked up there before it is written. What the replies are made
+of stands in texts.txt, their numbers follow from docs/PROFILE.md, and a length is counted over the text.
 """
 
-import itertools
-import pathlib
-import re
 import sys
+sys.path.insert(0, f"{sys.path[0]}/lib")
+
+import itertools
+import re
 from dataclasses import dataclass, field, replace
 
-import examples
 import order_cases as cases
+from crates import DATA
+from example_play import expand, fill, put, texts_of
 from order import FIELDS, accepted, key_of, refusal, sha256, sha512, told, with_settings
 
-DATA = pathlib.Path(__file__).resolve().parent.parent / "crates/examples/data"
-WORDS = examples.texts_of(DATA / "texts.txt")
+WORDS = texts_of(DATA / "texts.txt")
 MOMENT, AN_HOUR_AND_A_SECOND_BEFORE = 1_523_836_800, 1_523_833_199
 CONFIG = ["base http://127.0.0.1:8080", "on-behalf-of false", "require-if-match false", "max-upload 16777216",
           "max-assembled 17179869184", "max-segments 10000"]
@@ -57,7 +58,7 @@ class Reply:
 
     def measured(self, name, document):
         """The same, with the length of the document under the name."""
-        length = len(examples.expand(self.words(), f"\\{{{document}}}"))
+        length = len(expand(self.words(), f"\\{{{document}}}"))
         return Reply(self.text, {**self.names, name: length})
 
     def other_names(self):
@@ -67,7 +68,7 @@ class Reply:
                 if words[name] != WORDS.get(name) and name in names_in(words, f"\\{{{self.text}}}")}
 
     def filled(self):
-        return examples.fill(self.words(), f"\\{{{self.text}}}")
+        return fill(self.words(), f"\\{{{self.text}}}")
 
 
 REFUSALS = {
@@ -708,9 +709,7 @@ def main():
         text, cases_there = file_text(name)
         count += cases_there
         print(f"{name}: {cases_there} cases, {text.count(chr(10))} lines, {len(text.encode())} bytes")
-        if "--check" not in sys.argv:
-            (DATA / name).write_text(text)
-        elif not (DATA / name).exists() or (DATA / name).read_text() != text:
+        if not put(DATA / name, text, "--check" in sys.argv):
             others.append(name)
     print(f"order of refusals: {count} cases")
     sys.exit(f"not as they would be written: {' '.join(others)}" if others else 0)

@@ -9,45 +9,31 @@ deposited by reference, in one object with a second one, has to be the segments 
 bag's manifest names it, and an audit finds it whole. It needs nothing else.
 """
 
+import sys
+sys.path.insert(0, f"{sys.path[0]}/lib")
+
 import hashlib
-import http.client
 import json
 import os
 import random
 import subprocess
-import sys
 
 from commands import start
+from depositing import Client, by_reference
 from expectations import expect, status_of
 from served import Server
 
 SEGMENTS = 10_000
-DEPOSIT = {"Content-Disposition": "attachment; by-reference=true", "Content-Type": "application/json"}
 
 
-class Client:
-    """A client of a server, over one connection."""
+class Counting(Client):
+    """A client that counts its requests."""
 
-    def __init__(self, server):
-        self.server, self.asked = server, 0
-        self.connection = http.client.HTTPConnection("127.0.0.1", server.port, timeout=600)
+    asked = 0
 
-    def ask(self, status, method, path, body=None, headers=None):
+    def ask(self, *what):
         self.asked += 1
-        self.connection.request(method, path, body, headers or {})
-        reply = self.connection.getresponse()
-        content = reply.read()
-        expect(f"{method} {path}", reply.status, status)
-        return reply, content
-
-    def open(self, size, count, segment_size):
-        sizes = f"size={size}; segment_count={count}; segment_size={segment_size}"
-        reply, _ = self.ask(201, "POST", "/staging", headers={"Content-Disposition": f"segment-init; {sizes}"})
-        return reply.headers["Location"]
-
-    def segment(self, status, url, place, content):
-        headers = {"Content-Disposition": f"segment; segment_number={place}"}
-        self.ask(status, "POST", self.server.path_of(url), content, headers)
+        return super().ask(*what)
 
 
 def listed(client, url):
@@ -76,8 +62,8 @@ def send(client, url, content):
 
 def deposit(client, urls):
     """The uploads as the files of an object, each named by its place. Returns the object's path."""
-    files = [{"@id": url, "contentDisposition": f"attachment; filename={place}"} for place, url in enumerate(urls)]
-    reply, _ = client.ask(201, "POST", "/service", json.dumps({"byReferenceFiles": files}), DEPOSIT)
+    files = {url: f"attachment; filename={place}" for place, url in enumerate(urls)}
+    reply, _ = client.ask(201, "POST", "/service", *by_reference(files))
     return client.server.path_of(reply.headers["Location"])
 
 
@@ -89,7 +75,7 @@ def audited(store):
 def main():
     content = os.urandom(SEGMENTS)
     with Server(1) as server:
-        client = Client(server)
+        client = Counting(server, 600)
         urls = [client.open(SEGMENTS, SEGMENTS, 1), client.open(1, 1, 1)]
         client.segment(204, urls[1], 1, b"y")
         send(client, urls[0], content)
@@ -101,7 +87,7 @@ def main():
         _, manifest = client.ask(200, "GET", f"{path}/bag/manifest-sha512.txt")
         lines = [f"{hashlib.sha512(it).hexdigest()}  data/{place + 1}/{place}" for place, it in enumerate((content, b"y"))]
         expect("the manifest", manifest.decode().splitlines(), lines)
-        client.connection.close()
+        client.close()
         expect("the end of the server", server.ends(), (0, ""))
         expect("the audit", audited(server.store), ("files 2 damaged 0\n", 0))
     return status_of(f"segments: {SEGMENTS} of one upload, {client.asked} requests")

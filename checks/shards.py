@@ -8,6 +8,9 @@ It prints the deposits a second of one store and of four, and what the move cost
 is lost; the rates are for the reader. It needs nginx (apt-get install nginx), and says so where there is none.
 """
 
+import sys
+sys.path.insert(0, f"{sys.path[0]}/lib")
+
 import contextlib
 import http.client
 import json
@@ -15,7 +18,6 @@ import multiprocessing
 import pathlib
 import re
 import shutil
-import sys
 import tempfile
 import threading
 import time

@@ -29,20 +29,22 @@ open by a server, a GET again, and a DELETE of the object. Each may take 64 MiB 
 
 By --pictures alone, it draws into a folder what docs/SPEED.md shows: each workload beside sqlite3, by the ratio of the medians
 of what took turns (beside-sqlite3.svg), the greatest memory that the server had by then (memory.svg), and the processor time of
-each kind of request over the number of objects, by growth.py (objects.svg).
+each kind of request over the number of objects, as growth.py does (objects.svg).
 
 By --host alone, it measures `swordd_host` under 1 to 1,000 clients at once, beside nginx with the same file from disk and
 `swordd serve`, and how long others wait while one client deposits 16 MiB, or 512 MiB by reference, or reads 512 MiB
-(checks/host_speed.py).
+(checks/lib/host_speed.py).
 
 The status is 1 where one of these takes more. It measures, so it is no part of checks/all: numbers of one run on a busy
 machine say little. Run it on one that does nothing else.
 """
 
+import sys
+sys.path.insert(0, f"{sys.path[0]}/lib")
+
 import argparse
 import contextlib
 import hashlib
-import http.client
 import json
 import os
 import pathlib
@@ -51,21 +53,21 @@ import shutil
 import sqlite3
 import statistics
 import subprocess
-import sys
 import tempfile
 import time
 
-import growth
+import growing
 import host_speed
-import older_store
+import older_stores
 import pictures
-from crates import built_program
+from crates import ROOT, built_program
+from depositing import JSON, Client, as_file, by_reference, exchange, first_file
 from expectations import expect, wrong
+from plain_stores import BLOCK, Plain, PlainUpload
 from served import Server
 
 MIB = 1024 * 1024
 SMALL, LARGE = 1024, 16 * MIB
-BLOCK = 65_536
 UPLOADS = ["10000x64", "256x16384"]
 # So many segments are the first ones, and the last ones.
 ENDS = 100
@@ -86,51 +88,38 @@ def timed(what, count, work, size):
     print(f"{what:<44} {1000 * took / count:10.2f} ms each {count * size / took / MIB:10.1f} MiB/s", flush=True)
 
 
-class Client:
-    def __init__(self, server):
-        self.base = server.base
-        self.connection = http.client.HTTPConnection("127.0.0.1", server.port, timeout=600)
+class Measured(Client):
+    """A client whose requests are timed. A reply of another status ends the measurement."""
 
-    def ask(self, status, method, path, body=None, headers=None):
-        self.connection.request(method, path, body, headers or {})
-        reply = self.connection.getresponse()
-        content = reply.read()
+    def __init__(self, server):
+        super().__init__(server, 600)
+
+    def ask(self, status, method, path, body=None, fields=None):
+        reply, content = exchange(self.connection, method, path, body, fields)
         assert reply.status == status, (method, path, reply.status, content[:300])
         return reply, content
 
     def deposit(self, content):
-        headers = {"Content-Disposition": "attachment; filename=a"}
-        _, document = self.ask(201, "POST", "/service", content, headers)
-        return json.loads(document)["links"][0]["@id"].removeprefix(self.base)
+        _, document = self.ask(201, "POST", "/service", content, as_file("a"))
+        return self.server.path_of(first_file(document))
 
     def read(self, path, content):
         _, came = self.ask(200, "GET", path)
         assert came == content
 
-    def open_upload(self, count, size):
-        headers = {"Content-Disposition": f"segment-init; size={count * size}; segment_count={count}; segment_size={size}"}
-        reply, _ = self.ask(201, "POST", "/staging", headers=headers)
-        return reply.headers["Location"]
-
-    def segment(self, url, place, content):
-        headers = {"Content-Disposition": f"segment; segment_number={place}"}
-        self.ask(204, "POST", url.removeprefix(self.base), content, headers)
-
     def upload(self, mebibytes):
         """A file in segments of 16 MiB."""
         count = mebibytes // 16
-        url, digest = self.open_upload(count, LARGE), hashlib.sha256()
+        url, digest = self.open(count * LARGE, count, LARGE), hashlib.sha256()
         for place in range(1, count + 1):
             segment = os.urandom(LARGE)
             digest.update(segment)
-            self.segment(url, place, segment)
+            self.segment(204, url, place, segment)
         return url, digest.digest()
 
     def deposit_upload(self, url):
-        document = {"byReferenceFiles": [{"@id": url, "contentDisposition": "attachment; filename=b"}]}
-        headers = {"Content-Disposition": "attachment; by-reference=true", "Content-Type": "application/json"}
-        _, document = self.ask(201, "POST", "/service", json.dumps(document), headers)
-        return json.loads(document)["links"][0]["@id"].removeprefix(self.base)
+        _, document = self.ask(201, "POST", "/service", *by_reference({url: "attachment; filename=b"}))
+        return self.server.path_of(first_file(document))
 
     def hash_file(self, path):
         """Reads a file without holding it."""
@@ -140,90 +129,6 @@ class Client:
         while part := reply.read(MIB):
             digest.update(part)
         return digest.digest()
-
-
-class Plain:
-    """The same bytes by sqlite3: a row for a file, and its content in blocks."""
-
-    def __init__(self, folder):
-        self.database = sqlite3.connect(pathlib.Path(folder) / "plain.db", isolation_level=None)
-        for text in ("PRAGMA journal_mode=WAL", "PRAGMA synchronous=FULL",
-                     "CREATE TABLE files (file INTEGER PRIMARY KEY, size INTEGER, sha256 BLOB) STRICT",
-                     "CREATE TABLE blocks (file INTEGER, place INTEGER, bytes BLOB, PRIMARY KEY (file, place)) STRICT",
-                     "CREATE TABLE metadata (object INTEGER, name TEXT, place INTEGER, value TEXT, "
-                     "PRIMARY KEY (object, name, place)) STRICT"):
-            self.database.execute(text)
-        self.next = 0
-
-    def write(self, content):
-        self.next += 1
-        self.database.execute("BEGIN IMMEDIATE")
-        self.database.execute("INSERT INTO files VALUES (?, ?, ?)",
-                              (self.next, len(content), hashlib.sha256(content).digest()))
-        blocks = ((self.next, at // BLOCK, content[at:at + BLOCK]) for at in range(0, len(content), BLOCK))
-        self.database.executemany("INSERT INTO blocks VALUES (?, ?, ?)", blocks)
-        self.database.execute("COMMIT")
-
-    def read(self):
-        rows = self.database.execute("SELECT bytes FROM blocks WHERE file = ? ORDER BY place", (self.next,))
-        return b"".join(row[0] for row in rows)
-
-    def describe(self, texts):
-        self.database.execute("BEGIN IMMEDIATE")
-        self.database.execute("DELETE FROM metadata WHERE object = 1")
-        rows = ((place, it) for place, it in enumerate(texts))
-        self.database.executemany("INSERT INTO metadata VALUES (1, 'dc:title', ?, ?)", rows)
-        self.database.execute("COMMIT")
-
-    def names(self):
-        return self.database.execute("SELECT file, size, sha256 FROM files WHERE file = ?", (self.next,)).fetchall()
-
-
-class PlainUpload:
-    """An upload by sqlite3, in tables like the server's: the row of each segment, and its content in blocks."""
-
-    BYTES = "SELECT bytes FROM blocks WHERE kind = ? AND owner = 1 ORDER BY part, place"
-
-    def __init__(self, folder):
-        self.file = pathlib.Path(folder) / "plain.db"
-        self.database = sqlite3.connect(self.file, isolation_level=None)
-        for text in ("PRAGMA journal_mode=WAL", "PRAGMA synchronous=FULL",
-                     "CREATE TABLE uploads (upload INTEGER PRIMARY KEY, last INTEGER) STRICT",
-                     "CREATE TABLE segments (upload INTEGER, number INTEGER, size INTEGER, PRIMARY KEY (upload, number)) STRICT",
-                     "CREATE TABLE blocks (kind INTEGER, owner INTEGER, part INTEGER, place INTEGER, bytes BLOB, "
-                     "PRIMARY KEY (kind, owner, part, place)) STRICT",
-                     "INSERT INTO uploads VALUES (1, 0)"):
-            self.database.execute(text)
-
-    def segment(self, number, content):
-        self.database.execute("BEGIN IMMEDIATE")
-        blocks = ((number, at // BLOCK, content[at:at + BLOCK]) for at in range(0, len(content), BLOCK))
-        self.database.executemany("INSERT INTO blocks VALUES (1, 1, ?, ?, ?)", blocks)
-        self.database.execute("INSERT INTO segments VALUES (1, ?, ?)", (number, len(content)))
-        self.database.execute("UPDATE uploads SET last = ?", (number,))
-        self.database.execute("COMMIT")
-
-    def digest(self, kind):
-        digests = hashlib.sha256(), hashlib.sha512()
-        for (content,) in self.database.execute(self.BYTES, (kind,)):
-            for it in digests:
-                it.update(content)
-        return digests[0].digest()
-
-    def deposit(self):
-        self.database.execute("BEGIN IMMEDIATE")
-        self.digest(1)
-        for text in ("UPDATE blocks SET kind = 0 WHERE kind = 1 AND owner = 1", "DELETE FROM segments", "DELETE FROM uploads"):
-            self.database.execute(text)
-        self.database.execute("COMMIT")
-
-    def read(self):
-        for _ in self.database.execute(self.BYTES, (0,)):
-            pass
-
-    def end(self):
-        self.database.close()
-        self.file.unlink()
 
 
 def small_and_large(client):
@@ -318,20 +223,20 @@ def deposits_beside(before):
     """The median seconds of a deposit of 16 MiB by the program before and by this one, asked in turn."""
     took, content = ([], []), os.urandom(LARGE)
     with Server(1, executable=before) as older, Server(1) as newer:
-        clients = Client(older), Client(newer)
+        clients = Measured(older), Measured(newer)
         for turn in range(24):
             for client, seconds in zip(clients, took):
                 spent = seconds_of(lambda: client.deposit(content))
                 if turn >= 4:
                     seconds.append(spent)
         for client in clients:
-            client.connection.close()
+            client.close()
     return map(statistics.median, took)
 
 
 def cost_of_sha512(before):
     """What SHA-512 costs a deposit."""
-    said = subprocess.run([pathlib.Path(__file__).with_name("bench"), "--path", "digest_bench"], capture_output=True, text=True)
+    said = subprocess.run([ROOT / "checks/bench", "--path", "digest_bench"], capture_output=True, text=True)
     program = said.stdout.split("\n")[-2]
     for algorithm in ("sha512", "sha256"):
         by_openssl = openssl_seconds(algorithm, LARGE)
@@ -353,7 +258,7 @@ def make_older_store(folder, mebibytes):
     database = sqlite3.connect(folder / "older.db", isolation_level=None)
     database.execute("PRAGMA journal_mode=WAL")
     database.execute("BEGIN")
-    for text in older_store.statements():
+    for text in older_stores.statements():
         if text.startswith(("CREATE", "INSERT INTO format")):
             database.execute(text)
     database.execute("INSERT INTO state VALUES (1, 1523836800, 2, ?1 + 1, 1, ?1 + 1)", (count,))
@@ -383,7 +288,7 @@ def cost_of_upgrade(folder, mebibytes):
           f"the next audit {second:.2f} s: {first - second:.2f} s more; sha512sum {summed:.2f} s", flush=True)
     database = sqlite3.connect(store)
     version = database.execute("SELECT version FROM format").fetchone()[0]
-    if version == older_store.VERSION:
+    if version == older_stores.VERSION:
         print(f"skipped: what an upgrade costs, since the store stays one of version {version}")
     else:
         rows = database.execute("SELECT kind, owner, value FROM sha512s ORDER BY kind, owner").fetchall()
@@ -394,7 +299,7 @@ def cost_of_upgrade(folder, mebibytes):
 
 def whole(folder, mebibytes):
     with Server(1, folder) as server:
-        client = Client(server)
+        client = Measured(server)
         small_and_large(client)
         first = server.peak()
         small_and_large(client)
@@ -402,7 +307,7 @@ def whole(folder, mebibytes):
         item = segmented(client, mebibytes)
         print(f"peak memory: {first:.0f} MiB after the deposits and reads, {second:.0f} MiB after as many again, "
               f"{server.peak():.0f} MiB at the end")
-        client.connection.close()
+        client.close()
         status, said = server.ends()
         assert (status, said) == (0, ""), (status, said)
     began = time.perf_counter()
@@ -420,11 +325,11 @@ def told(what, took, mebibytes, more=""):
 def in_turn(client, store, count, size):
     """Sends segments, each to the server and then to sqlite3. Returns the upload's URL, the SHA-256 of the whole, and the last
     segment."""
-    url, digest, took = client.open_upload(count, size), hashlib.sha256(), ([], [])
+    url, digest, took = client.open(count * size, count, size), hashlib.sha256(), ([], [])
     for place in range(1, count + 1):
         content = os.urandom(size)
         digest.update(content)
-        took[0].append(seconds_of(lambda: client.segment(url, place, content)))
+        took[0].append(seconds_of(lambda: client.segment(204, url, place, content)))
         took[1].append(seconds_of(lambda: store.segment(place, content)))
     for name, seconds in (("", took[0]), ("sqlite3: ", took[1])):
         for part, some in (("first", seconds[:ENDS]), ("last", seconds[-ENDS:])):
@@ -458,18 +363,18 @@ def kept_upload(folder, count, size):
     """Sends an upload, deposits it and reads the file. Returns the file's path."""
     mebibytes, made = count * size / MIB, []
     with Server(1, folder, env={**os.environ, **GIVES_BACK}) as server:
-        client, store = Client(server), PlainUpload(folder)
+        client, store = Measured(server), PlainUpload(folder)
         client.deposit(os.urandom(SMALL))
         steps = Steps(server)
         steps.step("segments, with those of sqlite3", lambda: made.extend(in_turn(client, store, count, size)), mebibytes)
         url, digest, last = made
-        steps.step("the last segment once more", lambda: client.segment(url, count, last), size / MIB)
+        steps.step("the last segment once more", lambda: client.segment(204, url, count, last), size / MIB)
         steps.step("deposit by reference", lambda: made.append(client.deposit_upload(url)), mebibytes)
         told("sqlite3: digests, and blocks moved", seconds_of(store.deposit), mebibytes)
         steps.step("GET of the file", lambda: expect("the file's SHA-256", client.hash_file(made[-1]), digest), mebibytes)
         told("sqlite3: blocks read", seconds_of(store.read), mebibytes)
         store.end()
-        client.connection.close()
+        client.close()
         expect("the end of the server", server.ends(PATIENCE), (0, ""))
     return made[-1]
 
@@ -487,10 +392,10 @@ def large_upload(folder, count, size):
     with Server(1, folder, patience=PATIENCE, env={**os.environ, **GIVES_BACK}) as server:
         took, room = time.perf_counter() - began, server.store.stat().st_size / MIB
         told(f"open of {room:.0f} MiB by a server", took, room, f", {server.peak():.0f} MiB of memory")
-        client, steps = Client(server), Steps(server)
+        client, steps = Measured(server), Steps(server)
         steps.step("GET of the file", lambda: client.hash_file(path), mebibytes)
         steps.step("DELETE of its object", lambda: client.ask(204, "DELETE", f"/objects/{item}"), mebibytes)
-        client.connection.close()
+        client.close()
         expect("the end of the server", server.ends(PATIENCE), (0, ""))
 
 
@@ -503,19 +408,19 @@ def in_turns(count, *works):
 def workloads(client, store, upload):
     """The name of each workload with what the server does, what sqlite3 does, and how often."""
     small, large, part = os.urandom(SMALL), os.urandom(LARGE), os.urandom(MIB)
-    titles, fields = json.dumps({"dc:title": ["T", "U"]}), {"Content-Type": "application/json"}
+    titles = json.dumps({"dc:title": ["T", "U"]})
     path = client.deposit(small)
     yield "deposit of 1 KiB", 300, lambda: client.deposit(small), lambda: store.write(small)
     yield "read of 1 KiB", 300, lambda: client.read(path, small), store.read
     whole = path.rsplit("/", 2)[0]
-    yield "PUT of metadata", 300, lambda: client.ask(204, "PUT", f"{whole}/metadata", titles, fields), lambda: store.describe(("T", "U"))
+    yield "PUT of metadata", 300, lambda: client.ask(204, "PUT", f"{whole}/metadata", titles, JSON), lambda: store.describe(("T", "U"))
     yield "list of a bag", 300, lambda: client.ask(200, "GET", f"{whole}/bag"), store.names
     yield "deposit of 16 MiB", 8, lambda: client.deposit(large), lambda: store.write(large)
     path = client.deposit(large)
     yield "read of 16 MiB", 8, lambda: client.read(path, large), store.read
-    url, _ = client.open_upload(64, MIB), upload
+    url = client.open(64 * MIB, 64, MIB)
     places = [iter(range(1, 65)), iter(range(1, 65))]
-    yield "segment of 1 MiB", 64, lambda: client.segment(url, next(places[0]), part), lambda: upload.segment(next(places[1]), part)
+    yield "segment of 1 MiB", 64, lambda: client.segment(204, url, next(places[0]), part), lambda: upload.segment(next(places[1]), part)
     yield "deposit of 64 of these", 1, lambda: client.deposit_upload(url), upload.deposit
 
 
@@ -523,14 +428,14 @@ def measure_beside(folder):
     """The ratio of each workload, and the greatest memory that the server had once it was done."""
     ratios, peaks = [], []
     with Server(1, folder) as server, tempfile.TemporaryDirectory() as beside:
-        client, store, upload = Client(server), Plain(folder), PlainUpload(beside)
+        client, store, upload = Measured(server), Plain(folder), PlainUpload(beside)
         peaks.append(("at rest", server.peak()))
         for name, count, served, plainly in workloads(client, store, upload):
             took, other = in_turns(count, served, plainly)
             print(f"{name:<28} {1000 * took:10.2f} ms, by sqlite3 {1000 * other:10.2f} ms: {took / other:6.2f}", flush=True)
             ratios.append((name, took / other))
             peaks.append((name, server.peak()))
-        client.connection.close()
+        client.close()
         expect("the end of the server", server.ends(), (0, ""))
         store.database.close()
         upload.end()
@@ -542,11 +447,11 @@ def draw(folder):
     with tempfile.TemporaryDirectory() as room:
         ratios, peaks = measure_beside(room)
     with contextlib.ExitStack() as stack:
-        medians = growth.medians_by_objects(stack, lambda: stack.enter_context(tempfile.TemporaryDirectory()))
+        medians = growing.medians_by_objects(stack, lambda: stack.enter_context(tempfile.TemporaryDirectory()))
     for name, picture in (
             ("beside-sqlite3", pictures.bars("time beside sqlite3 with the same durability", ratios, 1)),
             ("memory", pictures.bars("the greatest memory that the server had by then, in MiB", peaks)),
-            ("objects", pictures.lines("processor time of a request by objects, in microseconds", growth.OBJECTS, medians))):
+            ("objects", pictures.lines("processor time of a request by objects, in microseconds", growing.OBJECTS, medians))):
         (folder / f"{name}.svg").write_text(picture, encoding="utf-8")
 
 

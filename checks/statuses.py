@@ -4,9 +4,12 @@ status and the one line on standard error.
 
     checks/statuses.py
 
-The status is 0 where all is so. It needs Linux and the kit's clang (checks/allocations.py, for want of memory), and takes
+The status is 0 where all is so. It needs Linux and the kit's clang (checks/lib/allocations.py, for want of memory), and takes
 some five seconds, most of them for a connection of as many reads as there may be.
 """
+
+import sys
+sys.path.insert(0, f"{sys.path[0]}/lib")
 
 import contextlib
 import os
@@ -16,11 +19,11 @@ import signal
 import socket
 import sqlite3
 import subprocess
-import sys
 import tempfile
 
 from allocations import build_refuser
 from commands import NO_SUCH_OBJECT, STORE_FAULT, TRANSFER_FAULT, USAGE, ends, start
+from depositing import as_file
 from expectations import expect, status_of
 from served import Server, free_port
 
@@ -156,7 +159,7 @@ def main():
     with tempfile.TemporaryDirectory() as name:
         folder = pathlib.Path(name)
         with Server(1, folder) as server:
-            server.ask(201, "POST", "/service", 200_000 * b"x", {"Content-Disposition": "attachment; filename=a.txt"})
+            server.ask(201, "POST", "/service", 200_000 * b"x", as_file("a.txt"))
             expect("the end of the server", server.ends(), (0, ""))
         for check in (done, wrong_words, no_such_object, store_faults, want_of_memory, transfer_faults, no_connection):
             check(server.store, folder)

@@ -8,31 +8,29 @@ checks/tables.sh does the same by curl and the sqlite3 shell. The status is 0 wh
 takes a second.
 """
 
+import sys
+sys.path.insert(0, f"{sys.path[0]}/lib")
+
 import hashlib
 import os
-import pathlib
 import sqlite3
-import sys
 
+from crates import ROOT
+from depositing import JSON, as_file, as_segment, as_upload
 from expectations import expect, status_of
 from served import Server
 
-QUERIES = pathlib.Path(__file__).resolve().parent / "tables.txt"
+QUERIES = ROOT / "checks/tables.txt"
 
 
 def deposit(server, contents):
     """Makes the requests that tables.txt speaks of."""
-    named = "attachment; filename="
-    server.ask(201, "POST", "/service", contents["a.txt"],
-               {"Content-Type": "text/plain", "Content-Disposition": named + "a.txt"})
-    server.ask(204, "PUT", "/objects/1/metadata", '{"dc:title":"Observations"}', {"Content-Type": "application/json"})
-    server.ask(200, "POST", "/objects/1", contents["large"],
-               {"Content-Type": "image/png", "Content-Disposition": named + "large"})
-    promised = hashlib.sha512(contents["segment"]).hexdigest()
-    sizes = "size=100000; segment_count=2; segment_size=65536"
-    server.ask(201, "POST", "/staging", headers={"Content-Disposition": f"segment-init; {sizes}; digest=SHA-512={promised}"})
-    server.ask(204, "POST", "/staging/1", contents["segment"],
-               {"Content-Disposition": "segment; segment_number=1"})
+    server.ask(201, "POST", "/service", contents["a.txt"], as_file("a.txt", "text/plain"))
+    server.ask(204, "PUT", "/objects/1/metadata", '{"dc:title":"Observations"}', JSON)
+    server.ask(200, "POST", "/objects/1", contents["large"], as_file("large", "image/png"))
+    promised = f"SHA-512={hashlib.sha512(contents['segment']).hexdigest()}"
+    server.ask(201, "POST", "/staging", None, as_upload(100_000, 2, 65_536, promised))
+    server.ask(204, "POST", "/staging/1", contents["segment"], as_segment(1))
 
 
 def read_queries(contents):

@@ -4,36 +4,15 @@
 # segment. It needs curl, sqlite3, sha256sum, sha512sum and python3, and the program built (checks/built says where), and takes some
 # seconds. The status is 1 where anything is otherwise. checks/tables.py does the same by python3 alone.
 checks=$(cd "$(dirname "$0")" && pwd) || exit 2
-program=$("$checks/built" swordd) || exit 2
-folder=$(mktemp -d) || exit 2
-port=$((20000 + $$ % 20000))
-base=http://127.0.0.1:$port
-# Each call of curl below is one connection; the server ends after the last.
-"$program" serve $port "$folder/deposits.db" 5 2>"$folder/said" &
-server=$!
-trap 'kill $server 2>/dev/null; rm -r "$folder"' EXIT
-failed=0
+. "$checks/lib/served.sh"
+serve 5
 queries=0
 newline='
 '
 
-wrong() {
-    echo "WRONG: $1"
-    failed=1
-}
-
-# ask STATUS ARGUMENTS: one request, whose status has to be this one.
-ask() {
-    wanted=$1
-    shift
-    came=$(curl --silent --retry 20 --retry-connrefused --retry-delay 1 --output "$folder/body" \
-        --write-out '%{http_code}' "$@")
-    [ "$came" = "$wanted" ] || wrong "$came in place of $wanted ($*)"
-}
-
 # shown QUERY: what sqlite3 shows of it.
 shown() {
-    sqlite3 -readonly "$folder/deposits.db" "$1"
+    sqlite3 -readonly "$store" "$1"
 }
 
 # same: what the last query shows is what tables.txt has below it.
@@ -67,7 +46,7 @@ ask 201 -X POST -H "Content-Disposition: segment-init; $sizes; digest=SHA-512=$(
     "$base/staging"
 ask 204 --data-binary "@$folder/segment" -H 'Content-Type:' \
     -H 'Content-Disposition: segment; segment_number=1' "$base/staging/1"
-wait $server || wrong "the server ended otherwise: $(cat "$folder/said")"
+is_served
 
 sed "s/{a.txt}/$(digest sha256sum "$folder/a.txt")/; s/{large}/$(digest sha256sum "$folder/large")/
 s/{a.txt sha512}/$(digest sha512sum "$folder/a.txt")/; s/{large sha512}/$(digest sha512sum "$folder/large")/

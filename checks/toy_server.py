@@ -1,5 +1,5 @@
 #!/usr/bin/env python3
-"""The second server of the profile (checks/model.py) over sockets of 127.0.0.1, with faults planted where they are asked for.
+"""The second server of the profile (checks/lib/model.py) over sockets of 127.0.0.1, with faults planted where they are asked for.
 
     checks/toy_server.py PORT CONFIGURATION [FAULT..]
 
@@ -8,12 +8,14 @@ names of `model.Config`, or nothing. It serves until it is ended. The faults are
 server may go wrong that looks right at first.
 """
 
+import sys
+sys.path.insert(0, f"{sys.path[0]}/lib")
+
 import json
 import pathlib
 import selectors
 import signal
 import socket
-import sys
 import time
 
 import model

@@ -11,10 +11,13 @@ import os
 import re
 import select
 import socket
+import subprocess
+import tempfile
 import time
 from urllib.parse import urlsplit
 
-from examples import MOMENT, NAMES, Play, Wrong, pieces, play_lines
+from crates import ROOT
+from example_play import MOMENT, NAMES, Play, Wrong, cells_of, pieces, play_lines
 
 WRITTEN = b"127.0.0.1:8080"
 OTHER_SPELLINGS = re.compile(rb"127\.1:8080|0x7f\.0\.0\.1:8080|127\.0\.0\.1:08080")
@@ -69,8 +72,7 @@ def moved(stream, authority):
     is_longer, done = len(authority) != len(WRITTEN), b""
     while stream:
         head, end, rest = stream.partition(b"\r\n\r\n")
-        told = re.search(rb"(?im)^content-length: *(\d+)", head) if end else None
-        length = int(told[1]) if told else 0
+        length = length_told(head) if end else 0
         content, stream = rest[:length], rest[length:]
         is_whole = len(content) == length and not content.startswith(b"HTTP/1.1 ")
         if is_longer and not (is_whole or is_known(head)) or is_longer and is_chunked(head) and WRITTEN in rest:
@@ -79,6 +81,12 @@ def moved(stream, authority):
             content, stream = b"", rest
         done += moved_message(head, end, content, authority)
     return done
+
+
+def length_told(head):
+    """The length of the content that a head tells, or 0."""
+    told = re.search(rb"(?im)^content-length: *(\d+)", head)
+    return int(told[1]) if told else 0
 
 
 def is_known(head):
@@ -108,8 +116,7 @@ def replies(stream, lacking=()):
     found = []
     while stream:
         head, end, stream = stream.partition(b"\r\n\r\n")
-        told = re.search(rb"(?im)^content-length: *(\d+)", head) if end else None
-        length = int(told[1]) if told and len(found) not in lacking else 0
+        length = length_told(head) if end and len(found) not in lacking else 0
         found.append((head + end, stream[:length], len(stream) >= length and bool(end)))
         stream = stream[length:]
     return found
@@ -120,8 +127,7 @@ def lacking_content(want):
     lacking, stream = set(), want
     for place in range(len(want)):
         head, end, stream = stream.partition(b"\r\n\r\n")
-        told = re.search(rb"(?im)^content-length: *(\d+)", head)
-        length = int(told[1]) if told else 0
+        length = length_told(head)
         if length and (len(stream) < length or stream.startswith(b"HTTP/1.1 ")):
             lacking.add(place)
             length = 0
@@ -211,16 +217,16 @@ def folder_in_memory():
     return "/dev/shm" if os.path.isdir("/dev/shm") else None
 
 
-def free_short_port():
-    """A port of four digits, so that the base has as many letters as the one that is written."""
-    for port in range(8081, 9999):
-        with socket.socket() as probe:
-            try:
-                probe.bind(("127.0.0.1", port))
-                return port
-            except OSError:
-                pass
-    raise OSError("no port of four digits is free")
+def conform(url, name, port, words, is_behind_proxy=False):
+    """Runs checks/conform with these words against a program at this port, which is started anew over an empty store for each
+    example. Returns its status."""
+    fresh = ROOT / "checks/fresh"
+    with tempfile.TemporaryDirectory(dir=folder_in_memory()) as folder:
+        command = f"{fresh} {name} {port} {folder}" + (f" {url}" if is_behind_proxy else "")
+        try:
+            return subprocess.run([ROOT / "checks/conform", url, "--fresh", command, *words], check=False).returncode
+        finally:
+            subprocess.run([fresh, "--end", folder], check=False)
 
 
 class Line:
@@ -399,18 +405,15 @@ def play_example(words, lines, place):
     need = need_of(lines)
     if need:
         raise Skipped(need)
-    names = [name.strip() for _, line in lines if line.startswith("each ") for name in line[5:].split("|")]
-    rows = [[it.strip() for it in line[1:].split("|")] for _, line in lines if line.startswith("-")] or [[]]
     played, skipped = 0, None
-    for row in rows:
-        cells = dict(zip(names, row))
+    for cells in cells_of(lines):
         try:
             play({**words, **cells}, lines, place)
             played += 1
         except Skipped as reason:
             skipped = reason
         except Wrong as wrong:
-            raise Wrong(f"row {row}: {wrong}" if cells else str(wrong)) from None
+            raise Wrong(f"row {list(cells.values())}: {wrong}" if cells else str(wrong)) from None
     if not played:
         raise skipped
     return played

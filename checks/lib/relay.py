@@ -46,8 +46,7 @@ class Relay:
                 return
         except OSError:
             pass
-        for it in (client, server):
-            end(it)
+        end(client, server)
 
     @staticmethod
     def pass_back(server, client):
@@ -56,17 +55,17 @@ class Relay:
                 client.sendall(piece)
         except OSError:
             pass
-        for it in (client, server):
-            end(it)
+        end(client, server)
 
     def close(self):
         end(self.listener)
 
 
-def end(connection):
+def end(*connections):
     """Ends both ways at once, also for a thread that waits for it."""
-    try:
-        connection.shutdown(socket.SHUT_RDWR)
-    except OSError:
-        pass
-    connection.close()
+    for it in connections:
+        try:
+            it.shutdown(socket.SHUT_RDWR)
+        except OSError:
+            pass
+        it.close()

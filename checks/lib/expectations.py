@@ -11,6 +11,13 @@ def expect(what, came, wanted):
     return came == wanted
 
 
+def find(what, holds):
+    """Notes what doesn't hold."""
+    if not holds:
+        wrong.append(what)
+        print("WRONG:", what)
+
+
 def status_of(line):
     """Prints the check's line, and how much came otherwise. Returns the exit status."""
     print(f"{line}, {len(wrong)} wrong")

@@ -8,7 +8,6 @@ stand for two. A number that no reply told yet is sent as one that the store nev
 An example is left out where it needs another moment, another configuration, a store by itself or faults.
 """
 
-import pathlib
 import re
 import socket
 import sqlite3
@@ -19,11 +18,11 @@ from collections import Counter
 from concurrent.futures import ThreadPoolExecutor
 from contextlib import ExitStack
 
-import examples
-from examples import LeftOut, Wrong
+from crates import DATA
+from example_play import (
+    LEFT_OUT, NAMES, LeftOut, Play, Wrong, cells_of, is_of_a_host, listed_files, pieces, play_lines, read_file, texts_above, ways_of)
 from hosted import PATIENCE, Host
 
-DATA = pathlib.Path(__file__).resolve().parent.parent / "crates/examples/data"
 BASE = "http://127.0.0.1:8080"
 AT_ONCE, MOST_PIECES = 50, 500
 # A larger content says no more here, and takes long to look through.
@@ -197,7 +196,7 @@ class Came:
         return len(self.text) < least or wanted.startswith(self.shaped) and len(self.all()[0]) < len(wanted)
 
 
-class SocketPlay(examples.Play):
+class SocketPlay(Play):
     """An example that is played over sockets of its own."""
 
     def __init__(self, words, way, hosts):
@@ -206,7 +205,7 @@ class SocketPlay(examples.Play):
 
     def line(self, line):
         word = line.partition(" ")[0]
-        if word in examples.LEFT_OUT:
+        if word in LEFT_OUT:
             raise LeftOut(word)
         super().line(line)
 
@@ -222,7 +221,7 @@ class SocketPlay(examples.Play):
             pass
         elif word == "config" and self.host is None:
             name, _, value = rest.partition(" ")
-            self.settings[examples.NAMES[name]] = read_value(value)
+            self.settings[NAMES[name]] = read_value(value)
         else:
             raise LeftOut(word)
 
@@ -293,7 +292,7 @@ class SocketPlay(examples.Play):
     def pieces(self, stream):
         """Few enough of them."""
         size = len(stream) if self.way == "whole" else int(self.way)
-        return examples.pieces(max(1, size, len(stream) // MOST_PIECES), stream)
+        return pieces(max(1, size, len(stream) // MOST_PIECES), stream)
 
     def comes(self, wire, want):
         """Just this has to come."""
@@ -340,43 +339,30 @@ def read_value(text):
     return int(text) if text.isdigit() else text == "true" if text in ("true", "false") else text
 
 
-def ways_and_rows(lines):
-    """In which pieces an example is played, and with which names."""
-    each = [line[5:].split("|") for _, line in lines if line.startswith("each ")]
-    ways = [line[7:].split() for _, line in lines if line.startswith("pieces ")] or [["whole"]]
-    rows = [line[1:].split("|") for _, line in lines if line.startswith("-")] or [[]]
-    names = [name.strip() for name in each[0]] if each else []
-    return ["whole", *(it for it in ways[0] if it.isdigit())], [dict(zip(names, map(str.strip, row))) for row in rows]
-
-
 def listed(names):
     """All examples of these files: the file and the line, the texts that they have, their lines, and the way."""
     words = {}
     for name in names:
-        numbered, starts = examples.numbered_lines(DATA / name)
-        if not starts:
-            words.update(examples.texts_of(DATA / name))
-            continue
-        mine = examples.played(words, numbered[:starts[0]], "whole", False).words
-        for at, end in zip(starts, [*starts[1:], len(numbered)]):
-            lines = numbered[at + 1:end]
-            ways, rows = ways_and_rows(lines)
-            for way in ways:
-                for cells in rows:
-                    yield f"{name}:{numbered[at][0]}", {**mine, **cells}, lines, way
+        front, examples = read_file(DATA / name)
+        mine = texts_above(words, front)
+        if not examples:
+            words = mine
+        for number, _, lines in examples:
+            for way in ("whole", *filter(str.isdigit, ways_of(lines))):
+                for cells in cells_of(lines):
+                    yield f"{name}:{number}", {**mine, **cells}, lines, way
 
 
 def chosen_files():
     """Those that the gate plays, but for those that a host of the player plays."""
-    files = (DATA.parent / "args").read_text(encoding="utf-8").split()
-    return [name for it in files if not examples.is_of_a_host(DATA / (name := pathlib.Path(it).name))]
+    return [it.name for it in listed_files() if not is_of_a_host(it)]
 
 
 def play_one(hosts, told, words, lines, way):
     """How many exchanges came as they are written, what went wrong, and why it was left out."""
     play = SocketPlay(words, way, hosts)
     try:
-        examples.play_lines(play, lines, f"{told}, {{}}, {way}")
+        play_lines(play, lines, f"{told}, {{}}, {way}")
         return play.exchanges, None, None
     except LeftOut as reason:
         return 0, None, reason.args[0]

@@ -9,7 +9,6 @@ What isn't installed is skipped by name.
 import contextlib
 import hashlib
 import http.client
-import json
 import multiprocessing
 import os
 import pathlib
@@ -19,10 +18,10 @@ import shutil
 import socket
 import statistics
 import subprocess
-import sys
 import tempfile
 import time
 
+from depositing import as_file, as_segment, as_upload, by_reference, exchange, first_file
 from hosted import ADDRESS, MIB, PATIENCE, Host, until
 from served import Server, free_port
 
@@ -31,7 +30,7 @@ SECONDS = 5
 SEGMENT, SEGMENTS = 16 * MIB, 32
 # So long may one hold the others up for each 16 MiB of its own.
 GOAL = 0.1
-DEPOSIT = {"Content-Disposition": "attachment; filename=a", "Content-Type": "application/octet-stream"}
+DEPOSIT = as_file("a", "application/octet-stream")
 NGINX = """daemon off;
 worker_processes 1;
 pid {folder}/nginx.pid;
@@ -129,9 +128,7 @@ def load(*what):
 
 def ask(port, method, path, body=None, headers=None):
     connection = http.client.HTTPConnection(ADDRESS, port, timeout=10 * PATIENCE)
-    connection.request(method, path, body, headers or {})
-    reply = connection.getresponse()
-    content = reply.read()
+    reply, content = exchange(connection, method, path, body, headers)
     connection.close()
     assert reply.status < 300, (method, path, reply.status, content[:300])
     return reply, content
@@ -140,7 +137,7 @@ def ask(port, method, path, body=None, headers=None):
 def deposited(server, content):
     """Returns the path of the file."""
     _, document = ask(server.port, "POST", "/service", content, DEPOSIT)
-    return server.path_of(json.loads(document)["links"][0]["@id"])
+    return server.path_of(first_file(document))
 
 
 def is_at_rest(port):
@@ -195,8 +192,7 @@ def probe(port, ended, found):
     connection, waits = http.client.HTTPConnection(ADDRESS, port, timeout=10 * PATIENCE), []
     while not ended.is_set():
         began = time.perf_counter()
-        connection.request("GET", "/service")
-        connection.getresponse().read()
+        exchange(connection, "GET", "/service")
         waits.append(time.perf_counter() - began)
         time.sleep(0.001)
     connection.close()
@@ -227,20 +223,17 @@ def beside(host, what, size, work):
 def send_upload(host):
     """An upload of segments of 16 MiB that waits for its deposit. Returns its URL and the digest of the whole."""
     whole, content = hashlib.sha256(), os.urandom(SEGMENT)
-    sizes = f"size={SEGMENT * SEGMENTS}; segment_count={SEGMENTS}; segment_size={SEGMENT}"
-    reply, _ = ask(host.port, "POST", "/staging", None, {"Content-Disposition": f"segment-init; {sizes}"})
+    reply, _ = ask(host.port, "POST", "/staging", None, as_upload(SEGMENT * SEGMENTS, SEGMENTS, SEGMENT))
     url = reply.headers["Location"]
     for number in range(1, SEGMENTS + 1):
         whole.update(content)
-        ask(host.port, "POST", host.path_of(url), content, {"Content-Disposition": f"segment; segment_number={number}"})
+        ask(host.port, "POST", host.path_of(url), content, as_segment(number))
     return url, whole.digest()
 
 
 def deposit_upload(host, url):
-    entry = {"@id": url, "contentDisposition": "attachment; filename=b"}
-    headers = {"Content-Disposition": "attachment; by-reference=true", "Content-Type": "application/json"}
-    _, document = ask(host.port, "POST", "/service", json.dumps({"byReferenceFiles": [entry]}), headers)
-    return host.path_of(json.loads(document)["links"][0]["@id"])
+    _, document = ask(host.port, "POST", "/service", *by_reference({url: "attachment; filename=b"}))
+    return host.path_of(first_file(document))
 
 
 def read_whole(host, path):
@@ -289,7 +282,3 @@ def main():
         one_beside_others(host)
     print(f"load {os.getloadavg()[0]:.1f} at the end")
     return 0
-
-
-if __name__ == "__main__":
-    sys.exit(main())

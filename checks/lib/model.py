@@ -6,7 +6,6 @@ readings of one page have to agree before a byte of an example is believed.
 
 import base64
 import binascii
-import calendar
 import copy
 import hashlib
 import ipaddress
@@ -731,7 +730,7 @@ class Step:
         coding = request.single("Content-Encoding")
         refuse_if(coding is not None and coding.lower() != b"identity", "ContentTypeNotAcceptable")
         deposits = operation in (("POST", "service"), ("POST", "object"), ("PUT", "object"))
-        self.kind, self.told = self.read_kind(operation, deposits)
+        self.kind, self.told = self.read_kind(operation)
         self.in_progress = False
         if deposits:
             value = request.single("In-Progress")
@@ -745,7 +744,7 @@ class Step:
             raise Refused("BadRequest") from None
         refuse_if(not has_digests(request.content, promised), "DigestMismatch")
 
-    def read_kind(self, operation, deposits):
+    def read_kind(self, operation):
         values, kind, told = self.request.values("Content-Disposition"), None, None
         refuse_if(len(values) > 1, "BadRequest")
         if not values:

@@ -1,6 +1,5 @@
 """Starts `swordd serve` for the checks of a client: on a free port, over a store in a folder of its own."""
 
-import hashlib
 import http.client
 import pathlib
 import socket
@@ -9,18 +8,23 @@ import tempfile
 import time
 
 from commands import start
+from depositing import ADDRESS, exchange
 from expectations import expect
 
-
-def digest(content):
-    """What a Digest field says of a content."""
-    return f"SHA-256={hashlib.sha256(content).hexdigest()},SHA-512={hashlib.sha512(content).hexdigest()}"
+# Ports with as many digits as that of the examples, so that no length changes.
+FOUR_DIGITS = range(8081, 9999)
 
 
-def free_port():
-    with socket.socket() as probe:
-        probe.bind(("127.0.0.1", 0))
-        return probe.getsockname()[1]
+def free_port(ports=(0,)):
+    """A port of 127.0.0.1 at which nothing listens: the first one of these, or any."""
+    for port in ports:
+        with socket.socket() as probe:
+            try:
+                probe.bind((ADDRESS, port))
+                return probe.getsockname()[1]
+            except OSError:
+                pass
+    raise OSError("no port is free")
 
 
 def wait_for_listener(port, process, said, patience):
@@ -68,10 +72,8 @@ class Served:
 
     def ask(self, status, method, path, body=None, headers=None):
         """One request over a connection of its own: its status has to be this one. Returns the reply and its content."""
-        connection = http.client.HTTPConnection("127.0.0.1", self.port, timeout=60)
-        connection.request(method, path, body, headers or {})
-        reply = connection.getresponse()
-        content = reply.read()
+        connection = http.client.HTTPConnection(ADDRESS, self.port, timeout=60)
+        reply, content = exchange(connection, method, path, body, headers)
         connection.close()
         expect(f"{method} {path}", reply.status, status)
         return reply, content
@@ -104,11 +106,12 @@ class Served:
 
 
 class Server(Served):
-    """`swordd serve`, which ends after so many connections. `how` is what `subprocess.Popen` takes besides."""
+    """`swordd serve`, which ends after so many connections, under the command `front` if there is one. `how` is what
+    `subprocess.Popen` takes besides."""
 
-    def __init__(self, count, folder=None, port=None, patience=60, **how):
+    def __init__(self, count, folder=None, port=None, patience=60, front=(), **how):
         super().__init__(folder, port, patience)
-        self.process = start("serve", str(self.port), self.store, str(count), stderr=subprocess.PIPE, **how)
+        self.process = start("serve", str(self.port), self.store, str(count), front=front, stderr=subprocess.PIPE, **how)
 
     def said(self):
         return self.process.stderr.read().decode()

@@ -8,11 +8,12 @@ import os
 import random
 import selectors
 import shutil
-import socket
 import time
 from concurrent.futures import ThreadPoolExecutor
 from functools import partial
 
+import depositing
+from depositing import as_file, by_reference, first_file
 from expectations import expect
 from hosted import ADDRESS, MIB, PATIENCE, Host, until
 
@@ -26,40 +27,30 @@ ELSEWHERE = "127.0.0.2"
 SMALL_ROOM = 4096
 
 
-class Client:
-    """A client over one connection, which it keeps."""
+class Client(depositing.Client):
+    """A client over one connection, which notes what it asked and how long it waited at most."""
 
     def __init__(self, host, source=ADDRESS):
-        self.host, self.source, self.longest, self.asked = host, source, 0, []
-        self.connection = http.client.HTTPConnection(ADDRESS, host.port, timeout=PATIENCE, source_address=(source, 0))
+        super().__init__(host, PATIENCE, source)
+        self.source, self.longest, self.asked = source, 0, []
 
-    def ask(self, status, method, path, body=None, headers=None):
+    def ask(self, status, method, path, body=None, fields=None):
         began = time.monotonic()
-        self.connection.request(method, path, body, headers or {})
-        reply = self.connection.getresponse()
-        content = reply.read()
+        reply, content = super().ask(status, method, path, body, fields)
         self.longest = max(self.longest, time.monotonic() - began)
         self.asked.append((self.source, method, path, reply.status))
-        expect(f"{method} {path}", reply.status, status)
         return reply, content
 
     def deposit(self, content, media="application/octet-stream"):
         """Returns the path of the file, and what it is told to be."""
-        headers = {"Content-Disposition": "attachment; filename=a", "Content-Type": media}
-        _, document = self.ask(201, "POST", "/service", content, headers)
+        _, document = self.ask(201, "POST", "/service", content, as_file("a", media))
         link = json.loads(document)["links"][0]
-        return self.host.path_of(link["@id"]), link["contentType"]
+        return self.server.path_of(link["@id"]), link["contentType"]
 
     def read(self, path, content):
         reply, came = self.ask(200, "GET", path)
         expect(f"the bytes of {path}", hashlib.sha256(came).digest(), hashlib.sha256(content).digest())
         return reply.headers["Content-Type"]
-
-    def __enter__(self):
-        return self
-
-    def __exit__(self, *_):
-        self.connection.close()
 
 
 def at_once(works):
@@ -307,21 +298,16 @@ def slow():
 
 # ---- broken ----
 
-def segment(number):
-    return {"Content-Disposition": f"segment; segment_number={number}"}
-
-
 def broken():
     size, count = 200_000, 5
     content = os.urandom(size * count - 7)
     parts = [content[at:at + size] for at in range(0, len(content), size)]
     with Host() as host:
         with Client(host) as client:
-            sizes = f"size={len(content)}; segment_count={count}; segment_size={size}"
-            reply, _ = client.ask(201, "POST", "/staging", headers={"Content-Disposition": f"segment-init; {sizes}"})
-            url, path = reply.headers["Location"], host.path_of(reply.headers["Location"])
+            url = client.open(len(content), count, size)
+            path = host.path_of(url)
             for number in (1, 3):
-                client.ask(204, "POST", path, parts[number - 1], segment(number))
+                client.segment(204, url, number, parts[number - 1])
         with host.connect() as wire:
             head = HEAD.format(size).replace("/service", path).replace("attachment; filename=a", "segment; segment_number=2")
             wire.sendall(head.encode() + parts[1][:size // 2])
@@ -331,11 +317,9 @@ def broken():
             _, document = client.ask(200, "GET", path)
             expect("what was received", json.loads(document)["segments"]["received"], [1, 3])
             for number in (2, 3, 4, 5):
-                client.ask(204, "POST", path, parts[number - 1], segment(number))
-            entry = {"@id": url, "contentDisposition": "attachment; filename=b"}
-            headers = {"Content-Disposition": "attachment; by-reference=true", "Content-Type": "application/json"}
-            _, document = client.ask(201, "POST", "/service", json.dumps({"byReferenceFiles": [entry]}), headers)
-            client.read(host.path_of(json.loads(document)["links"][0]["@id"]), content)
+                client.segment(204, url, number, parts[number - 1])
+            _, document = client.ask(201, "POST", "/service", *by_reference({url: "attachment; filename=b"}))
+            client.read(host.path_of(first_file(document)), content)
         return f"{count} segments, one of which broke off in its midst"
 
 
@@ -423,10 +407,10 @@ def address():
         for client in mine:
             client.ask(200, "GET", "/service")
         expect("the reasons that it tells", host.reasons(), {"address_limit": 10})
-        mine.pop().connection.close()
+        mine.pop().close()
         expect("whether one more is served once another has left", until(lambda: is_served(host, ADDRESS)), True)
         for client in mine:
-            client.connection.close()
+            client.close()
         return f"{most} from one address, further ones turned away"
 
 

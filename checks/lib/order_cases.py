@@ -3,7 +3,7 @@ that checks/rulings.py writes.
 
 A section is an operation that is accepted as it stands. What breaks one of its rules stands there with the rule's number in
 docs/PROFILE.md; a part behind the dot is a rule within a rule, as they are numbered there or in the order of the text. How a
-setting is written says checks/order.py; ` & ` joins several.
+setting is written says order.py; ` & ` joins several.
 """
 
 import json

@@ -6,7 +6,9 @@ import shutil
 import sys
 from pathlib import Path
 
-ROOT = Path(__file__).resolve().parent.parent
+ROOT = Path(__file__).resolve().parent.parent.parent
+# The files of examples.
+DATA = ROOT / "crates/examples/data"
 PARTS = ("src", "specs", "proofs")
 
 

@@ -12,9 +12,10 @@ STORE_FAULT = "swordd: store fault\n"
 TRANSFER_FAULT = "swordd: input or output fault\n"
 
 
-def start(*words, **how):
-    """Starts the program with these words, and with what `subprocess.Popen` takes besides."""
-    return subprocess.Popen([built_program("swordd"), *words], **how)
+def start(*words, front=(), **how):
+    """Starts the program with these words, under the command `front` if there is one, and with what `subprocess.Popen` takes
+    besides."""
+    return subprocess.Popen([*front, built_program("swordd"), *words], **how)
 
 
 def ends(status, line, *words, given=b"", **how):
