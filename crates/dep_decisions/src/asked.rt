@@ -5,7 +5,7 @@ ghost use Rattle.dep_fixity.specs.Fixity.{digests_of};
 ghost use Rattle.dep_docs_in.specs.declared.reference.Reference.{Reference as AReference};
 ghost use Rattle.dep_decisions.specs.Asked.{IsRead, asked_at, name_in, opened_by, received_by};
 ghost use Rattle.dep_decisions.specs.Decisions.{assembled_file, behalf_of, decision_with, deposit_of, files_of, ingests, posted_file, referred_files, replaced_file, texts_of};
-ghost use Rattle.dep_decisions.specs.ContentRows.{purpose_in};
+ghost use Rattle.dep_decisions.specs.ContentRules.{purpose_in};
 ghost use Rattle.dep_decisions.specs.Kinds.{kind_of};
 ghost use Rattle.dep_decisions.specs.Memory.{MakesFiles};
 ghost use Rattle.dep_decisions.specs.declared.decision.Decision.TheVariants.{Append, Create, Replace, SetFiles, SetMetadata, Show};
