@@ -19,7 +19,7 @@ use crate::operation::Operation;
 use crate::purpose::{Purpose, content_purpose, is_completion, is_true, takes_kind};
 use dep_docs_in::{DEFAULT_MEDIA, Pointed, Reference, References};
 use dep_fields::{Field, Kind};
-use dep_fixity::{Digests, Hasher};
+use dep_fixity::Digests;
 use dep_types::{Metadata, Method, Resource, Text};
 use std::alloc::{AllocError, Global};
 
@@ -371,7 +371,7 @@ fn posted_file(
     };
     let digests = match digests {
         Some(digests) => digests,
-        None => content_digests(operation.content.as_slice()),
+        None => operation.content.digests(),
     };
     new_file(
         alloc,
@@ -413,15 +413,6 @@ fn behalf(alloc: Global, operation: &Operation<'_>) -> Result<Option<Text>, Allo
         Field::Value(behalf) => Ok(Some(Text::copied(alloc, behalf.as_str())?)),
         _ => Ok(None),
     }
-}
-
-/// The digests of a content.
-pub fn content_digests(content: &[u8]) -> Digests
-    ensures { result ≡ digests_of content.now }
-{
-    let mut hasher = Hasher::new();
-    hasher.update(content);
-    hasher.finish()
 }
 
 // The uploads that the entries point at, as files.

@@ -8,7 +8,6 @@ ghost use Rattle.dep_types.specs.declared.refusal.Refusal.TheVariants as why;
 ghost use Rattle.dep_decisions.specs.ContentRules.{digests_if_promised, fields_by, fields_refusal, format_by, purpose_in, type_by};
 ghost use Rattle.dep_decisions.specs.Rules.{is_json, media_name, digest_rule, encoding_rule, in_progress_rule, kind_rule, reads_in_progress, unless};
 
-use crate::asked::content_digests;
 use crate::operation::Operation;
 use crate::purpose::{Purpose, content_purpose, is_completion};
 use dep_fields::Field;
@@ -207,9 +206,7 @@ pub fn digests_if_promised(operation: &Operation<'_>) -> Option<Digests>
     ensures { result ≡ digests_if_promised operation.now operation.now.fields.digest }
 {
     match &operation.fields.digest {
-        Field::Value(list) if list.promises() => {
-            Some(content_digests(operation.content.as_slice()))
-        }
+        Field::Value(list) if list.promises() => { Some(operation.content.digests()) }
         _ => None,
     }
 }

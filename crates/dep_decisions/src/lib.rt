@@ -10,7 +10,7 @@ mod numbers;
 mod operation;
 mod purpose;
 
-pub use asked::{ReadContent, content_digests, decision_on};
+pub use asked::{ReadContent, decision_on};
 pub use content_rules::{digest_rule, digests_if_promised, fields_rule, is_binary};
 pub use decision::{Decision, Deposit, NewFile, NewFiles, Source};
 pub use numbers::numbers_for;
