@@ -17,7 +17,7 @@ use Rattle.dep_fields.specs.declared.kind.Kind.TheVariants as of
 use Rattle.dep_docs_in.specs.declared.reference.Reference.{Reference}
 use Rattle.dep_decisions.specs.Kinds.{kind_of, kind_without, is_completion, may_complete, takes_kind}
 use Rattle.dep_decisions.specs.Decisions.{decision_at, deposit_of, ingests, references_in}
-use Rattle.dep_decisions.specs.Rules.{has_object, document_rule, kind_rule, presence_rule, presence_refusal, refusal, rows_met, tag_at}
+use Rattle.dep_decisions.specs.Rules.{has_object, document_rule, kind_rule, presence_rule, presence_refusal, refusal, rules_met, tag_at}
 use Rattle.dep_decisions.specs.Effects.{appended, at, changed, effect, effect_of, filled, ingested_by}
 use Rattle.dep_decisions.specs.declared.operation.Operation.{Operation}
 use Rattle.dep_decisions.specs.declared.decision.Deposit.{Deposit}
@@ -134,7 +134,7 @@ module _ (config : Config) (s : State) (op : Operation) where
   pub posted_tag : (n : ℕ) → op.target.resource ≡ Object n → op.target.method ≡ Post → refusal config s op ≡ None
       → (accepted_answer config (effect config s op) op).tag ≡ Some s.next.change
   posted_tag n r m e =
-      let all = all_passed (rows_met config s op (Object n) Post) (as_asked config s op (Object n) Post r m e) in
+      let all = all_passed (rules_met config s op (Object n) Post) (as_asked config s op (Object n) Post r m e) in
       let o = object_there n r all.1.0 in
       ap (λ (a : Answer). a.tag) (answered config s op (Object n) Post r m (effect config s op))
       ∙ tells (Object n) Post r m (grown_or_completed n o.0 o.1 r m all.1.1.1.1.0 all.1.1.1.1.1.1.1.1.1.0 (is_completion op) refl)
@@ -142,7 +142,7 @@ module _ (config : Config) (s : State) (op : Operation) where
   pub put_tag : (n : ℕ) → op.target.resource ≡ Object n → op.target.method ≡ Put → refusal config s op ≡ None
       → (accepted_answer config (effect config s op) op).tag ≡ Some s.next.change
   put_tag n r m e =
-      let all = all_passed (rows_met config s op (Object n) Put) (as_asked config s op (Object n) Put r m e) in
+      let all = all_passed (rules_met config s op (Object n) Put) (as_asked config s op (Object n) Put r m e) in
       let o = object_there n r all.1.0 in
       ap (λ (a : Answer). a.tag) (answered config s op (Object n) Put r m (effect config s op))
       ∙ tells (Object n) Put r m (in_its_place n o.0 o.1 r m all.1.1.1.1.0 all.1.1.1.1.1.1.1.1.1.0)

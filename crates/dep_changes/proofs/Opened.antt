@@ -19,7 +19,7 @@ use Rattle.dep_fields.specs.declared.kind.Opening.{Opening}
 use Rattle.dep_docs_in.specs.declared.reference.Reference.{Reference}
 use Rattle.dep_decisions.specs.Kinds.{is_completion, kind_of}
 use Rattle.dep_decisions.specs.Decisions.{decision, decision_at, decision_with, deposit_of, files_of, ingests, opened, received, references_in, replaced_file, texts_of}
-use Rattle.dep_decisions.specs.Rules.{opening_refusal, refusal, rows_met, size_refusal, size_rule, unless, when}
+use Rattle.dep_decisions.specs.Rules.{opening_refusal, refusal, rules_met, size_refusal, size_rule, unless, when}
 use Rattle.dep_decisions.specs.declared.operation.Operation.{Operation}
 use Rattle.dep_decisions.specs.declared.decision.Deposit.{Deposit}
 use Rattle.dep_decisions.specs.declared.decision.Decision.{Decision}
@@ -105,7 +105,7 @@ module _ (config : Config) (s : State) (op : Operation) (limits : HasLimits conf
   unfolding size_rule
   sizes e = e
 
-  asked : (resource : Resource) (method : Method) → first_of (rows_met config s op resource method) ≡ None → AskedFit (decision_at refs op resource method)
+  asked : (resource : Resource) (method : Method) → first_of (rules_met config s op resource method) ≡ None → AskedFit (decision_at refs op resource method)
   asked Service Post e = mapped (λ d. Create d (ingests op)) (λ d. tt) (deposit_of refs op)
   asked Service Get e = tt
   asked Service Head e = tt
@@ -131,7 +131,7 @@ module _ (config : Config) (s : State) (op : Operation) (limits : HasLimits conf
   asked (File n f) Get e = tt
   asked (File n f) Head e = tt
   asked (File n f) Post e = tt
-  asked Staging Post e = let rows = all_passed (rows_met config s op Staging Post) e in opened_fits (kind_of op) (sizes rows.1.1.1.1.1.1.1.1.1.1.0)
+  asked Staging Post e = let rows = all_passed (rules_met config s op Staging Post) e in opened_fits (kind_of op) (sizes rows.1.1.1.1.1.1.1.1.1.1.0)
   asked Staging Get e = tt
   asked Staging Head e = tt
   asked Staging Put e = tt

@@ -25,11 +25,12 @@ use crate::new_files::{set_file, set_files};
 use crate::objects::{complete, drop_file, drop_object, set_texts};
 use crate::uploads::{open, receive};
 use dep_decisions::{Decision, numbers_for};
+use dep_fixity::HashedOctets;
 use dep_objects::set_counters;
 use dep_rulings::View;
 use dep_staging::drop_upload;
 use dep_tables::{StateRow, Statements};
-use dep_types::{Octets, StoreFault};
+use dep_types::StoreFault;
 use std::alloc::Global;
 
 /// Makes of the tables what an accepted request's decision makes of the state. The view tells the state where the
@@ -43,7 +44,7 @@ pub fn carry_out<T: Statements>(
     alloc: Global,
     view: &View,
     decision: &Decision,
-    content: &Octets,
+    content: &HashedOctets,
 ) -> Result<(), StoreFault>
     requires { IsTrue (room_for view.now.next (numbers_for decision.now)) }
     ensures map { FromMaps (T.state tx.old) (T.state tx.new)

@@ -2,8 +2,9 @@
 
 ghost use Rattle.std.specs.Prelude.{◌≡◌, Some, None, IfOk, IfErr};
 
+use dep_fixity::HashedOctets;
 use dep_rulings::View;
-use dep_types::{ObjectRow, Octets, StoreFault};
+use dep_types::{ObjectRow, StoreFault};
 use std::alloc::Global;
 
 /// What a change is made with, beside its decision.
@@ -11,7 +12,7 @@ use std::alloc::Global;
 pub(crate) struct Change<'a> {
     pub(crate) alloc: Global,
     pub(crate) view: &'a View,
-    pub(crate) content: &'a Octets,
+    pub(crate) content: &'a HashedOctets,
 }
 
 /// The object that is touched. That none is there is a fault of the store, as the rules let no such request through.

@@ -25,7 +25,7 @@ use Rattle.dep_docs_in.specs.declared.reference.Reference.{Reference}
 use Rattle.dep_docs_in.proofs.FitDocuments.{metadata-fit, references-fit, nothing-kept}
 use Rattle.dep_decisions.specs.Kinds.{kind_of, kind_by, kind_without, is_completion, may_hold, takes_kind}
 use Rattle.dep_decisions.specs.Decisions.{assembled_file, decision, decision_at, decision_with, deposit_by, deposit_of, files_of, ingests, opened, posted_file, received, referred_files, references_by, references_in, replaced_file, texts_of, upload_number, value_of}
-use Rattle.dep_decisions.specs.Rules.{presence_rule, size_rule, opening_refusal, presence_refusal, received_refusal, refusal, rows_met, segment_refusal, size_refusal, unless, when}
+use Rattle.dep_decisions.specs.Rules.{presence_rule, size_rule, opening_refusal, presence_refusal, received_refusal, refusal, rules_met, segment_refusal, size_refusal, unless, when}
 use Rattle.dep_decisions.specs.Effects.{effect}
 use Rattle.dep_decisions.specs.Fit.{IsFitDecision, IsFitDeposit, IsFitFile, AreFitFiles}
 use Rattle.dep_decisions.specs.declared.operation.Operation.{Operation}
@@ -211,7 +211,7 @@ module _ (config : Config) (s : State) (op : Operation) (fit : AreFit op.fields)
   fits : Fits (deposit_of (references_in config op) op)
   fits = deposit_fit (references_in config op) op (references_in_fit config op) fit
 
-  asked_fit : (resource : Resource) (method : Method) → op.target.resource ≡ resource → first_of (rows_met config s op resource method) ≡ None
+  asked_fit : (resource : Resource) (method : Method) → op.target.resource ≡ resource → first_of (rules_met config s op resource method) ≡ None
       → Good s op.content (decision_at (references_in config op) op resource method)
   asked_fit Service Post at e = created s op.content (ingests op) (deposit_of (references_in config op) op) fits
   asked_fit Service Get at e = tt
@@ -234,21 +234,21 @@ module _ (config : Config) (s : State) (op : Operation) (fit : AreFit op.fields)
   asked_fit (FileSet n) Head at e = tt
   asked_fit (FileSet n) Post at e = tt
   asked_fit (File n f) Put at e =
-      let rows = all_passed (rows_met config s op (File n f) Put) e in
+      let rows = all_passed (rules_met config s op (File n f) Put) e in
       file_set s op.content op n f (kind_of op) fit refl (file_there n f at rows.1.0)
   asked_fit (File n f) Delete at e = tt
   asked_fit (File n f) Get at e = tt
   asked_fit (File n f) Head at e = tt
   asked_fit (File n f) Post at e = tt
   asked_fit Staging Post at e =
-      let rows = all_passed (rows_met config s op Staging Post) e in
+      let rows = all_passed (rules_met config s op Staging Post) e in
       opened_fit (kind_of op) refl (sizes rows.1.1.1.1.1.1.1.1.1.1.0)
   asked_fit Staging Get at e = tt
   asked_fit Staging Head at e = tt
   asked_fit Staging Put at e = tt
   asked_fit Staging Delete at e = tt
   asked_fit (Upload u) Post at e =
-      let rows = all_passed (rows_met config s op (Upload u) Post) e in
+      let rows = all_passed (rules_met config s op (Upload u) Post) e in
       received_fit u (kind_of op) at (sizes rows.1.1.1.1.1.1.1.1.1.1.0)
   asked_fit (Upload u) Delete at e = tt
   asked_fit (Upload u) Get at e = tt

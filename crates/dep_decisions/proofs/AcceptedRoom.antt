@@ -11,7 +11,7 @@ use Rattle.dep_types.specs.declared.target.Resource.TheVariants.{Service, Object
 use Rattle.dep_types.specs.declared.target.Method.{Method}
 use Rattle.dep_types.specs.declared.target.Method.TheVariants.{Get, Head, Post, Put, Delete}
 use Rattle.dep_decisions.specs.Decisions.{decision, decision_at, decision_with, numbers_for, references_in}
-use Rattle.dep_decisions.specs.Rules.{room_rule, refusal, rows_met}
+use Rattle.dep_decisions.specs.Rules.{room_rule, refusal, rules_met}
 use Rattle.dep_decisions.specs.declared.operation.Operation.{Operation}
 use Rattle.dep_decisions.specs.declared.decision.Decision.TheVariants.{Show}
 use Rattle.dep_decisions.proofs.FoundInMaps.{all_passed, unless-none}
@@ -62,25 +62,25 @@ module _ (config : Config) (s : State) (op : Operation) where
       ∙ ap (room_for s.next) none
       ∙ nothing_has_room s.next
 
-  last_of_content : (resource : Resource) → first_of (rows_met config s op resource Post) ≡ None → room_rule config s op ≡ None
+  last_of_content : (resource : Resource) → first_of (rules_met config s op resource Post) ≡ None → room_rule config s op ≡ None
   last_of_content resource e =
-      let rows = all_passed (rows_met config s op resource Post) e in rows.1.1.1.1.1.1.1.1.1.1.1.0
+      let rows = all_passed (rules_met config s op resource Post) e in rows.1.1.1.1.1.1.1.1.1.1.1.0
 
   deleted : (resource : Resource) → op.target.resource ≡ resource → op.target.method ≡ Delete
-      → first_of (rows_met config s op resource Delete) ≡ None → room_for s.next (numbers_for (decision config op)) ≡ true
+      → first_of (rules_met config s op resource Delete) ≡ None → room_for s.next (numbers_for (decision config op)) ≡ true
   unfolding asked_takes
   deleted (Upload u) at by e = asked_room (Upload u) Delete at by refl
-  deleted Service at by e = let rows = all_passed (rows_met config s op Service Delete) e in room rows.1.1.1.0
-  deleted (Object n) at by e = let rows = all_passed (rows_met config s op (Object n) Delete) e in room rows.1.1.1.0
-  deleted (Metadata n) at by e = let rows = all_passed (rows_met config s op (Metadata n) Delete) e in room rows.1.1.1.0
-  deleted (FileSet n) at by e = let rows = all_passed (rows_met config s op (FileSet n) Delete) e in room rows.1.1.1.0
-  deleted (File n f) at by e = let rows = all_passed (rows_met config s op (File n f) Delete) e in room rows.1.1.1.0
-  deleted Staging at by e = let rows = all_passed (rows_met config s op Staging Delete) e in room rows.1.1.1.0
-  deleted (BagList n) at by e = let rows = all_passed (rows_met config s op (BagList n) Delete) e in room rows.1.1.1.0
-  deleted (BagFile n path) at by e = let rows = all_passed (rows_met config s op (BagFile n path) Delete) e in room rows.1.1.1.0
+  deleted Service at by e = let rows = all_passed (rules_met config s op Service Delete) e in room rows.1.1.1.0
+  deleted (Object n) at by e = let rows = all_passed (rules_met config s op (Object n) Delete) e in room rows.1.1.1.0
+  deleted (Metadata n) at by e = let rows = all_passed (rules_met config s op (Metadata n) Delete) e in room rows.1.1.1.0
+  deleted (FileSet n) at by e = let rows = all_passed (rules_met config s op (FileSet n) Delete) e in room rows.1.1.1.0
+  deleted (File n f) at by e = let rows = all_passed (rules_met config s op (File n f) Delete) e in room rows.1.1.1.0
+  deleted Staging at by e = let rows = all_passed (rules_met config s op Staging Delete) e in room rows.1.1.1.0
+  deleted (BagList n) at by e = let rows = all_passed (rules_met config s op (BagList n) Delete) e in room rows.1.1.1.0
+  deleted (BagFile n path) at by e = let rows = all_passed (rules_met config s op (BagFile n path) Delete) e in room rows.1.1.1.0
 
   by_method : (resource : Resource) (method : Method) → op.target.resource ≡ resource → op.target.method ≡ method
-      → first_of (rows_met config s op resource method) ≡ None → room_for s.next (numbers_for (decision config op)) ≡ true
+      → first_of (rules_met config s op resource method) ≡ None → room_for s.next (numbers_for (decision config op)) ≡ true
   by_method resource Get at by e = asked_room resource Get at by (get_takes resource)
   by_method resource Head at by e = asked_room resource Head at by (head_takes resource)
   by_method resource Post at by e = room (last_of_content resource e)

@@ -23,7 +23,7 @@ use Rattle.dep_fields.specs.declared.kind.Kind.TheVariants as of
 use Rattle.dep_docs_in.specs.declared.reference.Reference.{Reference}
 use Rattle.dep_decisions.specs.Kinds.{is_absent, is_completion, kind_by, kind_of, kind_without, may_complete, may_hold, takes_kind}
 use Rattle.dep_decisions.specs.Decisions.{appended_or_completed, assembled_file, decision_at, decision_with, deposit_by, deposit_of, files_of, ingests, references_by, references_in, referred_files}
-use Rattle.dep_decisions.specs.Rules.{document_refusal, has_object, document_rule, presence_rule, entries_refusal, presence_refusal, references_refusal, refusal, promised_of, rows_met, unless}
+use Rattle.dep_decisions.specs.Rules.{document_refusal, has_object, document_rule, presence_rule, entries_refusal, presence_refusal, references_refusal, refusal, promised_of, rules_met, unless}
 use Rattle.dep_decisions.specs.Effects.{added, appended, at, effect, effect_of, file_from, filled, ingested_by, uploads_of, with_files, without}
 use Rattle.dep_decisions.specs.declared.operation.Operation.{Operation}
 use Rattle.dep_decisions.specs.declared.decision.NewFile.{NewFile}
@@ -277,10 +277,10 @@ module _ (config : Config) (s : State) (op : Operation) (refs : List Reference) 
       ∙ ap (λ (o : Option Kind). option_and_then (document_refusal config s op) o) (sym (kind_is config op refs read))
       ∙ e
 
-  rows : (resource : Resource) (method : Method) → (method ≡ Post) ⊎ (method ≡ Put) → first_of (rows_met config s op resource method) ≡ None
+  rows : (resource : Resource) (method : Method) → (method ≡ Post) ⊎ (method ≡ Put) → first_of (rules_met config s op resource method) ≡ None
       → (presence_rule s op ≡ None) × (document_rule config s op ≡ None)
-  rows resource Post by e = let all = all_passed (rows_met config s op resource Post) e in (all.1.0, all.1.1.1.1.1.1.1.1.1.0)
-  rows resource Put by e = let all = all_passed (rows_met config s op resource Put) e in (all.1.0, all.1.1.1.1.1.1.1.1.1.0)
+  rows resource Post by e = let all = all_passed (rules_met config s op resource Post) e in (all.1.0, all.1.1.1.1.1.1.1.1.1.0)
+  rows resource Put by e = let all = all_passed (rules_met config s op resource Put) e in (all.1.0, all.1.1.1.1.1.1.1.1.1.0)
   rows resource Get (inl by) e = cc by
   rows resource Get (inr by) e = cc by
   rows resource Head (inl by) e = cc by

@@ -12,9 +12,9 @@ use Rattle.dep_docs_in.specs.Fit.{IsKept, AreKept}
 use Rattle.dep_decisions.specs.Effects.{at, joined, without}
 use Rattle.dep_decisions.specs.Rules.{unless}
 
--- ---- rows that were passed
+-- ---- rules that were passed
 
--- each of these rows was passed
+-- each of these rules was passed
 abbrev pub AllPassed : List (Option Refusal) → Type 0
 AllPassed [] = Unit {0}
 AllPassed (r ∷ rest) = (r ≡ None) × AllPassed rest

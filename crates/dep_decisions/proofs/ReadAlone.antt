@@ -12,7 +12,7 @@ use Rattle.dep_types.specs.declared.target.Method.{Method}
 use Rattle.dep_types.specs.declared.target.Method.TheVariants.{Get, Head, Post, Put, Delete}
 use Rattle.dep_fields.specs.declared.field.Field.{Field}
 use Rattle.dep_decisions.specs.Decisions.{decision, decision_at, decision_with, references_in}
-use Rattle.dep_decisions.specs.Rules.{behalf_refusal, behalf_rule, presence_rule, presence_refusal, refusal, rows_met}
+use Rattle.dep_decisions.specs.Rules.{behalf_refusal, behalf_rule, presence_rule, presence_refusal, refusal, rules_met}
 use Rattle.dep_decisions.specs.Effects.{effect, effect_of}
 use Rattle.dep_decisions.specs.declared.operation.Operation.{Operation}
 use Rattle.dep_decisions.specs.declared.decision.Decision.{Decision}
@@ -34,7 +34,7 @@ asked_at resource method = asked_by (dropped_at resource method)
 
 -- both rules, and what is asked for
 record IsReadSo (config : Config) (s : State) (op : Operation) (resource : Resource) (method : Method) : Type 0 where
-  refused : first_of (rows_met config s op resource method) ≡ first_of (behalf_rule config op ∷ presence_rule s op ∷ [])
+  refused : first_of (rules_met config s op resource method) ≡ first_of (behalf_rule config op ∷ presence_rule s op ∷ [])
   asks : unwrap_or (decision_at (references_in config op) op resource method) Show ≡ asked_at resource method
 
 read_so : (config : Config) (s : State) (op : Operation) (resource : Resource) (method : Method) → IsTrue (reads_no_further resource method)

@@ -16,7 +16,7 @@ use Rattle.dep_fields.specs.declared.kind.Kind.{Kind}
 use Rattle.dep_fields.specs.declared.kind.Kind.TheVariants as of
 use Rattle.dep_decisions.specs.Kinds.{kind_of}
 use Rattle.dep_decisions.specs.Decisions.{decision, decision_at, decision_with, numbers_for, received, references_in}
-use Rattle.dep_decisions.specs.Rules.{document_refusal, document_rule, presence_refusal, presence_rule, received_refusal, refusal, room_rule, rows_met, segment_refusal, size_refusal, size_rule, tag_at, tag_refusal, tag_rule, unless}
+use Rattle.dep_decisions.specs.Rules.{document_refusal, document_rule, presence_refusal, presence_rule, received_refusal, refusal, room_rule, rules_met, segment_refusal, size_refusal, size_rule, tag_at, tag_refusal, tag_rule, unless}
 use Rattle.dep_decisions.specs.Effects.{effect, effect_of, with_segment}
 use Rattle.dep_decisions.specs.Laws.{posted_to}
 use Rattle.dep_decisions.specs.declared.operation.Operation.{Operation}
@@ -41,11 +41,11 @@ module _ (config : Config) (op : Operation) (u k : ℕ) (target : op.target ≡ 
   -- ---- the rules
 
   abbrev rows : State → List (Option Refusal)
-  rows s = rows_met config s op (at_resource.Upload u) Post
+  rows s = rules_met config s op (at_resource.Upload u) Post
 
   rows_are : (s : State) → refusal config s op ≡ first_of (rows s)
   unfolding refusal
-  rows_are s = ap (λ (t : Target). first_of (rows_met config s op t.resource t.method)) target
+  rows_are s = ap (λ (t : Target). first_of (rules_met config s op t.resource t.method)) target
 
   passed : (s : State) → refusal config s op ≡ None → AllPassed (rows s)
   passed s accepted = all_passed (rows s) (sym (rows_are s) ∙ accepted)

@@ -1,5 +1,5 @@
 pub mod Asked
-pub mod ContentRows
+pub mod ContentRules
 pub mod Decisions
 pub mod Effects
 pub mod Kinds

@@ -1,7 +1,7 @@
 -- What takes memory of what an accepted request asks for.
 use Rattle.std.specs.Prelude.{Bool, true, false, List, is_some, Option, Some, IsTrue}
 use Rattle.dep_docs_in.specs.declared.reference.Reference.{Reference}
-use Rattle.dep_decisions.specs.ContentRows.{purpose_in}
+use Rattle.dep_decisions.specs.ContentRules.{purpose_in}
 use Rattle.dep_decisions.specs.declared.operation.Operation.{Operation}
 use Rattle.dep_decisions.specs.declared.purpose.Purpose.{Purpose}
 use Rattle.dep_decisions.specs.declared.purpose.Purpose.TheVariants.{File, References}

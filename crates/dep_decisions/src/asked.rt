@@ -5,7 +5,7 @@ ghost use Rattle.dep_fixity.specs.Fixity.{digests_of};
 ghost use Rattle.dep_docs_in.specs.declared.reference.Reference.{Reference as AReference};
 ghost use Rattle.dep_decisions.specs.Asked.{IsRead, asked_at, name_in, opened_by, received_by};
 ghost use Rattle.dep_decisions.specs.Decisions.{assembled_file, behalf_of, decision_with, deposit_of, files_of, ingests, posted_file, referred_files, replaced_file, texts_of};
-ghost use Rattle.dep_decisions.specs.ContentRows.{purpose_in};
+ghost use Rattle.dep_decisions.specs.ContentRules.{purpose_in};
 ghost use Rattle.dep_decisions.specs.Kinds.{kind_of};
 ghost use Rattle.dep_decisions.specs.Memory.{MakesFiles};
 ghost use Rattle.dep_decisions.specs.declared.decision.Decision.TheVariants.{Append, Create, Replace, SetFiles, SetMetadata, Show};
@@ -19,7 +19,7 @@ use crate::operation::Operation;
 use crate::purpose::{Purpose, content_purpose, is_completion, is_true, takes_kind};
 use dep_docs_in::{DEFAULT_MEDIA, Pointed, Reference, References};
 use dep_fields::{Field, Kind};
-use dep_fixity::{Digests, Hasher};
+use dep_fixity::Digests;
 use dep_types::{Metadata, Method, Resource, Text};
 use std::alloc::{AllocError, Global};
 
@@ -371,7 +371,7 @@ fn posted_file(
     };
     let digests = match digests {
         Some(digests) => digests,
-        None => content_digests(operation.content.as_slice()),
+        None => operation.content.digests(),
     };
     new_file(
         alloc,
@@ -413,15 +413,6 @@ fn behalf(alloc: Global, operation: &Operation<'_>) -> Result<Option<Text>, Allo
         Field::Value(behalf) => Ok(Some(Text::copied(alloc, behalf.as_str())?)),
         _ => Ok(None),
     }
-}
-
-/// The digests of a content.
-pub fn content_digests(content: &[u8]) -> Digests
-    ensures { result ≡ digests_of content.now }
-{
-    let mut hasher = Hasher::new();
-    hasher.update(content);
-    hasher.finish()
 }
 
 // The uploads that the entries point at, as files.

@@ -3,15 +3,15 @@
 #![tactic(auto)]
 
 mod asked;
-mod content_rows;
+mod content_rules;
 mod decision;
 pub mod laws;
 mod numbers;
 mod operation;
 mod purpose;
 
-pub use asked::{ReadContent, content_digests, decision_on};
-pub use content_rows::{digest_row, digests_if_promised, fields_row, is_binary};
+pub use asked::{ReadContent, decision_on};
+pub use content_rules::{digest_rule, digests_if_promised, fields_rule, is_binary};
 pub use decision::{Decision, Deposit, NewFile, NewFiles, Source};
 pub use numbers::numbers_for;
 pub use operation::Operation;

@@ -1,8 +1,9 @@
 //! Requests for resources.
 
 use dep_fields::SwordFields;
+use dep_fixity::HashedOctets;
 use dep_tags::IfMatch;
-use dep_types::{Octets, Target};
+use dep_types::Target;
 
 /// A request for a resource and a method that it has.
 #[derive(Drop)]
@@ -14,7 +15,7 @@ pub struct Operation<'a> {
     /// The entity tags that the request asks for (RFC 9110, section 13.1.1).
     pub if_match: Option<IfMatch<'a>>,
     /// The bytes of the body; a GET, a HEAD and a DELETE ignore them.
-    pub content: Octets,
+    pub content: HashedOctets,
     /// The connection is closed after the reply.
     pub closes: bool,
 }

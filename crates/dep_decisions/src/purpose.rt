@@ -5,7 +5,8 @@ ghost use Rattle.dep_decisions.specs.Purposes.{is_deposit, purpose_of};
 
 use crate::operation::Operation;
 use dep_fields::{Field, Kind, Opening};
-use dep_types::{Method, Octets, Resource, Target};
+use dep_fixity::HashedOctets;
+use dep_types::{Method, Resource, Target};
 
 /// What a content is for: its kind, without the name of a file.
 #[derive(Clone, Copy, Debug, PartialEq, Eq)]
@@ -75,7 +76,7 @@ fn is_deposit(kind: &Kind) -> bool
     matches!(kind, Kind::File(_) | Kind::Metadata | Kind::References)
 }
 
-fn may_hold(kind: &Kind, content: &Octets) -> bool
+fn may_hold(kind: &Kind, content: &HashedOctets) -> bool
     ensures { result ≡ may_hold kind.now content.now }
 {
     match kind {

@@ -4,7 +4,7 @@ ghost use Rattle.std.specs.Prelude.{◌≡◌, ◌<◌, ◌^◌, ℕ, List, leng
 ghost use Rattle.sha2.specs.Sha256.{sha256};
 ghost use Rattle.dep_row_maps.specs.Stored.{blocks_of};
 
-use dep_types::Octets;
+use dep_fixity::HashedOctets;
 use sha2::{Digest, Sha256};
 
 /// How many bytes each block of a content has but the last.
@@ -26,7 +26,7 @@ pub trait Content {
         ensures { result.now ≡ slice_index_or (blocks_of (bytes self.now)) place [] };
 }
 
-impl Content for Octets {
+impl Content for HashedOctets {
     ghost bytes = { λ octets. octets };
 
     fn count(&self) -> usize {

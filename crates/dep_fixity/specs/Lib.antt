@@ -1,2 +1,3 @@
 pub mod Fixity
 pub mod Faults
+pub mod Hashing

@@ -31,6 +31,16 @@ impl Hasher {
         }
     }
 
+    /// A hasher that was given the same pieces.
+    pub fn copied(&self) -> Hasher
+        ensures { result ≡ self.now }
+    {
+        Hasher {
+            sha256: self.sha256.clone().unwrap(),
+            sha512: self.sha512.clone().unwrap(),
+        }
+    }
+
     /// Adds a piece to the end of the message. However the message is cut into pieces, its digests are the same.
     pub fn update(&mut self, piece: &[u8])
         ensures { (message : List ℕ) → Holds self.old message → Holds self.new (message ++ piece.now) }

@@ -35,7 +35,7 @@ keeps_fresh limit continued bytes work fresh same_limit same_continued same_byte
 
 -- the head of a request with some bytes behind it, which stand apart
 pub keeps_sized : (work : Work) (request : SizedRequest) → IsBegun work.limit work.continued work.buffer request.head (Length request.length)
-    → Keeps work.limit work.continued (work.buffer ++ request.behind.items) (record work { progress = Sized request })
+    → Keeps work.limit work.continued (work.buffer ++ request.behind) (record work { progress = Sized request })
 keeps_sized work request begun = record { limit_is = refl; continued_is = refl; bytes_are = refl; known = begun }
 
 -- the bytes of a request in chunks that were used, and others behind them
@@ -87,12 +87,12 @@ waits_behind limit continued bytes n head frame begun part =
 
 -- from here on the bytes behind the head stand apart
 pub keeps_apart : (old new : Work) (n : ℕ) (request : SizedRequest) → IsBegun old.limit old.continued (take n old.buffer) request.head (Length request.length)
-    → request.behind.items ≡ drop n old.buffer → new.limit ≡ old.limit → new.continued ≡ old.continued → new.buffer ≡ take n old.buffer
+    → request.behind ≡ drop n old.buffer → new.limit ≡ old.limit → new.continued ≡ old.continued → new.buffer ≡ take n old.buffer
     → new.progress ≡ Sized request → Keeps old.limit old.continued old.buffer new
 keeps_apart old new n request begun behind same_limit same_continued front place = record {
   limit_is = same_limit;
   continued_is = same_continued;
-  bytes_are = ap (λ (p : Progress). bytes_with p new.buffer) place ∙ (ap (λ l. l ++ request.behind.items) front ∙ (ap (λ l. take n old.buffer ++ l) behind ∙ take-append-drop n old.buffer));
+  bytes_are = ap (λ (p : Progress). bytes_with p new.buffer) place ∙ (ap (λ l. l ++ request.behind) front ∙ (ap (λ l. take n old.buffer ++ l) behind ∙ take-append-drop n old.buffer));
   known = subst (λ (p : Progress). IsKnown new.limit new.continued new.buffer p) (sym place) (rw (same_limit, same_continued, front) begun);
 }
 

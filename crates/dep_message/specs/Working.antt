@@ -51,7 +51,7 @@ pub record ReadsChunks (limit : ℕ) (continued : Bool) (request : ChunkedReques
 -- no more, or behind it
 abbrev pub bytes_with : Progress → List ℕ → List ℕ
 bytes_with (Searched n) buffer = buffer
-bytes_with (Sized request) buffer = buffer ++ request.behind.items
+bytes_with (Sized request) buffer = buffer ++ request.behind
 bytes_with (Chunked request) buffer = request.used.items ++ buffer
 
 -- all bytes that no item has used

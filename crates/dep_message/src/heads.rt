@@ -60,3 +60,12 @@ fn has_body(framing: Framing) -> bool
         Framing::Chunked => true,
     }
 }
+
+/// Whether the octets of a content are hashed as they come: those of a segment only where its head promises a digest,
+/// since nothing asks for them else. It decides when they are hashed, and no answer.
+pub(crate) fn is_hashed_early(head: &Head) -> bool {
+    let is_segment = head
+        .values("Content-Disposition")
+        .any(|value| value.starts_with(b"segment"));
+    !is_segment || head.values("Digest").next().is_some()
+}

@@ -3,6 +3,7 @@ ghost use Rattle.std.specs.Prelude.{◌≡◌, ◌++◌, OnOk, OnErr};
 
 use crate::used::UsedBytes;
 use dep_body::ChunkReader;
+use dep_fixity::HashedOctets;
 use dep_head::Head;
 use std::alloc::AllocError;
 
@@ -13,7 +14,9 @@ pub(crate) struct SizedRequest {
     /// How many bytes the body has.
     pub length: usize,
     /// The bytes behind the head, which grow as they come.
-    pub behind: Vec<u8>,
+    pub behind: HashedOctets,
+    /// Whether those of the body are hashed as they come.
+    pub is_hashed: bool,
 }
 
 /// A request whose body is in chunks.
@@ -40,14 +43,13 @@ impl SizedRequest {
     pub fn append(&mut self, piece: &[u8]) -> Result<(), AllocError>
         ensures head { self.new.head ≡ self.old.head }
         ensures length { self.new.length ≡ self.old.length }
-        ensures ok { OnOk result (self.new.behind.items ≡ self.old.behind.items ++ piece.now) }
-        ensures err { OnErr result (self.new.behind.items ≡ self.old.behind.items) }
+        ensures ok { OnOk result (self.new.behind ≡ self.old.behind ++ piece.now) }
+        ensures err { OnErr result (self.new.behind ≡ self.old.behind) }
     {
-        let come = self.behind.len();
-        if self.behind.capacity() - come < piece.len() {
-            let twice = come.min(self.length.saturating_sub(come));
-            self.behind.reserve_exact(twice.max(piece.len()))?;
+        self.behind.append(piece, self.length)?;
+        if self.is_hashed {
+            self.behind.hash_to(self.length);
         }
-        self.behind.extend_from_slice(piece)
+        Ok(())
     }
 }

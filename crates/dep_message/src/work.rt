@@ -6,13 +6,14 @@ ghost use Rattle.dep_message.specs.Working.{IsFresh, IsSearched, HasBegun, Reads
 
 use crate::buffer::Buffer;
 use crate::first::{FirstHead, FramedHead, first_head, refusal_for};
-use crate::heads::is_without_body;
+use crate::heads::{is_hashed_early, is_without_body};
 use crate::message::Message;
 use crate::progress::{ChunkedRequest, Progress, SizedRequest};
 use crate::used::UsedBytes;
 use dep_body::{ChunkReader, Fed, FrameFault, Framing};
+use dep_fixity::HashedOctets;
 use dep_head::Head;
-use dep_types::{Octets, Refusal};
+use dep_types::Refusal;
 use std::alloc::{AllocError, Global};
 use std::mem;
 
@@ -109,7 +110,7 @@ impl Work {
         ensures { FindsNext self.old self.old.buffer self.new result }
     {
         match first.framing {
-            Framing::Empty => Ok(self.take(first.length, first.head, Vec::new(self.alloc))),
+            Framing::Empty => Ok(self.take_plain(first.length, first.head, Vec::new(self.alloc))),
             Framing::Length(length) => self.begin_sized(first.head, first.length, length as usize),
             Framing::Chunked => self.begin_chunks(first.head, first.length),
         }
@@ -134,13 +135,14 @@ impl Work {
             return Err(AllocError);
         };
         if come == size {
-            return Ok(self.take(head_length + size, head, content));
+            return Ok(self.take_plain(head_length + size, head, content));
         }
         self.buffer.truncate(head_length);
         self.keep_place(Progress::Sized(SizedRequest {
+            is_hashed: is_hashed_early(&head),
             head,
             length: size,
-            behind: content,
+            behind: HashedOctets::from_vec(content),
         }));
         Ok(Found::Nothing)
     }
@@ -165,14 +167,17 @@ impl Work {
         requires fresh { IsFresh self.old }
         requires begun { HasBegun self.old self.old.buffer request.head
             (Framing.Length request.length) }
-        ensures { FindsNext self.old (self.old.buffer ++ request.behind.items) self.new result }
+        ensures { FindsNext self.old (self.old.buffer ++ request.behind) self.new result }
     {
-        if request.behind.len() < request.length {
+        if request.behind.as_slice().len() < request.length {
             self.keep_place(Progress::Sized(request));
             return Ok(Found::Nothing);
         }
         let head_length = self.buffer.as_slice().len();
-        match self.buffer.append(&request.behind[request.length..]) {
+        match self
+            .buffer
+            .append(&request.behind.as_slice()[request.length..])
+        {
             Err(error) => {
                 self.keep_place(Progress::Sized(request));
                 Err(error)
@@ -202,7 +207,11 @@ impl Work {
                 self.keep_place(Progress::Chunked(request));
                 Ok(Found::Nothing)
             }
-            Ok(Fed::Done(used)) => Ok(self.take(used, request.head, request.reader.content())),
+            Ok(Fed::Done(used)) => Ok(self.take_plain(
+                used,
+                request.head,
+                request.reader.content(),
+            )),
             Ok(Fed::Bad) => Ok(fault_of(request.head, FrameFault::Bad)),
             Ok(Fed::TooLarge) => Ok(fault_of(request.head, FrameFault::TooLarge)),
         }
@@ -214,19 +223,26 @@ impl Work {
         drop(mem::replace(&mut self.progress, progress));
     }
 
-    // Takes a whole request, which has so many bytes of the buffer.
-    fn take(&mut self, count: usize, head: Head, content: Vec<u8>) -> Found
+    // Takes a whole request, of whose content nothing was hashed.
+    fn take_plain(&mut self, count: usize, head: Head, content: Vec<u8>) -> Found
         requires fresh { IsFresh self.old }
         requires within { count ≤ length self.old.buffer }
         ensures whole { result ≡ Found.Message (record { head = head; content = content.items }) }
         ensures left { Keeps self.old.limit false (drop count self.old.buffer) self.new }
     {
+        self.take(count, head, HashedOctets::from_vec(content))
+    }
+
+    // Takes a whole request, which has so many bytes of the buffer.
+    fn take(&mut self, count: usize, head: Head, content: HashedOctets) -> Found
+        requires fresh { IsFresh self.old }
+        requires within { count ≤ length self.old.buffer }
+        ensures whole { result ≡ Found.Message (record { head = head; content = content }) }
+        ensures left { Keeps self.old.limit false (drop count self.old.buffer) self.new }
+    {
         self.buffer.drop_front(count);
         self.continued = false;
-        Found::Message(Message {
-            head,
-            content: Octets::from_vec(content),
-        })
+        Found::Message(Message { head, content })
     }
 }
 

@@ -21,8 +21,8 @@ use Rattle.dep_decisions.specs.Rules.{digest_rule}
 use Rattle.dep_decisions.specs.declared.operation.Operation.{Operation}
 use Rattle.dep_decisions.specs.declared.purpose.Purpose.{Purpose}
 use Rattle.dep_rulings.specs.Checks.{IsChecked, IsCheckedBy}
-use Rattle.dep_decisions.specs.ContentRows.{digests_if_promised, fields_refusal, purpose_in}
-use Rattle.dep_rulings.specs.Rows.{content_by, content_refusal, document_by, has_content, references_for, size_by}
+use Rattle.dep_decisions.specs.ContentRules.{digests_if_promised, fields_refusal, purpose_in}
+use Rattle.dep_rulings.specs.Rules.{content_by, content_refusal, document_by, has_content, references_for, size_by}
 use Rattle.dep_rulings.specs.Views.{uploads_named}
 use Rattle.dep_rulings.specs.declared.order.Checked.{Checked}
 use Rattle.dep_rulings.specs.declared.order.Checked.TheVariants.{Refused, Passed}

@@ -10,7 +10,7 @@ use Rattle.dep_types.specs.declared.target.Resource.TheVariants.{Service, Object
 use Rattle.dep_fields.specs.declared.kind.Kind.{Kind}
 use Rattle.dep_fields.specs.declared.kind.Kind.TheVariants as kind
 use Rattle.dep_docs_in.specs.declared.reference.Reference.{Reference}
-use Rattle.dep_decisions.specs.ContentRows.{fields_refusal, purpose_in}
+use Rattle.dep_decisions.specs.ContentRules.{fields_refusal, purpose_in}
 use Rattle.dep_decisions.specs.Decisions.{references_by, references_in}
 use Rattle.dep_decisions.specs.Kinds.{kind_of}
 use Rattle.dep_decisions.specs.Memory.{makes_files, MakesFiles}
@@ -22,7 +22,7 @@ use Rattle.dep_decisions.specs.declared.purpose.Purpose.TheVariants as of
 use Rattle.dep_decisions.proofs.FoundInMaps.{all_passed}
 use Rattle.dep_rulings.specs.Checks.{HoldsContent}
 use Rattle.dep_rulings.specs.Memory.{are_taken, is_held, is_noted, TouchTakesMemory}
-use Rattle.dep_rulings.specs.Rows.{content_by, content_refusal, document_by, has_content, size_by}
+use Rattle.dep_rulings.specs.Rules.{content_by, content_refusal, document_by, has_content, size_by}
 use Rattle.dep_rulings.specs.Walks.{entries_seen, is_other_packaging, packaging_refusal, points_elsewhere, references_seen, twice_refusal, rule_of, target_refusal, walk}
 use Rattle.dep_rulings.specs.declared.references.UploadRule.TheVariants.{IsThere, IsWhole, HasLength, HasDigests}
 use Rattle.dep_rulings.specs.declared.view.UploadView.{UploadView}

@@ -13,7 +13,7 @@ use Rattle.dep_docs_in.specs.declared.reference.Reference.{Reference}
 use Rattle.dep_decisions.specs.Decisions.{references_by, references_in}
 use Rattle.dep_decisions.specs.Kinds.{kind_by, kind_of, kind_without, may_hold, takes_kind}
 use Rattle.dep_decisions.specs.declared.operation.Operation.{Operation}
-use Rattle.dep_rulings.specs.Rows.{has_content}
+use Rattle.dep_rulings.specs.Rules.{has_content}
 use Rattle.dep_rulings.specs.Views.{uploads_in}
 
 -- what is taken, if anything

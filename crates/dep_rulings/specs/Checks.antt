@@ -2,12 +2,12 @@
 use Rattle.std.specs.Prelude.{◌≡◌, Some, None, IsTrue}
 use Rattle.dep_types.specs.declared.config.Config.{Config}
 use Rattle.dep_decisions.specs.Asked.{IsRead}
-use Rattle.dep_decisions.specs.ContentRows.{fields_refusal, purpose_in}
+use Rattle.dep_decisions.specs.ContentRules.{fields_refusal, purpose_in}
 use Rattle.dep_decisions.specs.Decisions.{decision_with}
 use Rattle.dep_decisions.specs.Rules.{digest_rule}
 use Rattle.dep_decisions.specs.declared.operation.Operation.{Operation}
 use Rattle.dep_rulings.specs.Memory.{is_held}
-use Rattle.dep_rulings.specs.Rows.{content_by, content_refusal, room_refusal}
+use Rattle.dep_rulings.specs.Rules.{content_by, content_refusal, room_refusal}
 use Rattle.dep_rulings.specs.declared.order.Checked.{Checked}
 use Rattle.dep_rulings.specs.declared.order.Checked.TheVariants.{Refused, Passed}
 use Rattle.dep_rulings.specs.declared.ruling.Ruling.{Ruling}

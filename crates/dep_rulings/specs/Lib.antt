@@ -1,6 +1,6 @@
 pub mod Checks
 pub mod Memory
-pub mod Rows
+pub mod Rules
 pub mod Rulings
 pub mod Seen
 pub mod Views

@@ -5,12 +5,12 @@ use Rattle.dep_types.specs.declared.config.Config.{Config}
 use Rattle.dep_types.specs.declared.target.Resource.{Resource}
 use Rattle.dep_types.specs.declared.target.Resource.TheVariants.{Upload, BagFile}
 use Rattle.dep_docs_in.specs.declared.reference.Reference.{Reference}
-use Rattle.dep_decisions.specs.ContentRows.{fields_refusal, purpose_in}
+use Rattle.dep_decisions.specs.ContentRules.{fields_refusal, purpose_in}
 use Rattle.dep_decisions.specs.Rules.{digest_rule}
 use Rattle.dep_decisions.specs.declared.operation.Operation.{Operation}
 use Rattle.dep_decisions.specs.declared.purpose.Purpose.{Purpose}
 use Rattle.dep_decisions.specs.declared.purpose.Purpose.TheVariants.{File, Metadata, References}
-use Rattle.dep_rulings.specs.Rows.{access_refusal}
+use Rattle.dep_rulings.specs.Rules.{access_refusal}
 use Rattle.dep_rulings.specs.Walks.{is_other_packaging, points_elsewhere}
 use Rattle.dep_rulings.specs.declared.view.View.{View}
 

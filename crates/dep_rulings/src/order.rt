@@ -6,16 +6,16 @@ ghost use Rattle.dep_docs_in.specs.Documents.{metadata_read};
 ghost use Rattle.dep_decisions.specs.Memory.{MakesFiles};
 ghost use Rattle.dep_rulings.specs.Checks.{HoldsContent, IsChecked, IsCheckedBy, IsRoomRuling};
 ghost use Rattle.dep_rulings.specs.Memory.{RulingTakesMemory, is_held};
-ghost use Rattle.dep_rulings.specs.Rows.{access_refusal, document_by, has_content, reads_alone};
+ghost use Rattle.dep_rulings.specs.Rules.{access_refusal, document_by, has_content, reads_alone};
 ghost use Rattle.dep_rulings.specs.Rulings.{HasRoomFor, RulesBy};
 
-use crate::references::references_row;
-use crate::rows::{behalf_row, presence_row, seen_tag, size_row, tag_row};
+use crate::references::references_rule;
+use crate::rules::{behalf_rule, presence_rule, seen_tag, size_rule, tag_rule};
 use crate::ruling::Ruling;
 use crate::view::View;
 use dep_decisions::{
-    Operation, Purpose, ReadContent, content_purpose, decision_on, digest_row, digests_if_promised,
-    fields_row, numbers_for,
+    Operation, Purpose, ReadContent, content_purpose, decision_on, digest_rule,
+    digests_if_promised, fields_rule, numbers_for,
 };
 use dep_docs_in::{DocFault, read_metadata};
 use dep_types::{Config, Metadata, Method, Refusal, Resource, Target};
@@ -35,7 +35,7 @@ pub fn decide(
     ensures room { IfOk result (HasRoomFor view.now.next) }
     ensures err { OnErr result (RulingTakesMemory config.now view.now operation.now) }
 {
-    if let Some(refusal) = access_row(config, view, operation) {
+    if let Some(refusal) = access_rule(config, view, operation) {
         return Ok(Ruling::Refuse(refusal));
     }
     match check_content(alloc, config, view, operation)? {
@@ -53,21 +53,21 @@ pub(crate) enum Checked {
 }
 
 // Rules 5 to 7: who asks, for what, and of which state of it.
-#[tactic(auto, unfolding(crate::specs::Rows::access_refusal))]
-fn access_row(config: &Config, view: &View, operation: &Operation<'_>) -> Option<Refusal>
+#[tactic(auto, unfolding(crate::specs::Rules::access_refusal))]
+fn access_rule(config: &Config, view: &View, operation: &Operation<'_>) -> Option<Refusal>
     ensures { result ≡ access_refusal config.now view.now operation.now }
 {
-    if let Some(refusal) = behalf_row(config, operation) {
+    if let Some(refusal) = behalf_rule(config, operation) {
         return Some(refusal);
     }
-    if let Some(refusal) = presence_row(view, &operation.target.resource) {
+    if let Some(refusal) = presence_rule(view, &operation.target.resource) {
         return Some(refusal);
     }
     if reads_alone(&operation.target) {
         return None;
     }
     let tag = seen_tag(view, &operation.target.resource);
-    tag_row(config, &operation.if_match, tag)
+    tag_rule(config, &operation.if_match, tag)
 }
 
 fn reads_alone(target: &Target) -> bool
@@ -92,7 +92,7 @@ fn check_content(
     ensures err { OnErr result (HoldsContent view.now operation.now) }
 {
     if has_content(operation.target.method) {
-        check_rows(alloc, config, view, operation)
+        check_rules(alloc, config, view, operation)
     } else {
         Ok(Checked::Passed(ReadContent {
             metadata: None,
@@ -102,8 +102,8 @@ fn check_content(
 }
 
 // Rules 8 to 14. Nothing is hashed or read before the rules that don't need it have passed.
-#[tactic(auto, unfolding(crate::specs::Rows::content_by))]
-fn check_rows(
+#[tactic(auto, unfolding(crate::specs::Rules::content_by))]
+fn check_rules(
     alloc: Global,
     config: &Config,
     view: &View,
@@ -113,20 +113,20 @@ fn check_rows(
     ensures err { OnErr result (HoldsContent view.now operation.now) }
 {
     let purpose = content_purpose(operation);
-    if let Some(refusal) = fields_row(operation) {
+    if let Some(refusal) = fields_rule(operation) {
         return Ok(Checked::Refused(refusal));
     }
     let digests = digests_if_promised(operation);
-    let mismatch = digest_row(operation, digests);
+    let mismatch = digest_rule(operation, digests);
     if let Some(refusal) = mismatch {
         return Ok(Checked::Refused(refusal));
     }
     let metadata = metadata_of(alloc, operation, purpose)?;
-    if let Some(refusal) = document_row(alloc, view, operation, purpose, metadata.is_some())? {
+    if let Some(refusal) = document_rule(alloc, view, operation, purpose, metadata.is_some())? {
         drop(metadata);
         return Ok(Checked::Refused(refusal));
     }
-    if let Some(refusal) = size_row(config, view, operation, purpose) {
+    if let Some(refusal) = size_rule(config, view, operation, purpose) {
         drop(metadata);
         return Ok(Checked::Refused(refusal));
     }
@@ -169,8 +169,8 @@ fn read(alloc: Global, content: &[u8]) -> Result<Option<Metadata>, AllocError>
 }
 
 // Rule 13: the document, where it is known whether metadata can be read.
-#[tactic(auto, unfolding(crate::specs::Rows::document_by))]
-fn document_row(
+#[tactic(auto, unfolding(crate::specs::Rules::document_by))]
+fn document_rule(
     alloc: Global,
     view: &View,
     _operation: &Operation<'_>,
@@ -186,7 +186,7 @@ fn document_row(
         Some(Purpose::Metadata) if is_readable => Ok(None),
         Some(Purpose::Metadata) => Ok(Some(Refusal::ContentMalformed)),
         Some(Purpose::References) => {
-            references_row(alloc, view.uploads.as_slice(), view.references.as_ref())
+            references_rule(alloc, view.uploads.as_slice(), view.references.as_ref())
         }
         _ => Ok(None),
     }

@@ -30,7 +30,7 @@ pub(crate) enum UploadRule {
 
 /// The first rule on references that is broken. There is a view for each entry that points at an upload, in
 /// their order.
-pub(crate) fn references_row(
+pub(crate) fn references_rule(
     alloc: Global,
     views: &[UploadView],
     references: Option<&References>,
@@ -41,13 +41,13 @@ pub(crate) fn references_row(
         (IsTrue (is_held (option_copied references.entry) (Some of.References))) }
 {
     match references {
-        Some(references) => entries_row(alloc, views, references.as_slice()),
+        Some(references) => entries_rule(alloc, views, references.as_slice()),
         None => Ok(Some(Refusal::ContentMalformed)),
     }
 }
 
 #[tactic(auto, unfolding(crate::specs::Walks::entries_seen))]
-fn entries_row(
+fn entries_rule(
     alloc: Global,
     views: &[UploadView],
     references: &[Reference],
@@ -55,13 +55,13 @@ fn entries_row(
     ensures ok { IfOk result (λ refusal. refusal ≡ entries_seen views.now references.now) }
     ensures err { OnErr result (IsTrue (are_taken references.now)) }
 {
-    if let Some(refusal) = target_row(references) {
+    if let Some(refusal) = target_rule(references) {
         return Ok(Some(refusal));
     }
-    if let Some(refusal) = packaging_row(references) {
+    if let Some(refusal) = packaging_rule(references) {
         return Ok(Some(refusal));
     }
-    if let Some(refusal) = twice_row(alloc, views)? {
+    if let Some(refusal) = twice_rule(alloc, views)? {
         return Ok(Some(refusal));
     }
     if let Some(refusal) = first_refused(UploadRule::IsThere, references, views) {
@@ -77,7 +77,7 @@ fn entries_row(
 }
 
 #[tactic(auto, unfolding(crate::specs::Walks::target_refusal))]
-fn target_row(references: &[Reference]) -> Option<Refusal>
+fn target_rule(references: &[Reference]) -> Option<Refusal>
     ensures { result ≡ target_refusal references.now }
 {
     if some_points_elsewhere(references) {
@@ -105,7 +105,7 @@ fn points_elsewhere(reference: &Reference) -> bool
 }
 
 #[tactic(auto, unfolding(crate::specs::Walks::packaging_refusal))]
-fn packaging_row(references: &[Reference]) -> Option<Refusal>
+fn packaging_rule(references: &[Reference]) -> Option<Refusal>
     ensures { result ≡ packaging_refusal references.now }
 {
     if some_is_other_packaging(references) {
@@ -133,7 +133,7 @@ fn is_other_packaging(reference: &Reference) -> bool
 }
 
 #[tactic(auto, unfolding(crate::specs::Walks::twice_refusal))]
-fn twice_row(alloc: Global, views: &[UploadView]) -> Result<Option<Refusal>, AllocError>
+fn twice_rule(alloc: Global, views: &[UploadView]) -> Result<Option<Refusal>, AllocError>
     ensures { IfOk result (λ refusal. refusal ≡ twice_refusal views.now) }
 {
     if stands_twice(alloc, views)? {
@@ -173,7 +173,7 @@ fn first_refused(
         rest = behind;
         if let Pointed::Upload(_) = reference.target {
             if let Some((view, others)) = left.split_first() {
-                if let Some(refusal) = upload_row(rule, reference, &view.state) {
+                if let Some(refusal) = upload_rule(rule, reference, &view.state) {
                     return Some(refusal);
                 }
                 left = others;
@@ -184,19 +184,19 @@ fn first_refused(
 }
 
 #[tactic(auto, unfolding(crate::specs::Walks::rule_of))]
-fn upload_row(rule: UploadRule, reference: &Reference, state: &UploadState) -> Option<Refusal>
+fn upload_rule(rule: UploadRule, reference: &Reference, state: &UploadState) -> Option<Refusal>
     ensures { result ≡ rule_of rule reference.now state.now }
 {
     match rule {
-        UploadRule::IsThere => state_row(state),
-        UploadRule::IsWhole => whole_row(state),
-        UploadRule::HasLength => length_row(reference, state),
-        UploadRule::HasDigests => digest_row(reference, state),
+        UploadRule::IsThere => state_rule(state),
+        UploadRule::IsWhole => whole_rule(state),
+        UploadRule::HasLength => length_rule(reference, state),
+        UploadRule::HasDigests => digest_rule(reference, state),
     }
 }
 
 /// An upload that isn't there, or that timed out.
-pub(crate) fn state_row(state: &UploadState) -> Option<Refusal>
+pub(crate) fn state_rule(state: &UploadState) -> Option<Refusal>
     ensures { result ≡ state_refusal state.now }
 {
     match state {
@@ -206,7 +206,7 @@ pub(crate) fn state_row(state: &UploadState) -> Option<Refusal>
     }
 }
 
-fn whole_row(state: &UploadState) -> Option<Refusal>
+fn whole_rule(state: &UploadState) -> Option<Refusal>
     ensures { result ≡ whole_upload_rule state.now }
 {
     match state {
@@ -215,7 +215,7 @@ fn whole_row(state: &UploadState) -> Option<Refusal>
     }
 }
 
-fn length_row(reference: &Reference, state: &UploadState) -> Option<Refusal>
+fn length_rule(reference: &Reference, state: &UploadState) -> Option<Refusal>
     ensures { result ≡ upload_length_rule reference.now state.now }
 {
     let UploadState::Live(upload) = state else {
@@ -227,7 +227,7 @@ fn length_row(reference: &Reference, state: &UploadState) -> Option<Refusal>
     }
 }
 
-fn digest_row(reference: &Reference, state: &UploadState) -> Option<Refusal>
+fn digest_rule(reference: &Reference, state: &UploadState) -> Option<Refusal>
     ensures { result ≡ upload_digest_rule reference.now state.now }
 {
     let UploadState::Live(upload) = state else {

@@ -21,12 +21,13 @@ use crate::site::{Context, Site};
 use dep_answers::{Delivery, Performed, Service, refused};
 use dep_decisions::Operation;
 use dep_fields::SwordFields;
+use dep_fixity::HashedOctets;
 use dep_head::Head;
 use dep_message::{Message, closes, is_without_body};
 use dep_moment::Moment;
 use dep_router::Routed;
 use dep_tags::IfMatch;
-use dep_types::{Octets, Outlet, Refusal, StoreFault, Target};
+use dep_types::{Outlet, Refusal, StoreFault, Target};
 use std::alloc::{AllocError, Global};
 
 /// What a fault of a stream is answered: why it is refused, and whether the reply has no body.
@@ -219,7 +220,7 @@ fn operate<A: Archive>(
 fn operation_of<'a>(
     alloc: Global,
     head: &'a Head,
-    content: Octets,
+    content: HashedOctets,
     target: Target,
 ) -> Result<Operation<'a>, AllocError>
     ensures { IfOk result (λ operation.

@@ -11,10 +11,11 @@ ghost use Rattle.dep_row_maps.specs.Clauses.{FromMaps};
 ghost use Rattle.dep_row_maps.specs.Causes.{FailsByStatement, FailsSince};
 ghost use Rattle.dep_views.specs.Causes.{IsStorableSegment};
 
+use dep_fixity::HashedOctets;
 use dep_rulings::{SegmentId, Touched, UploadState, UploadView};
 use dep_staging::compare_segment;
 use dep_tables::Statements;
-use dep_types::{Octets, StoreFault};
+use dep_types::StoreFault;
 
 // Whether the upload isn't there, or comes in fewer segments.
 fn comes_in_fewer(state: &UploadState, number: u64) -> bool
@@ -52,7 +53,7 @@ fn lacks_segment(views: &[UploadView], id: SegmentId) -> bool
 /// looked at before, can't have it.
 pub(crate) fn load_repeat<T: Statements>(
     tx: &mut T,
-    content: &Octets,
+    content: &HashedOctets,
     touched: &Touched,
     views: &[UploadView],
 ) -> Result<Option<bool>, StoreFault>

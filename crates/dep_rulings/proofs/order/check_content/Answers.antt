@@ -9,8 +9,8 @@ returns-then-has_content-clause-ok c =
     let config = c.args.config.now in
     let view = c.args.view.now in
     let op = c.args.operation.now in
-    if_ok c.check_rows.result (IsCheckedBy config view op) (IsChecked config view op)
-    (λ checked is. checked_by config view op checked (sym c.has_content.ensures ∙ c.if-has_content.true) is) c.check_rows.ensures.ok
+    if_ok c.check_rules.result (IsCheckedBy config view op) (IsChecked config view op)
+    (λ checked is. checked_by config view op checked (sym c.has_content.ensures ∙ c.if-has_content.true) is) c.check_rules.ensures.ok
 
 pub returns-else-has_content-clause-ok : goal.returns-else-has_content-clause-ok
 returns-else-has_content-clause-ok c =

@@ -14,7 +14,7 @@ returns-in-Some-clause-ruling c =
     let config = c.args.config.now in
     let view = c.args.view.now in
     let op = c.args.operation.now in
-    rules_by config view op (Refuse c.in-Some.refusal) (refused_access config view op c.in-Some.refusal _ c.access_row.ensures c.in-Some.is)
+    rules_by config view op (Refuse c.in-Some.refusal) (refused_access config view op c.in-Some.refusal _ c.access_rule.ensures c.in-Some.is)
 
 pub returns-in-Refused-clause-ruling : goal.returns-in-Refused-clause-ruling
 returns-in-Refused-clause-ruling c =
@@ -22,7 +22,7 @@ returns-in-Refused-clause-ruling c =
     let view = c.args.view.now in
     let op = c.args.operation.now in
     let checked = subst (λ (x : Checked). IsChecked config view op x) c.in-Refused.is c.in_ok-refusal.ensures.ok in
-    rules_by config view op (Refuse c.in-Refused.refusal) (refused_content config view op c.in-Refused.refusal _ c.access_row.ensures c.in_default.is checked)
+    rules_by config view op (Refuse c.in-Refused.refusal) (refused_content config view op c.in-Refused.refusal _ c.access_rule.ensures c.in_default.is checked)
 
 pub returns-in-Passed-clause-ruling : goal.returns-in-Passed-clause-ruling
 returns-in-Passed-clause-ruling c =
@@ -31,7 +31,7 @@ returns-in-Passed-clause-ruling c =
     let op = c.args.operation.now in
     let checked = subst (λ (x : Checked). IsChecked config view op x) c.in-Passed.is c.in_ok-refusal.ensures.ok in
     if_ok c.rule_by_room.result (IsRoomRuling view op) (RulesBy config view op)
-    (λ ruling room. rules_by config view op ruling (ruled_by_room config view op _ ruling c.access_row.ensures c.in_default.is checked.0 room)) c.rule_by_room.ensures.ok
+    (λ ruling room. rules_by config view op ruling (ruled_by_room config view op _ ruling c.access_rule.ensures c.in_default.is checked.0 room)) c.rule_by_room.ensures.ok
 
 pub returns-in-Passed-clause-room : goal.returns-in-Passed-clause-room
 returns-in-Passed-clause-room c =
@@ -43,7 +43,7 @@ pub returns-in_err-refusal-clause-err : goal.returns-in_err-refusal-clause-err
 returns-in_err-refusal-clause-err c =
     let held = c.in_err-refusal.ensures.err in
     let takes : RulingTakesMemory c.args.config.now c.args.view.now c.args.operation.now = record {
-      access = sym c.access_row.ensures ∙ c.in_default.is;
+      access = sym c.access_rule.ensures ∙ c.in_default.is;
       fields = held.fields;
       digest = held.digest;
       content = held.content;
@@ -57,7 +57,7 @@ returns-in-Passed-clause-err c =
     let checked = subst (λ (x : Checked). IsChecked config view op x) c.in-Passed.is c.in_ok-refusal.ensures.ok in
     on_err_then c.rule_by_room.result c.rule_by_room.ensures.err (λ makes.
     let held = holds_files config view op checked.0 makes in record {
-      access = sym c.access_row.ensures ∙ c.in_default.is;
+      access = sym c.access_rule.ensures ∙ c.in_default.is;
       fields = held.fields;
       digest = held.digest;
       content = held.content;

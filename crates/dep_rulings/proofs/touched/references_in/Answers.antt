@@ -1,6 +1,6 @@
 use Rattle.std.proofs.Common.{◌≡◌, ◌∙◌, IfOk, List, Option, ap, subst, sym}
 use Rattle.dep_docs_in.specs.declared.reference.Reference.{Reference}
-use Rattle.dep_rulings.specs.Rows.{references_for}
+use Rattle.dep_rulings.specs.Rules.{references_for}
 use Rattle.dep_rulings.proofs.Checked.{references_read_for}
 use Rattle.dep_rulings.proofs.Memory.{on_err_then}
 use Rattle.dep_rulings.proofs.touched.references_in.Goals as goal

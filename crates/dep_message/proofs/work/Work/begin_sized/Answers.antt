@@ -13,9 +13,9 @@ returns-then-come-size c =
     let n = c.args.head_length in
     let part = come_is buffer c.as_slice.result.now n c.args.size c.min-come.result c.in-Ok.content.items c.as_slice.ensures c.min-come.ensures c.in-Ok.ensures.items in
     let full : c.args.size ≤ length (drop n buffer) = omega (arith, part.0, c.if-come-size.true) in
-    rw c.take.ensures.whole
-    (takes_request c.args.self.now.limit c.args.self.now.continued buffer n c.args.size _ _ c.take.new.self c.requires.within c.requires.begun
-    (length-take-le c.args.size (drop n buffer) full, part.1 ∙ ap (λ k. take k (drop n buffer)) c.if-come-size.true) c.take.ensures.left)
+    rw c.take_plain.ensures.whole
+    (takes_request c.args.self.now.limit c.args.self.now.continued buffer n c.args.size _ _ c.take_plain.new.self c.requires.within c.requires.begun
+    (length-take-le c.args.size (drop n buffer) full, part.1 ∙ ap (λ k. take k (drop n buffer)) c.if-come-size.true) c.take_plain.ensures.left)
 
 pub returns : goal.returns
 returns c =
@@ -26,7 +26,7 @@ returns c =
     let all : length (drop n buffer) ≤ c.min-come.result = omega (arith, part.0) in
     let place = c.keep_place.ensures in (
       waits_behind c.args.self.now.limit c.args.self.now.continued buffer n c.args.head _ c.requires.begun less,
-      keeps_apart c.args.self.now c.keep_place.new.self n (record { head = c.args.head; length = c.args.size; behind = c.in-Ok.content }) c.requires.begun
-          (part.1 ∙ take_all c.min-come.result (drop n buffer) all)
+      keeps_apart c.args.self.now c.keep_place.new.self n (record { head = c.args.head; length = c.args.size; is_hashed = c.is_hashed_early.result; behind = c.from_vec.result }) c.requires.begun
+          (c.from_vec.ensures ∙ (part.1 ∙ take_all c.min-come.result (drop n buffer) all))
           (ap (λ w. w.limit) place) (ap (λ w. w.continued) place) (ap (λ w. w.buffer) place ∙ c.truncate.ensures) (ap (λ w. w.progress) place),
     )

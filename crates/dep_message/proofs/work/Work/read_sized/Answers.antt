@@ -12,16 +12,16 @@ returns-in-Err c =
     let w = c.args.self.now in
     let r = c.args.request in
     let some : 0 < length w.buffer = head_size w.limit w.continued w.buffer r.head _ c.requires.begun in (
-      subst (λ (new : Work). Keeps w.limit w.continued (w.buffer ++ r.behind.items) new) (sym (c.keep_place-in-Err.ensures ∙ ap (λ (b : List ℕ). record w { buffer = b; progress = Sized r }) c.in-Err.ensures.err)) (keeps_sized w r c.requires.begun),
-      has_bytes w.continued (w.buffer ++ r.behind.items) (omega (arith, length-append w.buffer r.behind.items)),
+      subst (λ (new : Work). Keeps w.limit w.continued (w.buffer ++ r.behind) new) (sym (c.keep_place-in-Err.ensures ∙ ap (λ (b : List ℕ). record w { buffer = b; progress = Sized r }) c.in-Err.ensures.err)) (keeps_sized w r c.requires.begun),
+      has_bytes w.continued (w.buffer ++ r.behind) (omega (arith, length-append w.buffer r.behind)),
     )
 
 pub returns-in-Ok : goal.returns-in-Ok
 returns-in-Ok c =
     let w = c.args.self.now in
     let r = c.args.request in
-    let left = left_of w.buffer r.behind.items c.append.new.self (length c.as_slice-head_length.result.now) r.length (ap length c.as_slice-head_length.ensures)
-    (c.in-Ok.ensures.ok ∙ ap (λ (l : List ℕ). w.buffer ++ take (length l - r.length) (drop r.length l)) c.deref.ensures.value) in
+    let left = left_of w.buffer r.behind c.append.new.self (length c.as_slice-head_length.result.now) r.length (ap length c.as_slice-head_length.ensures)
+    (c.in-Ok.ensures.ok ∙ ap (λ (l : List ℕ). w.buffer ++ take (length l - r.length) (drop r.length l)) c.as_slice-2.ensures) in
     rw c.take.ensures.whole
-    (takes_apart w.limit w.continued w.buffer r.behind.items r.length _ c.take.new.self c.requires.begun (omega (arith, c.len.ensures)) c.truncate.ensures.items
+    (takes_apart w.limit w.continued w.buffer r.behind r.length _ c.take.new.self c.requires.begun (omega (arith, ap length c.as_slice.ensures, c.if-as_slice-request.false)) c.truncate.ensures
     (subst (λ (l : List ℕ). Keeps w.limit false l c.take.new.self) left c.take.ensures.left))

@@ -11,7 +11,7 @@ use Rattle.dep_types.specs.declared.target.Method.{Method}
 use Rattle.dep_types.specs.declared.target.Method.TheVariants.{Get, Head, Post, Put, Delete}
 use Rattle.dep_docs_in.specs.Documents.{metadata_read, references_read}
 use Rattle.dep_docs_in.specs.declared.reference.Reference.{Reference}
-use Rattle.dep_decisions.specs.ContentRows.{fields_refusal, purpose_in}
+use Rattle.dep_decisions.specs.ContentRules.{fields_refusal, purpose_in}
 use Rattle.dep_decisions.specs.Decisions.{decision_with, numbers_for}
 use Rattle.dep_decisions.specs.Rules.{behalf_rule, digest_rule, opening_refusal, tag_refusal, unless}
 use Rattle.dep_decisions.specs.declared.operation.Operation.{Operation}
@@ -50,8 +50,8 @@ reads_alone resource Head = true
 reads_alone (Upload u) Delete = true
 reads_alone resource method = false
 
-abbrev pub tag_row : Config → View → Operation → Option Refusal
-tag_row config view op =
+abbrev pub tag_rule_seen : Config → View → Operation → Option Refusal
+tag_rule_seen config view op =
     tag_refusal config.require_if_match op.if_match (tag_seen view op.target.resource)
 
 -- 5 to 7
@@ -59,7 +59,7 @@ unfoldable pub access_refusal : Config → View → Operation → Option Refusal
 access_refusal config view op = first_of
     (behalf_rule config op
     ∷ presence_seen view op.target.resource
-    ∷ (if reads_alone op.target.resource op.target.method then None else tag_row config view op)
+    ∷ (if reads_alone op.target.resource op.target.method then None else tag_rule_seen config view op)
     ∷ [])
 
 -- 8 to 14

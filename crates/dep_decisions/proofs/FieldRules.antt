@@ -4,7 +4,7 @@ use Rattle.dep_types.specs.Maps.{first_of}
 use Rattle.dep_types.specs.declared.refusal.Refusal.{Refusal}
 use Rattle.dep_fields.specs.declared.kind.Kind.{Kind}
 use Rattle.dep_fields.specs.declared.kind.Kind.TheVariants as of
-use Rattle.dep_decisions.specs.ContentRows.{fields_by, fields_refusal, format_by, purpose_in, type_by}
+use Rattle.dep_decisions.specs.ContentRules.{fields_by, fields_refusal, format_by, purpose_in, type_by}
 use Rattle.dep_decisions.specs.Kinds.{kind_of}
 use Rattle.dep_decisions.specs.Purposes.{purpose_of}
 use Rattle.dep_decisions.specs.Rules.{format_refusal, encoding_rule, format_rule, in_progress_rule, kind_rule, type_rule, type_refusal}

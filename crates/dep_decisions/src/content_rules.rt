@@ -5,10 +5,9 @@ ghost use Rattle.std.specs.List.{before_first};
 ghost use Rattle.std.specs.Str.{str_eq_ignore_ascii_case};
 ghost use Rattle.dep_types.specs.Names.{binary, metadata_format};
 ghost use Rattle.dep_types.specs.declared.refusal.Refusal.TheVariants as why;
-ghost use Rattle.dep_decisions.specs.ContentRows.{digests_if_promised, fields_by, fields_refusal, format_by, purpose_in, type_by};
+ghost use Rattle.dep_decisions.specs.ContentRules.{digests_if_promised, fields_by, fields_refusal, format_by, purpose_in, type_by};
 ghost use Rattle.dep_decisions.specs.Rules.{is_json, media_name, digest_rule, encoding_rule, in_progress_rule, kind_rule, reads_in_progress, unless};
 
-use crate::asked::content_digests;
 use crate::operation::Operation;
 use crate::purpose::{Purpose, content_purpose, is_completion};
 use dep_fields::Field;
@@ -20,36 +19,36 @@ use dep_types::{
 
 /// The first of rules 8 to 11 that applies: what Content-Encoding, Content-Disposition, In-Progress, Packaging,
 /// Metadata-Format and Content-Type say of the content.
-pub fn fields_row(operation: &Operation<'_>) -> Option<Refusal>
+pub fn fields_rule(operation: &Operation<'_>) -> Option<Refusal>
     ensures { result ≡ fields_refusal operation.now }
 {
     rows_by(operation, content_purpose(operation))
 }
 
 // By what the content is for.
-#[tactic(auto, unfolding(crate::specs::ContentRows::fields_by))]
+#[tactic(auto, unfolding(crate::specs::ContentRules::fields_by))]
 fn rows_by(operation: &Operation<'_>, purpose: Option<Purpose>) -> Option<Refusal>
     requires { purpose ≡ purpose_in operation.now }
     ensures { result ≡ fields_by operation.now purpose }
 {
-    if let Some(refusal) = encoding_row(operation) {
+    if let Some(refusal) = encoding_rule(operation) {
         return Some(refusal);
     }
-    if let Some(refusal) = kind_row(operation, purpose) {
+    if let Some(refusal) = kind_rule(operation, purpose) {
         return Some(refusal);
     }
-    if let Some(refusal) = progress_row(operation) {
+    if let Some(refusal) = progress_rule(operation) {
         return Some(refusal);
     }
-    if let Some(refusal) = format_row(operation, purpose) {
+    if let Some(refusal) = format_rule(operation, purpose) {
         return Some(refusal);
     }
-    type_row(operation, purpose)
+    type_rule(operation, purpose)
 }
 
 /// Rule 8: Content-Encoding.
 #[tactic(auto, unfolding(crate::specs::Rules::encoding_rule))]
-fn encoding_row(operation: &Operation<'_>) -> Option<Refusal>
+fn encoding_rule(operation: &Operation<'_>) -> Option<Refusal>
     ensures { result ≡ encoding_rule operation.now }
 {
     match &operation.fields.content_encoding {
@@ -73,7 +72,7 @@ fn is_identity(coding: &Octets) -> bool
 
 /// Rule 9: what the content is for.
 #[tactic(auto, unfolding(crate::specs::Rules::kind_rule))]
-fn kind_row(operation: &Operation<'_>, purpose: Option<Purpose>) -> Option<Refusal>
+fn kind_rule(operation: &Operation<'_>, purpose: Option<Purpose>) -> Option<Refusal>
     requires { purpose ≡ purpose_in operation.now }
     ensures { result ≡ kind_rule operation.now }
 {
@@ -86,7 +85,7 @@ fn kind_row(operation: &Operation<'_>, purpose: Option<Purpose>) -> Option<Refus
 
 /// Rule 9: In-Progress.
 #[tactic(auto, unfolding(crate::specs::Rules::in_progress_rule))]
-fn progress_row(operation: &Operation<'_>) -> Option<Refusal>
+fn progress_rule(operation: &Operation<'_>) -> Option<Refusal>
     ensures { result ≡ in_progress_rule operation.now }
 {
     if !reads_in_progress(&operation.target) {
@@ -110,8 +109,8 @@ fn reads_in_progress(target: &Target) -> bool
 }
 
 /// Rule 10: Packaging and Metadata-Format.
-#[tactic(auto, unfolding(crate::specs::ContentRows::format_by))]
-fn format_row(operation: &Operation<'_>, purpose: Option<Purpose>) -> Option<Refusal>
+#[tactic(auto, unfolding(crate::specs::ContentRules::format_by))]
+fn format_rule(operation: &Operation<'_>, purpose: Option<Purpose>) -> Option<Refusal>
     ensures { result ≡ format_by operation.now purpose }
 {
     match purpose {
@@ -148,8 +147,8 @@ fn is_metadata_format(text: &Octets) -> bool
 }
 
 /// Rule 11: Content-Type.
-#[tactic(auto, unfolding(crate::specs::ContentRows::type_by))]
-fn type_row(operation: &Operation<'_>, purpose: Option<Purpose>) -> Option<Refusal>
+#[tactic(auto, unfolding(crate::specs::ContentRules::type_by))]
+fn type_rule(operation: &Operation<'_>, purpose: Option<Purpose>) -> Option<Refusal>
     ensures { result ≡ type_by operation.now purpose }
 {
     match purpose {
@@ -207,16 +206,14 @@ pub fn digests_if_promised(operation: &Operation<'_>) -> Option<Digests>
     ensures { result ≡ digests_if_promised operation.now operation.now.fields.digest }
 {
     match &operation.fields.digest {
-        Field::Value(list) if list.promises() => {
-            Some(content_digests(operation.content.as_slice()))
-        }
+        Field::Value(list) if list.promises() => { Some(operation.content.digests()) }
         _ => None,
     }
 }
 
 /// Rule 12: Digest.
 #[tactic(auto, unfolding(crate::specs::Rules::digest_rule))]
-pub fn digest_row(operation: &Operation<'_>, digests: Option<Digests>) -> Option<Refusal>
+pub fn digest_rule(operation: &Operation<'_>, digests: Option<Digests>) -> Option<Refusal>
     requires { digests ≡ digests_if_promised operation.now operation.now.fields.digest }
     ensures { result ≡ digest_rule operation.now }
 {

@@ -1,7 +1,7 @@
 use Rattle.std.proofs.Common.{◌∙◌, ap}
-use Rattle.dep_decisions.specs.ContentRows.{fields_by}
-use Rattle.dep_decisions.proofs.FieldRows.{fields_are}
-use Rattle.dep_decisions.proofs.content_rows.fields_row.Goals as goal
+use Rattle.dep_decisions.specs.ContentRules.{fields_by}
+use Rattle.dep_decisions.proofs.FieldRules.{fields_are}
+use Rattle.dep_decisions.proofs.content_rules.fields_rule.Goals as goal
 
 pub returns : goal.returns
 returns c =

@@ -1,0 +1,170 @@
+//! Octets that are hashed while they come.
+ghost use Rattle.std.specs.Prelude.{◌≡◌, ◌≤◌, ◌++◌, Some, OnOk, OnErr};
+
+use crate::hasher::{Digests, Hasher};
+use std::alloc::{AllocError, Global};
+use std::marker::Model;
+use std::mem;
+
+/// How far octets were hashed.
+#[derive(Drop)]
+struct Hashed {
+    hasher: Hasher,
+    /// How many of the octets the hasher was given.
+    count: usize,
+}
+
+/// Octets, of which the first may be hashed before the last have come, so that their digests take
+/// no more than the others then. Contracts see the octets alone: how many were hashed changes no
+/// answer.
+#[derive(Drop)]
+pub struct HashedOctets {
+    octets: Vec<u8>,
+    hashed: Option<Hashed>,
+}
+
+impl Model for HashedOctets {
+    ghost use Rattle.std.specs.Prelude.{ℕ, List};
+    ghost use Rattle.dep_fixity.specs.Hashing.{AreHashed};
+
+    ghost Value = { List ℕ };
+
+    ghost view = { λ o. o.octets.items };
+
+    ghost invariant = { λ o. AreHashed o.hashed o.octets.items };
+}
+
+impl HashedOctets {
+    ghost use Rattle.std.specs.Prelude.{◌≡◌, ◌++◌, take, OnOk, OnErr};
+    ghost use Rattle.dep_fixity.specs.Fixity.{digests_of};
+    ghost use Rattle.dep_fixity.specs.Hashing.{AreHashed, IsHashed};
+
+    /// Takes the octets over without a copy. None of them is hashed.
+    pub fn from_vec(octets: Vec<u8>) -> HashedOctets
+        ensures { result ≡ octets.items }
+    {
+        HashedOctets {
+            octets,
+            hashed: None,
+        }
+    }
+
+    /// The octets themselves.
+    pub fn as_slice(&self) -> &[u8]
+        ensures { result.now ≡ self.now }
+    {
+        &self.octets
+    }
+
+    /// Takes the next octets, of which none is hashed. The room grows to twice as much at most, and
+    /// up to `length` octets to no more than that.
+    pub fn append(&mut self, piece: &[u8], length: usize) -> Result<(), AllocError>
+        ensures ok { OnOk result (self.new ≡ self.old ++ piece.now) }
+        ensures err { OnErr result (self.new ≡ self.old) }
+    {
+        extend(&mut self.octets, piece, length)
+    }
+
+    /// Leaves out what stands behind the first `count` octets.
+    pub fn truncate(&mut self, count: usize)
+        ensures { self.new ≡ take count self.old }
+    {
+        let hashed = mem::replace(&mut self.hashed, None);
+        self.octets.truncate(count);
+        self.hashed = within(hashed, count);
+    }
+
+    /// Hashes the octets up to the first `end`, as far as they have come.
+    pub fn hash_to(&mut self, end: usize)
+        ensures { self.new ≡ self.old }
+    {
+        let mut hashed = self.begun();
+        hashed.go_on(&self.octets, end.min(self.octets.len()));
+        drop(mem::replace(&mut self.hashed, Some(hashed)));
+    }
+
+    /// The digests of all octets. Those that weren't hashed before are hashed for it.
+    pub fn digests(&self) -> Digests
+        ensures { result ≡ digests_of self.now }
+    {
+        let mut hashed = self.begun();
+        hashed.go_on(&self.octets, self.octets.len());
+        hashed.hasher.finish()
+    }
+
+    // How far they were hashed.
+    fn begun(&self) -> Hashed
+        ensures { IsHashed result self.now }
+    {
+        match &self.hashed {
+            Some(hashed) => hashed.copied(),
+            None => Hashed::nothing(),
+        }
+    }
+}
+
+impl Hashed {
+    ghost use Rattle.std.specs.Prelude.{◌≡◌, ◌≤◌, [], length, ℕ, List};
+    ghost use Rattle.dep_fixity.specs.Hashing.{IsHashed};
+
+    fn nothing() -> Hashed
+        ensures { (octets : List ℕ) → IsHashed result octets }
+    {
+        Hashed {
+            hasher: Hasher::new(),
+            count: 0,
+        }
+    }
+
+    fn copied(&self) -> Hashed
+        ensures { result ≡ self.now }
+    {
+        Hashed {
+            hasher: self.hasher.copied(),
+            count: self.count,
+        }
+    }
+
+    // Hashes the octets up to this one, unless more were hashed before.
+    fn go_on(&mut self, octets: &[u8], end: usize)
+        requires hashed { IsHashed self.old octets.now }
+        requires within { end ≤ length octets.now }
+        ensures hashed { IsHashed self.new octets.now }
+        ensures end { end ≤ self.new.count }
+    {
+        if self.count < end {
+            self.hasher.update(&octets[self.count..end]);
+            self.count = end;
+        }
+    }
+}
+
+// Appends a piece. The room grows to twice as much at most, and up to `length` octets to no more than that.
+fn extend(octets: &mut Vec<u8>, piece: &[u8], length: usize) -> Result<(), AllocError>
+    ensures ok { OnOk result (octets.new.items ≡ octets.old.items ++ piece.now) }
+    ensures err { OnErr result (octets.new.items ≡ octets.old.items) }
+{
+    let come = octets.len();
+    if octets.capacity() - come < piece.len() {
+        let twice = come.min(length.saturating_sub(come));
+        octets.reserve_exact(twice.max(piece.len()))?;
+    }
+    octets.extend_from_slice(piece)
+}
+
+// What was hashed, if that is no more than so many octets.
+fn within(hashed: Option<Hashed>, count: usize) -> Option<Hashed>
+    ensures { (kept : Hashed) → result ≡ Some kept → (hashed ≡ Some kept) × (kept.count ≤ count) }
+{
+    match hashed {
+        Some(kept) => {
+            if kept.count <= count {
+                Some(kept)
+            } else {
+                drop(kept);
+                None
+            }
+        }
+        None => None,
+    }
+}
