@@ -44,13 +44,14 @@ closing_of Draining silent slow = if silent then Some ends.Silent else if slow t
 abbrev pub closing : Course → (second : ℕ) → Limits → Option Closing
 closing c second limits = closing_of c.phase (is_silent c second limits) (is_slow c second limits)
 
--- its bytes are counted anew: nothing was under way, or enough moved in an idle time
-abbrev pub counts_anew : Course → (second : ℕ) → Limits → Bool
-counts_anew c second limits = not c.is_due || (is_past c.mark second limits && not (nat_lt c.moved limits.least_rate))
-
 -- a request or a reply of it is under way
 abbrev pub is_under_way : Course → (owes : Bool) → Bool
 is_under_way c owes = owes || nat_lt 0 c.unfinished
+
+-- its bytes are counted anew: nothing is under way, or enough moved in an idle time
+abbrev pub counts_anew : Course → (owes : Bool) → (second : ℕ) → Limits → Bool
+counts_anew c owes second limits =
+    not (is_under_way c owes) || (is_past c.mark second limits && not (nat_lt c.moved limits.least_rate))
 
 -- how far it is once it is read no more
 abbrev pub shut : Phase → Phase
