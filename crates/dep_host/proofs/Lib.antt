@@ -4,3 +4,4 @@ mod RunLemmas
 mod TellLemmas
 mod ReadLemmas
 mod CloseLemmas
+mod GivenLemmas

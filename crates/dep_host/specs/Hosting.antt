@@ -32,8 +32,8 @@ slot at seats = get_or seats at None
 
 -- what a host does for the connection of a number, which sits at a place
 pub data Deed : Type 0 where
-  -- it is opened
-  Opens : (at number : ℕ) → Deed
+  -- it is opened, over a source that has these bytes to give, where it tells them
+  Opens : (at number : ℕ) → (given : Option (List ℕ)) → Deed
   -- a piece is read, and comes to the hub
   Takes : (at number : ℕ) → (piece : List ℕ) → Deed
   -- its next item is answered, where one is complete, and these bytes are sent for it
@@ -45,7 +45,7 @@ pub data Deed : Type 0 where
 
 -- what was sent to a connection
 abbrev pub sent_by : ℕ → Deed → List ℕ
-sent_by number (Opens at n) = []
+sent_by number (Opens at n given) = []
 sent_by number (Takes at n piece) = []
 sent_by number (Replies at n moment sent) = if n == number then sent else []
 sent_by number (Declines at n piece moment sent) = if n == number then sent else []
@@ -61,7 +61,7 @@ Tells (Some bytes) = Unit {0}
 
 -- how many items of the connection at a place were answered
 abbrev pub answer_at : ℕ → Deed → ℕ
-answer_at place (Opens at n) = 0
+answer_at place (Opens at n given) = 0
 answer_at place (Takes at n piece) = 0
 answer_at place (Replies at n moment sent) = if at == place then 1 else 0
 answer_at place (Declines at n piece moment sent) = if at == place then 1 else 0
@@ -73,7 +73,7 @@ answers_at place (d ∷ deeds) = answer_at place d + answers_at place deeds
 
 -- how many pieces of the connection at a place were read
 abbrev pub piece_at : ℕ → Deed → ℕ
-piece_at place (Opens at n) = 0
+piece_at place (Opens at n given) = 0
 piece_at place (Takes at n piece) = if at == place then 1 else 0
 piece_at place (Replies at n moment sent) = 0
 piece_at place (Declines at n piece moment sent) = if at == place then 1 else 0
@@ -94,7 +94,7 @@ unfinished_in (s ∷ seats) = unfinished_of s + unfinished_in seats
 
 -- what is closed is closed at this second
 abbrev pub IsClosedAt : ℕ → Deed → Type 0
-IsClosedAt second (Opens at n) = Unit {0}
+IsClosedAt second (Opens at n given) = Unit {0}
 IsClosedAt second (Takes at n piece) = Unit {0}
 IsClosedAt second (Replies at n moment sent) = Unit {0}
 IsClosedAt second (Declines at n piece moment sent) = Unit {0}
@@ -187,7 +187,7 @@ module _ {A R K S : Type 0} (condition : A → Condition) (unread : R → Option
     refused : Refused p q → Step p q []
     asks : Asks p q → Step p q []
     comes : {at : ℕ} {seat : Seat R K S} → Comes p q at seat
-        → Step p q (Opens at seat.connection ∷ [])
+        → Step p q (Opens at seat.connection (unread seat.source) ∷ [])
     rests : {at : ℕ} {before after : Seat R K S} → HasTurn p q at before after
         → Rests condition unread taken held p.hub q.hub before after → Step p q []
     offers : {at : ℕ} {is_full is_shut : Bool} {before after : Seat R K S} → HasTurn p q at before after

@@ -60,14 +60,14 @@ pub fn seats_are_apart<A: Archive, R: Source, K: Sink, S: Spool>()
 
 /// The archive promise, for all connections at once. From a host without connections over a store that
 /// stands for a state, whatever peers, moments and events come: what was done is a run of the machine,
-/// each connection was sent a front of its replies to the requests that its bytes spell, and the store
-/// stands for the machine's state, while it is open.
+/// each connection was sent a front of its replies to the requests that its bytes spell, these bytes are a
+/// front of what its client gave, and the store stands for the machine's state, while it is open.
 pub fn hosts_keep_the_archive_promise<A: Archive, R: Source, K: Sink, S: Spool>()
     ensures { (p q : Position A R K S) (deeds : List Deed) (first : State) (before : List Record)
         → ((at : ℕ) → slot at p.seats ≡ None)
         → StandsHoldingAfter A.condition p.hub first before (λ n. [])
         → Steps A.condition R.unread K.taken S.held p deeds q → IsClean A.condition q.hub
-        → KeepsPromise A.condition K.taken S.held q first before deeds }
+        → KeepsPromise A.condition R.unread K.taken S.held q first before deeds }
 {
     answers_make_a_run::<A>();
     connections_make_a_run::<A>();
