@@ -5,3 +5,5 @@ mod TellLemmas
 mod ReadLemmas
 mod CloseLemmas
 mod GivenLemmas
+mod ShutLemmas
+mod RoundLemmas

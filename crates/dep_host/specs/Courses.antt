@@ -25,6 +25,11 @@ duty Draining false r w = if r then Drain else Wait
 abbrev pub is_past : (since second : ℕ) → Limits → Bool
 is_past since second limits = nat_lt limits.idle_seconds (second - since)
 
+-- an idle time has passed since it was told, if it was
+abbrev pub is_overdue : (told : Option ℕ) → (second : ℕ) → Limits → Bool
+is_overdue None second limits = false
+is_overdue (Some since) second limits = is_past since second limits
+
 -- it was silent for longer than it may be
 abbrev pub is_silent : Course → (second : ℕ) → Limits → Bool
 is_silent c second limits = not c.has_moved && is_past c.since second limits

@@ -193,7 +193,7 @@ impl Course {
 }
 
 /// Whether an idle time has passed.
-fn is_past(since: u64, second: u64, limits: &Limits) -> bool
+pub(crate) fn is_past(since: u64, second: u64, limits: &Limits) -> bool
     ensures { result ≡ is_past since second limits.now }
 {
     second.saturating_sub(since) > limits.idle_seconds

@@ -4,7 +4,7 @@ ghost use Rattle.dep_types.specs.State.{State};
 ghost use Rattle.dep_server.specs.Records.{Record};
 ghost use Rattle.dep_server.specs.Standing.{IsClean};
 ghost use Rattle.dep_server.specs.Holding.{StandsHoldingAfter};
-ghost use Rattle.dep_host.specs.Hosting.{Position, Deed, Steps, Tells, slot, replies_to};
+ghost use Rattle.dep_host.specs.Hosting.{Position, Deed, Steps, Tells, AreOutgoing, slot, replies_to};
 ghost use Rattle.dep_outbox.specs.Wires.{told};
 ghost use Rattle.dep_host.specs.declared.seat.Seat.{Seat};
 ghost use Rattle.dep_host.specs.Runs.{StandsBehind, KeepsPromise, Follows, StaysOpen, read_of, arrived_of};
@@ -72,3 +72,11 @@ pub fn hosts_keep_the_archive_promise<A: Archive, R: Source, K: Sink, S: Spool>(
     answers_make_a_run::<A>();
     connections_make_a_run::<A>();
 }
+
+/// Once a host was told that its store is shut, it lets nobody in and reads nothing: it answers what was
+/// read, and closes.
+pub fn told_hosts_take_nothing<A: Archive, R: Source, K: Sink, S: Spool>()
+    ensures { (p q : Position A R K S) (deeds : List Deed) (since : ℕ) → p.shut ≡ Some since
+        → Steps A.condition R.unread K.taken S.held p deeds q
+        → AreOutgoing deeds × (q.shut ≡ Some since) }
+{}
