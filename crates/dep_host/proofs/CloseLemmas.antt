@@ -42,21 +42,21 @@ last_of (y ∷ ds) e (x ∷ done) d later h =
 
 -- whether it is a closing, of which number, and where
 abbrev is_close : Deed → ℕ
-is_close (Opens at n) = 0
+is_close (Opens at n given) = 0
 is_close (Takes at n piece) = 0
 is_close (Replies at n moment sent) = 0
 is_close (Declines at n piece moment sent) = 0
 is_close (Closes at n second) = 1
 
 abbrev close_at : Deed → ℕ
-close_at (Opens at n) = 0
+close_at (Opens at n given) = 0
 close_at (Takes at n piece) = 0
 close_at (Replies at n moment sent) = 0
 close_at (Declines at n piece moment sent) = 0
 close_at (Closes at n second) = at
 
 abbrev close_number : Deed → ℕ
-close_number (Opens at n) = 0
+close_number (Opens at n given) = 0
 close_number (Takes at n piece) = 0
 close_number (Replies at n moment sent) = 0
 close_number (Declines at n piece moment sent) = 0
@@ -103,7 +103,7 @@ module _ {A R K S : Type 0} (condition : A → Condition) (unread : R → Option
   stood_step {ds = ds} done later at n second (refused r) clean s before h = before later (sym (append-nil ds) ∙ h)
   stood_step {ds = ds} done later at n second (asks r) clean s before h = before later (sym (append-nil ds) ∙ h)
   stood_step {ds = ds} done later at n second (rests t r) clean s before h = before later (sym (append-nil ds) ∙ h)
-  stood_step done later at n second (comes {at = place} {seat = seat} r) clean s before h = another (Opens place seat.connection) done later at n second refl before h
+  stood_step done later at n second (comes {at = place} {seat = seat} r) clean s before h = another (Opens place seat.connection (unread seat.source)) done later at n second refl before h
   stood_step done later at n second (offers {at = place} {before = old} t o) clean s before h = another (Takes place old.connection o.piece) done later at n second refl before h
   stood_step done later at n second (refuses {at = place} {moment = moment} {before = old} t r) clean s before h =
       another (Declines place old.connection r.piece moment r.answers.sent) done later at n second refl before h
@@ -129,7 +129,7 @@ module _ {A R K S : Type 0} (condition : A → Condition) (unread : R → Option
 
   -- a host that goes on keeps its promise, where that holds of each stretch
   pub promised : (keeps : (p q : Position A R K S) (deeds : List Deed) (first : State) (before : List Record) → ((at : ℕ) → slot at p.seats ≡ None)
-      → StandsHoldingAfter condition p.hub first before (λ n. []) → Steps condition unread taken held p deeds q → IsClean condition q.hub → KeepsPromise condition taken held q first before deeds)
+      → StandsHoldingAfter condition p.hub first before (λ n. []) → Steps condition unread taken held p deeds q → IsClean condition q.hub → KeepsPromise condition unread taken held q first before deeds)
       → (p q : Position A R K S) → GoesOn condition unread taken held p q → Promises condition unread taken held p q
   promised keeps p q goes = λ first before empty stands clean. (
     goes.0,

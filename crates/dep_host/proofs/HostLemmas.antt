@@ -1,5 +1,5 @@
 -- How a host goes on.
-use Rattle.std.proofs.Common.{◌≡◌, ◌⊎◌, ◌<◌, ◌≤◌, ◌+◌, ◌==◌, ℕ, zero, suc, Bool, true, false, if◌then◌else◌, List, [], ◌∷◌, ◌++◌, Option, None, Some, refl, sym, ap, subst, ◌∙◌, append_assoc, length, get_or, set, take, nat_lt, add-one, inl, inr, arith}
+use Rattle.std.proofs.Common.{◌≡◌, ◌⊎◌, ◌<◌, ◌≤◌, ◌+◌, ◌==◌, ℕ, zero, suc, Bool, true, false, if◌then◌else◌, List, [], ◌∷◌, ◌++◌, Option, None, Some, refl, sym, ap, subst, ◌∙◌, append_assoc, length, get_or, set, take, nat_lt, is_some, IsTrue, add-one, inl, inr, arith}
 use Rattle.std.proofs.lemmas.List.{append-nil, get_or_default, set-get_or, get_or_past, get_or-set_other}
 use Rattle.std.proofs.lemmas.Bool.{ne_eqb, cases_eq, cases_lt, lt-ltb}
 use Rattle.std.proofs.KnownBytes.{Keeps-refl}
@@ -9,16 +9,18 @@ use Rattle.dep_types.specs.Conditions.{Condition}
 use Rattle.dep_server.specs.Holding.{KeepsHolding}
 use Rattle.dep_server.specs.declared.hub.Hub.{Hub}
 use Rattle.dep_server.specs.Standing.{IsClean, IsHonest}
+use Rattle.dep_server.specs.Shut.{TellsOpen}
 use Rattle.dep_outbox.specs.declared.wire.Wire.{Wire}
 use Rattle.dep_outbox.specs.Wires.{told}
 use Rattle.dep_host.specs.Courses.{is_ended, closing as why}
 use Rattle.dep_host.specs.declared.seat.Seat.{Seat}
+use Rattle.dep_host.specs.declared.host.Host.{Host}
 use Rattle.dep_host.specs.declared.limits.Limits.{Limits}
 use Rattle.dep_host.specs.declared.log.Closing.{Closing}
 use Rattle.dep_host.specs.declared.log.Closing.TheVariants.{Large}
 use Rattle.dep_host.specs.declared.course.Phase.TheVariants.{Open}
 use Rattle.dep_host.specs.Seats.{TakesTurn}
-use Rattle.dep_host.specs.Hosting.{Position, slot, HasTime, MayGo, Deed, Takes, Replies, Declines, Closes, answers_at, pieces_at, unfinished_of, unfinished_in, AreClosedAt, HasTurn, Goes, Asks, Step, refused, asks, rests, offers, refuses, answers, leaves, Steps, begins, goes_on, GoesOn, Serves, GoesRound, Sheds}
+use Rattle.dep_host.specs.Hosting.{Position, slot, HasTime, MayGo, IsVacant, Deed, Takes, Replies, Declines, Closes, answers_at, pieces_at, unfinished_of, unfinished_in, AreClosedAt, HasTurn, Goes, Asks, Step, refused, asks, rests, offers, refuses, answers, leaves, Steps, begins, goes_on, GoesOn, Serves, GoesRound, Sheds}
 
 -- what was read at a place is what stands there
 pub slot_read : {X : Type 0} (at : ℕ) (seats : List (Option X)) (x : Option X) → at < length seats → x ≡ get_or seats at x → slot at seats ≡ x
@@ -88,9 +90,15 @@ closing_there {R = R} {K = K} {S = S} p at second seat (Some reason) sat e = sub
 pub none_there : {R K S : Type 0} (seats : List (Option (Seat R K S))) (at second : ℕ) (limits : Limits) → slot at seats ≡ None → HasTime second limits (slot at seats)
 none_there {R = R} {K = K} {S = S} seats at second limits free = subst (λ (o : Option (Seat R K S)). HasTime second limits o) (sym free) tt
 
--- nothing is read once the store is shut
-none_shut : (is_shut : Bool) (n : ℕ) → is_shut ≡ false → is_shut ≡ true → n ≡ 0
-none_shut is_shut n unshut shut = absurd (let e : true ≡ false = sym shut ∙ unshut in cc)
+-- a place that is vacant stays so
+pub vacant_kept : {A R K S : Type 0} (p q : Host A R K S) (o : Option ℕ) → IfSome o (IsVacant p) → length q.seats.items ≡ length p.seats.items
+    → ((place : ℕ) → slot place p.seats.items ≡ None → slot place q.seats.items ≡ None) → q.shut_since ≡ p.shut_since → IfSome o (IsVacant q)
+vacant_kept p q None h long free shut = tt
+vacant_kept p q (Some at) h long free shut = (subst (λ (n : ℕ). at < n) (sym long) h.0, free at h.1, subst (λ (s : Option ℕ). is_some s ≡ false) (sym shut) h.2)
+
+-- the store is shut where the hub tells that it is
+pub told_shut : (c : Condition) (is_open : Bool) → is_open ≡ false → TellsOpen c is_open → ¬ IsTrue c.is_open
+told_shut c is_open e told = subst (λ (b : Bool). TellsOpen c b) e told
 
 -- nobody sits at one place more
 pub none_more : {X : Type 0} (seats : List (Option X)) → ((at : ℕ) → slot at seats ≡ None) → (at : ℕ) → slot at (seats ++ None ∷ []) ≡ None
@@ -138,6 +146,9 @@ module _ {A R K S : Type 0} (condition : A → Condition) (unread : R → Option
   pub no_step : (p : Position A R K S) → GoesOn condition unread taken held p p
   no_step p = ([], begins)
 
+  pub stands_still : (p : Position A R K S) → Steps condition unread taken held p [] p
+  stands_still p = begins
+
   pub steps_join : {p q r : Position A R K S} {xs ys : List Deed} → Steps condition unread taken held p xs q → Steps condition unread taken held q ys r → Steps condition unread taken held p (xs ++ ys) r
   steps_join {p = p} {q = q} {xs = xs} s begins = subst (λ (l : List Deed). Steps condition unread taken held p l q) (sym (append-nil xs)) s
   steps_join {p = p} {r = r} {xs = xs} s (goes_on {deeds = ys} {more = more} t step) =
@@ -148,9 +159,9 @@ module _ {A R K S : Type 0} (condition : A → Condition) (unread : R → Option
   both p q r g h = (g.0 ++ h.0, steps_join g.1 h.1)
 
   -- a place was looked at, and stands as it stood
-  unchanged : (p q : Position A R K S) (at : ℕ) (x : Option (Seat R K S)) → q.hub ≡ p.hub → q.limits ≡ p.limits → q.seats ≡ set p.seats at x → at < length p.seats → x ≡ get_or p.seats at x
+  unchanged : (p q : Position A R K S) (at : ℕ) (x : Option (Seat R K S)) → q.hub ≡ p.hub → q.limits ≡ p.limits → q.shut ≡ p.shut → q.seats ≡ set p.seats at x → at < length p.seats → x ≡ get_or p.seats at x
       → Step condition unread taken held p q []
-  unchanged p q at x hub limits seats there read =
+  unchanged p q at x hub limits shut seats there read =
       let same : q.seats ≡ p.seats = seats ∙ (ap (λ (y : Option (Seat R K S)). set p.seats at y) read ∙ set-get_or p.seats at x) in
       refused (record {
         sits = same;
@@ -159,11 +170,12 @@ module _ {A R K S : Type 0} (condition : A → Condition) (unread : R → Option
         same_store = ap (λ (h : Hub A). h.store) hub;
         same_config = ap (λ (h : Hub A). h.config) hub;
         same_limits = limits;
+        same_shut = shut;
       })
 
-  pub same_seats : (p q : Position A R K S) (at : ℕ) (x : Option (Seat R K S)) → q.hub ≡ p.hub → q.limits ≡ p.limits → q.seats ≡ set p.seats at x → at < length p.seats → x ≡ get_or p.seats at x
+  pub same_seats : (p q : Position A R K S) (at : ℕ) (x : Option (Seat R K S)) → q.hub ≡ p.hub → q.limits ≡ p.limits → q.shut ≡ p.shut → q.seats ≡ set p.seats at x → at < length p.seats → x ≡ get_or p.seats at x
       → Steps condition unread taken held p [] q
-  same_seats p q at x hub limits seats there read = goes_on begins (unchanged p q at x hub limits seats there read)
+  same_seats p q at x hub limits shut seats there read = goes_on begins (unchanged p q at x hub limits shut seats there read)
 
   -- the hub was asked whether its store is open
   pub asked : (p q : Position A R K S) → Asks condition unread taken held p q → Steps condition unread taken held p [] q
@@ -171,10 +183,10 @@ module _ {A R K S : Type 0} (condition : A → Condition) (unread : R → Option
 
   -- a connection took note of something, and neither its bytes nor its phase changed
   pub woken : (p q : Position A R K S) (at : ℕ) (before after : Seat R K S) → at < length p.seats → slot at p.seats ≡ Some before → q.seats ≡ set p.seats at (Some after)
-      → q.hub ≡ p.hub → q.limits ≡ p.limits → after.connection ≡ before.connection → after.source ≡ before.source → after.wire ≡ before.wire
+      → q.hub ≡ p.hub → q.limits ≡ p.limits → q.shut ≡ p.shut → after.connection ≡ before.connection → after.source ≡ before.source → after.wire ≡ before.wire
       → (after.course.phase ≡ Open → before.course.phase ≡ Open) → (is_ended before.course.phase ≡ true → is_ended after.course.phase ≡ true)
       → after.course.unfinished ≡ before.course.unfinished → Steps condition unread taken held p [] q
-  woken p q at before after there sat sits hub limits number source wire opens ended count = goes_on begins (rests {at = at} {before = before} {after = after} (record {
+  woken p q at before after there sat sits hub limits shut number source wire opens ended count = goes_on begins (rests {at = at} {before = before} {after = after} (record {
     there = there;
     sat = sat;
     sits = sits;
@@ -185,6 +197,7 @@ module _ {A R K S : Type 0} (condition : A → Condition) (unread : R → Option
     honest = λ h. subst (λ (k : Hub A). IsHonest condition k) hub h;
     ended = ended;
     same_limits = limits;
+    same_shut = shut;
   }) (record {
     same = hub;
     keeps = subst (λ (w : Wire K S). Keeps (told taken held before.wire) (told taken held w)) (sym wire) (Keeps-refl (told taken held before.wire));
@@ -194,16 +207,15 @@ module _ {A R K S : Type 0} (condition : A → Condition) (unread : R → Option
   }))
 
   -- nothing was done at a place
-  pub served_none : (p q : Position A R K S) (at second : ℕ) (is_full is_shut : Bool) (x : Option (Seat R K S)) → q.hub ≡ p.hub → q.limits ≡ p.limits → q.seats ≡ set p.seats at x → at < length p.seats → x ≡ get_or p.seats at x
-      → Serves condition unread taken held p q at second is_full is_shut
-  served_none p q at second is_full is_shut x hub limits seats there read = record {
+  pub served_none : (p q : Position A R K S) (at second : ℕ) (is_full : Bool) (x : Option (Seat R K S)) → q.hub ≡ p.hub → q.limits ≡ p.limits → q.shut ≡ p.shut → q.seats ≡ set p.seats at x → at < length p.seats → x ≡ get_or p.seats at x
+      → Serves condition unread taken held p q at second is_full
+  served_none p q at second is_full x hub limits shut seats there read = record {
     deeds = [];
-    steps = goes_on begins (unchanged p q at x hub limits seats there read);
+    steps = goes_on begins (unchanged p q at x hub limits shut seats there read);
     once = omega arith;
     others = λ place ne. refl;
     waits = λ full some. refl;
     unread_others = λ place ne. refl;
-    unread_shut = λ shut. refl;
     closes = tt;
   }
 
@@ -214,67 +226,62 @@ module _ {A R K S : Type 0} (condition : A → Condition) (unread : R → Option
       let no : ⊥ = omega (arith, kept, none, some) in no)
 
   -- a connection had its turn
-  pub took_turn : (p q : Position A R K S) (at second moment : ℕ) (is_full is_shut : Bool) (before after : Seat R K S) → HasTurn condition unread taken held p q at before after
-      → TakesTurn condition unread taken held p.hub q.hub before after moment is_full is_shut → Serves condition unread taken held p q at second is_full is_shut
-  took_turn p q at second moment is_full is_shut before after t (inl r) = record {
+  pub took_turn : (p q : Position A R K S) (at second moment : ℕ) (is_full : Bool) (before after : Seat R K S) → HasTurn condition unread taken held p q at before after
+      → TakesTurn condition unread taken held p.hub q.hub before after moment is_full (is_some p.shut) → Serves condition unread taken held p q at second is_full
+  took_turn p q at second moment is_full before after t (inl r) = record {
     deeds = [];
     steps = goes_on begins (rests t r);
     once = omega arith;
     others = λ place ne. refl;
     waits = λ full some. refl;
     unread_others = λ place ne. refl;
-    unread_shut = λ shut. refl;
     closes = tt;
   }
-  took_turn p q at second moment is_full is_shut before after t (inr (inl o)) = record {
+  took_turn p q at second moment is_full before after t (inr (inl o)) = record {
     deeds = Takes at before.connection o.piece ∷ [];
     steps = goes_on begins (offers t o);
     once = omega arith;
     others = λ place ne. refl;
     waits = λ full some. none_read p at _ before t.sat (o.read.allowed full) some;
     unread_others = λ place ne. none_elsewhere at place ne;
-    unread_shut = λ shut. none_shut is_shut _ o.read.is_open shut;
     closes = (tt, tt);
   }
-  took_turn p q at second moment is_full is_shut before after t (inr (inr (inl r))) = record {
+  took_turn p q at second moment is_full before after t (inr (inr (inl r))) = record {
     deeds = Declines at before.connection r.piece moment r.answers.sent ∷ [];
     steps = goes_on begins (refuses t r);
     once = one_at_most (at == at);
     others = λ place ne. none_elsewhere at place ne;
     waits = λ full some. none_read p at _ before t.sat (r.read.allowed full) some;
     unread_others = λ place ne. none_elsewhere at place ne;
-    unread_shut = λ shut. none_shut is_shut _ r.read.is_open shut;
     closes = (tt, tt);
   }
-  took_turn p q at second moment is_full is_shut before after t (inr (inr (inr a))) = record {
+  took_turn p q at second moment is_full before after t (inr (inr (inr a))) = record {
     deeds = Replies at before.connection moment a.answers.sent ∷ [];
     steps = goes_on begins (answers t a);
     once = one_at_most (at == at);
     others = λ place ne. none_elsewhere at place ne;
     waits = λ full some. refl;
     unread_others = λ place ne. refl;
-    unread_shut = λ shut. refl;
     closes = (tt, tt);
   }
 
   -- its turn had begun before
-  pub after_begin : (p q r : Position A R K S) (at second : ℕ) (is_full is_shut : Bool) → Steps condition unread taken held p [] q → unfinished_of (slot at q.seats) ≡ unfinished_of (slot at p.seats)
-      → Serves condition unread taken held q r at second is_full is_shut → Serves condition unread taken held p r at second is_full is_shut
-  after_begin p q r at second is_full is_shut b count s = record {
+  pub after_begin : (p q r : Position A R K S) (at second : ℕ) (is_full : Bool) → Steps condition unread taken held p [] q → unfinished_of (slot at q.seats) ≡ unfinished_of (slot at p.seats)
+      → Serves condition unread taken held q r at second is_full → Serves condition unread taken held p r at second is_full
+  after_begin p q r at second is_full b count s = record {
     deeds = s.deeds;
     steps = steps_join b s.steps;
     once = s.once;
     others = s.others;
     waits = λ full some. s.waits full (omega (arith, count, some));
     unread_others = s.unread_others;
-    unread_shut = s.unread_shut;
     closes = s.closes;
   }
 
   -- and was closed after it
-  pub then_closed : (p q r : Position A R K S) (at second : ℕ) (is_full is_shut : Bool) (seat : Seat R K S) → Serves condition unread taken held p q at second is_full is_shut → Goes condition unread taken held q r at second seat
-      → Serves condition unread taken held p r at second is_full is_shut
-  then_closed p q r at second is_full is_shut seat s g =
+  pub then_closed : (p q r : Position A R K S) (at second : ℕ) (is_full : Bool) (seat : Seat R K S) → Serves condition unread taken held p q at second is_full → Goes condition unread taken held q r at second seat
+      → Serves condition unread taken held p r at second is_full
+  then_closed p q r at second is_full seat s g =
       let more : List Deed = Closes at seat.connection second ∷ [] in
       record {
         deeds = s.deeds ++ more;
@@ -283,7 +290,6 @@ module _ {A R K S : Type 0} (condition : A → Condition) (unread : R → Option
         others = λ place ne. let e = answers_append place s.deeds more in let f : answers_at place more ≡ 0 = refl in let o = s.others place ne in omega (arith, e, f, o);
         waits = λ full some. let e = pieces_append at s.deeds more in let f : pieces_at at more ≡ 0 = refl in let o = s.waits full some in omega (arith, e, f, o);
         unread_others = λ place ne. let e = pieces_append place s.deeds more in let f : pieces_at place more ≡ 0 = refl in let o = s.unread_others place ne in omega (arith, e, f, o);
-        unread_shut = λ shut. let e = pieces_append at s.deeds more in let f : pieces_at at more ≡ 0 = refl in let o = s.unread_shut shut in omega (arith, e, f, o);
         closes = closed_append second s.deeds more s.closes (refl, tt);
       }
 
@@ -295,13 +301,13 @@ module _ {A R K S : Type 0} (condition : A → Condition) (unread : R → Option
   pub closing_none : (p q : Position A R K S) (at second : ℕ) (x : Option (Seat R K S)) → x ≡ None → IfSome x (Goes condition unread taken held p q at second)
   closing_none p q at second x e = subst (λ (o : Option (Seat R K S)). IfSome o (Goes condition unread taken held p q at second)) (sym e) tt
 
-  pub closes_served : (p q r : Position A R K S) (at second : ℕ) (is_full is_shut : Bool) (reason : Closing) (x : Option (Seat R K S)) → Serves condition unread taken held p q at second is_full is_shut → MayGo q second reason x
-      → IfSome x (Goes condition unread taken held q r at second) → Serves condition unread taken held p r at second is_full is_shut
-  closes_served p q r at second is_full is_shut reason None s d g = absurd d
-  closes_served p q r at second is_full is_shut reason (Some seat) s d g = then_closed p q r at second is_full is_shut seat s g
+  pub closes_served : (p q r : Position A R K S) (at second : ℕ) (is_full : Bool) (reason : Closing) (x : Option (Seat R K S)) → Serves condition unread taken held p q at second is_full → MayGo q second reason x
+      → IfSome x (Goes condition unread taken held q r at second) → Serves condition unread taken held p r at second is_full
+  closes_served p q r at second is_full reason None s d g = absurd d
+  closes_served p q r at second is_full reason (Some seat) s d g = then_closed p q r at second is_full seat s g
 
   -- the places so far had their turns
-  pub record RoundSoFar (p q : Position A R K S) (at second : ℕ) (is_full is_shut : Bool) : Type 0 where
+  pub record RoundSoFar (p q : Position A R K S) (at second : ℕ) (is_full : Bool) : Type 0 where
     deeds : List Deed
     steps : Steps condition unread taken held p deeds q
     once : (place : ℕ) → answers_at place deeds ≤ 1
@@ -309,11 +315,10 @@ module _ {A R K S : Type 0} (condition : A → Condition) (unread : R → Option
     waits : is_full ≡ true → (place : ℕ) → 0 < unfinished_of (slot place p.seats) → pieces_at place deeds ≡ 0
     unread_later : (place : ℕ) → at ≤ place → pieces_at place deeds ≡ 0
     stays : (place : ℕ) → at ≤ place → slot place q.seats ≡ slot place p.seats
-    unread_shut : is_shut ≡ true → (place : ℕ) → pieces_at place deeds ≡ 0
     closes : AreClosedAt second deeds
 
-  pub round_begins : (p : Position A R K S) (second : ℕ) (is_full is_shut : Bool) → RoundSoFar p p 0 second is_full is_shut
-  round_begins p second is_full is_shut = record {
+  pub round_begins : (p : Position A R K S) (second : ℕ) (is_full : Bool) → RoundSoFar p p 0 second is_full
+  round_begins p second is_full = record {
     deeds = [];
     steps = begins;
     once = λ place. omega arith;
@@ -321,13 +326,12 @@ module _ {A R K S : Type 0} (condition : A → Condition) (unread : R → Option
     waits = λ full place some. refl;
     unread_later = λ place h. refl;
     stays = λ place h. refl;
-    unread_shut = λ shut place. refl;
     closes = tt;
   }
 
-  pub round_goes_on : (p q r : Position A R K S) (at next second : ℕ) (is_full is_shut : Bool) → RoundSoFar p q at second is_full is_shut → Serves condition unread taken held q r at second is_full is_shut
-      → ((place : ℕ) → (place ≡ at → ⊥) → slot place r.seats ≡ slot place q.seats) → next ≡ at + 1 → RoundSoFar p r next second is_full is_shut
-  round_goes_on p q r at next second is_full is_shut s t same e = record {
+  pub round_goes_on : (p q r : Position A R K S) (at next second : ℕ) (is_full : Bool) → RoundSoFar p q at second is_full → Serves condition unread taken held q r at second is_full
+      → ((place : ℕ) → (place ≡ at → ⊥) → slot place r.seats ≡ slot place q.seats) → next ≡ at + 1 → RoundSoFar p r next second is_full
+  round_goes_on p q r at next second is_full s t same e = record {
     deeds = s.deeds ++ t.deeds;
     steps = steps_join s.steps t.steps;
     once = λ place. elim (cases_eq place at) [
@@ -349,37 +353,30 @@ module _ {A R K S : Type 0} (condition : A → Condition) (unread : R → Option
         let a = pieces_append place s.deeds t.deeds in let b = s.unread_later place (omega (arith, h, e)) in
         let c = t.unread_others place (λ is. omega (arith, is, h, e)) in omega (arith, a, b, c);
     stays = λ place h. same place (λ is. omega (arith, is, h, e)) ∙ s.stays place (omega (arith, h, e));
-    unread_shut = λ shut place. elim (cases_eq place at) [
-      | inl h ↦ let a = pieces_append place s.deeds t.deeds in let b = s.unread_shut shut place in
-          let c : pieces_at place t.deeds ≡ 0 = subst (λ (n : ℕ). pieces_at n t.deeds ≡ 0) (sym h) (t.unread_shut shut) in omega (arith, a, b, c)
-      | inr ne ↦ let a = pieces_append place s.deeds t.deeds in let b = t.unread_others place ne in let c = s.unread_shut shut place in omega (arith, a, b, c)
-    ];
     closes = closed_append second s.deeds t.deeds s.closes t.closes;
   }
 
-  pub round_ends : (p q : Position A R K S) (at second : ℕ) (is_full is_shut : Bool) → RoundSoFar p q at second is_full is_shut → is_full ≡ nat_lt p.limits.unfinished_bytes (unfinished_in p.seats)
-      → GoesRound condition unread taken held p q second is_shut
-  round_ends p q at second is_full is_shut s e = record {
+  pub round_ends : (p q : Position A R K S) (at second : ℕ) (is_full : Bool) → RoundSoFar p q at second is_full → is_full ≡ nat_lt p.limits.unfinished_bytes (unfinished_in p.seats)
+      → GoesRound condition unread taken held p q second
+  round_ends p q at second is_full s e = record {
     deeds = s.deeds;
     steps = s.steps;
     once = s.once;
     waits = λ more place some. s.waits (e ∙ lt-ltb p.limits.unfinished_bytes (unfinished_in p.seats) more) place some;
-    unread_shut = s.unread_shut;
     closes = s.closes;
   }
 
   -- the largest was closed after it
-  pub round_sheds : (p q r : Position A R K S) (second : ℕ) (is_shut : Bool) → GoesRound condition unread taken held p q second is_shut → Sheds condition unread taken held q r second
-      → GoesRound condition unread taken held p r second is_shut
-  round_sheds p q r second is_shut s (inl e) = subst (λ (x : Position A R K S). GoesRound condition unread taken held p x second is_shut) (sym e) s
-  round_sheds p q r second is_shut s (inr (at, seat, g)) =
+  pub round_sheds : (p q r : Position A R K S) (second : ℕ) → GoesRound condition unread taken held p q second → Sheds condition unread taken held q r second
+      → GoesRound condition unread taken held p r second
+  round_sheds p q r second s (inl e) = subst (λ (x : Position A R K S). GoesRound condition unread taken held p x second) (sym e) s
+  round_sheds p q r second s (inr (at, seat, g)) =
       let more : List Deed = Closes at seat.connection second ∷ [] in
       record {
         deeds = s.deeds ++ more;
         steps = goes_on s.steps (leaves g);
         once = λ place. let e = answers_append place s.deeds more in let f : answers_at place more ≡ 0 = refl in let o = s.once place in omega (arith, e, f, o);
         waits = λ full place some. let e = pieces_append place s.deeds more in let f : pieces_at place more ≡ 0 = refl in let o = s.waits full place some in omega (arith, e, f, o);
-        unread_shut = λ shut place. let e = pieces_append place s.deeds more in let f : pieces_at place more ≡ 0 = refl in let o = s.unread_shut shut place in omega (arith, e, f, o);
         closes = closed_append second s.deeds more s.closes (refl, tt);
       }
 

@@ -4,3 +4,6 @@ mod RunLemmas
 mod TellLemmas
 mod ReadLemmas
 mod CloseLemmas
+mod GivenLemmas
+mod ShutLemmas
+mod RoundLemmas

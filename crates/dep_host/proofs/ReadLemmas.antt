@@ -7,7 +7,7 @@ use Rattle.dep_server.specs.Holding.{with_held}
 use Rattle.dep_host.specs.Hosting.{Deed, Opens, Takes, Replies, Declines, Closes, sent_by, replies_to}
 use Rattle.dep_host.specs.Runs.{Follows, begins, opens, takes, replies, declines, closes, read_by, read_of, arrived_by, arrived_of, StaysOpen, sent_for, sent_of}
 
-read_append : (n : ℕ) (xs ys : List Deed) → read_of n (xs ++ ys) ≡ read_of n xs ++ read_of n ys
+pub read_append : (n : ℕ) (xs ys : List Deed) → read_of n (xs ++ ys) ≡ read_of n xs ++ read_of n ys
 read_append n [] ys = refl
 read_append n (d ∷ xs) ys = ap (λ l. read_by n d ++ l) (read_append n xs ys) ∙ sym (append_assoc (read_by n d) (read_of n xs) (read_of n ys))
 
@@ -57,9 +57,9 @@ arrived_none n records r e = arrived_one n records r [] e ∙ append-nil (arrive
 pub reads_arrive : {first : ℕ → List ℕ} {deeds : List Deed} {records : List Record} {held : ℕ → List ℕ} (n : ℕ) → Follows first deeds records held → StaysOpen n deeds
     → first n ++ read_of n deeds ≡ arrived_of n records ++ held n
 reads_arrive {first = first} n begins h = append-nil (first n)
-reads_arrive {first = first} n (opens {deeds = deeds} {records = records} {held = held} at m f) h =
-    stays (first n) (read_of n deeds) (arrived_of n records) (held n) _ _ (held n) (reads_arrive n f (open_before n deeds (Opens at m ∷ []) h))
-    (read_none n deeds (Opens at m) refl) (arrived_none n records (record { event = Connect m; sent = [] }) refl) refl
+reads_arrive {first = first} n (opens {deeds = deeds} {records = records} {held = held} at m given f) h =
+    stays (first n) (read_of n deeds) (arrived_of n records) (held n) _ _ (held n) (reads_arrive n f (open_before n deeds (Opens at m given ∷ []) h))
+    (read_none n deeds (Opens at m given) refl) (arrived_none n records (record { event = Connect m; sent = [] }) refl) refl
 reads_arrive {first = first} n (takes {deeds = deeds} {records = records} {held = held} at m piece f) h =
     let before = reads_arrive n f (open_before n deeds (Takes at m piece ∷ []) h) in
     elim (cases_eq n m) [
@@ -111,7 +111,7 @@ both_one n deeds d records r e f = replies_one n deeds d ∙ ap (λ l. l ++ sent
 pub replies_sent : {first : ℕ → List ℕ} {deeds : List Deed} {records : List Record} {held : ℕ → List ℕ} (n : ℕ) → Follows first deeds records held
     → replies_to n deeds ≡ sent_of n records
 replies_sent n begins = refl
-replies_sent n (opens {deeds = deeds} {records = records} at m f) = both_one n deeds (Opens at m) records (record { event = Connect m; sent = [] }) (replies_sent n f) refl
+replies_sent n (opens {deeds = deeds} {records = records} at m given f) = both_one n deeds (Opens at m given) records (record { event = Connect m; sent = [] }) (replies_sent n f) refl
 replies_sent n (takes {deeds = deeds} at m piece f) = replies_one n deeds (Takes at m piece) ∙ append-nil (replies_to n deeds) ∙ replies_sent n f
 replies_sent n (replies {deeds = deeds} {records = records} at m moment part rest sent f cut) =
     both_one n deeds (Replies at m moment sent) records (record { event = Arrive m part moment; sent = sent }) (replies_sent n f) refl

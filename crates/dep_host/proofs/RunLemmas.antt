@@ -67,7 +67,7 @@ module _ {A R K S : Type 0} (condition : A → Condition) (unread : R → Option
   step_run {p = p} {q = q} first records holds m (comes {at = at} {seat = seat} r) clean = record {
     more = m.more ++ record { event = Connect seat.connection; sent = [] } ∷ [];
     holds = m.holds;
-    follows = opens at seat.connection m.follows;
+    follows = opens at seat.connection (unread seat.source) m.follows;
     stands = behind_more q.hub first records m.more (record { event = Connect seat.connection; sent = [] }) m.holds (connects p.hub q.hub seat.connection first (records ++ m.more) m.holds m.stands r.same_config r.same_store r.moves);
   }
   step_run {p = p} {q = q} first records holds m (offers {at = at} {before = before} t o) clean = record {

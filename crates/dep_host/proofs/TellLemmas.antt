@@ -13,10 +13,10 @@ abbrev or_else : {X : Type 0} → X → Option X → X
 or_else d None = d
 or_else d (Some x) = x
 
-some_same : {X : Type 0} (a b : X) → Some a ≡ Some b → a ≡ b
+pub some_same : {X : Type 0} (a b : X) → Some a ≡ Some b → a ≡ b
 some_same a b e = ap (or_else a) e
 
-no_some : {X : Type 0} (a : X) → None ≡ Some a → ⊥
+pub no_some : {X : Type 0} (a : X) → None ≡ Some a → ⊥
 no_some a e = absurd (cc)
 
 replies_append : (n : ℕ) (xs ys : List Deed) → replies_to n (xs ++ ys) ≡ replies_to n xs ++ replies_to n ys
@@ -31,14 +31,14 @@ sent_elsewhere : (n m : ℕ) (sent : List ℕ) → (n ≡ m → ⊥) → (if n =
 sent_elsewhere n m sent ne = append-nil (if n == m then sent else []) ∙ ap (λ (b : Bool). if b then sent else []) (ne_eqb n m ne)
 
 -- who sits at a place once another was filled or left
-slot_set : {X : Type 0} (seats : List (Option X)) (i j : ℕ) (x : Option X) (y : X) → i < length seats → slot j (set seats i x) ≡ Some y
+pub slot_set : {X : Type 0} (seats : List (Option X)) (i j : ℕ) (x : Option X) (y : X) → i < length seats → slot j (set seats i x) ≡ Some y
     → ((j ≡ i) × (x ≡ Some y)) ⊎ ((j ≡ i → ⊥) × (slot j seats ≡ Some y))
 slot_set seats i j x y there h = elim (cases_eq j i) [
   | inl e ↦ inl (e, sym (get_or-set_same seats i x None there) ∙ (subst (λ (k : ℕ). slot k (set seats i x) ≡ Some y) e h))
   | inr ne ↦ inr (ne, sym (get_or-set_other seats i j x None ne) ∙ h)
 ]
 
-told_keeps : (a b : Option (List ℕ)) (xs : List ℕ) → Keeps a b → Tells b → a ≡ Some xs → b ≡ Some xs
+pub told_keeps : (a b : Option (List ℕ)) (xs : List ℕ) → Keeps a b → Tells b → a ≡ Some xs → b ≡ Some xs
 told_keeps None b xs k t e = absurd (no_some xs e)
 told_keeps (Some x) None xs k t e = absurd k
 told_keeps (Some x) (Some y) xs k t e = ap Some k ∙ e
@@ -63,19 +63,19 @@ open_append n (d ∷ xs) ys h k = (h.0, open_append n xs ys h.1 k)
 
 module _ {A R K S : Type 0} (condition : A → Condition) (unread : R → Option (List ℕ)) (taken : K → Option (List ℕ)) (held : S → Option (List ℕ)) where
   -- all sockets and spools tell their bytes
-  abbrev AllTell : Type 0
+  abbrev pub AllTell : Type 0
   AllTell = ((sink : K) → Tells (taken sink)) × ((spool : S) → Tells (held spool))
 
   tells_of : AllTell → (seat : Seat R K S) → Tells (told taken held seat.wire)
   tells_of all seat = tells_joined (taken seat.wire.sink) (held seat.wire.spool) (drop seat.wire.sent seat.wire.front.items) (all.0 seat.wire.sink) (all.1 seat.wire.spool)
 
-  record Tidy (q : Position A R K S) (rs : List Deed) : Type 0 where
-    telling : AllTell → (at : ℕ) (seat : Seat R K S) → slot at q.seats ≡ Some seat → told taken held seat.wire ≡ Some (replies_to seat.connection rs)
-    below : (at : ℕ) (seat : Seat R K S) → slot at q.seats ≡ Some seat → seat.connection < q.hub.next
-    apart : (a b : ℕ) (s t : Seat R K S) → slot a q.seats ≡ Some s → slot b q.seats ≡ Some t → s.connection ≡ t.connection → a ≡ b
-    unused : (n : ℕ) → q.hub.next ≤ n → replies_to n rs ≡ []
-    stays : (at : ℕ) (seat : Seat R K S) → slot at q.seats ≡ Some seat → StaysOpen seat.connection rs
-    unclosed : (n : ℕ) → q.hub.next ≤ n → StaysOpen n rs
+  pub record Tidy (q : Position A R K S) (rs : List Deed) : Type 0 where
+    pub telling : AllTell → (at : ℕ) (seat : Seat R K S) → slot at q.seats ≡ Some seat → told taken held seat.wire ≡ Some (replies_to seat.connection rs)
+    pub below : (at : ℕ) (seat : Seat R K S) → slot at q.seats ≡ Some seat → seat.connection < q.hub.next
+    pub apart : (a b : ℕ) (s t : Seat R K S) → slot a q.seats ≡ Some s → slot b q.seats ≡ Some t → s.connection ≡ t.connection → a ≡ b
+    pub unused : (n : ℕ) → q.hub.next ≤ n → replies_to n rs ≡ []
+    pub stays : (at : ℕ) (seat : Seat R K S) → slot at q.seats ≡ Some seat → StaysOpen seat.connection rs
+    pub unclosed : (n : ℕ) → q.hub.next ≤ n → StaysOpen n rs
 
   -- what a step leaves of a seat that it puts somewhere
   record Put (p q : Position A R K S) (rs more : List Deed) (at : ℕ) (s : Seat R K S) : Type 0 where
@@ -174,7 +174,7 @@ module _ {A R K S : Type 0} (condition : A → Condition) (unread : R → Option
   step_tidy {p = p} {q = q} {rs = rs} tidy (refused r) = tidy_same p q rs r.sits r.next tidy
   step_tidy {p = p} {q = q} {rs = rs} tidy (asks r) = tidy_same p q rs r.sits r.next tidy
   step_tidy {p = p} {q = q} {rs = rs} tidy (comes {at = at} {seat = seat} r) =
-      let more : List Deed = Opens at seat.connection ∷ [] in
+      let more : List Deed = Opens at seat.connection (unread seat.source) ∷ [] in
       let later : p.hub.next ≤ q.hub.next = let e = r.next in omega (arith, e) in
       let first : p.hub.next ≤ seat.connection = let e = r.is_next in omega (arith, e) in
       tidy_set p q rs more at (Some seat) tidy r.there r.sits later
@@ -210,7 +210,7 @@ module _ {A R K S : Type 0} (condition : A → Condition) (unread : R → Option
     unclosed = λ n h. tt;
   }
 
-  steps_tidy : {p q : Position A R K S} {rs : List Deed} → ((at : ℕ) → slot at p.seats ≡ None) → Steps condition unread taken held p rs q → Tidy q rs
+  pub steps_tidy : {p q : Position A R K S} {rs : List Deed} → ((at : ℕ) → slot at p.seats ≡ None) → Steps condition unread taken held p rs q → Tidy q rs
   steps_tidy {p = p} empty begins = tidy_first p empty
   steps_tidy empty (goes_on s t) = step_tidy (steps_tidy empty s) t
 

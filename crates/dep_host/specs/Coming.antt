@@ -1,5 +1,5 @@
 -- What comes to a host from outside, and from where.
-use Rattle.std.specs.Prelude.{ℕ, ◌+◌, ◌/◌, ◌==◌, Bool, false, List, Option, None, Some}
+use Rattle.std.specs.Prelude.{ℕ, ◌+◌, ◌/◌, ◌==◌, Bool, false, List, [], ◌∷◌, Option, None, Some}
 use Rattle.std.specs.List.{count_by}
 use Rattle.std.specs.Io.KnownBytes.{IsAtEnd}
 use Rattle.std.specs.Net.Addr.{ipv4_bits, ipv6_bits}
@@ -17,6 +17,13 @@ IsFresh taken held (Ready at r w) = Unit {0}
 IsFresh taken held (Client client) = IsAtEnd (told taken held client.wire)
 IsFresh taken held (Round time) = Unit {0}
 IsFresh taken held End = Unit {0}
+
+-- the second of a round
+abbrev pub seconds_of : {R K S : Type 0} → Event R K S → List ℕ
+seconds_of (Ready at r w) = []
+seconds_of (Client client) = []
+seconds_of (Round time) = time.second ∷ []
+seconds_of End = []
 
 -- a number for those addresses that one client may have: an IPv4 address, or all IPv6 addresses of
 -- the same first 64 bits

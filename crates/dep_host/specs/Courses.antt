@@ -25,6 +25,11 @@ duty Draining false r w = if r then Drain else Wait
 abbrev pub is_past : (since second : ℕ) → Limits → Bool
 is_past since second limits = nat_lt limits.idle_seconds (second - since)
 
+-- an idle time has passed since it was told, if it was
+abbrev pub is_overdue : (told : Option ℕ) → (second : ℕ) → Limits → Bool
+is_overdue None second limits = false
+is_overdue (Some since) second limits = is_past since second limits
+
 -- it was silent for longer than it may be
 abbrev pub is_silent : Course → (second : ℕ) → Limits → Bool
 is_silent c second limits = not c.has_moved && is_past c.since second limits
@@ -44,13 +49,14 @@ closing_of Draining silent slow = if silent then Some ends.Silent else if slow t
 abbrev pub closing : Course → (second : ℕ) → Limits → Option Closing
 closing c second limits = closing_of c.phase (is_silent c second limits) (is_slow c second limits)
 
--- its bytes are counted anew: nothing was under way, or enough moved in an idle time
-abbrev pub counts_anew : Course → (second : ℕ) → Limits → Bool
-counts_anew c second limits = not c.is_due || (is_past c.mark second limits && not (nat_lt c.moved limits.least_rate))
-
 -- a request or a reply of it is under way
 abbrev pub is_under_way : Course → (owes : Bool) → Bool
 is_under_way c owes = owes || nat_lt 0 c.unfinished
+
+-- its bytes are counted anew: nothing is under way, or enough moved in an idle time
+abbrev pub counts_anew : Course → (owes : Bool) → (second : ℕ) → Limits → Bool
+counts_anew c owes second limits =
+    not (is_under_way c owes) || (is_past c.mark second limits && not (nat_lt c.moved limits.least_rate))
 
 -- how far it is once it is read no more
 abbrev pub shut : Phase → Phase

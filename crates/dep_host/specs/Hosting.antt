@@ -1,5 +1,5 @@
 -- How a host goes on: what becomes of its places, what comes to its hub, and what its wires take for it.
-use Rattle.std.specs.Prelude.{◌≡◌, ◌⊎◌, ◌<◌, ◌≤◌, ◌+◌, ◌==◌, ℕ, Bool, List, [], ◌∷◌, ◌++◌, length, get_or, set, Option, None, Some, if◌then◌else◌, true}
+use Rattle.std.specs.Prelude.{◌≡◌, ◌⊎◌, ◌<◌, ◌≤◌, ◌+◌, ◌==◌, ℕ, Bool, List, [], ◌∷◌, ◌++◌, length, get_or, set, Option, None, Some, is_some, IsSome, IsNone, if◌then◌else◌, true}
 use Rattle.std.specs.List.{flat_map}
 use Rattle.std.specs.Io.KnownBytes.{IsAtEnd}
 use Rattle.dep_types.specs.Conditions.{Condition}
@@ -18,22 +18,28 @@ use Rattle.dep_host.specs.declared.log.Closing.TheVariants as ends
 use Rattle.dep_host.specs.Courses.{closing, is_ended}
 use Rattle.dep_host.specs.Seats.{Rests, Offers, Refuses, Answers}
 
--- the hub, who sits where, and what bounds them
+-- the hub, who sits where, what bounds them, and at which second it was told that the store is shut
 pub record Position (A R K S : Type 0) : Type 0 where
   pub hub : Hub A
   pub seats : List (Option (Seat R K S))
   pub limits : Limits
+  pub shut : Option ℕ
 
 abbrev pub position : {A R K S : Type 0} → Host A R K S → Position A R K S
-position host = record { hub = host.hub; seats = host.seats.items; limits = host.limits }
+position host = record {
+  hub = host.hub;
+  seats = host.seats.items;
+  limits = host.limits;
+  shut = host.shut_since;
+}
 
 abbrev pub slot : {X : Type 0} → ℕ → List (Option X) → Option X
 slot at seats = get_or seats at None
 
 -- what a host does for the connection of a number, which sits at a place
 pub data Deed : Type 0 where
-  -- it is opened
-  Opens : (at number : ℕ) → Deed
+  -- it is opened, over a source that has these bytes to give, where it tells them
+  Opens : (at number : ℕ) → (given : Option (List ℕ)) → Deed
   -- a piece is read, and comes to the hub
   Takes : (at number : ℕ) → (piece : List ℕ) → Deed
   -- its next item is answered, where one is complete, and these bytes are sent for it
@@ -45,7 +51,7 @@ pub data Deed : Type 0 where
 
 -- what was sent to a connection
 abbrev pub sent_by : ℕ → Deed → List ℕ
-sent_by number (Opens at n) = []
+sent_by number (Opens at n given) = []
 sent_by number (Takes at n piece) = []
 sent_by number (Replies at n moment sent) = if n == number then sent else []
 sent_by number (Declines at n piece moment sent) = if n == number then sent else []
@@ -61,7 +67,7 @@ Tells (Some bytes) = Unit {0}
 
 -- how many items of the connection at a place were answered
 abbrev pub answer_at : ℕ → Deed → ℕ
-answer_at place (Opens at n) = 0
+answer_at place (Opens at n given) = 0
 answer_at place (Takes at n piece) = 0
 answer_at place (Replies at n moment sent) = if at == place then 1 else 0
 answer_at place (Declines at n piece moment sent) = if at == place then 1 else 0
@@ -73,7 +79,7 @@ answers_at place (d ∷ deeds) = answer_at place d + answers_at place deeds
 
 -- how many pieces of the connection at a place were read
 abbrev pub piece_at : ℕ → Deed → ℕ
-piece_at place (Opens at n) = 0
+piece_at place (Opens at n given) = 0
 piece_at place (Takes at n piece) = if at == place then 1 else 0
 piece_at place (Replies at n moment sent) = 0
 piece_at place (Declines at n piece moment sent) = if at == place then 1 else 0
@@ -94,7 +100,7 @@ unfinished_in (s ∷ seats) = unfinished_of s + unfinished_in seats
 
 -- what is closed is closed at this second
 abbrev pub IsClosedAt : ℕ → Deed → Type 0
-IsClosedAt second (Opens at n) = Unit {0}
+IsClosedAt second (Opens at n given) = Unit {0}
 IsClosedAt second (Takes at n piece) = Unit {0}
 IsClosedAt second (Replies at n moment sent) = Unit {0}
 IsClosedAt second (Declines at n piece moment sent) = Unit {0}
@@ -103,6 +109,22 @@ IsClosedAt second (Closes at n s) = s ≡ second
 abbrev pub AreClosedAt : ℕ → List Deed → Type 0
 AreClosedAt second [] = Unit {0}
 AreClosedAt second (d ∷ deeds) = IsClosedAt second d × AreClosedAt second deeds
+
+-- the store is shut, if a host was told so
+abbrev pub IsRightlyTold : {A R K S : Type 0} → (A → Condition) → Position A R K S → Type 0
+IsRightlyTold condition p = IsSome p.shut → IsClean condition p.hub → ⊥
+
+-- what a host still does once it was told that its store is shut: nothing is opened and nothing read
+abbrev pub IsOutgoing : Deed → Type 0
+IsOutgoing (Opens at n given) = ⊥
+IsOutgoing (Takes at n piece) = ⊥
+IsOutgoing (Replies at n moment sent) = Unit {0}
+IsOutgoing (Declines at n piece moment sent) = ⊥
+IsOutgoing (Closes at n second) = Unit {0}
+
+abbrev pub AreOutgoing : List Deed → Type 0
+AreOutgoing [] = Unit {0}
+AreOutgoing (d ∷ deeds) = IsOutgoing d × AreOutgoing deeds
 
 -- more bytes of unfinished requests are kept than may be, and for no connection more than this one,
 -- of which no request can be complete
@@ -119,7 +141,8 @@ HasReason p second seat reason = (closing seat.course second p.limits ≡ Some r
 
 module _ {A R K S : Type 0} (condition : A → Condition) (unread : R → Option (List ℕ))
     (taken : K → Option (List ℕ)) (held : S → Option (List ℕ)) where
-  -- a connection is opened, over a wire that took nothing, and sits where nobody sat
+  -- a connection is opened, over a wire that took nothing, and sits where nobody sat; not once it was
+  -- told that the store is shut
   pub record Comes (p q : Position A R K S) (at : ℕ) (seat : Seat R K S) : Type 0 where
     pub there : at < length p.seats
     pub free : slot at p.seats ≡ None
@@ -132,7 +155,9 @@ module _ {A R K S : Type 0} (condition : A → Condition) (unread : R → Option
     pub fresh : IsAtEnd (told taken held seat.wire)
     pub opens : seat.course.phase ≡ Open
     pub uncounted : seat.course.unfinished ≡ 0
+    pub is_open : IsNone p.shut
     pub same_limits : q.limits ≡ p.limits
+    pub same_shut : q.shut ≡ p.shut
 
   -- no connection could be opened, or nothing was to be done
   pub record Refused (p q : Position A R K S) : Type 0 where
@@ -143,8 +168,9 @@ module _ {A R K S : Type 0} (condition : A → Condition) (unread : R → Option
     pub same_store : q.hub.store ≡ p.hub.store
     pub same_config : q.hub.config ≡ p.hub.config
     pub same_limits : q.limits ≡ p.limits
+    pub same_shut : q.shut ≡ p.shut
 
-  -- the hub is asked whether its store is open
+  -- the hub is asked whether its store is open, and may tell for the first time that it isn't
   pub record Asks (p q : Position A R K S) : Type 0 where
     pub sits : q.seats ≡ p.seats
     pub next : q.hub.next ≡ p.hub.next
@@ -155,6 +181,7 @@ module _ {A R K S : Type 0} (condition : A → Condition) (unread : R → Option
         → (kept : ℕ → List ℕ) → StandsHoldingAfter condition p.hub first records kept
         → StandsHoldingAfter condition q.hub first records kept
     pub same_limits : q.limits ≡ p.limits
+    pub told : (q.shut ≡ p.shut) ⊎ (IsNone p.shut × (IsClean condition q.hub → ⊥))
 
   -- a connection has its turn, and no other place changes
   pub record HasTurn (p q : Position A R K S) (at : ℕ) (before after : Seat R K S) : Type 0 where
@@ -168,6 +195,7 @@ module _ {A R K S : Type 0} (condition : A → Condition) (unread : R → Option
     pub honest : IsHonest condition q.hub → IsHonest condition p.hub
     pub ended : is_ended before.course.phase ≡ true → is_ended after.course.phase ≡ true
     pub same_limits : q.limits ≡ p.limits
+    pub same_shut : q.shut ≡ p.shut
 
   -- a connection is closed for a reason
   pub record Goes (p q : Position A R K S) (at second : ℕ) (seat : Seat R K S) : Type 0 where
@@ -181,21 +209,23 @@ module _ {A R K S : Type 0} (condition : A → Condition) (unread : R → Option
     pub same_store : q.hub.store ≡ p.hub.store
     pub same_config : q.hub.config ≡ p.hub.config
     pub same_limits : q.limits ≡ p.limits
+    pub same_shut : q.shut ≡ p.shut
 
   -- one step of a host, and what it does in it
   pub data Step (p q : Position A R K S) : List Deed → Type 0 where
     refused : Refused p q → Step p q []
     asks : Asks p q → Step p q []
     comes : {at : ℕ} {seat : Seat R K S} → Comes p q at seat
-        → Step p q (Opens at seat.connection ∷ [])
+        → Step p q (Opens at seat.connection (unread seat.source) ∷ [])
     rests : {at : ℕ} {before after : Seat R K S} → HasTurn p q at before after
         → Rests condition unread taken held p.hub q.hub before after → Step p q []
-    offers : {at : ℕ} {is_full is_shut : Bool} {before after : Seat R K S} → HasTurn p q at before after
-        → (o : Offers condition unread taken held p.hub q.hub before after is_full is_shut)
+    offers : {at : ℕ} {is_full : Bool} {before after : Seat R K S} → HasTurn p q at before after
+        → (o : Offers condition unread taken held p.hub q.hub before after is_full (is_some p.shut))
         → Step p q (Takes at before.connection o.piece ∷ [])
-    refuses : {at moment : ℕ} {is_full is_shut : Bool} {before after : Seat R K S}
+    refuses : {at moment : ℕ} {is_full : Bool} {before after : Seat R K S}
         → HasTurn p q at before after
-        → (r : Refuses condition unread taken held p.hub q.hub before after moment is_full is_shut)
+        → (r : Refuses condition unread taken held p.hub q.hub before after moment is_full
+        (is_some p.shut))
         → Step p q (Declines at before.connection r.piece moment r.answers.sent ∷ [])
     answers : {at moment : ℕ} {before after : Seat R K S} → HasTurn p q at before after
         → (a : Answers condition unread taken held p.hub q.hub before after moment)
@@ -212,28 +242,24 @@ module _ {A R K S : Type 0} (condition : A → Condition) (unread : R → Option
   abbrev pub GoesOn : Position A R K S → Position A R K S → Type 0
   GoesOn first last = (deeds : List Deed) × Steps first deeds last
 
-  -- one place has its turn, where too many bytes of unfinished requests are kept or not, and the store
-  -- is shut or not
-  pub record Serves (p q : Position A R K S) (at second : ℕ) (is_full is_shut : Bool) : Type 0 where
+  -- one place has its turn, where too many bytes of unfinished requests are kept or not
+  pub record Serves (p q : Position A R K S) (at second : ℕ) (is_full : Bool) : Type 0 where
     pub deeds : List Deed
     pub steps : Steps p deeds q
     pub once : answers_at at deeds ≤ 1
     pub others : (place : ℕ) → (place ≡ at → ⊥) → answers_at place deeds ≡ 0
     pub waits : is_full ≡ true → 0 < unfinished_of (slot at p.seats) → pieces_at at deeds ≡ 0
     pub unread_others : (place : ℕ) → (place ≡ at → ⊥) → pieces_at place deeds ≡ 0
-    pub unread_shut : is_shut ≡ true → pieces_at at deeds ≡ 0
     pub closes : AreClosedAt second deeds
 
   -- each place has its turn: of no connection more than one item is answered, and where too many
-  -- bytes of unfinished requests are kept, nothing more is read of these, and once the store is shut
-  -- nothing at all
-  pub record GoesRound (p q : Position A R K S) (second : ℕ) (is_shut : Bool) : Type 0 where
+  -- bytes of unfinished requests are kept, nothing more is read of these
+  pub record GoesRound (p q : Position A R K S) (second : ℕ) : Type 0 where
     pub deeds : List Deed
     pub steps : Steps p deeds q
     pub once : (place : ℕ) → answers_at place deeds ≤ 1
     pub waits : p.limits.unfinished_bytes < unfinished_in p.seats → (place : ℕ)
         → 0 < unfinished_of (slot place p.seats) → pieces_at place deeds ≡ 0
-    pub unread_shut : is_shut ≡ true → (place : ℕ) → pieces_at place deeds ≡ 0
     pub closes : AreClosedAt second deeds
 
   -- the largest is closed, or nothing is done
@@ -244,6 +270,11 @@ module _ {A R K S : Type 0} (condition : A → Condition) (unread : R → Option
 abbrev pub HasTime : {R K S : Type 0} → (second : ℕ) → Limits → Option (Seat R K S) → Type 0
 HasTime second limits None = Unit {0}
 HasTime second limits (Some seat) = closing seat.course second limits ≡ None
+
+-- a further connection can be seated at a place
+abbrev pub IsVacant : {A R K S : Type 0} → Host A R K S → ℕ → Type 0
+IsVacant host at = (at < length host.seats.items) × (slot at host.seats.items ≡ None)
+    × IsNone host.shut_since
 
 -- a connection sits at a place that may be closed for a reason
 abbrev pub MayGo : {A R K S : Type 0} → Position A R K S → (second : ℕ) → Closing

@@ -3,3 +3,4 @@ pub mod Seats
 pub mod Hosting
 pub mod Runs
 pub mod Coming
+pub mod Rounds

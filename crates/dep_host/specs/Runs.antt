@@ -1,5 +1,5 @@
 -- Which records the hub's machine makes of what a host does.
-use Rattle.std.specs.Prelude.{◌≡◌, ◌==◌, ℕ, List, [], ◌∷◌, ◌++◌, if◌then◌else◌, Option, None, Some}
+use Rattle.std.specs.Prelude.{◌≡◌, ◌==◌, ℕ, List, [], ◌∷◌, ◌++◌, if◌then◌else◌, Option, None, Some, false}
 use Rattle.std.specs.List.{flat_map}
 use Rattle.dep_types.specs.State.{State}
 use Rattle.dep_types.specs.Conditions.{Condition}
@@ -9,6 +9,7 @@ use Rattle.dep_server.specs.Holding.{StandsHoldingAfter, with_held}
 use Rattle.dep_server.specs.declared.hub.Hub.{Hub}
 use Rattle.dep_outbox.specs.Wires.{told}
 use Rattle.dep_host.specs.declared.seat.Seat.{Seat}
+use Rattle.dep_host.specs.Courses.{is_ended}
 use Rattle.dep_host.specs.Hosting.{Position, Steps, slot, Tells, Deed, Opens, Takes, Replies, Declines, Closes}
 
 -- The records of the deeds, from what each connection held at first to what it holds now: a piece is
@@ -16,8 +17,8 @@ use Rattle.dep_host.specs.Hosting.{Position, Steps, slot, Tells, Deed, Opens, Ta
 pub data Follows (first : ℕ → List ℕ) : List Deed → List Record → (ℕ → List ℕ) → Type 0 where
   begins : Follows first [] [] first
   opens : {deeds : List Deed} {records : List Record} {held : ℕ → List ℕ} (at n : ℕ)
-      → Follows first deeds records held
-      → Follows first (deeds ++ Opens at n ∷ [])
+      (given : Option (List ℕ)) → Follows first deeds records held
+      → Follows first (deeds ++ Opens at n given ∷ [])
       (records ++ record { event = Connect n; sent = [] } ∷ []) held
   takes : {deeds : List Deed} {records : List Record} {held : ℕ → List ℕ} (at n : ℕ)
       (piece : List ℕ) → Follows first deeds records held
@@ -46,7 +47,7 @@ pub record StandsBehind {A : Type 0} (condition : A → Condition) (hub : Hub A)
 
 -- the bytes that were read of a connection
 abbrev pub read_by : ℕ → Deed → List ℕ
-read_by number (Opens at n) = []
+read_by number (Opens at n given) = []
 read_by number (Takes at n piece) = if number == n then piece else []
 read_by number (Replies at n moment sent) = []
 read_by number (Declines at n piece moment sent) = if number == n then piece else []
@@ -54,6 +55,25 @@ read_by number (Closes at n second) = []
 
 abbrev pub read_of : ℕ → List Deed → List ℕ
 read_of number deeds = flat_map (λ d. read_by number d) deeds
+
+-- the bytes that its source had to give as it was opened, once for each time
+abbrev pub given_by : ℕ → Deed → List (Option (List ℕ))
+given_by number (Opens at n given) = if number == n then given ∷ [] else []
+given_by number (Takes at n piece) = []
+given_by number (Replies at n moment sent) = []
+given_by number (Declines at n piece moment sent) = []
+given_by number (Closes at n second) = []
+
+abbrev pub given_of : ℕ → List Deed → List (Option (List ℕ))
+given_of number deeds = flat_map (λ d. given_by number d) deeds
+
+-- a connection was opened once, what was read of it is a front of what its source had to give then, and
+-- while it is read still, its source has the rest
+pub record IsGiven {R K S : Type 0} (unread : R → Option (List ℕ)) (deeds : List Deed)
+    (seat : Seat R K S) : Type 0 where
+  pub rest : List ℕ
+  pub whole : given_of seat.connection deeds ≡ Some (read_of seat.connection deeds ++ rest) ∷ []
+  pub left : is_ended seat.course.phase ≡ false → unread seat.source ≡ Some rest
 
 -- the bytes that arrived of it
 abbrev pub arrived_by : ℕ → Event → List ℕ
@@ -67,7 +87,7 @@ arrived_of number records = flat_map (λ r. arrived_by number r.event) records
 
 -- it was never closed
 abbrev pub IsKept : ℕ → Deed → Type 0
-IsKept number (Opens at n) = Unit {0}
+IsKept number (Opens at n given) = Unit {0}
 IsKept number (Takes at n piece) = Unit {0}
 IsKept number (Replies at n moment sent) = Unit {0}
 IsKept number (Declines at n piece moment sent) = Unit {0}
@@ -88,11 +108,11 @@ abbrev pub sent_of : ℕ → List Record → List ℕ
 sent_of number records = flat_map (λ r. sent_for number r.event r.sent) records
 
 -- What a host did since it had no connection is a run behind the records before it. Each connection that
--- sits there was sent what the run says, of which its socket took a front, and what was read of it has
--- arrived, but for what is held.
-pub record KeepsPromise {A R K S : Type 0} (condition : A → Condition) (taken : K → Option (List ℕ))
-    (held : S → Option (List ℕ)) (q : Position A R K S) (first : State) (before : List Record)
-    (deeds : List Deed) : Type 0 where
+-- sits there was sent what the run says, of which its socket took a front; what was read of it has
+-- arrived, but for what is held, and is a front of what its source had to give.
+pub record KeepsPromise {A R K S : Type 0} (condition : A → Condition) (unread : R → Option (List ℕ))
+    (taken : K → Option (List ℕ)) (held : S → Option (List ℕ)) (q : Position A R K S)
+    (first : State) (before : List Record) (deeds : List Deed) : Type 0 where
   pub behind : StandsBehind condition q.hub first before (λ n. []) deeds
   pub sent : ((sink : K) → Tells (taken sink)) → ((spool : S) → Tells (held spool)) → (at : ℕ)
       → (seat : Seat R K S) → slot at q.seats ≡ Some seat
@@ -100,6 +120,8 @@ pub record KeepsPromise {A R K S : Type 0} (condition : A → Condition) (taken 
   pub read : (at : ℕ) → (seat : Seat R K S) → slot at q.seats ≡ Some seat
       → read_of seat.connection deeds
       ≡ arrived_of seat.connection behind.more ++ behind.holds seat.connection
+  pub given : ((source : R) → Tells (unread source)) → (at : ℕ) → (seat : Seat R K S)
+      → slot at q.seats ≡ Some seat → IsGiven unread deeds seat
 
 -- The promise was kept at each moment at which a connection was closed, also to the one that was.
 abbrev pub KeptToTheLast : {A R K S : Type 0} → (A → Condition) → (R → Option (List ℕ))
@@ -109,7 +131,7 @@ KeptToTheLast {A = A} {R = R} {K = K} {S = S} condition unread taken held p firs
     (done later : List Deed) → (at number second : ℕ)
     → deeds ≡ done ++ Closes at number second ∷ later
     → (m : Position A R K S) × (Steps condition unread taken held p done m
-    × (KeepsPromise condition taken held m first before done
+    × (KeepsPromise condition unread taken held m first before done
     × ((seat : Seat R K S) × ((slot at m.seats ≡ Some seat) × (seat.connection ≡ number)))))
 
 -- The archive promise: from a host without connections over a store that stands for a state a host
@@ -120,5 +142,5 @@ Promises condition unread taken held p q = (first : State) → (before : List Re
     → ((at : ℕ) → slot at p.seats ≡ None) → StandsHoldingAfter condition p.hub first before (λ n. [])
     → IsClean condition q.hub
     → (deeds : List Deed) × (Steps condition unread taken held p deeds q
-    × (KeepsPromise condition taken held q first before deeds
+    × (KeepsPromise condition unread taken held q first before deeds
     × KeptToTheLast condition unread taken held p first before deeds))

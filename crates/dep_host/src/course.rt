@@ -110,9 +110,9 @@ impl Course {
         }
     }
 
-    /// Begins a turn: takes note of when something moved last, and counts bytes anew where nothing was
-    /// under way, or enough moved in an idle time. What moved in the last turn counts from here on,
-    /// since a turn may take long, and its client is told of the end first.
+    /// Begins a turn: takes note of when something moved last, and counts bytes anew where nothing is
+    /// under way, or enough moved in an idle time. What moved in the last turn counts from here on for
+    /// silence, since a turn may take long, and its client is told of the end first.
     pub fn begin_turn(&mut self, owes: bool, second: u64, limits: &Limits)
         ensures phase { self.new.phase ≡ self.old.phase }
         ensures moved { self.new.has_moved ≡ false }
@@ -120,26 +120,21 @@ impl Course {
             ≡ (if self.old.has_moved then second else self.old.since) }
         ensures due { self.new.is_due ≡ is_under_way self.old owes }
         ensures mark { self.new.mark
-            ≡ (if counts_anew self.old second limits.now then second else self.old.mark) }
+            ≡ (if counts_anew self.old owes second limits.now then second else self.old.mark) }
         ensures bytes { self.new.moved
-            ≡ (if counts_anew self.old second limits.now then 0 else self.old.moved) }
+            ≡ (if counts_anew self.old owes second limits.now then 0 else self.old.moved) }
         ensures unfinished { self.new.unfinished ≡ self.old.unfinished }
     {
         if self.has_moved {
             self.since = second;
             self.has_moved = false;
         }
-        if self.counts_anew(second, limits) {
+        self.is_due = owes || self.unfinished > 0;
+        let is_enough = is_past(self.mark, second, limits) && self.moved >= limits.least_rate;
+        if !self.is_due || is_enough {
             self.mark = second;
             self.moved = 0;
         }
-        self.is_due = owes || self.unfinished > 0;
-    }
-
-    fn counts_anew(&self, second: u64, limits: &Limits) -> bool
-        ensures { result ≡ counts_anew self.now second limits.now }
-    {
-        !self.is_due || is_past(self.mark, second, limits) && self.moved >= limits.least_rate
     }
 
     /// It is read no more, once what was read is answered.
@@ -198,7 +193,7 @@ impl Course {
 }
 
 /// Whether an idle time has passed.
-fn is_past(since: u64, second: u64, limits: &Limits) -> bool
+pub(crate) fn is_past(since: u64, second: u64, limits: &Limits) -> bool
     ensures { result ≡ is_past since second limits.now }
 {
     second.saturating_sub(since) > limits.idle_seconds

@@ -1,12 +1,15 @@
 //! All connections, over one hub.
-ghost use Rattle.std.specs.Prelude.{◌≡◌, ◌⊎◌, ◌<◌, ◌≤◌, ℕ, List, [], None, Some, Option, length, nat_lt, IfOk, IfErr, IfSome, IsSomeAnd, IsTrue, MatchOption, true, false};
+ghost use Rattle.std.specs.Prelude.{◌≡◌, ◌⊎◌, ◌<◌, ◌≤◌, ℕ, List, [], None, Some, Option, length, nat_lt, IfOk, IfErr, IfSome, IsSomeAnd, MatchOption, is_some, IsSome, IsNone, ◌∷◌, true, false};
 ghost use Rattle.std.specs.Io.KnownBytes.{IsAtEnd};
 ghost use Rattle.dep_server.specs.Turns.{most_read};
 ghost use Rattle.dep_outbox.specs.Wires.{told};
-ghost use Rattle.dep_host.specs.Hosting.{GoesOn, Steps, Serves, Goes, GoesRound, Sheds, HasTime, MayGo, position, slot, unfinished_of, unfinished_in};
+ghost use Rattle.dep_host.specs.Hosting.{GoesOn, Steps, Serves, Goes, GoesRound, Sheds, HasTime, MayGo, IsVacant, position, slot, unfinished_of, unfinished_in};
 ghost use Rattle.dep_host.specs.Coming.{origin, seated_from};
+ghost use Rattle.dep_host.specs.Courses.{is_overdue};
+ghost use Rattle.dep_host.specs.Rounds.{IsTold};
 ghost use Rattle.dep_host.specs.declared.course.Phase.TheVariants.{Open};
 
+use crate::course::is_past;
 use crate::events::{Client, comes_from, origin};
 use crate::limits::Limits;
 use crate::log::{Closing, HostLog, Refusal};
@@ -25,8 +28,8 @@ pub struct Host<A, R, K, S> {
     hub: Hub<A>,
     seats: Vec<Option<Seat<R, K, S>>>,
     limits: Limits,
-    /// Whether it was told that the store is shut.
-    is_shut: bool,
+    /// The second at which it was told that the store is shut.
+    shut_since: Option<u64>,
 }
 
 impl<A: Archive, R: Source + Drop, K: Sink + Drop, S: Spool + Drop> Host<A, R, K, S> {
@@ -34,6 +37,7 @@ impl<A: Archive, R: Source + Drop, K: Sink + Drop, S: Spool + Drop> Host<A, R, K
     pub fn new(alloc: Global, hub: Hub<A>, limits: Limits) -> Result<Host<A, R, K, S>, Hub<A>>
         ensures hub { IfOk result (λ host. host.hub ≡ hub) }
         ensures limits { IfOk result (λ host. host.limits ≡ limits) }
+        ensures untold { IfOk result (λ host. IsNone host.shut_since) }
         ensures empty { IfOk result (λ host. (at : ℕ) → slot at host.seats.items ≡ None) }
         ensures kept { IfErr result (λ handed_back. handed_back ≡ hub) }
     {
@@ -44,7 +48,7 @@ impl<A: Archive, R: Source + Drop, K: Sink + Drop, S: Spool + Drop> Host<A, R, K
             hub,
             seats,
             limits,
-            is_shut: false,
+            shut_since: None,
         })
     }
 
@@ -56,7 +60,7 @@ impl<A: Archive, R: Source + Drop, K: Sink + Drop, S: Spool + Drop> Host<A, R, K
             hub,
             seats: _,
             limits: _,
-            is_shut: _,
+            shut_since: _,
         } = self;
         hub
     }
@@ -68,30 +72,44 @@ impl<A: Archive, R: Source + Drop, K: Sink + Drop, S: Spool + Drop> Host<A, R, K
         self.limits
     }
 
-    /// Whether the store is open, as far as it can be told. Once it is told that it isn't, no
-    /// connection is read any more, and there is no vacancy.
-    pub fn is_open(&mut self) -> bool
+    /// Asks at a second whether the store is open, until it is told that it isn't. From then on no
+    /// client is let in, and no connection is read. It answers whether it was never told so.
+    pub fn is_open(&mut self, second: u64) -> bool
         ensures goes { Steps A.condition R.unread K.taken S.held (position self.old) []
             (position self.new) }
-        ensures shut { result ≡ false
-            → ¬ IsTrue (A.condition self.new.hub.store).is_open }
-        ensures seats { self.new.seats ≡ self.old.seats }
+        ensures untold { result ≡ true → IsNone self.new.shut_since }
+        ensures shut { result ≡ false → IsSome self.new.shut_since }
+        ensures told { IsTold self.old.shut_since self.new.shut_since (second ∷ []) }
+        ensures limits { self.new.limits ≡ self.old.limits }
     {
+        if self.shut_since.is_some() {
+            return false;
+        }
         match self.hub.is_open() {
             Ok(false) => {
-                self.is_shut = true;
+                self.shut_since = Some(second);
                 false
             }
             Ok(true) | Err(_) => true,
         }
     }
 
-    /// Where a further connection can be seated.
-    pub fn vacancy(&self) -> Option<usize>
-        ensures { IfSome result (λ at. (at < length self.now.seats.items)
-            × (slot at self.now.seats.items ≡ None)) }
+    /// Whether an idle time has passed since it was told that the store is shut.
+    pub fn is_overdue(&self, second: u64) -> bool
+        ensures { result ≡ is_overdue self.now.shut_since second self.now.limits }
     {
-        if self.is_shut {
+        match self.shut_since {
+            Some(since) => is_past(since, second, &self.limits),
+            None => false,
+        }
+    }
+
+    /// Where a further connection can be seated. There is no place once it was told that the store is
+    /// shut.
+    pub fn vacancy(&self) -> Option<usize>
+        ensures { IfSome result (IsVacant self.now) }
+    {
+        if self.shut_since.is_some() {
             return None;
         }
         for at in 0..self.seats.len() {
@@ -115,12 +133,15 @@ impl<A: Archive, R: Source + Drop, K: Sink + Drop, S: Spool + Drop> Host<A, R, K
         client: Client<R, K, S>,
         log: &mut L,
     ) -> Result<(), Refusal>
-        requires there { at < length self.old.seats.items }
-        requires free { slot at self.old.seats.items ≡ None }
+        requires vacant { IsVacant self.old at }
         requires fresh { IsAtEnd (told K.taken S.held client.wire) }
         ensures goes { GoesOn A.condition R.unread K.taken S.held (position self.old)
             (position self.new) }
         ensures seats { length self.new.seats.items ≡ length self.old.seats.items }
+        ensures limits { self.new.limits ≡ self.old.limits }
+        ensures shut { self.new.shut_since ≡ self.old.shut_since }
+        ensures source { IfOk result (λ _. IsSomeAnd (slot at self.new.seats.items)
+            (λ seat. seat.source ≡ client.source)) }
         // Fewer sit there that come from its address than may, and it is refused for that where not.
         ensures room { IfOk result (λ _. seated_from (origin client.address)
             self.old.seats.items < self.old.limits.address_connections) }
@@ -162,6 +183,8 @@ impl<A: Archive, R: Source + Drop, K: Sink + Drop, S: Spool + Drop> Host<A, R, K
         ensures goes { GoesOn A.condition R.unread K.taken S.held (position self.old)
             (position self.new) }
         ensures seats { length self.new.seats.items ≡ length self.old.seats.items }
+        ensures limits { self.new.limits ≡ self.old.limits }
+        ensures shut { self.new.shut_since ≡ self.old.shut_since }
         // Nobody sits where nobody sat.
         ensures free { (place : ℕ) → slot place self.old.seats.items ≡ None
             → slot place self.new.seats.items ≡ None }
@@ -176,6 +199,8 @@ impl<A: Archive, R: Source + Drop, K: Sink + Drop, S: Spool + Drop> Host<A, R, K
         ensures goes { GoesOn A.condition R.unread K.taken S.held (position self.old)
             (position self.new) }
         ensures seats { length self.new.seats.items ≡ length self.old.seats.items }
+        ensures limits { self.new.limits ≡ self.old.limits }
+        ensures shut { self.new.shut_since ≡ self.old.shut_since }
         ensures free { (place : ℕ) → slot place self.old.seats.items ≡ None
             → slot place self.new.seats.items ≡ None }
     {
@@ -190,16 +215,17 @@ impl<A: Archive, R: Source + Drop, K: Sink + Drop, S: Spool + Drop> Host<A, R, K
     pub fn round<L: HostLog>(&mut self, room: &mut [u8], time: &Time, log: &mut L) -> bool
         requires room { length room.old ≤ most_read }
         ensures goes { GoesRound A.condition R.unread K.taken S.held (position self.old)
-            (position self.new) time.now.second self.old.is_shut }
+            (position self.new) time.now.second }
         ensures left { (at : ℕ)
             → HasTime time.now.second self.new.limits (slot at self.new.seats.items) }
         ensures seats { length self.new.seats.items ≡ length self.old.seats.items }
         ensures limits { self.new.limits ≡ self.old.limits }
+        ensures shut { self.new.shut_since ≡ self.old.shut_since }
     {
         let turn = Turn {
             time: *time,
             is_full: self.is_full(),
-            is_shut: self.is_shut,
+            is_shut: self.shut_since.is_some(),
         };
         let is_busy = self.serve_each(room, &turn, log);
         self.shed(time.second, log);
@@ -212,12 +238,14 @@ impl<A: Archive, R: Source + Drop, K: Sink + Drop, S: Spool + Drop> Host<A, R, K
         requires room { length room.old ≤ most_read }
         requires full { turn.now.is_full ≡ nat_lt self.old.limits.unfinished_bytes
             (unfinished_in self.old.seats.items) }
+        requires shut { turn.now.is_shut ≡ is_some self.old.shut_since }
         ensures goes { GoesRound A.condition R.unread K.taken S.held (position self.old)
-            (position self.new) turn.now.time.second turn.now.is_shut }
+            (position self.new) turn.now.time.second }
         ensures left { (at : ℕ)
             → HasTime turn.now.time.second self.new.limits (slot at self.new.seats.items) }
         ensures seats { length self.new.seats.items ≡ length self.old.seats.items }
         ensures limits { self.new.limits ≡ self.old.limits }
+        ensures shut { self.new.shut_since ≡ self.old.shut_since }
     {
         let mut is_busy = false;
         for at in 0..self.seats.len() {
@@ -233,14 +261,16 @@ impl<A: Archive, R: Source + Drop, K: Sink + Drop, S: Spool + Drop> Host<A, R, K
     fn serve_at<L: HostLog>(&mut self, at: usize, room: &mut [u8], turn: &Turn, log: &mut L) -> bool
         requires there { at < length self.old.seats.items }
         requires room { length room.old ≤ most_read }
+        requires shut { turn.now.is_shut ≡ is_some self.old.shut_since }
         ensures goes { Serves A.condition R.unread K.taken S.held (position self.old)
-            (position self.new) at turn.now.time.second turn.now.is_full turn.now.is_shut }
+            (position self.new) at turn.now.time.second turn.now.is_full }
         ensures here { HasTime turn.now.time.second self.new.limits
             (slot at self.new.seats.items) }
         ensures others { (place : ℕ) → (place ≡ at → ⊥)
             → slot place self.new.seats.items ≡ slot place self.old.seats.items }
         ensures seats { length self.new.seats.items ≡ length self.old.seats.items }
         ensures limits { self.new.limits ≡ self.old.limits }
+        ensures shut { self.new.shut_since ≡ self.old.shut_since }
     {
         self.begin_turn(at, turn.time.second);
         self.take_turn(at, room, turn, log);
@@ -286,9 +316,10 @@ impl<A: Archive, R: Source + Drop, K: Sink + Drop, S: Spool + Drop> Host<A, R, K
             → slot place self.new.seats.items ≡ slot place self.old.seats.items }
         ensures seats { length self.new.seats.items ≡ length self.old.seats.items }
         ensures limits { self.new.limits ≡ self.old.limits }
+        ensures shut { self.new.shut_since ≡ self.old.shut_since }
     {
         if let Some(seat) = &mut self.seats[at] {
-            seat.begin_turn(second, &self.limits, self.is_shut);
+            seat.begin_turn(second, &self.limits, self.shut_since.is_some());
         }
     }
 
@@ -296,12 +327,14 @@ impl<A: Archive, R: Source + Drop, K: Sink + Drop, S: Spool + Drop> Host<A, R, K
     fn take_turn<L: HostLog>(&mut self, at: usize, room: &mut [u8], turn: &Turn, log: &mut L)
         requires there { at < length self.old.seats.items }
         requires room { length room.old ≤ most_read }
+        requires shut { turn.now.is_shut ≡ is_some self.old.shut_since }
         ensures goes { Serves A.condition R.unread K.taken S.held (position self.old)
-            (position self.new) at turn.now.time.second turn.now.is_full turn.now.is_shut }
+            (position self.new) at turn.now.time.second turn.now.is_full }
         ensures others { (place : ℕ) → (place ≡ at → ⊥)
             → slot place self.new.seats.items ≡ slot place self.old.seats.items }
         ensures seats { length self.new.seats.items ≡ length self.old.seats.items }
         ensures limits { self.new.limits ≡ self.old.limits }
+        ensures shut { self.new.shut_since ≡ self.old.shut_since }
     {
         if let Some(seat) = &mut self.seats[at] {
             seat.take_turn(&mut self.hub, room, turn, log);
@@ -321,6 +354,7 @@ impl<A: Archive, R: Source + Drop, K: Sink + Drop, S: Spool + Drop> Host<A, R, K
             → slot place self.new.seats.items ≡ slot place self.old.seats.items }
         ensures seats { length self.new.seats.items ≡ length self.old.seats.items }
         ensures limits { self.new.limits ≡ self.old.limits }
+        ensures shut { self.new.shut_since ≡ self.old.shut_since }
     {
         if let Some(seat) = self.seats[at].take() {
             self.hub.close(seat.connection());
@@ -338,6 +372,7 @@ impl<A: Archive, R: Source + Drop, K: Sink + Drop, S: Spool + Drop> Host<A, R, K
             ⊎ (slot at self.new.seats.items ≡ None) }
         ensures seats { length self.new.seats.items ≡ length self.old.seats.items }
         ensures limits { self.new.limits ≡ self.old.limits }
+        ensures shut { self.new.shut_since ≡ self.old.shut_since }
     {
         if let Some(at) = self.largest() {
             if self.is_full() && self.is_read(at) {

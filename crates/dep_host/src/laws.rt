@@ -4,7 +4,7 @@ ghost use Rattle.dep_types.specs.State.{State};
 ghost use Rattle.dep_server.specs.Records.{Record};
 ghost use Rattle.dep_server.specs.Standing.{IsClean};
 ghost use Rattle.dep_server.specs.Holding.{StandsHoldingAfter};
-ghost use Rattle.dep_host.specs.Hosting.{Position, Deed, Steps, Tells, slot, replies_to};
+ghost use Rattle.dep_host.specs.Hosting.{Position, Deed, Steps, Tells, AreOutgoing, slot, replies_to};
 ghost use Rattle.dep_outbox.specs.Wires.{told};
 ghost use Rattle.dep_host.specs.declared.seat.Seat.{Seat};
 ghost use Rattle.dep_host.specs.Runs.{StandsBehind, KeepsPromise, Follows, StaysOpen, read_of, arrived_of};
@@ -60,15 +60,23 @@ pub fn seats_are_apart<A: Archive, R: Source, K: Sink, S: Spool>()
 
 /// The archive promise, for all connections at once. From a host without connections over a store that
 /// stands for a state, whatever peers, moments and events come: what was done is a run of the machine,
-/// each connection was sent a front of its replies to the requests that its bytes spell, and the store
-/// stands for the machine's state, while it is open.
+/// each connection was sent a front of its replies to the requests that its bytes spell, these bytes are a
+/// front of what its client gave, and the store stands for the machine's state, while it is open.
 pub fn hosts_keep_the_archive_promise<A: Archive, R: Source, K: Sink, S: Spool>()
     ensures { (p q : Position A R K S) (deeds : List Deed) (first : State) (before : List Record)
         → ((at : ℕ) → slot at p.seats ≡ None)
         → StandsHoldingAfter A.condition p.hub first before (λ n. [])
         → Steps A.condition R.unread K.taken S.held p deeds q → IsClean A.condition q.hub
-        → KeepsPromise A.condition K.taken S.held q first before deeds }
+        → KeepsPromise A.condition R.unread K.taken S.held q first before deeds }
 {
     answers_make_a_run::<A>();
     connections_make_a_run::<A>();
 }
+
+/// Once a host was told that its store is shut, it lets nobody in and reads nothing: it answers what was
+/// read, and closes.
+pub fn told_hosts_take_nothing<A: Archive, R: Source, K: Sink, S: Spool>()
+    ensures { (p q : Position A R K S) (deeds : List Deed) (since : ℕ) → p.shut ≡ Some since
+        → Steps A.condition R.unread K.taken S.held p deeds q
+        → AreOutgoing deeds × (q.shut ≡ Some since) }
+{}

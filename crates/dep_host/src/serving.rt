@@ -1,8 +1,11 @@
 //! Serving all clients until no more comes.
-ghost use Rattle.std.specs.Prelude.{◌≡◌, ◌≢◌, ◌<◌, ◌≤◌, [], None, Err, Option, length, IfOk, IfSome, IsTrue};
+ghost use Rattle.std.specs.Prelude.{◌≡◌, ◌≢◌, ◌≤◌, [], ◌∷◌, Err, length, IfOk, IfSome, IsSome, IsTrue, false};
+ghost use Rattle.std.specs.List.{AllByRecursion};
 ghost use Rattle.dep_server.specs.Turns.{most_read};
-ghost use Rattle.dep_host.specs.Coming.{IsFresh};
-ghost use Rattle.dep_host.specs.Hosting.{GoesOn, Steps, position, slot};
+ghost use Rattle.dep_host.specs.Coming.{IsFresh, seconds_of};
+ghost use Rattle.dep_host.specs.Courses.{is_overdue};
+ghost use Rattle.dep_host.specs.Hosting.{GoesOn, Steps, IsRightlyTold, IsVacant, position};
+ghost use Rattle.dep_host.specs.Rounds.{IsTold, EndsInTime};
 ghost use Rattle.dep_host.specs.Runs.{Promises};
 
 use crate::events::{Client, Event, Events};
@@ -28,8 +31,6 @@ pub enum Ended {
 struct Now {
     vacancy: Option<usize>,
     is_busy: bool,
-    /// The second at which it was told that the store is shut.
-    shut_since: Option<u64>,
 }
 
 /// Serves all clients until no more comes. The room is for the bytes that are read at once. It
@@ -49,14 +50,17 @@ pub fn serve<
     ensures promise { Promises A.condition R.unread K.taken S.held (position host.old)
         (position host.new) }
     ensures end { result ≡ Ended.Events → IsTrue (E.is_over events.new) }
-    ensures shut { result ≡ Ended.Shut
+    // What it was told before is taken to be true.
+    ensures shut { result ≡ Ended.Shut → IsRightlyTold A.condition (position host.old)
         → ¬ IsTrue (A.condition host.new.hub.store).is_open }
+    // Once it was told that the store is shut, no round but the last is an idle time later.
+    ensures time { EndsInTime (E.rounds events.old) (E.rounds events.new)
+        host.old.shut_since host.new.shut_since host.new.limits result }
 {
     hosts_keep_the_archive_promise::<A, R, K, S>();
     let mut now = Now {
         vacancy: host.vacancy(),
         is_busy: true,
-        shut_since: None,
     };
     for _ in 0..u64::MAX {
         let event = events.next(now.vacancy, now.is_busy);
@@ -78,16 +82,17 @@ fn meet<A: Archive, R: Source + Drop, K: Sink + Drop, S: Spool + Drop, L: HostLo
 ) -> Result<Now, Ended>
     requires room { length room.old ≤ most_read }
     requires fresh { IsFresh K.taken S.held event }
-    requires free { IfSome now.vacancy (λ at. (at < length host.old.seats.items)
-        × (slot at host.old.seats.items ≡ None)) }
+    requires vacant { IfSome now.vacancy (IsVacant host.old) }
     ensures goes { GoesOn A.condition R.unread K.taken S.held (position host.old)
         (position host.new) }
-    ensures free { IfOk result (λ next. IfSome next.vacancy
-        (λ at. (at < length host.new.seats.items)
-        × (slot at host.new.seats.items ≡ None))) }
+    ensures vacant { IfOk result (λ next. IfSome next.vacancy (IsVacant host.new)) }
     ensures end { result ≡ Err Ended.Events → event ≡ Event.End }
-    ensures shut { result ≡ Err Ended.Shut
-        → ¬ IsTrue (A.condition host.new.hub.store).is_open }
+    ensures unspent { result ≢ Err Ended.Spent }
+    ensures shut { result ≡ Err Ended.Shut → IsSome host.new.shut_since }
+    ensures limits { host.new.limits ≡ host.old.limits }
+    ensures told { IsTold host.old.shut_since host.new.shut_since (seconds_of event) }
+    ensures time { IfOk result (λ _. AllByRecursion (λ second.
+        is_overdue host.new.shut_since second host.new.limits ≡ false) (seconds_of event)) }
 {
     match event {
         Event::Ready {
@@ -103,12 +108,11 @@ fn meet<A: Archive, R: Source + Drop, K: Sink + Drop, S: Spool + Drop, L: HostLo
             Ok(Now {
                 vacancy: host.vacancy(),
                 is_busy: true,
-                shut_since: now.shut_since,
             })
         }
         Event::Round(time) => {
             let is_busy = host.round(room, &time, log);
-            go_on(host, Now { is_busy, ..now }, time.second)
+            go_on(host, is_busy, time.second)
         }
         Event::End => Err(Ended::Events),
     }
@@ -118,35 +122,32 @@ fn meet<A: Archive, R: Source + Drop, K: Sink + Drop, S: Spool + Drop, L: HostLo
 /// has passed.
 fn go_on<A: Archive, R: Source + Drop, K: Sink + Drop, S: Spool + Drop>(
     host: &mut Host<A, R, K, S>,
-    now: Now,
+    is_busy: bool,
     second: u64,
 ) -> Result<Now, Ended>
     ensures goes { Steps A.condition R.unread K.taken S.held (position host.old) []
         (position host.new) }
-    ensures free { IfOk result (λ next. IfSome next.vacancy
-        (λ at. (at < length host.new.seats.items)
-        × (slot at host.new.seats.items ≡ None))) }
+    ensures vacant { IfOk result (λ next. IfSome next.vacancy (IsVacant host.new)) }
     ensures end { result ≢ Err Ended.Events }
-    ensures shut { result ≡ Err Ended.Shut
-        → ¬ IsTrue (A.condition host.new.hub.store).is_open }
+    ensures unspent { result ≢ Err Ended.Spent }
+    ensures shut { result ≡ Err Ended.Shut → IsSome host.new.shut_since }
+    ensures limits { host.new.limits ≡ host.old.limits }
+    ensures told { IsTold host.old.shut_since host.new.shut_since (second ∷ []) }
+    ensures time { IfOk result (λ _.
+        is_overdue host.new.shut_since second host.new.limits ≡ false) }
 {
-    if host.is_open() {
+    if host.is_open(second) {
         return Ok(Now {
             vacancy: host.vacancy(),
-            ..now
+            is_busy,
         });
     }
-    let since = match now.shut_since {
-        Some(since) => since,
-        None => second,
-    };
-    if host.is_empty() || second.saturating_sub(since) > host.limits().idle_seconds {
+    if host.is_empty() || host.is_overdue(second) {
         return Err(Ended::Shut);
     }
     Ok(Now {
         vacancy: None,
-        is_busy: now.is_busy,
-        shut_since: Some(since),
+        is_busy,
     })
 }
 
@@ -158,10 +159,11 @@ fn let_in<A: Archive, R: Source + Drop, K: Sink + Drop, S: Spool + Drop, L: Host
     log: &mut L,
 )
     requires fresh { IsFresh K.taken S.held (Event.Client client) }
-    requires free { IfSome vacancy (λ at. (at < length host.old.seats.items)
-        × (slot at host.old.seats.items ≡ None)) }
+    requires vacant { IfSome vacancy (IsVacant host.old) }
     ensures goes { GoesOn A.condition R.unread K.taken S.held (position host.old)
         (position host.new) }
+    ensures limits { host.new.limits ≡ host.old.limits }
+    ensures shut { host.new.shut_since ≡ host.old.shut_since }
 {
     match vacancy {
         Some(at) => {

@@ -2,6 +2,7 @@ use Rattle.std.proofs.Common.{ap, Some, [], ◌∙◌}
 use Rattle.dep_host.proofs.RunLemmas.{steps_run}
 use Rattle.dep_host.proofs.ReadLemmas.{reads_arrive, replies_sent}
 use Rattle.dep_host.proofs.TellLemmas.{wires_take, seats_stay}
+use Rattle.dep_host.proofs.GivenLemmas.{reads_given}
 use Rattle.dep_host.proofs.laws.hosts_keep_the_archive_promise.Goals as goal
 
 pub returns : goal.returns
@@ -13,4 +14,5 @@ returns g c = λ p q deeds first before empty h steps clean.
       sent = λ tells holds at seat sits. wires_take g.A.Archive.condition g.R.Source.unread g.K.Sink.taken g.S.Spool.held p q deeds tells holds empty steps at seat sits
           ∙ ap Some (replies_sent seat.connection behind.follows);
       read = λ at seat sits. reads_arrive seat.connection behind.follows (seats_stay g.A.Archive.condition g.R.Source.unread g.K.Sink.taken g.S.Spool.held p q deeds empty steps at seat sits);
+      given = λ gives at seat sits. reads_given g.A.Archive.condition g.R.Source.unread g.K.Sink.taken g.S.Spool.held gives p q deeds empty steps at seat sits;
     }

@@ -1,4 +1,5 @@
-use Rattle.std.proofs.Common.{refl, sym, subst, [], ◌∙◌}
+use Rattle.std.proofs.Common.{◌≡◌, None, Some, IsSomeAnd, refl, sym, subst, [], ◌∙◌}
+use Rattle.std.proofs.lemmas.List.{get_or-set_same}
 use Rattle.std.specs.Io.KnownBytes.{IsAtEnd}
 use Rattle.dep_server.specs.Records.{Live}
 use Rattle.dep_server.specs.Holding.{MovesLine}
@@ -20,6 +21,7 @@ returns-in-Err-Full-clause-goes g c =
       same_store = c.connect.ensures.store;
       same_config = c.connect.ensures.config;
       same_limits = refl;
+      same_shut = refl;
     }))
 
 pub returns-in-Err-Memory-clause-goes : goal.returns-in-Err-Memory-clause-goes
@@ -32,14 +34,15 @@ returns-in-Err-Memory-clause-goes g c =
       same_store = c.connect.ensures.store;
       same_config = c.connect.ensures.config;
       same_limits = refl;
+      same_shut = refl;
     }))
 
 pub returns-clause-goes : goal.returns-clause-goes
 returns-clause-goes g c =
     one_step g.A.Archive.condition g.R.Source.unread g.K.Sink.taken g.S.Spool.held _ _ _
     (comes {at = c.args.at} {seat = c.new.result} (record {
-      there = c.requires.there;
-      free = c.requires.free;
+      there = c.requires.vacant.0;
+      free = c.requires.vacant.1;
       sits = refl;
       is_next = c.new.ensures.number ∙ c.in-Ok.ensures.next.0;
       next = c.in-Ok.ensures.next.1;
@@ -49,5 +52,11 @@ returns-clause-goes g c =
       fresh = subst (λ w. IsAtEnd (told g.K.Sink.taken g.S.Spool.held w)) (sym c.new.ensures.wire) c.requires.fresh;
       opens = c.new.ensures.phase;
       uncounted = c.new.ensures.unfinished;
+      is_open = c.requires.vacant.2;
       same_limits = refl;
+      same_shut = refl;
     }))
+
+pub returns-clause-source : goal.returns-clause-source
+returns-clause-source g c =
+    subst (λ o. IsSomeAnd o (λ seat. seat.source ≡ c.args.client.source)) (sym (get_or-set_same c.args.self.now.seats.items c.args.at (Some c.new.result) None c.requires.vacant.0)) c.new.ensures.source

@@ -20,6 +20,7 @@ returns-in-Some-clause-goes g c =
       same_store = c.close.ensures.store;
       same_config = c.close.ensures.config;
       same_limits = refl;
+      same_shut = refl;
     })
 
 pub returns-in_default-clause-goes : goal.returns-in_default-clause-goes

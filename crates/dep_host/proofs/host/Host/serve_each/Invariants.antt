@@ -6,9 +6,10 @@ use Rattle.dep_host.proofs.host.Host.serve_each.Given as goal
 
 abbrev pub invariant-loop-at : goal.invariant-loop-at
 invariant-loop-at g l = record {
-  goes : RoundSoFar g.A.Archive.condition g.R.Source.unread g.K.Sink.taken g.S.Spool.held (position l.fn.self) (position l.self) l.at l.turn.time.second l.turn.is_full l.turn.is_shut;
+  goes : RoundSoFar g.A.Archive.condition g.R.Source.unread g.K.Sink.taken g.S.Spool.held (position l.fn.self) (position l.self) l.at l.turn.time.second l.turn.is_full;
   left : (place : ℕ) → place < l.at → HasTime l.turn.time.second l.self.limits (slot place l.self.seats.items);
   seats : length l.self.seats.items ≡ length l.fn.self.seats.items;
   room : length l.room ≤ most_read;
   limits : l.self.limits ≡ l.fn.self.limits;
+  shut : l.self.shut_since ≡ l.fn.self.shut_since;
 }
