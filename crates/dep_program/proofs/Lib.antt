@@ -1,1 +1,2 @@
 pub mod ServeLemmas
+pub mod GatheredLemmas

@@ -13,7 +13,9 @@ use Rattle.dep_server.specs.Conversation.{Wire, wire, session, Clocks, Converses
 use Rattle.dep_server.specs.declared.connection.Served.{Served}
 use Rattle.dep_server.specs.declared.connection.Served.TheVariants.{Ended, Closed, Unserved, ReadFault, WriteFault, Bound}
 use Rattle.dep_server.specs.declared.hub.Hub.{Hub}
-use Rattle.dep_program.specs.Serves.{ServesOne, Conversation, AreAmong, ServesThese, all_records_of, all_turns_of}
+use Rattle.dep_server.proofs.TalkLemmas.{unserved}
+use Rattle.dep_server.proofs.Leaving.{Settles, stays_as}
+use Rattle.dep_program.specs.Serves.{ServesOne, socket_wire, Conversation, AreAmong, ServesThese, all_records_of, all_turns_of}
 
 -- one list of steps behind another
 folds_join : {C A : Type 0} (r : C → A → C → Type 0) (a : C) (xs ys : List A) (b c : C) → FoldsTo r a xs b → FoldsTo r b ys c → FoldsTo r a (xs ++ ys) c
@@ -91,6 +93,14 @@ over_socket condition ticks clock now old new end reads failures last after r l 
   converses = subst (λ n. ConversesOver condition ticks (session condition old (wire None 0 NoneYet None n) clock) (session condition new after now) end) f
       (subst (λ x. ConversesOver condition ticks (session condition old (wire None 0 x None failures) clock) (session condition new after now) end) l
       (subst (λ n. ConversesOver condition ticks (session condition old (wire None n last None failures) clock) (session condition new after now) end) r converses));
+}
+
+-- a connection that is let go before anything was read of it
+pub not_served : {A : Type 0} (condition : A → Condition) {C : Type 0} (ticks : C → ℕ → C → Type 0) (clock : C) (hub : Hub A)
+    → Settles (condition hub.store) → ServesOne condition ticks clock clock hub hub Unserved
+not_served condition ticks clock hub settles = record {
+  after = socket_wire;
+  converses = unserved condition clock hub hub socket_wire (λ w at. at) refl (λ w at. stays_as (condition hub.store) w.state settles at.state) (λ first records h. h);
 }
 
 -- the same over the same hub

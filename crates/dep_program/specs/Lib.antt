@@ -3,3 +3,4 @@ pub mod Clock
 pub mod Addresses
 pub mod Serves
 pub mod Outcomes
+pub mod Gathering

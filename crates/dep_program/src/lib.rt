@@ -4,12 +4,14 @@
 
 mod clock;
 mod door;
+mod gathered;
 mod outcome;
 mod serve;
 mod setup;
 
 pub use clock::moment_of;
 pub use door::{Door, address, serve_at};
+pub use gathered::Gathered;
 pub use outcome::Outcome;
 pub use serve::serve_on;
 pub use setup::{configuration, configuration_at};

@@ -3,10 +3,11 @@ ghost use Rattle.std.specs.Prelude.{◌≡◌, IfOk, OnErr};
 ghost use Rattle.dep_server.specs.Standing.{IsClean, IsHonest};
 ghost use Rattle.dep_program.specs.Serves.{Serves, ServesOne};
 
+use crate::gathered::Gathered;
 use crate::outcome::Outcome;
 use dep_moment::Moment;
 use dep_server::{Archive, Hub, Served, serve_connection};
-use dep_types::{ReaderInlet, Through};
+use dep_types::ReaderInlet;
 use std::alloc::Global;
 use std::io;
 use std::net::TcpListener;
@@ -54,7 +55,9 @@ fn serve_next<A: Archive, C: FnMut() -> Moment>(
     let (stream, _) = listener.accept()?;
     // Else a short content would wait until its client has acknowledged the head.
     let _ = stream.set_nodelay(true);
+    let Ok(mut outlet) = Gathered::new(alloc, &stream) else {
+        return Ok(Served::Unserved);
+    };
     let mut inlet = ReaderInlet::new(&stream);
-    let mut writer = Through::new(&stream);
-    Ok(serve_connection(alloc, &mut inlet, &mut writer, hub, clock))
+    Ok(serve_connection(alloc, &mut inlet, &mut outlet, hub, clock))
 }

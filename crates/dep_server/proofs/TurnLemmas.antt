@@ -1,5 +1,6 @@
 -- One turn of a connection.
 use Rattle.std.proofs.Common.{◌≡◌, ◌≤◌, ◌<◌, ℕ, zero, suc, Ok, List, ◌++◌, length, take, drop, sym, ap, subst, ◌∙◌, arith, Option, Some, None, refl, take_at}
+use Rattle.std.proofs.KnownBytes.{Appends-kept}
 use Rattle.std.specs.Io.KnownBytes.{Consumes, Keeps}
 use Rattle.dep_types.specs.Conditions.{Condition}
 use Rattle.dep_types.specs.Writing.{next_count}
@@ -7,8 +8,9 @@ use Rattle.dep_types.specs.Reading.{end_of_read}
 use Rattle.dep_types.specs.declared.inlet.ReadFailed.{ReadFailed}
 use Rattle.dep_types.specs.declared.inlet.LastRead.TheVariants.{Bytes, Nothing}
 use Rattle.dep_server.specs.Turns.{most_read}
-use Rattle.dep_server.specs.Standing.{ArrivesOver}
+use Rattle.dep_server.specs.Standing.{ArrivesOver, IsArrival}
 use Rattle.dep_server.specs.Conversation.{Session, OneTurn, NoTurn}
+use Rattle.dep_server.specs.declared.hub.Hub.{Hub}
 use Rattle.dep_server.specs.declared.arrived.Arrived.{Arrived}
 
 -- the whole buffer, as the slice of it that was read into
@@ -59,6 +61,16 @@ keeps_itself None = tt
 keeps_itself (Some xs) = refl
 
 module _ {A : Type 0} (condition : A → Condition) where
+  -- an arrival, and then the outlet was flushed
+  pub arrives_flushed : (held sends holds : Option (List ℕ)) (failures fails failed : ℕ) (old new : Hub A) (number : ℕ) (piece : List ℕ) (moment : ℕ) (answer : Arrived)
+      → Keeps sends holds → failed ≡ fails → ArrivesOver condition held sends failures fails old new number piece moment answer
+      → ArrivesOver condition held holds failures failed old new number piece moment answer
+  arrives_flushed held sends holds failures fails failed old new number piece moment answer kept same a = record {
+    sent = a.sent;
+    appends = Appends-kept held sends holds a.sent a.appends kept;
+    arrival = subst (λ (n : ℕ). IsArrival condition old new number piece moment a.sent failures n answer) (sym same) a.arrival;
+  }
+
   -- a piece was read, and it arrived
   pub one_turn : {C : Type 0} (ticks : C → ℕ → C → Type 0) (number : ℕ) (before after : Session condition C) (answer : Arrived)
       (n len moment : ℕ) (buffer rest given items whole : List ℕ)

@@ -13,3 +13,4 @@ pub mod Numbers
 pub mod Performing
 pub mod Faults
 pub mod Shut
+pub mod Flushing

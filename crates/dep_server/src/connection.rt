@@ -3,13 +3,15 @@ ghost use Rattle.std.specs.Prelude.{◌≡◌, ◌<◌, IsSome, length};
 ghost use Rattle.dep_server.specs.Standing.{intake_of, IsClean, IsHonest};
 ghost use Rattle.dep_server.specs.Turns.{most_read};
 ghost use Rattle.dep_server.specs.Conversation.{session, wire, ConversesOver, TalksUntil, TurnsTo, next_after};
+ghost use Rattle.dep_server.specs.Flushing.{IsFlushed};
 
 use crate::archive::Archive;
 use crate::arrived::Arrived;
 use crate::connections::ConnId;
+use crate::flush::Flush;
 use crate::hub::Hub;
 use dep_moment::Moment;
-use dep_types::{Inlet, Outlet, ReadFailed};
+use dep_types::{Inlet, ReadFailed};
 use std::alloc::Global;
 
 /// Why a connection was served no longer.
@@ -42,7 +44,7 @@ struct Incoming {
 
 /// Serves one fresh connection, from its opening to its close. It makes at most 1,048,576 reads, of at most
 /// 65,536 bytes each, and asks the clock once for each piece.
-pub fn serve_connection<A: Archive, R: Inlet, W: Outlet, C: FnMut() -> Moment>(
+pub fn serve_connection<A: Archive, R: Inlet, W: Flush, C: FnMut() -> Moment>(
     alloc: Global,
     reader: &mut R,
     writer: &mut W,
@@ -62,6 +64,9 @@ pub fn serve_connection<A: Archive, R: Inlet, W: Outlet, C: FnMut() -> Moment>(
     ensures clean { IsClean A.condition hub.new → IsClean A.condition hub.old }
     ensures honest { IsHonest A.condition hub.new → IsHonest A.condition hub.old }
     ensures next { hub.new.next ≡ next_after hub.old.next result }
+    // All was sent, or the outlet has given up.
+    ensures flushed { IsFlushed (W.held writer.old) (W.has_failed writer.old)
+        → IsFlushed (W.held writer.new) (W.has_failed writer.new) }
 {
     let Ok(buffer) = vec![in alloc; 0u8; MOST_READ] else {
         return Served::Unserved;
@@ -76,7 +81,7 @@ pub fn serve_connection<A: Archive, R: Inlet, W: Outlet, C: FnMut() -> Moment>(
 }
 
 /// Serves a connection until it ends.
-fn converse<A: Archive, R: Inlet, W: Outlet, C: FnMut() -> Moment>(
+fn converse<A: Archive, R: Inlet, W: Flush, C: FnMut() -> Moment>(
     reader: &mut R,
     writer: &mut W,
     hub: &mut Hub<A>,
@@ -96,6 +101,8 @@ fn converse<A: Archive, R: Inlet, W: Outlet, C: FnMut() -> Moment>(
         (session A.condition hub.new
         (wire (R.unread reader.new) (R.reads reader.new) (R.last reader.new)
         (W.taken writer.new) (W.failures writer.new)) clock.new) result }
+    ensures flushed { IsFlushed (W.held writer.old) (W.has_failed writer.old)
+        → IsFlushed (W.held writer.new) (W.has_failed writer.new) }
 {
     for count in 0..MOST_READS {
         if let Some(end) = turn(reader, writer, hub, clock, incoming) {
@@ -106,7 +113,7 @@ fn converse<A: Archive, R: Inlet, W: Outlet, C: FnMut() -> Moment>(
 }
 
 /// Reads a piece, and has it served.
-fn turn<A: Archive, R: Inlet, W: Outlet, C: FnMut() -> Moment>(
+fn turn<A: Archive, R: Inlet, W: Flush, C: FnMut() -> Moment>(
     reader: &mut R,
     writer: &mut W,
     hub: &mut Hub<A>,
@@ -129,13 +136,17 @@ fn turn<A: Archive, R: Inlet, W: Outlet, C: FnMut() -> Moment>(
         (session A.condition hub.new
         (wire (R.unread reader.new) (R.reads reader.new) (R.last reader.new)
         (W.taken writer.new) (W.failures writer.new)) clock.new) result }
+    ensures flushed { IsFlushed (W.held writer.old) (W.has_failed writer.old)
+        → IsFlushed (W.held writer.new) (W.has_failed writer.new) }
 {
     match reader.read(incoming.buffer.as_mut_slice()) {
         Err(ReadFailed) => Some(Served::ReadFault),
         Ok(0) => Some(Served::Ended),
         Ok(n) => {
             let moment = clock();
-            match hub.arrive(incoming.connection, &incoming.buffer[..n], moment, writer) {
+            let arrived = hub.arrive(incoming.connection, &incoming.buffer[..n], moment, writer);
+            writer.flush();
+            match arrived {
                 Arrived::Open => None,
                 Arrived::Closed => Some(Served::Closed),
                 Arrived::Cut => Some(Served::WriteFault),

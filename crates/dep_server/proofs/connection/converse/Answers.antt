@@ -6,7 +6,7 @@ use Rattle.dep_server.proofs.TalkLemmas.{talk_none, talk_more, talk_last, talk_b
 use Rattle.dep_server.proofs.connection.converse.Goals as goal
 
 pub loop-count-init : goal.loop-count-init
-loop-count-init g c = record { call = c.requires.call; room = c.requires.room; same = refl; there = c.requires.there; config = refl; next = refl; reads = refl; last = inl refl; talk = talk_none g.A.Archive.condition _ _ _ }
+loop-count-init g c = record { call = c.requires.call; room = c.requires.room; same = refl; there = c.requires.there; config = refl; next = refl; reads = refl; last = inl refl; flushed = λ h. h; talk = talk_none g.A.Archive.condition _ _ _ }
 
 pub loop-count-preserved : goal.loop-count-preserved
 loop-count-preserved g c = record {
@@ -18,6 +18,7 @@ loop-count-preserved g c = record {
   next = c.turn.ensures.next ∙ c.loop-count.invariant.next;
   reads = c.in_default.ensures.turn.reads ∙ (ap next_count c.loop-count.invariant.reads ∙ sym (reads_more _ c.loop-count.count));
   last = inr c.in_default.ensures.turn.last;
+  flushed = λ h. c.turn.ensures.flushed (c.loop-count.invariant.flushed h);
   talk = talk_more g.A.Archive.condition _ _ _ _ _ _ _ c.loop-count.invariant.config c.loop-count.invariant.talk
       (turn_at g.A.Archive.condition _ _ _ _ _ None c.loop-count.invariant.same c.in_default.ensures.turn);
 }
