@@ -99,9 +99,9 @@ WRONG_VALUES = {
     "unfinished_bytes": (32 * MIB - 1, [])}
 
 
-def ends(words, status, text, lines=1):
-    """The program has to end by itself with this status, with this text in what it says on standard error, of so many lines at
-    most. Whether it ends."""
+def ends(words, status, text):
+    """The program has to end by itself with this status, with this text in the one line at most that it says on standard
+    error. Whether it ends."""
     how = {"stdin": subprocess.DEVNULL, "stdout": subprocess.DEVNULL, "stderr": subprocess.PIPE}
     with begin(*words, **how) as program:
         try:
@@ -111,7 +111,7 @@ def ends(words, status, text, lines=1):
             return expect(f"the end of {words}", "it goes on", status)
     what = f"the end by {text or 'no fault'}"
     expect(what, program.returncode, status)
-    return expect(f"{what}, in {said!r}", text in said and said.count("\n") <= lines, True)
+    return expect(f"{what}, in {said!r}", text in said and said.count("\n") <= 1, True)
 
 
 def configurations(settings):
@@ -165,7 +165,7 @@ def statuses():
         with socket.socket() as taken:
             taken.bind((ADDRESS, settings["port"]))
             taken.listen()
-            ends([good], 3, "can't listen", lines=2)
+            ends([good], 3, "can't listen")
         return f"{number + 1} faults of configurations by their fields, and the statuses 0 to 3"
 
 

@@ -1,5 +1,5 @@
 -- A store that a fault shut: what fails on it, and what stands again once a statement was given back.
-use Rattle.std.proofs.Common.{◌≡◌, ◌∙◌, ℕ, List, [], Result, Ok, Err, OnOk, IsErr, IsTrue, inl, inr, sym, subst, arith}
+use Rattle.std.proofs.Common.{◌≡◌, ◌∙◌, ℕ, List, [], Result, Ok, Err, OnOk, IsErr, MatchResult, codes, refl, IsTrue, inl, inr, sym, ap, subst, arith, length, le_of_eq}
 use Rattle.sqlite.specs.State as db
 use Rattle.sqlite.specs.State.{HasCleanDisk, Survives, IsNotRun, store_error}
 use Rattle.sqlite.specs.declared.error.ErrorCode.TheVariants as code
@@ -16,6 +16,10 @@ use Rattle.dep_schema.specs.Transactions.{TransactsTo, IsBackAt}
 use Rattle.dep_schema.proofs.Transactions.{stands_left}
 use Rattle.dep_schema.proofs.Transacting.{IsSettled, left_still}
 use Rattle.dep_store.specs.Shut.{LeavesNoMore, FailsIfShut}
+use Rattle.sqlite.specs.Listing.{understood}
+use Rattle.sqlite_tied.specs.Compute.{everything}
+use Rattle.sqlite_resolve.specs.declared.compiled.Compiled.{Compiled}
+use Rattle.sqlite_resolve.specs.declared.error.CompileError.{CompileError}
 
 on_any : {A E : Type 0} (r : Result A E) (P : Type 0) → P → OnOk r P
 on_any (Ok answer) P h = h
@@ -81,3 +85,29 @@ closed_at old new sql (inr (cause, e, has, rolled, told)) is_open = by_cause old
 -- a statement is refused as one of a store that is shut only by a store that is
 pub closed_if_shut : (old new : db.State) (sql : List ℕ) (e : Error) → IsNotRun old new sql [] e → e ≡ SqliteFailure code.Closed → ¬ IsTrue new.is_open
 closed_if_shut old new sql e refused closed = closed_at old new sql (subst (λ (x : Error). IsNotRun old new sql [] x) closed refused)
+
+-- one statement, with no parameter and no clock
+abbrev IsAlone : Result Compiled CompileError → Type 0
+IsAlone r = MatchResult r (λ c. (c.tail ≡ 8) × (c.names ≡ []) × (c.formats ≡ [])) (λ e. ⊥)
+
+-- it is so over all tables
+asks_none : (its : Schema) → IsAlone (understood its (codes "SELECT 1"))
+unfolding understood everything
+asks_none its = (refl, refl, refl)
+
+-- so it isn't prepared only where the store fails
+pub fails_alone : (old new : db.State) (e : Error) → IsNotRun old new (codes "SELECT 1") [] e → db.Fails old new ⊥ e
+unfolding IsNotRun
+fails_alone old new e (inr fails) = fails
+fails_alone old new e (inl (none, unchanged)) = absurd (elim none [
+  | inl (fault, is, told) ↦ subst IsAlone is (asks_none old.now.schema)
+  | inr (c, is, why) ↦
+      let its : (c.tail ≡ 8) × (c.names ≡ []) × (c.formats ≡ []) = subst IsAlone is (asks_none old.now.schema) in
+      elim why [
+        | inl (more, told) ↦ more (le_of_eq (sym its.0))
+        | inr other ↦ elim other [
+          | inl (count, told) ↦ count (ap length (sym its.1))
+          | inr (formats, told) ↦ formats its.2
+        ]
+      ]
+])

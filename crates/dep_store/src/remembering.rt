@@ -1,6 +1,6 @@
 //! What a store remembers of the archive, so that a request for the service document asks no tables.
 
-ghost use Rattle.std.specs.Prelude.{◌≡◌, ◌≤◌, ℕ, Some, false, IsTrue, IfOk, IfErr, OnOk, ◌↔◌};
+ghost use Rattle.std.specs.Prelude.{◌≡◌, ◌≢◌, ◌≤◌, ℕ, Some, false, IsTrue, IfOk, IfErr, OnOk, ◌↔◌};
 ghost use Rattle.sqlite.specs.State.{HasCleanDisk, Survives};
 ghost use Rattle.sqlite.specs.Held.{state};
 ghost use Rattle.dep_types.specs.State.{State};
@@ -11,6 +11,7 @@ ghost use Rattle.dep_row_maps.specs.Clauses.{FromMaps};
 ghost use Rattle.dep_server.specs.Shut.{TellsOpen};
 ghost use Rattle.dep_store.specs.Archive.{shown_by};
 ghost use Rattle.dep_store.specs.Remembering.{Recalls, IsRecalled, is_left};
+ghost use Rattle.dep_store.specs.Shut.{FailsToTell};
 ghost use Rattle.dep_schema.specs.Transactions.{IsBackAt};
 
 use dep_objects::counters;
@@ -102,7 +103,8 @@ fn look_back<S: Alter>(
 fn told_by(error: Error) -> Result<bool, StoreFault>
     ensures shut { IfOk result
         (λ is_open. (is_open ≡ false) × (error ≡ Error.SqliteFailure ErrorCode.Closed)) }
-    ensures fault { IfErr result (λ fault. fault ≡ fault_for error) }
+    ensures fault { IfErr result (λ fault. (fault ≡ fault_for error)
+        × (error ≢ Error.SqliteFailure ErrorCode.Closed)) }
 {
     match error {
         Error::SqliteFailure(ErrorCode::Closed) => Ok(false),
@@ -114,6 +116,8 @@ fn told_by(error: Error) -> Result<bool, StoreFault>
 pub(crate) fn tell_open<S: Alter>(connection: &mut Connection<S>) -> Result<bool, StoreFault>
     requires settled { (state S.Store connection.old).in_transaction ≡ false }
     ensures told { IfOk result (TellsOpen (shown_by (state S.Store connection.new))) }
+    ensures cause { HasCleanDisk (state S.Store connection.new)
+        → IfErr result (FailsToTell (state S.Store connection.old) (state S.Store connection.new)) }
     ensures back { IsBackAt (state S.Store connection.old) (state S.Store connection.new) }
     ensures mode { (state S.Store connection.new).in_transaction ≡ false }
     ensures survives { Survives (state S.Store connection.old) (state S.Store connection.new) (λ _. ⊥) }

@@ -7,12 +7,13 @@ ghost use Rattle.dep_types.specs.Config.{IsChecked};
 ghost use Rattle.dep_schema.specs.Standing.{HoldsNone, IsOpenable};
 ghost use Rattle.dep_schema.specs.States.{IsLeftAs, StandsFor};
 ghost use Rattle.dep_upgrading.specs.Migrating.{Keeps};
-ghost use Rattle.dep_store.specs.Starting.{OpeningLeaves};
+ghost use Rattle.dep_store.specs.Starting.{OpeningLeaves, outcome_of_start};
 ghost use Rattle.dep_server.specs.Records.{Record, Run, first_world};
 ghost use Rattle.dep_server.specs.Standing.{StandsAfter, IsClean, IsHonest};
 ghost use Rattle.dep_store.specs.Archive.{condition_of};
 
 use crate::store::Store;
+use dep_program::Outcome;
 use dep_schema::OpenFault;
 use dep_server::{Hub, HubFault};
 use dep_streams::Watch;
@@ -41,6 +42,18 @@ impl fmt::Display for StartFault {
 }
 
 impl Error for StartFault {}
+
+impl StartFault {
+    /// What a run of a program comes to, that needs the hub.
+    pub fn outcome(self) -> Outcome
+        ensures { result ≡ outcome_of_start self }
+    {
+        match self {
+            StartFault::Hub(HubFault::Config) => Outcome::Usage,
+            StartFault::Hub(HubFault::Memory) | StartFault::Open(_) => Outcome::StoreFault,
+        }
+    }
+}
 
 /// Opens the database as a store, and makes a hub over it, without connections. A refusal hands
 /// the connection back. The watch is told of what is read where version 1 becomes version 2.

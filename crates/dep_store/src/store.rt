@@ -24,7 +24,7 @@ ghost use Rattle.dep_upgrading.specs.Causes.{FailsToOpenTables, FindsOrUpgrades}
 ghost use Rattle.dep_upgrading.specs.Migrating.{Keeps, OpenLeaves, OpensOlder, Stood};
 ghost use Rattle.dep_server.specs.Shut.{TellsOpen};
 ghost use Rattle.dep_store.specs.Archive.{condition_of};
-ghost use Rattle.dep_store.specs.Shut.{LeavesNoMore};
+ghost use Rattle.dep_store.specs.Shut.{LeavesNoMore, FailsToTell};
 
 use crate::auditing::audit_object;
 use crate::reading::{find_next, view_object};
@@ -324,6 +324,9 @@ impl<S: Alter> Store<S> {
     /// good. Before that is known memory may run out, or the disk fail once more; ask again then.
     pub fn is_open(&mut self) -> Result<bool, StoreFault>
         ensures told { IfOk result (TellsOpen (condition_of S.Store self.new)) }
+        // That it isn't told has a cause, of which want of memory can be seen by nobody.
+        ensures cause { HasCleanDisk (state S.Store self.new)
+            → IfErr result (FailsToTell (state S.Store self.old) (state S.Store self.new)) }
         ensures kept { IsTrue (state S.Store self.new).is_open
             → (s : State) → StandsFor (state S.Store self.old) s
             → StandsFor (state S.Store self.new) s }

@@ -1,24 +1,47 @@
 -- What a host makes of the hub that it serves from, and of the hub's database.
-use Rattle.std.proofs.Common.{◌≡◌, ℕ, List, [], ◌∷◌, ◌++◌, inl, inr, IsTrue, refl, sym, subst, ◌∙◌}
+use Rattle.std.proofs.Common.{◌≡◌, ℕ, Bool, List, [], ◌∷◌, ◌++◌, append-nil, IsTrue, refl, sym, ap, subst, ◌∙◌}
+use Rattle.sqlite.specs.State as db
 use Rattle.sqlite.specs.State.{HasCleanDisk}
 use Rattle.sqlite.specs.Held.{Held, state}
 use Rattle.sqlite_trees.specs.declared.store.Store.{Ghosts}
-use Rattle.std.specs.Prelude.{Option}
+use Rattle.std.specs.Prelude.{Option, true, false}
 use Rattle.dep_types.specs.State.{State, empty_state}
 use Rattle.dep_types.specs.Conditions.{Condition, HasCleanDisk as HasCleanArchive}
+use Rattle.dep_types.specs.Config.{IsChecked}
 use Rattle.dep_types.specs.declared.config.Config.{Config}
 use Rattle.dep_schema.specs.Standing.{HoldsNone}
-use Rattle.dep_schema.specs.States.{IsLeftAs}
+use Rattle.dep_schema.specs.States.{StandsFor, IsLeftAs}
+use Rattle.dep_schema.specs.declared.opening.OpenFault.{OpenFault}
 use Rattle.dep_schema.proofs.Transacting.{IsSettled, leaves_as_was}
+use Rattle.dep_upgrading.specs.Migrating.{Keeps}
 use Rattle.dep_store.specs.Archive.{condition_of}
+use Rattle.dep_store.specs.Starting.{OpeningLeaves, outcome_of_start}
+use Rattle.dep_store.specs.declared.starting.StartFault.{StartFault}
+use Rattle.dep_store.specs.declared.starting.StartFault.TheVariants as fault
+use Rattle.dep_server.specs.declared.faults.HubFault.{HubFault}
+use Rattle.dep_server.specs.declared.faults.HubFault.TheVariants as refused_by
 use Rattle.dep_server.specs.Records.{World, Record, Run, stops, stopped, first_world}
+use Rattle.dep_server.specs.Records as records_of
 use Rattle.dep_server.specs.Standing.{StandsAt, StandsAfter, IsClean, IsHonest}
 use Rattle.dep_server.specs.Holding.{StandsHolding, StandsHoldingAfter}
 use Rattle.dep_server.specs.declared.hub.Hub.{Hub}
+use Rattle.dep_host.specs.declared.serving.Ended.{Ended}
+use Rattle.dep_host.specs.declared.serving.Ended.TheVariants as ended
 use Rattle.dep_host.specs.Hosting.{Position, Deed, Step, refused, asks, comes, rests, offers, refuses, answers, leaves, Steps, begins, goes_on}
-use Rattle.dep_host.specs.Runs.{StandsBehind}
+use Rattle.dep_host.specs.Runs.{StandsBehind, Follows}
+use Rattle.dep_host.specs.Runs as runs
 use Rattle.dep_program.specs.declared.outcome.Outcome.{Outcome}
-use Rattle.swordd_host.specs.Hosted.{HostsHub, Hosts, LedBy, IsHosted, HostsDatabase}
+use Rattle.swordd_host.specs.Outcomes.{outcome_at}
+use Rattle.swordd_host.specs.Hosted.{ServesFrom, EndsHub, served, shut, broken_off, not_begun, not_let_in, LedBy, IsHosted, HostsDatabase, hosts, not_checked, not_made, not_opened}
+
+-- What a host did was done over this hub: for all records that it stood for, it stands for them with
+-- those of the deeds behind them.
+record HostsHub {A : Type 0} (condition : A → Condition) (old new : Hub A) (deeds : List Deed) : Type 0 where
+  same_config : new.config ≡ old.config
+  honest : IsHonest condition new → IsHonest condition old
+  behind : IsClean condition new → (first : State) (records : List Record)
+      → StandsHoldingAfter condition old first records (λ n. [])
+      → StandsBehind condition new first records (λ n. []) deeds
 
 module _ {A R K S : Type 0} (condition : A → Condition) (unread : R → Option (List ℕ)) (taken : K → Option (List ℕ)) (held : S → Option (List ℕ)) where
   same_honest : (old new : Hub A) → new.store ≡ old.store → IsHonest condition new → IsHonest condition old
@@ -53,16 +76,55 @@ module _ {A R K S : Type 0} (condition : A → Condition) (unread : R → Option
   config_first begins = refl
   config_first (goes_on steps step) = same_config step ∙ config_first steps
 
-  -- what was done over the hub
-  pub hosted_hub : (p q : Position A R K S) (deeds : List Deed) → Steps condition unread taken held p deeds q
-      → ((p q : Position A R K S) (deeds : List Deed) (first : State) (records : List Record) (kept : ℕ → List ℕ) → Steps condition unread taken held p deeds q
-      → StandsHoldingAfter condition p.hub first records kept → IsClean condition q.hub → StandsBehind condition q.hub first records kept deeds)
-      → HostsHub condition p.hub q.hub deeds
+  -- what a host makes: behind all records that its hub stood for, it stands for those of its deeds
+  abbrev MakesRuns : Type 0
+  MakesRuns = (p q : Position A R K S) (deeds : List Deed) (first : State) (records : List Record) (kept : ℕ → List ℕ) → Steps condition unread taken held p deeds q
+      → StandsHoldingAfter condition p.hub first records kept → IsClean condition q.hub → StandsBehind condition q.hub first records kept deeds
+
+  hosted_hub : (p q : Position A R K S) (deeds : List Deed) → Steps condition unread taken held p deeds q → MakesRuns → HostsHub condition p.hub q.hub deeds
   hosted_hub p q deeds steps makes = record {
     same_config = config_first steps;
     honest = honest_first steps;
     behind = λ is_clean first records h. makes p q deeds first records (λ n. []) steps h is_clean;
   }
+
+  -- nothing was done
+  still_hub : (hub : Hub A) → HostsHub condition hub hub []
+  still_hub hub = record {
+    same_config = refl;
+    honest = λ honest. honest;
+    behind = λ is_clean first records h. record {
+      more = [];
+      holds = λ n. [];
+      follows = runs.begins;
+      stands = subst (λ (all : List Record). StandsHoldingAfter condition hub first all (λ n. [])) (sym (append-nil records)) h;
+    };
+  }
+
+  -- what was done, whatever it came to
+  done_over : {is_over is_cut : Bool} (old : Hub A) (store : A) {deeds : List Deed} {outcome : Outcome} → EndsHub condition unread taken held is_over is_cut old store deeds outcome
+      → MakesRuns → (new : Hub A) × (store ≡ new.store) × HostsHub condition old new deeds
+  done_over old store (served it over uncut) makes = (it.last.hub, it.left, subst (λ (h : Hub A). HostsHub condition h it.last.hub _) it.over (hosted_hub it.first it.last _ it.steps makes))
+  done_over old store (shut it closed) makes = (it.last.hub, it.left, subst (λ (h : Hub A). HostsHub condition h it.last.hub _) it.over (hosted_hub it.first it.last _ it.steps makes))
+  done_over old store (broken_off it) makes = (it.last.hub, it.left, subst (λ (h : Hub A). HostsHub condition h it.last.hub _) it.over (hosted_hub it.first it.last _ it.steps makes))
+  done_over old store (not_begun same) makes = (old, same, still_hub old)
+  done_over old store (not_let_in same) makes = (old, same, still_hub old)
+
+  -- what serving comes to, by why it ended
+  ends_by : {is_over is_cut : Bool} (old : Hub A) (store : A) {deeds : List Deed} (why : Ended) (it : ServesFrom condition unread taken held old store deeds)
+      → (why ≡ ended.Events → IsTrue is_over) → (why ≡ ended.Shut → ¬ IsTrue (condition it.last.hub.store).is_open)
+      → EndsHub condition unread taken held is_over is_cut old store deeds (outcome_at why is_cut)
+  ends_by {is_cut = false} old store ended.Events it over closed = served it (over refl) refl
+  ends_by {is_cut = true} old store ended.Events it over closed = broken_off it
+  ends_by old store ended.Spent it over closed = broken_off it
+  ends_by old store ended.Shut it over closed = shut it (λ is_open. closed refl (subst (λ (s : A). IsTrue (condition s).is_open) it.left is_open))
+
+  pub ends_at : {is_over is_cut : Bool} (old : Hub A) (store : A) {deeds : List Deed} (why : Ended) (it : ServesFrom condition unread taken held old store deeds)
+      → (why ≡ ended.Events → IsTrue is_over) → (why ≡ ended.Shut → ¬ IsTrue (condition it.last.hub.store).is_open)
+      → (told : Bool) → told ≡ is_cut → (outcome : Outcome) → outcome ≡ outcome_at why told
+      → EndsHub condition unread taken held is_over is_cut old store deeds outcome
+  ends_at {is_over = is_over} {is_cut = is_cut} old store {deeds = deeds} why it over closed told same outcome is =
+      subst (λ (o : Outcome). EndsHub condition unread taken held is_over is_cut old store deeds o) (sym (is ∙ ap (outcome_at why) same)) (ends_by old store why it over closed)
 
 module _ {S : Type 0} (g : Ghosts S) (clean : (h : Held S) → IsTrue (state g h).is_open → HasCleanDisk (state g h))
     (settled : (h : Held S) → IsTrue (state g h).is_open → IsSettled (state g h)) (given : Held S) (config : Config) (opened : Hub (Held S))
@@ -91,17 +153,67 @@ module _ {S : Type 0} (g : Ghosts S) (clean : (h : Held S) → IsTrue (state g h
             (l.0, l.1, subst (λ (s : State). Run config first ((records ++ it.more) ++ stopped ∷ []) (first_world s)) (sym l.2) (stops run));
       }
 
-  hosted : (hub : Hub (Held S)) (deeds : List Deed) → HostsHub (condition_of g) opened hub deeds → IsHosted config (state g given) (state g hub.store) deeds
-  hosted hub deeds it = record {
+  hosted_by : (hub : Hub (Held S)) (deeds : List Deed) → HostsHub (condition_of g) opened hub deeds → IsHosted config (state g given) (state g hub.store) deeds
+  hosted_by hub deeds it = record {
     fresh = λ is_open none. led hub (it.same_config ∙ given_config) empty_state [] deeds
         (it.behind is_open empty_state [] (holding empty_state [] (fresh (it.honest (clean hub.store is_open)) none)));
     again = λ is_open found left first records run. led hub (it.same_config ∙ given_config) first records deeds
         (it.behind is_open first records (holding first records (again (it.honest (clean hub.store is_open)) found left first records run)));
   }
 
-  -- what was done over the hub is done over its database
-  pub hosts : (store back : Held S) (outcome : Outcome) → back ≡ store → Hosts (condition_of g) opened store outcome
-      → HostsDatabase config (state g given) (state g back) outcome
-  hosts store back outcome same (inr not_done) = inr not_done
-  hosts store back outcome same (inl (deeds, hub, is, it)) =
-      inl (deeds, subst (λ (h : Held S). IsHosted config (state g given) (state g h) deeds) (is ∙ sym same) (hosted hub deeds it))
+  module _ {R K P : Type 0} (unread : R → Option (List ℕ)) (taken : K → Option (List ℕ)) (held : P → Option (List ℕ)) where
+    -- what was done over the hub is done over its database
+    pub over_hub : {is_over is_cut : Bool} (store back : Held S) (deeds : List Deed) (outcome : Outcome) → back ≡ store
+        → EndsHub (condition_of g) unread taken held is_over is_cut opened store deeds outcome → MakesRuns (condition_of g) unread taken held
+        → HostsDatabase g unread taken held is_over is_cut config given back outcome
+    over_hub {is_over = over} {is_cut = cut} store back deeds outcome same it makes =
+        let done = done_over (condition_of g) unread taken held opened store it makes in
+        subst (λ (h : Held S). HostsDatabase g unread taken held over cut config given h outcome) (sym same)
+        (hosts opened deeds it (subst (λ (h : Held S). IsHosted config (state g given) (state g h) deeds) (sym done.1) (hosted_by done.0 deeds done.2)))
+
+-- nobody was served
+stays : (config : Config) (d : db.State) (s first : State) (records : List Record) → IsSettled d → StandsFor d s → Run config first records (first_world s) → LedBy config d first records []
+stays config d s first records settled stands went =
+    let same : records ≡ records ++ [] = sym (append-nil records) in
+    record {
+      more = [];
+      holds = λ n. [];
+      follows = runs.begins;
+      world = first_world s;
+      run = subst (λ (all : List Record). Run config first all (first_world s)) same went;
+      stands = stands;
+      stop = λ trees h.
+          let l = leaves_as_was d s settled stands trees h in (
+            l.0,
+            l.1,
+            subst (λ (left : State). Run config first ((records ++ []) ++ stopped ∷ []) (first_world left)) (sym l.2)
+                (stops (subst (λ (all : List Record). Run config first all (first_world s)) same went)),
+          );
+    }
+
+module _ {S R K P : Type 0} (g : Ghosts S) (unread : R → Option (List ℕ)) (taken : K → Option (List ℕ)) (held : P → Option (List ℕ))
+    (clean : (h : Held S) → IsTrue (state g h).is_open → HasCleanDisk (state g h)) (settled : (h : Held S) → IsTrue (state g h).is_open → IsSettled (state g h))
+    (config : Config) (given back : Held S) where
+  abbrev KeptFor : HubFault → Type 0
+  KeptFor why = HasCleanDisk (state g back) → (HoldsNone (state g given).now.trees → StandsFor (state g back) empty_state)
+      × ((found : State) → IsLeftAs (state g given).now.trees found → StandsFor (state g back) found)
+
+  unserved : (why : HubFault) → KeptFor why → IsHosted config (state g given) (state g back) []
+  unserved why kept = record {
+    fresh = λ is_open none. stays config (state g back) empty_state empty_state [] (settled back is_open) ((kept (clean back is_open)).0 none) records_of.begins;
+    again = λ is_open found left first records went. stays config (state g back) found first records (settled back is_open) ((kept (clean back is_open)).1 found left) went;
+  }
+
+  without : {is_over is_cut : Bool} (why : StartFault) → ((f : OpenFault) → why ≡ fault.Open f → IsTrue (state g back).is_open → Keeps (state g given) (state g back))
+      → ((f : HubFault) → why ≡ fault.Hub f → KeptFor f) → (why ≡ fault.Hub refused_by.Config → ¬ IsChecked config) → OpeningLeaves config (state g given) (state g back)
+      → HostsDatabase g unread taken held is_over is_cut config given back (outcome_of_start why)
+  without (fault.Open f) left kept checked stop = not_opened (left f refl) stop
+  without (fault.Hub refused_by.Config) left kept checked stop = not_checked (checked refl) (unserved refused_by.Config (kept refused_by.Config refl))
+  without (fault.Hub refused_by.Memory) left kept checked stop = not_made (unserved refused_by.Memory (kept refused_by.Memory refl))
+
+  -- no hub was made
+  pub without_hub : {is_over is_cut : Bool} (why : StartFault) → ((f : OpenFault) → why ≡ fault.Open f → IsTrue (state g back).is_open → Keeps (state g given) (state g back))
+      → ((f : HubFault) → why ≡ fault.Hub f → KeptFor f) → (why ≡ fault.Hub refused_by.Config → ¬ IsChecked config) → OpeningLeaves config (state g given) (state g back)
+      → (outcome : Outcome) → outcome ≡ outcome_of_start why → HostsDatabase g unread taken held is_over is_cut config given back outcome
+  without_hub {is_over = is_over} {is_cut = is_cut} why left kept checked stop outcome same =
+      subst (λ (o : Outcome). HostsDatabase g unread taken held is_over is_cut config given back o) (sym same) (without why left kept checked stop)

@@ -1,35 +1,51 @@
--- What is made of the database of a store that many clients are served from.
-use Rattle.std.specs.Prelude.{◌≡◌, ◌⊎◌, ℕ, List, [], ◌∷◌, ◌++◌, IsTrue}
+-- What is made of the database of a store that many clients are served from, and why no more are.
+use Rattle.std.specs.Prelude.{◌≡◌, ℕ, Bool, false, List, [], ◌∷◌, ◌++◌, Option, None, IsTrue}
 use Rattle.sqlite.specs.State as db
+use Rattle.sqlite.specs.Held.{Held, state}
+use Rattle.sqlite_trees.specs.declared.store.Store.{Ghosts}
 use Rattle.dep_types.specs.State.{State, empty_state}
 use Rattle.dep_types.specs.Conditions.{Condition}
+use Rattle.dep_types.specs.Config.{IsChecked}
 use Rattle.dep_types.specs.declared.config.Config.{Config}
 use Rattle.dep_schema.specs.Standing.{HoldsNone}
 use Rattle.dep_schema.specs.States.{StandsFor, IsLeftAs, Leaves}
+use Rattle.dep_upgrading.specs.Migrating.{Keeps}
+use Rattle.dep_store.specs.Archive.{condition_of}
+use Rattle.dep_store.specs.Starting.{OpeningLeaves}
 use Rattle.dep_server.specs.Records.{World, Record, Run, first_world, stopped}
-use Rattle.dep_server.specs.Standing.{IsClean, IsHonest}
-use Rattle.dep_server.specs.Holding.{StandsHoldingAfter}
 use Rattle.dep_server.specs.declared.hub.Hub.{Hub}
-use Rattle.dep_host.specs.Hosting.{Deed}
-use Rattle.dep_host.specs.Runs.{Follows, StandsBehind}
+use Rattle.dep_host.specs.Hosting.{Deed, Position, Steps, slot}
+use Rattle.dep_host.specs.Runs.{Follows}
 use Rattle.dep_program.specs.declared.outcome.Outcome.{Outcome}
-use Rattle.dep_program.specs.declared.outcome.Outcome.TheVariants.{Done}
+use Rattle.dep_program.specs.declared.outcome.Outcome.TheVariants.{Done, Usage, StoreFault, TransferFault}
 
--- What a host did was done over this hub: for all records that it stood for, it stands for them with
--- those of the deeds behind them.
-pub record HostsHub {A : Type 0} (condition : A → Condition) (old new : Hub A) (deeds : List Deed)
-    : Type 0 where
-  pub same_config : new.config ≡ old.config
-  pub honest : IsHonest condition new → IsHonest condition old
-  pub behind : IsClean condition new → (first : State) (records : List Record)
-      → StandsHoldingAfter condition old first records (λ n. [])
-      → StandsBehind condition new first records (λ n. []) deeds
+module _ {A R K S : Type 0} (condition : A → Condition) (unread : R → Option (List ℕ))
+    (taken : K → Option (List ℕ)) (held : S → Option (List ℕ)) where
+  -- from a host without connections over this hub these deeds led to one over this store, which was let go
+  pub record ServesFrom (old : Hub A) (store : A) (deeds : List Deed) : Type 0 where
+    pub first : Position A R K S
+    pub last : Position A R K S
+    pub over : first.hub ≡ old
+    pub empty : (at : ℕ) → slot at first.seats ≡ None
+    pub steps : Steps condition unread taken held first deeds last
+    pub left : store ≡ last.hub.store
 
--- it was done over the hub of this store; or the outcome tells that it was not
-abbrev pub Hosts : {A : Type 0} → (A → Condition) → Hub A → (store : A) → Outcome → Type 0
-Hosts {A} condition old store outcome =
-    ((deeds : List Deed) × (new : Hub A) × (new.store ≡ store) × HostsHub condition old new deeds)
-    ⊎ (outcome ≡ Done → ⊥)
+  -- what serving from a hub comes to, by a door through which no more comes, or more may, and which was
+  -- broken off or not
+  pub data EndsHub (is_over is_cut : Bool) (old : Hub A) (store : A) : List Deed → Outcome → Type 0 where
+    -- no more came
+    served : {deeds : List Deed} → ServesFrom old store deeds → IsTrue is_over → is_cut ≡ false
+        → EndsHub is_over is_cut old store deeds Done
+    -- a fault had shut the store
+    shut : {deeds : List Deed} → ServesFrom old store deeds → ¬ IsTrue (condition store).is_open
+        → EndsHub is_over is_cut old store deeds StoreFault
+    -- the door was broken off, or more came than can be counted, which nothing shows
+    broken_off : {deeds : List Deed} → ServesFrom old store deeds
+        → EndsHub is_over is_cut old store deeds TransferFault
+    -- there was no memory to begin, which nothing shows
+    not_begun : store ≡ old.store → EndsHub is_over is_cut old store [] StoreFault
+    -- the door could not be opened
+    not_let_in : store ≡ old.store → EndsHub is_over is_cut old store [] TransferFault
 
 -- The machine went on with the records of the deeds behind these, and the database stands for where
 -- it is. A stop leaves it so.
@@ -51,7 +67,23 @@ pub record IsHosted (config : Config) (old new : db.State) (deeds : List Deed) :
       → (first : State) (records : List Record) → Run config first records (first_world found)
       → LedBy config new first records deeds
 
--- what serving many clients from a database comes to; where all were served, it is hosted
-abbrev pub HostsDatabase : Config → (old new : db.State) → Outcome → Type 0
-HostsDatabase config old new outcome =
-    ((deeds : List Deed) × IsHosted config old new deeds) ⊎ (outcome ≡ Done → ⊥)
+module _ {S R K P : Type 0} (g : Ghosts S) (unread : R → Option (List ℕ)) (taken : K → Option (List ℕ))
+    (held : P → Option (List ℕ)) where
+  -- what serving many clients from a database comes to
+  pub data HostsDatabase (is_over is_cut : Bool) (config : Config) (given back : Held S)
+      : Outcome → Type 0 where
+    -- it was served from a hub over the store, and the machine went on with what was done
+    hosts : {outcome : Outcome} (hub : Hub (Held S)) (deeds : List Deed)
+        → EndsHub (condition_of g) unread taken held is_over is_cut hub back deeds outcome
+        → IsHosted config (state g given) (state g back) deeds
+        → HostsDatabase is_over is_cut config given back outcome
+    -- the configuration is refused
+    not_checked : ¬ IsChecked config → IsHosted config (state g given) (state g back) []
+        → HostsDatabase is_over is_cut config given back Usage
+    -- there was no memory for a hub, which nothing shows
+    not_made : IsHosted config (state g given) (state g back) []
+        → HostsDatabase is_over is_cut config given back StoreFault
+    -- it was not opened as a store
+    not_opened : (IsTrue (state g back).is_open → Keeps (state g given) (state g back))
+        → OpeningLeaves config (state g given) (state g back)
+        → HostsDatabase is_over is_cut config given back StoreFault

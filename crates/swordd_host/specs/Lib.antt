@@ -1,2 +1,3 @@
 pub mod Commands
 pub mod Hosted
+pub mod Outcomes

@@ -2,6 +2,7 @@
 #![tactic(auto)]
 
 mod command;
+mod door;
 mod folders;
 mod host_log;
 mod report;

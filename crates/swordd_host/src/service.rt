@@ -1,18 +1,22 @@
 //! A store in a file, served at an address.
-ghost use Rattle.std.specs.Prelude.{◌≡◌, ◌≢◌, false};
+ghost use Rattle.std.specs.Prelude.{◌≡◌, false, List};
 ghost use Rattle.sqlite.specs.Held.{state};
-ghost use Rattle.swordd_host.specs.Hosted.{Hosts, HostsDatabase};
+ghost use Rattle.dep_host.specs.Hosting.{Deed};
+ghost use Rattle.swordd_host.specs.Hosted.{EndsHub, HostsDatabase};
+ghost use Rattle.swordd_host.specs.Outcomes.{outcome_at, outcome_closed};
 
+use crate::door::{Door, SocketDoor};
 use crate::host_log::StandardErrorLog;
-use crate::start::write_start;
+use crate::start::{microseconds_since, write_start};
 use dep_configuration::{Configuration, Limits};
 use dep_host::laws::hosts_make_a_run;
-use dep_host::{Ended, Host, serve};
+use dep_host::{Ended, Events, Host, serve};
+use dep_outbox::{Sink, Source, Spool};
 use dep_program::Outcome;
 use dep_server::laws::nothing_held;
-use dep_server::{Archive, Hub, HubFault};
-use dep_sockets::{FileSpool, SocketFault, SocketSink, SocketSource, Sockets, Spools};
-use dep_store::{StartFault, Store, Unwatched, open_hub};
+use dep_server::{Archive, Hub};
+use dep_sockets::Spools;
+use dep_store::{Store, Unwatched, open_hub};
 use dep_types::Config;
 use sqlite::{Alter, Connection};
 use std::net::SocketAddr;
@@ -24,10 +28,12 @@ const MOST_READ: usize = 65_536;
 
 /// Where clients come from, and what bounds their connections.
 #[derive(Clone, Copy)]
-struct Door<'a> {
+struct Place<'a> {
     address: SocketAddr,
     spool_folder: &'a str,
     limits: Limits,
+    /// When the opening of the database began.
+    begun: Option<Instant>,
 }
 
 /// Opens the store of the configuration, which is made where it isn't there, and serves all its clients. Then the log
@@ -41,95 +47,124 @@ pub fn serve_store(rt: &HostRuntime, configuration: Configuration) -> Outcome {
         config,
         limits,
     } = configuration;
-    let door = Door {
+    let place = Place {
         address: SocketAddr::new(address, port),
         spool_folder: spool_folder.as_str(),
         limits,
+        begun: Instant::now(rt).ok(),
     };
     let Ok(connection) = Connection::open(rt, database.as_str()) else {
         let _ = eprintln!(rt; "swordd_host: the database can't be opened");
         drop(config);
         return Outcome::StoreFault;
     };
-    let (outcome, connection) = serve_database(rt, &door, config, connection);
-    match (connection.close(), outcome) {
-        (Err(_), Outcome::Done) => Outcome::StoreFault,
-        (_, outcome) => outcome,
+    let (outcome, connection) = serve_at(rt, &place, config, connection);
+    let is_closed = match connection.close() {
+        Ok(_) => true,
+        Err(_) => false,
+    };
+    outcome_closed(outcome, is_closed)
+}
+
+/// What it comes to once the database is handed back, and was closed or not.
+fn outcome_closed(outcome: Outcome, is_closed: bool) -> Outcome
+    ensures { result ≡ outcome_closed outcome is_closed }
+{
+    match outcome {
+        Outcome::Done if !is_closed => Outcome::StoreFault,
+        _ => outcome,
     }
 }
 
-fn serve_database<'a, S: Alter>(
-    rt: &'a HostRuntime,
-    door: &Door<'a>,
+/// Serves whoever connects at the place, and hands the database back.
+fn serve_at<S: Alter>(
+    rt: &HostRuntime,
+    place: &Place<'_>,
     config: Config,
     connection: Connection<S>,
 ) -> (Outcome, Connection<S>)
     requires settled { (state S.Store connection).in_transaction ≡ false }
-    ensures hosts { HostsDatabase config (state S.Store connection) (state S.Store result.1) result.0 }
+{
+    let alloc = rt.alloc();
+    let process = process::id(rt.process());
+    let most = place.limits.spool_bytes;
+    let clients = place.limits.connections.unwrap_or(u64::MAX);
+    let spools = Spools::new(alloc, rt, place.spool_folder, process, most);
+    let mut door = SocketDoor::new(alloc, rt, &spools, place.address, clients);
+    serve_database(rt, place, config, connection, &mut door)
+}
+
+/// Opens the store in the database, serves whoever comes by the door, and hands the database back.
+fn serve_database<
+    S: Alter,
+    R: Source + Drop,
+    K: Sink + Drop,
+    P: Spool + Drop,
+    E: Events<R, K, P> + Door,
+>(
+    rt: &HostRuntime,
+    place: &Place<'_>,
+    config: Config,
+    connection: Connection<S>,
+    door: &mut E,
+) -> (Outcome, Connection<S>)
+    requires settled { (state S.Store connection).in_transaction ≡ false }
+    ensures hosts { HostsDatabase S.Store R.unread K.taken P.held (E.is_over door.new) (E.is_cut door.new)
+        config connection result.1 result.0 }
 {
     nothing_held::<Store<S>>();
-    let begun = Instant::now(rt).ok();
+    hosts_make_a_run::<Store<S>, R, K, P>();
     match open_hub(rt.alloc(), config, connection, &mut Unwatched) {
         Ok(hub) => {
-            write_start(rt, door.address, door.limits, begun);
-            let (outcome, store) = serve_hub(rt, door, hub);
+            let (outcome, store) = serve_hub(rt, place, hub, door);
             (outcome, store.close())
         }
         Err((fault, connection)) => {
             let _ = eprintln!(rt; "swordd_host: {fault}");
-            (outcome_of(fault), connection)
+            (fault.outcome(), connection)
         }
     }
 }
 
-// What it comes to where no hub is made.
-fn outcome_of(fault: StartFault) -> Outcome
-    ensures { result ≢ Outcome.Done }
+/// Serves whoever comes by the door, and hands the store back.
+fn serve_hub<
+    A: Archive,
+    R: Source + Drop,
+    K: Sink + Drop,
+    P: Spool + Drop,
+    E: Events<R, K, P> + Door,
+>(rt: &HostRuntime, place: &Place<'_>, hub: Hub<A>, door: &mut E) -> (Outcome, A)
+    ensures ends { (deeds : List Deed) × EndsHub A.condition R.unread K.taken P.held (E.is_over door.new)
+        (E.is_cut door.new) hub result.1 deeds result.0 }
 {
-    match fault {
-        StartFault::Hub(HubFault::Config) => Outcome::Usage,
-        StartFault::Hub(HubFault::Memory) | StartFault::Open(_) => Outcome::StoreFault,
-    }
-}
-
-// Serves all clients that connect, and hands the store back.
-fn serve_hub<'a, A: Archive>(rt: &'a HostRuntime, door: &Door<'a>, hub: Hub<A>) -> (Outcome, A)
-    ensures hosts { Hosts A.condition hub result.1 result.0 }
-{
-    hosts_make_a_run::<A, SocketSource, SocketSink, FileSpool<'a, HostRuntime>>();
-    let Door {
-        address,
-        spool_folder,
-        limits,
-    } = *door;
-    let process = process::id(rt.process());
-    let spools = Spools::new(rt.alloc(), rt, spool_folder, process, limits.spool_bytes);
-    let clients = limits.connections.unwrap_or(u64::MAX);
-    let Ok(mut sockets) = Sockets::listen(rt.alloc(), rt, &spools, address, clients) else {
-        let _ = eprintln!(rt; "swordd_host: it can't listen at {address}");
-        return (Outcome::TransferFault, hub.into_store());
-    };
-    let mut host = match Host::new(rt.alloc(), hub, host_limits(&limits)) {
+    let opened = microseconds_since(rt, place.begun);
+    let mut host = match Host::new(rt.alloc(), hub, host_limits(&place.limits)) {
         Ok(host) => host,
         Err(hub) => return (Outcome::StoreFault, hub.into_store()),
     };
     let Ok(mut room) = vec![in rt.alloc(); 0u8; MOST_READ] else {
         return (Outcome::StoreFault, host.into_hub().into_store());
     };
+    if !door.open() {
+        let _ = eprintln!(rt; "swordd_host: it can't listen at {}", place.address);
+        return (Outcome::TransferFault, host.into_hub().into_store());
+    }
+    // It stands behind the listening, so that who reads the line can connect.
+    write_start(rt, place.address, place.limits, opened);
     let mut log = StandardErrorLog::new(rt);
-    let ended = serve(&mut host, &mut sockets, room.as_mut_slice(), &mut log);
-    (
-        outcome_at(ended, sockets.fault()),
-        host.into_hub().into_store(),
-    )
+    let ended = serve(&mut host, door, room.as_mut_slice(), &mut log);
+    let outcome = outcome_at(ended, door.was_cut());
+    (outcome, host.into_hub().into_store())
 }
 
-// What it comes to where no more is served.
-fn outcome_at(ended: Ended, fault: Option<SocketFault>) -> Outcome {
-    match (ended, fault) {
-        (Ended::Shut, _) => Outcome::StoreFault,
-        (Ended::Events | Ended::Spent, Some(_)) => Outcome::TransferFault,
-        (Ended::Events | Ended::Spent, None) => Outcome::Done,
+/// What it comes to where no more is served.
+fn outcome_at(ended: Ended, is_cut: bool) -> Outcome
+    ensures { result ≡ outcome_at ended is_cut }
+{
+    match ended {
+        Ended::Events if !is_cut => Outcome::Done,
+        Ended::Events | Ended::Spent => Outcome::TransferFault,
+        Ended::Shut => Outcome::StoreFault,
     }
 }
 

@@ -9,9 +9,9 @@ use std::time::{Instant, SystemTime};
 /// The version of the server.
 const VERSION: &str = "1.0";
 
-/// Writes the line to standard error, where the opening of the database began at that instant. A line that can't be
-/// written is left out.
-pub fn write_start(rt: &HostRuntime, address: SocketAddr, limits: Limits, begun: Option<Instant>) {
+/// Writes the line to standard error, of a server that listens at the address, and whose database took so many
+/// microseconds to open. A line that can't be written is left out.
+pub fn write_start(rt: &HostRuntime, address: SocketAddr, limits: Limits, open_microseconds: u64) {
     let Ok(listened_at) = format!(in rt.alloc(); "{address}") else {
         return;
     };
@@ -20,7 +20,7 @@ pub fn write_start(rt: &HostRuntime, address: SocketAddr, limits: Limits, begun:
         version: VERSION,
         address: listened_at.as_str(),
         limits,
-        open_microseconds: microseconds_since(rt, begun),
+        open_microseconds,
     };
     if let Ok(line) = start_line(rt.alloc(), &start) {
         let _ = rt.stderr().write_all(line.as_slice());

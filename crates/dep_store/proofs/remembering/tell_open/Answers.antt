@@ -1,11 +1,12 @@
-use Rattle.std.proofs.Common.{rules, inl, Bool, sym, subst, []}
-use Rattle.std.proofs.lemmas.Result.{IfOk-weaker}
+use Rattle.std.proofs.Common.{rules, inl, inr, Bool, sym, subst, []}
+use Rattle.std.proofs.lemmas.Result.{IfOk-weaker, IfErr-weaker}
 use Rattle.sqlite.specs.Held.{state}
 use Rattle.sqlite.proofs.StateLemmas.{clean_if_open}
+use Rattle.dep_types.specs.declared.store_fault.StoreFault.{StoreFault}
 use Rattle.dep_server.specs.Shut.{TellsOpen}
 use Rattle.dep_store.specs.Archive.{shown_by}
 use Rattle.dep_schema.proofs.Transacting.{back_by_statement, not_run}
-use Rattle.dep_store.proofs.ShutLemmas.{closed_if_shut}
+use Rattle.dep_store.proofs.ShutLemmas.{closed_if_shut, fails_alone}
 use Rattle.dep_store.proofs.remembering.tell_open.Goals as goal
 
 pub returns-in-Err-clause-told : goal.returns-in-Err-clause-told
@@ -17,6 +18,14 @@ returns-in-Err-clause-told g c =
     let clean = clean_if_open (g.S.Store.view c.prepare.new.self.store) (g.met.S.Store.shut_if_dirty c.prepare.new.self.store) is_open in
     closed_if_shut old new _ c.in-Err.error (c.in-Err.ensures.err clean []) closed is_open))
     c.told_by.ensures.shut
+
+pub returns-in-Err-clause-cause : goal.returns-in-Err-clause-cause
+returns-in-Err-clause-cause g c clean =
+    let old = state g.S.Store c.args.connection.now in
+    let new = state g.S.Store c.prepare.new.self in
+    IfErr-weaker c.told_by.result _ _
+    (λ (fault : StoreFault) (same, other). inr (c.in-Err.error, fails_alone old new c.in-Err.error (c.in-Err.ensures.err clean []), other, same))
+    c.told_by.ensures.fault
 
 pub returns-in-Err-clause-back : goal.returns-in-Err-clause-back
 returns-in-Err-clause-back g c is_open =

@@ -1,15 +1,23 @@
-use Rattle.std.proofs.Common.{inr}
 use Rattle.sqlite.proofs.StateLemmas.{clean_if_open}
-use Rattle.swordd_host.proofs.HostedLemmas.{hosts}
+use Rattle.swordd_host.proofs.HostedLemmas.{over_hub, without_hub}
 use Rattle.swordd_host.proofs.service.serve_database.Goals as goal
 
 pub returns-in-Ok : goal.returns-in-Ok
 returns-in-Ok g c = record {
-  hosts = hosts g.S.Store (λ h is_open. clean_if_open (g.S.Store.view h.store) (g.met.S.Store.shut_if_dirty h.store) is_open)
+  hosts = over_hub g.S.Store (λ h is_open. clean_if_open (g.S.Store.view h.store) (g.met.S.Store.shut_if_dirty h.store) is_open)
       (λ h is_open trees may. g.met.S.Store.settled h.store trees is_open may) c.args.connection c.args.config c.in-Ok.hub
       c.in-Ok.ensures.config c.in-Ok.ensures.fresh c.in-Ok.ensures.again (c.nothing_held.ensures.holds c.in-Ok.hub)
-      c.serve_hub-outcome.result.1 c.close.result c.serve_hub-outcome.result.0 c.close.ensures c.serve_hub-outcome.ensures.hosts;
+      g.R.Source.unread g.K.Sink.taken g.P.Spool.held
+      c.serve_hub-outcome.result.1 c.close.result c.serve_hub-outcome.ensures.ends.0 c.serve_hub-outcome.result.0 c.close.ensures
+      c.serve_hub-outcome.ensures.ends.1 c.hosts_make_a_run.ensures;
 }
 
 pub returns-in-Err : goal.returns-in-Err
-returns-in-Err g c = record { hosts = inr c.outcome_of.ensures }
+returns-in-Err g c =
+    let it = c.in-Err in
+    record {
+      hosts = without_hub g.S.Store g.R.Source.unread g.K.Sink.taken g.P.Spool.held
+          (λ h is_open. clean_if_open (g.S.Store.view h.store) (g.met.S.Store.shut_if_dirty h.store) is_open)
+          (λ h is_open trees may. g.met.S.Store.settled h.store trees is_open may) c.args.config c.args.connection it.connection
+          it.fault it.ensures.left it.ensures.kept it.ensures.refused it.ensures.stop c.outcome.result c.outcome.ensures;
+    }

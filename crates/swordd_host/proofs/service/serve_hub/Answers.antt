@@ -1,20 +1,34 @@
-use Rattle.std.proofs.Common.{None, inl, sym, ap, subst, ◌∙◌}
+use Rattle.std.proofs.Common.{[], ap, ◌∙◌}
 use Rattle.dep_host.specs.Hosting.{position}
-use Rattle.swordd_host.specs.Hosted.{HostsHub}
-use Rattle.swordd_host.proofs.HostedLemmas.{hosted_hub}
+use Rattle.swordd_host.specs.Hosted.{not_begun, not_let_in}
+use Rattle.swordd_host.proofs.HostedLemmas.{ends_at}
 use Rattle.swordd_host.proofs.service.serve_hub.Goals as goal
+
+pub returns-in-Err : goal.returns-in-Err
+returns-in-Err g c = record { ends = ([], not_begun (c.into_store.ensures.same ∙ ap (λ h. h.store) c.in-Err.ensures.kept)) }
+
+pub returns-in_default : goal.returns-in_default
+returns-in_default g c = record { ends = ([], not_begun (c.into_store-in_default.ensures.same ∙ ap (λ h. h.store) (c.into_hub.ensures ∙ c.in-Ok.ensures.hub))) }
+
+pub returns-then-not-open : goal.returns-then-not-open
+returns-then-not-open g c =
+    record { ends = ([], not_let_in (c.into_store-then-not-open.ensures.same ∙ ap (λ h. h.store) (c.into_hub-then-not-open.ensures ∙ c.in-Ok.ensures.hub))) }
 
 pub returns : goal.returns
 returns g c =
     let run = c.serve-ended.ensures.goes in
-    let served = c.serve-ended.new.host in
     record {
-      hosts = inl (
+      ends = (
         run.0,
-        served.hub,
-        sym (c.into_store-2.ensures.same ∙ ap (λ h. h.store) c.into_hub-2.ensures),
-        subst (λ h. HostsHub g.A.Archive.condition h served.hub run.0) c.in-Ok-new.ensures.hub
-            (hosted_hub g.A.Archive.condition (λ _. None) (λ _. None) (λ _. None) (position c.in-Ok-new.host) (position served) run.0 run.1
-            c.hosts_make_a_run.ensures),
+        ends_at g.A.Archive.condition g.R.Source.unread g.K.Sink.taken g.P.Spool.held c.args.hub c.into_store-2.result c.serve-ended.result
+            (record {
+              first = position c.in-Ok.host;
+              last = position c.serve-ended.new.host;
+              over = c.in-Ok.ensures.hub;
+              empty = c.in-Ok.ensures.empty;
+              steps = run.1;
+              left = c.into_store-2.ensures.same ∙ ap (λ h. h.store) c.into_hub-2.ensures;
+            })
+            c.serve-ended.ensures.end c.serve-ended.ensures.shut c.was_cut.result c.was_cut.ensures c.outcome_at-outcome.result c.outcome_at-outcome.ensures,
       );
     }

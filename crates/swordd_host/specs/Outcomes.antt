@@ -1,0 +1,19 @@
+-- What a run comes to where no more is served.
+use Rattle.std.specs.Prelude.{Bool, true, false}
+use Rattle.dep_host.specs.declared.serving.Ended.{Ended}
+use Rattle.dep_host.specs.declared.serving.Ended.TheVariants.{Events, Shut, Spent}
+use Rattle.dep_program.specs.declared.outcome.Outcome.{Outcome}
+use Rattle.dep_program.specs.declared.outcome.Outcome.TheVariants.{Done, StoreFault, TransferFault}
+
+-- No more comes, and nothing was broken off; or it was, or more came than can be counted; or a fault
+-- has shut the store.
+abbrev pub outcome_at : Ended → (is_cut : Bool) → Outcome
+outcome_at Events false = Done
+outcome_at Events true = TransferFault
+outcome_at Spent is_cut = TransferFault
+outcome_at Shut is_cut = StoreFault
+
+-- where all was done, the database has to be closed too
+abbrev pub outcome_closed : Outcome → (is_closed : Bool) → Outcome
+outcome_closed Done false = StoreFault
+outcome_closed outcome is_closed = outcome

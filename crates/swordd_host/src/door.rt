@@ -1,0 +1,97 @@
+//! Where clients come from.
+ghost use Rattle.std.specs.Prelude.{◌≡◌, Bool};
+
+use dep_host::{Event, Events};
+use dep_sockets::{FileSpool, SocketSink, SocketSource, Sockets, Spools};
+use std::alloc::Global;
+use std::fs::Files;
+use std::net::{Net, SocketAddr};
+use std::time::Clock;
+
+/// What lets clients in, from a moment on.
+pub trait Door {
+    /// Whether it was broken off: more may come, and isn't told.
+    ghost is_cut: { Self → Bool };
+
+    /// Lets clients in from now on, and answers whether it can.
+    fn open(&mut self) -> bool;
+
+    /// Whether it was broken off, once no more is told.
+    fn was_cut(&self) -> bool
+        ensures { result ≡ is_cut self.now };
+}
+
+/// An address at which the program listens once the door is opened.
+#[derive(Drop)]
+pub struct SocketDoor<'a, R: Files> {
+    alloc: Global,
+    rt: &'a R,
+    spools: &'a Spools<'a, R>,
+    address: SocketAddr,
+    /// How many clients are let in at most.
+    clients: u64,
+    /// There are none before it is opened.
+    sockets: Option<Sockets<'a, R>>,
+    is_cut: bool,
+}
+
+impl<'a, R: Files + Net + Clock> SocketDoor<'a, R> {
+    pub fn new(
+        alloc: Global,
+        rt: &'a R,
+        spools: &'a Spools<'a, R>,
+        address: SocketAddr,
+        clients: u64,
+    ) -> SocketDoor<'a, R> {
+        SocketDoor {
+            alloc,
+            rt,
+            spools,
+            address,
+            clients,
+            sockets: None,
+            is_cut: false,
+        }
+    }
+}
+
+impl<'a, R: Files + Net + Clock> Door for SocketDoor<'a, R> {
+    ghost is_cut = { λ door. door.is_cut };
+
+    fn open(&mut self) -> bool {
+        match Sockets::listen(self.alloc, self.rt, self.spools, self.address, self.clients) {
+            Ok(sockets) => {
+                self.sockets = Some(sockets);
+                true
+            }
+            Err(_) => false,
+        }
+    }
+
+    fn was_cut(&self) -> bool {
+        self.is_cut
+    }
+}
+
+impl<'a, R: Files + Net + Clock> Events<SocketSource, SocketSink, FileSpool<'a, R>>
+    for SocketDoor<'a, R> {
+    ghost use Rattle.std.specs.Prelude.{true};
+    ghost use Rattle.std.specs.Option.{option_map_or};
+
+    ghost is_over = { λ door. option_map_or (λ s. s.has_ended) door.sockets true };
+
+    fn next(
+        &mut self,
+        vacancy: Option<usize>,
+        is_busy: bool,
+    ) -> Event<SocketSource, SocketSink, FileSpool<'a, R>> {
+        match &mut self.sockets {
+            Some(sockets) => {
+                let event = sockets.next(vacancy, is_busy);
+                self.is_cut = sockets.fault().is_some();
+                event
+            }
+            None => Event::End,
+        }
+    }
+}
