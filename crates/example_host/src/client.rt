@@ -1,16 +1,13 @@
-//! A client of a script, and the two halves of its socket.
-ghost use Rattle.std.specs.Prelude.{None};
+//! A client of a script: what it sends and takes, and how its socket behaves.
+ghost use Rattle.std.specs.Prelude.{◌≡◌, ◌<◌, ◌≤◌, ◌++◌, [], length, Some, None, IsOk, OnOk, OnErr, true, false};
 ghost use Rattle.dep_outbox.specs.Sockets.{Receives, Delivers};
 
-use dep_host::{Closing, Refusal};
-use dep_outbox::{Delivered, Received, Sink, Source};
-use example_text::Trouble;
+use dep_outbox::{Delivered, Received};
+use example_text::{Exchange, Trouble};
 use std::alloc::{AllocError, Global};
-use std::cell::RefCell;
-use std::rc::Rc;
 
 /// What comes of a receive where the client has sent nothing more.
-#[derive(Clone, Copy, PartialEq, Eq)]
+#[derive(Clone, Copy)]
 pub enum Silence {
     /// More may come later.
     Later,
@@ -20,149 +17,174 @@ pub enum Silence {
     Failed,
 }
 
-/// What became of a client.
-#[derive(Clone, Copy, PartialEq, Eq)]
-pub enum Fate {
-    /// It has not come yet.
-    Outside,
-    /// It was let in.
-    Open,
-    /// It was turned away.
-    Refused(Refusal),
-    /// It was let in, and its connection is closed.
-    Closed(Closing),
-}
-
 /// A client as the script has it: what it sends and takes.
 #[derive(Drop)]
 pub struct Client {
     given: Vec<u8>,
     received: usize,
     /// At most so many bytes are received at once.
-    pub at_once: usize,
-    pub silence: Silence,
+    at_once: usize,
+    silence: Silence,
     taken: Vec<u8>,
     /// It takes so many bytes more.
-    pub room: usize,
+    room: usize,
     /// Each send to it fails.
-    pub is_broken: bool,
+    is_broken: bool,
     /// It was told that nothing more is sent.
     pub is_finished: bool,
     /// Its spool takes so many bytes in all.
     pub spool: usize,
-    pub fate: Fate,
     /// The place at which it sits.
-    pub place: usize,
+    place: usize,
     /// Its socket may be ready, and the host wasn't told.
-    pub is_ready: bool,
+    is_ready: bool,
+    ghost within: { received ≤ length given.items },
 }
 
-/// A client that the script, the host and the log share.
-pub type Shared = Rc<RefCell<Client>>;
-
 impl Client {
-    /// A client that is still outside, takes all and sends nothing.
-    pub fn shared(alloc: Global) -> Result<Shared, Trouble> {
-        Ok(Rc::new(
-            alloc,
-            RefCell::new(Client {
-                given: Vec::new(alloc),
-                received: 0,
-                at_once: usize::MAX,
-                silence: Silence::Later,
-                taken: Vec::new(alloc),
-                room: usize::MAX,
-                is_broken: false,
-                is_finished: false,
-                spool: usize::MAX,
-                fate: Fate::Outside,
-                place: 0,
-                is_ready: true,
-            }),
-        )?)
+    ghost use Rattle.example_host.specs.Clients.{unsent, coming, end_of, fitting, TakesFitting};
+
+    /// A client at a place, which takes all and sends nothing.
+    pub fn new(alloc: Global, place: usize) -> Client
+        ensures unsent { unsent result ≡ [] }
+        ensures taken { result.taken.items ≡ [] }
+    {
+        Client {
+            given: Vec::new(alloc),
+            received: 0,
+            at_once: usize::MAX,
+            silence: Silence::Later,
+            taken: Vec::new(alloc),
+            room: usize::MAX,
+            is_broken: false,
+            is_finished: false,
+            spool: usize::MAX,
+            place,
+            is_ready: true,
+        }
     }
 
     /// It sends these bytes too.
-    pub fn give(&mut self, bytes: &[u8]) -> Result<(), AllocError> {
+    #[tactic(auto, using(crate::proofs::ByteLemmas::left_longer))]
+    pub fn give(&mut self, bytes: &[u8]) -> Result<(), AllocError>
+        ensures ok { OnOk result (unsent self.new ≡ unsent self.old ++ bytes.now) }
+        ensures err { OnErr result (unsent self.new ≡ unsent self.old) }
+        ensures taken { self.new.taken ≡ self.old.taken }
+    {
         self.given.extend_from_slice(bytes)?;
         self.is_ready = true;
         Ok(())
     }
 
-    /// What it took since this was asked last.
-    pub fn take(&mut self, alloc: Global) -> Vec<u8> {
-        std::mem::replace(&mut self.taken, Vec::new(alloc))
+    /// What it took since this was asked last has to be what is written, and so has what became of it.
+    pub fn is_as_written(
+        &self,
+        alloc: Global,
+        exchange: &Exchange,
+        fate: &str,
+        word: &str,
+    ) -> Result<(), Trouble>
+        ensures ok { OnOk result ((self.now.taken.items ≡ exchange.now.want.items)
+            × (fate.now ≡ word.now)) }
+        ensures err { self.now.taken.items ≡ exchange.now.want.items → fate.now ≡ word.now
+            → IsOk result }
+    {
+        let taken = self.taken.as_slice();
+        if taken == exchange.want.as_slice() && fate == word {
+            return Ok(());
+        }
+        exchange.has_come(alloc, taken, fate, word)?;
+        Err(Trouble::Line("the client got something else"))
     }
 
-    fn receive(&mut self, room: &mut [u8]) -> Received
-        ensures { Receives None None room.new result }
+    /// What it took so far isn't compared.
+    pub fn forget(&mut self)
+        ensures taken { self.new.taken.items ≡ [] }
+        ensures unsent { unsent self.new ≡ unsent self.old }
     {
-        let left = self.given.get(self.received..).unwrap_or(&[]);
+        self.taken.clear();
+    }
+
+    /// The place at which it sits, where its socket may be ready and this is told for the first time.
+    pub fn is_told(&mut self) -> Option<usize> {
+        if !self.is_ready {
+            return None;
+        }
+        self.is_ready = false;
+        Some(self.place)
+    }
+
+    // What it still sends.
+    fn unsent(&self) -> &[u8]
+        ensures { result.now ≡ unsent self.now }
+    {
+        &self.given[self.received..]
+    }
+
+    /// Gives its next bytes.
+    #[tactic(auto, using(crate::proofs::ByteLemmas::front_comes))]
+    pub fn receive(&mut self, room: &mut [u8]) -> Received
+        ensures bytes { Receives (Some (unsent self.old)) (Some (unsent self.new)) room.new result }
+        ensures some { 0 < coming self.old room.old → result ≡ Received.Bytes (coming self.old room.old) }
+        ensures none { unsent self.old ≡ [] → result ≡ end_of self.old.silence }
+        ensures taken { self.new.taken ≡ self.old.taken }
+        ensures told { Receives None None room.new result }
+    {
+        let left = self.unsent();
         let count = left.len().min(self.at_once).min(room.len());
-        if count == 0 {
+        if left.is_empty() {
             return match self.silence {
                 Silence::Later => Received::Later,
                 Silence::Ended => Received::Ended,
                 Silence::Failed => Received::Failed,
             };
         }
+        if count == 0 {
+            return Received::Later;
+        }
         room[..count].copy_from_slice(&left[..count]);
-        self.received = self.received.saturating_add(count);
+        self.received += count;
         Received::Bytes(count)
     }
 
-    fn send(&mut self, bytes: &[u8]) -> Delivered
-        ensures { Delivers None None bytes.now result }
+    /// Takes the bytes that have room.
+    pub fn send(&mut self, bytes: &[u8]) -> Delivered
+        ensures bytes { Delivers (Some self.old.taken.items) (Some self.new.taken.items)
+            bytes.now result }
+        ensures count { TakesFitting self.old self.new bytes.now result }
+        ensures broken { self.old.is_broken ≡ true → result ≡ Delivered.Failed }
+        ensures full { self.old.is_broken ≡ false → fitting self.old bytes.now ≡ 0
+            → result ≡ Delivered.Later }
+        ensures unsent { unsent self.new ≡ unsent self.old }
+        ensures told { Delivers None None bytes.now result }
     {
-        let count = bytes.len().min(self.room);
         if self.is_broken {
             return Delivered::Failed;
         }
+        let count = bytes.len().min(self.room);
         if count == 0 {
             return Delivered::Later;
         }
-        match self.taken.extend_from_slice(&bytes[..count]) {
-            Ok(()) => {
-                self.room -= count;
-                Delivered::Bytes(count)
-            }
-            Err(_) => Delivered::Failed,
+        if self.taken.extend_from_slice(&bytes[..count]).is_err() {
+            return Delivered::Failed;
         }
-    }
-}
-
-/// The half that gives a client's bytes.
-#[derive(Drop)]
-pub struct ScriptSource {
-    pub client: Shared,
-}
-
-impl Source for ScriptSource {
-    fn receive(&mut self, room: &mut [u8]) -> Received {
-        match self.client.try_borrow_mut() {
-            Ok(mut client) => client.receive(room),
-            Err(_) => Received::Failed,
-        }
-    }
-}
-
-/// The half that takes the bytes for a client.
-#[derive(Drop)]
-pub struct ScriptSink {
-    pub client: Shared,
-}
-
-impl Sink for ScriptSink {
-    fn send(&mut self, bytes: &[u8]) -> Delivered {
-        match self.client.try_borrow_mut() {
-            Ok(mut client) => client.send(bytes),
-            Err(_) => Delivered::Failed,
-        }
+        self.room -= count;
+        Delivered::Bytes(count)
     }
 
-    fn finish(&mut self) {
-        if let Ok(mut client) = self.client.try_borrow_mut() {
-            client.is_finished = true;
+    /// Sets how it behaves from here on.
+    pub fn behaves(&mut self, word: &str, count: usize) -> Result<(), Trouble> {
+        match word {
+            "receives" => self.at_once = count,
+            "takes" => self.room = count,
+            "takes-all" => self.room = usize::MAX,
+            "spool" => self.spool = count,
+            "ends" => self.silence = Silence::Ended,
+            "breaks" => self.silence = Silence::Failed,
+            "fails" => self.is_broken = true,
+            _ => return Err(Trouble::Line("no line of an example begins so")),
         }
+        self.is_ready = true;
+        Ok(())
     }
 }

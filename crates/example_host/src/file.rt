@@ -1,11 +1,14 @@
 //! The examples of a file, each played by a host of its own.
+ghost use Rattle.std.specs.Prelude.{◌≡◌, IfOk, codes, nat_eq};
+ghost use Rattle.std.specs.List.{starts_with};
+ghost use Rattle.example_host.specs.Verdicts.{verdict_of, verdict_on};
 
 use crate::log::ScriptLog;
-use crate::script::Script;
-use dep_host::{Host, Limits, serve};
-use dep_server::{Hub, HubFault};
+use crate::script::{Script, Wrong};
+use crate::setting::{ScriptHost, host_of};
+use dep_host::serve;
 use example_player::{ExampleArchive, Verdict};
-use example_text::{Settings, Trouble, Words, first_word, number};
+use example_text::{Trouble, Words};
 use std::alloc::Global;
 use std::io;
 use std::rc::Rc;
@@ -14,7 +17,9 @@ use std::rc::Rc;
 const ROOM: usize = 4_096;
 
 /// Whether the examples of a file are played by a host, which its first line says.
-pub fn is_of_a_host(text: &str) -> bool {
+pub fn is_of_a_host(text: &str) -> bool
+    ensures { result ≡ starts_with nat_eq text.now (codes "host\n") }
+{
     text.starts_with("host\n")
 }
 
@@ -26,106 +31,118 @@ pub fn play_host_file<A: ExampleArchive>(
     name: &str,
     text: &str,
 ) -> io::Result<Verdict> {
+    let player = Player { alloc, words, name };
     let mut verdict = Verdict::AsWritten;
-    let mut first = 1usize;
-    let mut examples = 0usize;
-    for (i, lines) in text.split("\n# ").enumerate() {
+    let mut line = 1usize;
+    let mut right = 0usize;
+    for (i, example) in text.split("\n# ").enumerate() {
         if i > 0 {
-            match play::<A>(alloc, words, lines) {
-                Ok(()) => examples = examples.saturating_add(1),
-                Err((line, why)) => {
-                    let line = first.saturating_add(line);
-                    println!(rt; "{name}:{line}: {why}")?;
-                    verdict = verdict.and(verdict_of(&why));
-                    drop(why);
-                }
+            match player.plays::<A>(rt, line, example)? {
+                Verdict::AsWritten => right = right.saturating_add(1),
+                other => verdict = verdict.and(other),
             }
         }
-        first = first.saturating_add(lines.split('\n').count());
+        line = line.saturating_add(count_lines(example));
     }
-    println!(rt; "{name}: {examples} examples")?;
+    println!(rt; "{name}: {right} examples")?;
     Ok(verdict)
 }
 
-fn verdict_of(why: &Trouble) -> Verdict {
+fn count_lines(text: &str) -> usize {
+    text.split('\n').count()
+}
+
+/// What plays the examples of a file.
+#[derive(Clone, Copy)]
+struct Player<'a> {
+    alloc: Global,
+    words: &'a Words,
+    name: &'a str,
+}
+
+impl Player<'_> {
+    // Plays an example, whose title stands in this line, and prints what is not as it is written.
+    fn plays<A: ExampleArchive>(
+        &self,
+        rt: &impl Print,
+        line: usize,
+        example: &str,
+    ) -> io::Result<Verdict> {
+        let (title, lines) = example.split_once("\n").unwrap_or((example, ""));
+        let played = play::<A>(self.alloc, self.words, lines);
+        came_of(rt, self.name, line, title, played)
+    }
+}
+
+// Prints what is wrong in an example, whose title stands in this line, and tells what came of it.
+fn came_of(
+    rt: &impl Print,
+    name: &str,
+    line: usize,
+    title: &str,
+    played: Result<(), Wrong>,
+) -> io::Result<Verdict>
+    ensures { IfOk result (λ verdict. verdict ≡ verdict_on played) }
+{
+    match played {
+        Ok(()) => Ok(Verdict::AsWritten),
+        Err(wrong) => {
+            let verdict = verdict_of(&wrong.why);
+            let line = line.saturating_add(wrong.line);
+            let told = tell(rt, name, line, title, &wrong.why);
+            drop(wrong);
+            told?;
+            Ok(verdict)
+        }
+    }
+}
+
+fn tell(rt: &impl Print, name: &str, line: usize, title: &str, why: &Trouble) -> io::Result<()> {
+    println!(rt; "{name}:{line}: \"{title}\": {why}")
+}
+
+fn verdict_of(why: &Trouble) -> Verdict
+    ensures { result ≡ verdict_of why.now }
+{
     match why {
         Trouble::Memory => Verdict::Unknown,
         _ => Verdict::Otherwise,
     }
 }
 
-// Plays an example: its title, and its lines. What is wrong stands so many lines behind the title.
-fn play<A: ExampleArchive>(
-    alloc: Global,
-    words: &Words,
-    lines: &str,
-) -> Result<(), (usize, Trouble)> {
-    let (_title, lines) = lines.split_once("\n").unwrap_or((lines, ""));
-    match set_up::<A>(alloc, lines) {
-        Ok((hub, limits)) => played(alloc, words, lines, hub, limits),
-        Err(why) => Err((0, why)),
-    }
-}
-
-// The hub of an example over a new archive, and the limits of its host.
-fn set_up<A: ExampleArchive>(alloc: Global, lines: &str) -> Result<(Hub<A>, Limits), Trouble> {
-    let mut settings = Settings::new(alloc)?;
-    let mut limits = Limits {
-        idle_seconds: 60,
-        least_rate: 0,
-        address_connections: 1_024,
-        unfinished_bytes: 67_108_864,
-    };
-    for line in lines.lines() {
-        let (word, rest) = first_word(line);
-        match word {
-            "config" => settings.configure(alloc, rest)?,
-            "limit" => set_limit(&mut limits, rest)?,
-            _ => {}
+// Plays the lines of an example.
+fn play<A: ExampleArchive>(alloc: Global, words: &Words, lines: &str) -> Result<(), Wrong> {
+    match host_of::<A>(alloc, lines) {
+        Ok(mut host) => {
+            let played = play_over(alloc, words, lines, &mut host);
+            drop(host);
+            played
         }
-    }
-    let config = settings.config(alloc)?;
-    drop(settings);
-    match Hub::new(alloc, config, A::made(alloc)?) {
-        Ok(hub) => Ok((hub, limits)),
-        Err((HubFault::Memory, _)) => Err(Trouble::Memory),
-        Err((HubFault::Config, _)) => Err(Trouble::Line("the configuration is refused")),
+        Err(why) => Err(Wrong { line: 0, why }),
     }
 }
 
-fn set_limit(limits: &mut Limits, line: &str) -> Result<(), Trouble> {
-    let (name, value) = first_word(line);
-    let value = number(value)?;
-    match name {
-        "idle-seconds" => limits.idle_seconds = value,
-        "least-rate" => limits.least_rate = value,
-        "address-connections" => limits.address_connections = value as usize,
-        "unfinished-bytes" => limits.unfinished_bytes = value,
-        _ => return Err(Trouble::Line("no limit has that name")),
-    }
-    Ok(())
-}
-
-fn played<A: ExampleArchive>(
+fn play_over<A: ExampleArchive>(
     alloc: Global,
     words: &Words,
     lines: &str,
-    hub: Hub<A>,
-    limits: Limits,
-) -> Result<(), (usize, Trouble)> {
-    let Ok(mut host) = Host::new(alloc, hub, limits) else {
-        return Err((0, Trouble::Memory));
-    };
-    let (Ok(mut log), Ok(mut room)) = (ScriptLog::new(alloc), vec![in alloc; 0u8; ROOM]) else {
-        return Err((0, Trouble::Memory));
+    host: &mut ScriptHost<A>,
+) -> Result<(), Wrong> {
+    let Ok(mut log) = ScriptLog::new(alloc) else {
+        return Err(no_memory());
     };
     let Ok(roll) = Rc::clone(&log.roll) else {
-        return Err((0, Trouble::Memory));
+        return Err(no_memory());
     };
     let mut script = Script::new(alloc, words, lines, roll);
-    let _ended = serve(&mut host, &mut script, room.as_mut_slice(), &mut log);
-    match script.trouble.take() {
-        Some(why) => Err((script.line, why)),
-        None => Ok(()),
+    let mut room = [0u8; ROOM];
+    let _ended = serve(host, &mut script, &mut room, &mut log);
+    script.outcome()
+}
+
+fn no_memory() -> Wrong {
+    Wrong {
+        line: 0,
+        why: Trouble::Memory,
     }
 }

@@ -3,9 +3,12 @@
 #![tactic(auto)]
 
 mod client;
+mod fate;
 mod file;
 mod log;
 mod script;
+mod setting;
+mod socket;
 mod spool;
 
 pub use file::{is_of_a_host, play_host_file};

@@ -1,53 +1,57 @@
 //! What a host tells of the clients of a script.
 
-use crate::client::{Fate, Shared};
+use crate::fate::Fate;
 use dep_host::{Bytes, Closing, HostLog, Refusal};
 use dep_server::{AccessLog, ConnId, Next};
-use example_text::Trouble;
-use std::alloc::Global;
+use std::alloc::{AllocError, Global};
 use std::cell::RefCell;
 use std::net::IpAddr;
 use std::rc::Rc;
 
-/// Who comes, and who was let in with which number.
+/// A client, by the number that its connection has once it was let in.
+#[derive(Clone, Copy)]
+struct Entry {
+    connection: Option<ConnId>,
+    fate: Fate,
+}
+
+/// What became of each client, in the order in which they came.
 #[derive(Drop)]
 pub struct Roll {
-    /// The client that came last.
-    pub newest: Option<Shared>,
-    seated: Vec<(ConnId, Shared)>,
-    /// There was no memory for a client that was let in.
-    pub is_short: bool,
+    entries: Vec<Entry>,
 }
 
 impl Roll {
-    fn seat(&mut self, connection: ConnId) {
-        if let Some(client) = self.newest.take() {
-            become_of(&client, Fate::Open);
-            if self.seated.push((connection, client)).is_err() {
-                self.is_short = true;
+    /// One more client comes.
+    pub fn comes(&mut self) -> Result<(), AllocError> {
+        self.entries.push(Entry {
+            connection: None,
+            fate: Fate::Outside,
+        })?;
+        Ok(())
+    }
+
+    /// What became of the client of this index.
+    pub fn fate(&self, index: usize) -> Fate {
+        match self.entries.get(index) {
+            Some(entry) => entry.fate,
+            None => Fate::Outside,
+        }
+    }
+
+    // It became of the client that came last.
+    fn tell_newest(&mut self, connection: Option<ConnId>, fate: Fate) {
+        if let Some(entry) = self.entries.last_mut() {
+            *entry = Entry { connection, fate };
+        }
+    }
+
+    fn close(&mut self, connection: ConnId, closing: Closing) {
+        for entry in self.entries.iter_mut() {
+            if entry.connection == Some(connection) {
+                entry.fate = Fate::Closed(closing);
             }
         }
-    }
-
-    fn turn_away(&mut self, refusal: Refusal) {
-        if let Some(client) = self.newest.take() {
-            become_of(&client, Fate::Refused(refusal));
-            drop(client);
-        }
-    }
-
-    fn end(&self, connection: ConnId, closing: Closing) {
-        for (seated, client) in self.seated.iter() {
-            if *seated == connection {
-                become_of(client, Fate::Closed(closing));
-            }
-        }
-    }
-}
-
-fn become_of(client: &Shared, fate: Fate) {
-    if let Ok(mut client) = client.try_borrow_mut() {
-        client.fate = fate;
     }
 }
 
@@ -59,11 +63,9 @@ pub struct ScriptLog {
 
 impl ScriptLog {
     /// A log of no client.
-    pub fn new(alloc: Global) -> Result<ScriptLog, Trouble> {
+    pub fn new(alloc: Global) -> Result<ScriptLog, AllocError> {
         let roll = Roll {
-            newest: None,
-            seated: Vec::new(alloc),
-            is_short: false,
+            entries: Vec::new(alloc),
         };
         Ok(ScriptLog {
             roll: Rc::new(alloc, RefCell::new(roll))?,
@@ -80,13 +82,13 @@ impl AccessLog for ScriptLog {
 impl HostLog for ScriptLog {
     fn opened(&mut self, connection: ConnId, address: IpAddr) {
         if let Ok(mut roll) = self.roll.try_borrow_mut() {
-            roll.seat(connection);
+            roll.tell_newest(Some(connection), Fate::Open);
         }
     }
 
     fn refused(&mut self, address: IpAddr, refusal: Refusal) {
         if let Ok(mut roll) = self.roll.try_borrow_mut() {
-            roll.turn_away(refusal);
+            roll.tell_newest(None, Fate::Refused(refusal));
         }
     }
 
@@ -95,8 +97,8 @@ impl HostLog for ScriptLog {
     fn answered(&mut self, next: Next, bytes: Bytes) {}
 
     fn closed(&mut self, connection: ConnId, address: IpAddr, closing: Closing, bytes: Bytes) {
-        if let Ok(roll) = self.roll.try_borrow() {
-            roll.end(connection, closing);
+        if let Ok(mut roll) = self.roll.try_borrow_mut() {
+            roll.close(connection, closing);
         }
     }
 }

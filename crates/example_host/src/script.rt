@@ -1,10 +1,12 @@
 //! A script, which tells a host what comes, and compares what its clients get.
-ghost use Rattle.std.specs.Prelude.{true};
+ghost use Rattle.std.specs.Prelude.{◌≡◌, IsOk, OnOk, true};
 
-use crate::client::{Client, Fate, ScriptSink, ScriptSource, Shared, Silence};
+use crate::client::Client;
+use crate::fate::{Fate, is_fate};
 use crate::log::Roll;
+use crate::socket::Shared;
 use crate::spool::MemorySpool;
-use dep_host::{self, Closing, Event, Events, Refusal, Time};
+use dep_host::{self, Event, Events, Time};
 use dep_moment::Moment;
 use dep_outbox::Wire;
 use example_text::{Cut, Exchange, Trouble, Words, blank, first_word, number};
@@ -21,7 +23,27 @@ const MOST_ROUNDS: u64 = 10_000;
 const LOCAL: IpAddr = IpAddr::V4(Ipv4Addr::LOCALHOST);
 
 /// What comes to a host of this player.
-pub type ScriptEvent = Event<ScriptSource, ScriptSink, MemorySpool>;
+pub type ScriptEvent = Event<Shared, Shared, MemorySpool>;
+
+/// What the lines say that comes.
+#[derive(Clone, Copy)]
+enum Coming {
+    /// No line has said so yet.
+    Nothing,
+    /// A client, from this address.
+    Client(IpAddr),
+    /// The socket of the client at this place may be ready.
+    Ready(usize),
+    Round,
+    End,
+}
+
+/// Why an example is not as it is written, and how many of its lines were read.
+#[derive(Drop)]
+pub struct Wrong {
+    pub line: usize,
+    pub why: Trouble,
+}
 
 /// The lines of an example that a host plays.
 #[derive(Drop)]
@@ -30,7 +52,7 @@ pub struct Script<'a> {
     words: &'a Words,
     lines: Lines<'a>,
     /// How many lines were read.
-    pub line: usize,
+    line: usize,
     roll: Rc<RefCell<Roll>>,
     clients: Vec<Shared>,
     current: usize,
@@ -45,7 +67,7 @@ pub struct Script<'a> {
     /// So many more clients come, from one address each.
     crowd: u64,
     /// Why it is not as it is written.
-    pub trouble: Option<Trouble>,
+    trouble: Option<Trouble>,
 }
 
 impl<'a> Script<'a> {
@@ -75,8 +97,22 @@ impl<'a> Script<'a> {
         }
     }
 
-    // What the lines say next.
-    fn comes(&mut self, vacancy: Option<usize>, is_busy: bool) -> Result<ScriptEvent, Trouble> {
+    /// Whether all that was read is as it is written.
+    pub fn outcome(&mut self) -> Result<(), Wrong>
+        ensures ok { OnOk result (self.old.trouble ≡ None) }
+        ensures err { self.old.trouble ≡ None → IsOk result }
+    {
+        match self.trouble.take() {
+            Some(why) => Err(Wrong {
+                line: self.line,
+                why,
+            }),
+            None => Ok(()),
+        }
+    }
+
+    // What the lines say that comes next.
+    fn comes(&mut self, is_busy: bool) -> Result<Coming, Trouble> {
         if self.settles && self.had_round && !is_busy {
             self.rounds = 0;
         }
@@ -86,157 +122,154 @@ impl<'a> Script<'a> {
             return Ok(self.goes_round());
         }
         if self.crowd > 0 {
-            self.crowd = self.crowd.saturating_sub(1);
-            return self.next_comes(LOCAL, vacancy);
+            self.crowd -= 1;
+            return Ok(Coming::Client(LOCAL));
         }
+        self.read_on()
+    }
+
+    // Reads lines until one says that something comes.
+    fn read_on(&mut self) -> Result<Coming, Trouble> {
         for _ in 0..u64::MAX {
             let Some(line) = self.lines.next() else {
-                self.exchange.is_answered()?;
-                return Ok(Event::End);
+                break;
             };
             self.line = self.line.saturating_add(1);
-            if let Some(event) = self.read(line, vacancy)? {
-                return Ok(event);
+            match self.read(line) {
+                Ok(Coming::Nothing) => {}
+                other => return other,
             }
         }
-        Ok(Event::End)
+        self.exchange.is_answered()?;
+        Ok(Coming::End)
     }
 
     // Does what a line says, which may be that something comes.
-    fn read(&mut self, line: &str, vacancy: Option<usize>) -> Result<Option<ScriptEvent>, Trouble> {
+    fn read(&mut self, line: &str) -> Result<Coming, Trouble> {
         let (word, rest) = first_word(line);
         match word {
-            "client" => self.turn_to(rest, vacancy),
-            "round" => self.turns(1, rest),
-            "settles" => {
-                self.settles = true;
-                self.turns(MOST_ROUNDS, rest)
-            }
-            "rounds" => self.turns(number(rest)?, ""),
-            "crowd" => {
-                self.crowd = number(rest)?.saturating_sub(1);
-                Ok(Some(self.next_comes(LOCAL, vacancy)?))
-            }
-            _ => {
-                self.sets(word, rest)?;
-                Ok(None)
-            }
+            "client" => self.turn_to(rest),
+            "round" | "rounds" | "settles" => self.begin_rounds(word, rest),
+            "crowd" => self.begin_crowd(rest),
+            _ => match self.sets(word, rest) {
+                Ok(()) => Ok(Coming::Nothing),
+                Err(why) => Err(why),
+            },
         }
     }
 
-    fn turns(&mut self, count: u64, rest: &str) -> Result<Option<ScriptEvent>, Trouble> {
-        blank(rest)?;
-        if count == 0 {
-            return Ok(None);
+    // So many come, one after another.
+    fn begin_crowd(&mut self, rest: &str) -> Result<Coming, Trouble> {
+        self.crowd = number(rest)?.saturating_sub(1);
+        Ok(Coming::Client(LOCAL))
+    }
+
+    // Each connection has its turn once, so often, or until the host can't go on at once.
+    fn begin_rounds(&mut self, word: &str, rest: &str) -> Result<Coming, Trouble> {
+        self.rounds = rounds_of(word, rest)?;
+        self.settles = word == "settles";
+        if self.rounds == 0 {
+            return Ok(Coming::Nothing);
         }
-        self.rounds = count;
-        Ok(Some(self.goes_round()))
+        Ok(self.goes_round())
     }
 
     // Tells of the sockets that may be ready, one after another, and then that it was told of all.
-    fn goes_round(&mut self) -> ScriptEvent {
+    fn goes_round(&mut self) -> Coming {
         for i in self.told..self.clients.len() {
-            if let Ok(mut client) = self.clients[i].try_borrow_mut() {
-                if client.is_ready {
-                    client.is_ready = false;
-                    self.told = i;
-                    return Event::Ready {
-                        at: client.place,
-                        is_readable: true,
-                        is_writable: true,
-                    };
-                }
+            if let Some(place) = self.clients[i].is_told() {
+                self.told = i;
+                return Coming::Ready(place);
             }
         }
         self.told = 0;
         self.had_round = true;
         self.rounds = self.rounds.saturating_sub(1);
-        Event::Round(Time {
-            moment: Moment::new(self.exchange.moment),
-            second: self.second,
-        })
+        Coming::Round
     }
 
     // Goes on at a client, which comes where it is the next one.
-    fn turn_to(
-        &mut self,
-        rest: &str,
-        vacancy: Option<usize>,
-    ) -> Result<Option<ScriptEvent>, Trouble> {
+    fn turn_to(&mut self, rest: &str) -> Result<Coming, Trouble> {
         self.exchange.is_answered()?;
         let (name, from) = first_word(rest);
         let index = (number(name)? as usize).wrapping_sub(1);
-        if index < self.clients.len() {
-            self.current = index;
-            blank(from)?;
-            return Ok(None);
+        if index >= self.clients.len() {
+            return self.next_client(index, from);
         }
+        self.current = index;
+        blank(from)?;
+        Ok(Coming::Nothing)
+    }
+
+    fn next_client(&self, index: usize, from: &str) -> Result<Coming, Trouble> {
         if index > self.clients.len() {
             return Err(Trouble::Line("no client has that number"));
         }
-        Ok(Some(self.next_comes(address(from)?, vacancy)?))
+        Ok(Coming::Client(address(from)?))
     }
 
-    // The next client comes, and the lines that follow are of it.
-    fn next_comes(&mut self, from: IpAddr, vacancy: Option<usize>) -> Result<ScriptEvent, Trouble> {
+    // The next client comes to a place, and the lines that follow are of it.
+    fn enter(&mut self, place: usize) -> Result<(), Trouble> {
         self.current = self.clients.len();
-        self.connect(from, vacancy)
+        let client = Shared::new(self.alloc, Client::new(self.alloc, place))?;
+        self.clients.push(client)?;
+        if let Ok(mut roll) = self.roll.try_borrow_mut() {
+            roll.comes()?;
+        }
+        Ok(())
     }
 
-    // A client comes.
-    fn connect(&mut self, address: IpAddr, vacancy: Option<usize>) -> Result<ScriptEvent, Trouble> {
-        let client = Client::shared(self.alloc)?;
-        if let (Ok(mut client), Some(place)) = (client.try_borrow_mut(), vacancy) {
-            client.place = place;
+    // The next client, which connects from an address.
+    fn connect(&mut self, address: IpAddr, place: usize) -> Result<ScriptEvent, Trouble> {
+        self.enter(place)?;
+        let client = self.client()?;
+        match (client.share(), client.share(), client.share()) {
+            (Ok(source), Ok(sink), Ok(owner)) => {
+                let wire = Wire::new(self.alloc, sink, MemorySpool::new(self.alloc, owner));
+                Ok(Event::Client(dep_host::Client::new(source, wire, address)))
+            }
+            _ => Err(Trouble::Memory),
         }
-        if let Ok(mut roll) = self.roll.try_borrow_mut() {
-            roll.newest = Some(Rc::clone(&client)?);
+    }
+
+    fn welcome(&mut self, address: IpAddr, place: usize) -> ScriptEvent {
+        match self.connect(address, place) {
+            Ok(event) => event,
+            Err(why) => self.end_by(why),
         }
-        let source = ScriptSource {
-            client: Rc::clone(&client)?,
-        };
-        let sink = ScriptSink {
-            client: Rc::clone(&client)?,
-        };
-        let spool = MemorySpool::new(self.alloc, Rc::clone(&client)?);
-        self.clients.push(client)?;
-        let wire = Wire::new(self.alloc, sink, spool);
-        Ok(Event::Client(dep_host::Client::new(source, wire, address)))
+    }
+
+    // Notes why it is not as it is written, which is the end.
+    fn end_by(&mut self, why: Trouble) -> ScriptEvent
+        ensures end { result ≡ Event.End }
+        ensures trouble { self.new.trouble ≡ Some why }
+    {
+        drop(std::mem::replace(&mut self.trouble, Some(why)));
+        Event::End
     }
 
     // Does what a line says of the time, or of the client.
     fn sets(&mut self, word: &str, rest: &str) -> Result<(), Trouble> {
         match word {
             "" | "//" | "limit" | "config" => Ok(()),
-            "second" => {
-                self.second = number(rest)?;
-                Ok(())
-            }
-            "at" => {
-                self.exchange.moment = number(rest)?;
-                Ok(())
-            }
+            "second" | "at" => self.sets_time(word, rest),
             ">" | "<" => self.exchange.line(self.alloc, self.words, word, rest),
             "sends" => self.gives(rest),
-            "finished" => self.is_finished(rest),
-            "unfinished" => self.is_unfinished(rest),
+            "finished" | "unfinished" => self.has_finished(word, rest),
             "forget" => self.forgets(rest),
             _ if is_fate(word) => self.ends(word, rest),
             _ => self.behaves(word, rest),
         }
     }
 
-    // The client sends the bytes that are written.
-    fn gives(&mut self, rest: &str) -> Result<(), Trouble> {
-        blank(rest)?;
-        let client = Rc::clone(self.client()?)?;
-        let given = match client.try_borrow_mut() {
-            Ok(mut client) => client.give(self.exchange.stream.as_slice()),
-            Err(_) => Ok(()),
-        };
-        drop(client);
-        given?;
-        self.exchange.clear();
+    // The second by which silence is measured, or the moment of the replies.
+    fn sets_time(&mut self, word: &str, rest: &str) -> Result<(), Trouble> {
+        let time = number(rest)?;
+        if word == "second" {
+            self.second = time;
+        } else {
+            self.exchange.moment = time;
+        }
         Ok(())
     }
 
@@ -247,82 +280,89 @@ impl<'a> Script<'a> {
         }
     }
 
-    // What the client got is compared with what is written, and so is what became of it.
-    fn ends(&mut self, word: &str, rest: &str) -> Result<(), Trouble> {
+    // The client sends the bytes that are written.
+    fn gives(&mut self, rest: &str) -> Result<(), Trouble> {
         blank(rest)?;
-        let client = Rc::clone(self.client()?)?;
-        let (taken, fate) = match client.try_borrow_mut() {
-            Ok(mut client) => (client.take(self.alloc), client.fate),
-            Err(_) => (Vec::new(self.alloc), Fate::Outside),
-        };
-        drop(client);
-        self.exchange.begin();
-        self.exchange
-            .has_come(self.alloc, taken.as_slice(), name_of(fate), word)?;
+        self.give()?;
         self.exchange.clear();
         Ok(())
     }
 
-    // It was told that nothing more is sent.
-    fn is_finished(&self, rest: &str) -> Result<(), Trouble> {
+    fn give(&self) -> Result<(), Trouble> {
+        self.client()?.give(&self.exchange)
+    }
+
+    // What the client got is compared with what is written, and so is what became of it.
+    fn ends(&mut self, word: &str, rest: &str) -> Result<(), Trouble> {
         blank(rest)?;
-        match self.client()?.try_borrow() {
-            Ok(client) if client.is_finished => Ok(()),
-            _ => Err(Trouble::Line("the client wasn't told that nothing more is sent")),
+        let fate = self.fate().name();
+        self.client()?.ends(self.alloc, &self.exchange, fate, word)?;
+        self.exchange.clear();
+        Ok(())
+    }
+
+    fn fate(&self) -> Fate {
+        match self.roll.try_borrow() {
+            Ok(roll) => roll.fate(self.current),
+            Err(_) => Fate::Outside,
         }
     }
 
-    // It wasn't.
-    fn is_unfinished(&self, rest: &str) -> Result<(), Trouble> {
-        match self.is_finished(rest) {
-            Ok(()) => Err(Trouble::Line("the client was told that nothing more is sent")),
-            Err(_) => Ok(()),
+    // It was told that nothing more is sent, or wasn't.
+    fn has_finished(&self, word: &str, rest: &str) -> Result<(), Trouble> {
+        blank(rest)?;
+        match (self.client()?.is_finished(), word == "finished") {
+            (false, true) => Err(Trouble::Line("the client wasn't told that nothing more is sent")),
+            (true, false) => Err(Trouble::Line("the client was told that nothing more is sent")),
+            _ => Ok(()),
         }
     }
 
     // What the client got so far is not compared.
     fn forgets(&self, rest: &str) -> Result<(), Trouble> {
         blank(rest)?;
-        if let Ok(mut client) = self.client()?.try_borrow_mut() {
-            drop(client.take(self.alloc));
-        }
+        self.client()?.forget();
         Ok(())
     }
 
     // Sets how the client behaves from here on.
-    fn behaves(&mut self, word: &str, rest: &str) -> Result<(), Trouble> {
+    fn behaves(&self, word: &str, rest: &str) -> Result<(), Trouble> {
         let count = if rest.is_empty() { 0 } else { number(rest)? };
-        let Ok(mut client) = self.client()?.try_borrow_mut() else {
-            return Err(Trouble::Line("the client is in use"));
-        };
-        client.is_ready = true;
-        match word {
-            "receives" => client.at_once = count as usize,
-            "takes" => client.room = count as usize,
-            "takes-all" => client.room = usize::MAX,
-            "spool" => client.spool = count as usize,
-            "ends" => client.silence = Silence::Ended,
-            "breaks" => client.silence = Silence::Failed,
-            "fails" => client.is_broken = true,
-            "not-ready" => client.is_ready = false,
-            _ => return Err(Trouble::Line("no line of an example begins so")),
-        }
-        Ok(())
+        self.client()?.behaves(word, count as usize)
     }
 }
 
-impl Events<ScriptSource, ScriptSink, MemorySpool> for Script<'_> {
+impl Events<Shared, Shared, MemorySpool> for Script<'_> {
     ghost is_over = { λ _. true };
 
     fn next(&mut self, vacancy: Option<usize>, is_busy: bool) -> ScriptEvent {
-        match self.comes(vacancy, is_busy) {
-            Ok(event) => event,
-            Err(why) => {
-                drop(std::mem::replace(&mut self.trouble, Some(why)));
-                Event::End
-            }
+        match self.comes(is_busy) {
+            Ok(Coming::Client(address)) => self.welcome(address, vacancy.unwrap_or(0)),
+            Ok(Coming::Ready(at)) => Event::Ready {
+                at,
+                is_readable: true,
+                is_writable: true,
+            },
+            Ok(Coming::Round) => Event::Round(Time {
+                moment: Moment::new(self.exchange.moment),
+                second: self.second,
+            }),
+            Ok(Coming::End) | Ok(Coming::Nothing) => Event::End,
+            Err(why) => self.end_by(why),
         }
     }
+}
+
+// How many rounds a line begins.
+fn rounds_of(word: &str, rest: &str) -> Result<u64, Trouble> {
+    if word == "rounds" {
+        return number(rest);
+    }
+    blank(rest)?;
+    if word == "settles" {
+        return Ok(MOST_ROUNDS);
+    }
+    Ok(1)
 }
 
 // The address from which a client comes, 127.0.0.1 where none is written.
@@ -333,37 +373,5 @@ fn address(text: &str) -> Result<IpAddr, Trouble> {
     match text.parse::<IpAddr>() {
         Ok(address) => Ok(address),
         Err(_) => Err(Trouble::Line("an address is wanted")),
-    }
-}
-
-const FATES: [&str; 10] = [
-    "outside",
-    "open",
-    "address-refused",
-    "full-refused",
-    "memory-refused",
-    "shut-refused",
-    "over",
-    "silent",
-    "slow",
-    "large",
-];
-
-fn is_fate(word: &str) -> bool {
-    FATES.iter().any(|name| *name == word)
-}
-
-fn name_of(fate: Fate) -> &'static str {
-    match fate {
-        Fate::Outside => "outside",
-        Fate::Open => "open",
-        Fate::Refused(Refusal::Address) => "address-refused",
-        Fate::Refused(Refusal::Full) => "full-refused",
-        Fate::Refused(Refusal::Memory) => "memory-refused",
-        Fate::Refused(Refusal::Shut) => "shut-refused",
-        Fate::Closed(Closing::Over) => "over",
-        Fate::Closed(Closing::Silent) => "silent",
-        Fate::Closed(Closing::Slow) => "slow",
-        Fate::Closed(Closing::Large) => "large",
     }
 }

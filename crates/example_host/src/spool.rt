@@ -1,6 +1,7 @@
 //! A spool in memory.
+ghost use Rattle.std.specs.Prelude.{◌≡◌, ◌≤◌, [], length, drop};
 
-use crate::client::Shared;
+use crate::socket::Shared;
 use dep_outbox::{Spool, SpoolFailed};
 use std::alloc::Global;
 
@@ -13,41 +14,45 @@ pub struct MemorySpool {
     client: Shared,
     bytes: Vec<u8>,
     begin: usize,
+    ghost within: { begin ≤ length bytes.items },
 }
 
 impl MemorySpool {
     /// An empty spool, which takes as many bytes as the script says of the client.
-    pub fn new(alloc: Global, client: Shared) -> MemorySpool {
+    pub fn new(alloc: Global, client: Shared) -> MemorySpool
+        ensures { drop result.begin result.bytes.items ≡ [] }
+    {
         MemorySpool {
             client,
             bytes: Vec::new(alloc),
             begin: 0,
         }
     }
-
-    fn room(&self) -> usize {
-        match self.client.try_borrow() {
-            Ok(client) => client.spool.saturating_sub(self.bytes.len()),
-            Err(_) => 0,
-        }
-    }
 }
 
 impl Spool for MemorySpool {
+    ghost use Rattle.std.specs.Prelude.{drop, Some};
+
+    ghost held = { λ s. Some (drop s.begin s.bytes.items) };
+
+    #[tactic(auto, using(crate::proofs::ByteLemmas::none_left))]
     fn is_empty(&self) -> bool {
         self.begin >= self.bytes.len()
     }
 
+    #[tactic(auto, using(crate::proofs::ByteLemmas::left_longer, crate::proofs::ByteLemmas::none_taken))]
     fn push(&mut self, bytes: &[u8]) -> Result<(), SpoolFailed> {
         if bytes.is_empty() {
             return Ok(());
         }
-        if bytes.len() > self.room() || self.bytes.extend_from_slice(bytes).is_err() {
+        let room = self.client.spool().saturating_sub(self.bytes.len());
+        if bytes.len() > room || self.bytes.extend_from_slice(bytes).is_err() {
             return Err(SpoolFailed);
         }
         Ok(())
     }
 
+    #[tactic(auto, using(crate::proofs::ByteLemmas::front_behind))]
     fn pull(&mut self, into: &mut Vec<u8>) -> Result<(), SpoolFailed> {
         let end = self.begin.saturating_add(AT_ONCE).min(self.bytes.len());
         if self.begin >= end {

@@ -1,0 +1,43 @@
+//! What becomes of the clients of a script, and the words for it.
+
+use dep_host::{Closing, Refusal};
+
+/// What became of a client.
+#[derive(Clone, Copy)]
+pub enum Fate {
+    /// It has not come yet.
+    Outside,
+    /// It was let in.
+    Open,
+    /// It was turned away.
+    Refused(Refusal),
+    /// It was let in, and its connection is closed.
+    Closed(Closing),
+}
+
+impl Fate {
+    /// The word for it.
+    pub fn name(self) -> &'static str {
+        match self {
+            Fate::Outside => "outside",
+            Fate::Open => "open",
+            Fate::Refused(Refusal::Address) => "address-refused",
+            Fate::Refused(Refusal::Full) => "full-refused",
+            Fate::Refused(Refusal::Memory) => "memory-refused",
+            Fate::Refused(Refusal::Shut) => "shut-refused",
+            Fate::Closed(Closing::Over) => "over",
+            Fate::Closed(Closing::Silent) => "silent",
+            Fate::Closed(Closing::Slow) => "slow",
+            Fate::Closed(Closing::Large) => "large",
+        }
+    }
+}
+
+/// Whether it is the word for what became of a client.
+pub fn is_fate(word: &str) -> bool {
+    match word {
+        "outside" | "open" | "over" | "silent" | "slow" | "large" => true,
+        "address-refused" | "full-refused" | "memory-refused" | "shut-refused" => true,
+        _ => false,
+    }
+}
