@@ -2,7 +2,7 @@
 use Rattle.std.proofs.Common.{◌≡◌, ◌≢◌, ◌∙◌, ◌++◌, List, [], ℕ, Option, None, Some, Bool, true, false, inl, inr, refl, sym, ap}
 use Rattle.std.proofs.lemmas.List.{append-nil}
 use Rattle.std.proofs.KnownBytes.{Appends-nil}
-use Rattle.std.specs.Io.KnownBytes.{Appends, Keeps, append_known}
+use Rattle.std.specs.Io.KnownBytes.{Keeps, append_known}
 use Rattle.dep_types.specs.Writing.{TakesPart}
 use Rattle.dep_server.specs.Flushing.{IsFlushed}
 

@@ -10,15 +10,15 @@ ghost use Rattle.swordd.specs.Replays.{Replays, outcome_of};
 use dep_moment::Moment;
 use dep_program::{Outcome, configuration};
 use dep_schema::OpenFault;
-use dep_server::{Hub, HubFault, Served, serve_connection};
+use dep_server::{Flush, Hub, HubFault, Served, serve_connection};
 use dep_store::{Store, Unwatched};
-use dep_types::{Inlet, Outlet};
+use dep_types::Inlet;
 use sqlite::{Connection, MemStore};
 use std::alloc::Global;
 
 /// Serves one connection over a store in memory, which is empty at first: the reader is read to its end,
 /// or until the connection is closed, each piece at the moment, and the replies go to the writer.
-pub fn replay<R: Inlet, W: Outlet>(
+pub fn replay<R: Inlet, W: Flush>(
     alloc: Global,
     moment: Moment,
     base: &str,
