@@ -1,6 +1,5 @@
 -- Deposits in an object.
-use Rattle.std.proofs.Common.{◌≡◌, ℕ, ◌||◌, Bool, List, None, refl, sym, ap, subst, ◌∙◌}
-use Rattle.std.specs.Option.{option_map_or}
+use Rattle.std.proofs.Common.{◌≡◌, ℕ, ◌||◌, Bool, List, refl, sym, ap, subst, ◌∙◌}
 use Rattle.std.specs.FinMap as finmap
 use Rattle.dep_types.specs.Maps.{Numbered}
 use Rattle.dep_types.specs.State.{State, Object, File, Texts}
@@ -9,7 +8,8 @@ use Rattle.dep_types.specs.declared.counters.Counters.{Counters}
 use Rattle.dep_types.specs.declared.rows.ObjectRow.{ObjectRow}
 use Rattle.dep_tables.specs.Tables.{Tables}
 use Rattle.dep_row_maps.proofs.Lens.{insert_twice}
-use Rattle.dep_row_maps.specs.TablesAre.{TablesAre, metadata_at, files_at, with_object, with_metadata}
+use Rattle.dep_row_maps.specs.TablesAre.{TablesAre, with_object, with_metadata}
+use Rattle.dep_objects.specs.Objects.{object_of}
 use Rattle.dep_decisions.specs.Effects.{blank, filled, ingested_by, joined, uploads_in, with_files, with_texts, without}
 use Rattle.dep_decisions.specs.declared.decision.NewFile.{NewFile}
 use Rattle.dep_decisions.specs.declared.decision.Deposit.{Deposit}
@@ -18,6 +18,7 @@ use Rattle.dep_rulings.specs.declared.view.UploadView.{UploadView}
 use Rattle.dep_changes.specs.Told.{AreSources, HasSources}
 use Rattle.dep_changes.specs.Changed.{with_appended, with_deposit, with_new_files}
 use Rattle.dep_changes.proofs.Added.{added_alike}
+use Rattle.dep_changes.proofs.Steps.{row_is_of}
 
 -- ---- the deposit by its kind
 
@@ -59,11 +60,9 @@ module _ (s : State) (clock : ℕ) (next : Counters) (at_clock : clock ≡ s.clo
 
 -- ---- a new object
 
-pub none_texts : (s : State) (k n : ℕ) → k ≡ n → finmap.get s.objects n ≡ None → finmap.empty ≡ metadata_at s.objects k
-none_texts s k n same none = sym (ap (λ x. option_map_or (λ (y : Object). y.metadata) x finmap.empty) (ap (finmap.get s.objects) same ∙ none))
-
-pub none_files : (s : State) (k n : ℕ) → k ≡ n → finmap.get s.objects n ≡ None → finmap.empty ≡ files_at s.objects k
-none_files s k n same none = sym (ap (λ x. option_map_or (λ (y : Object). y.files) x finmap.empty) (ap (finmap.get s.objects) same ∙ none))
+pub blank_added : (t : Tables) (s : State) (row : ObjectRow) (o : Object) → row ≡ object_row row.object o → o.metadata ≡ finmap.empty → o.files ≡ finmap.empty
+    → TablesAre t (with_object s row.object (object_of row finmap.empty finmap.empty)) → TablesAre t (with_object s row.object o)
+blank_added t s row o is texts files are = row_is_of t s row (object_of row finmap.empty finmap.empty) o is texts files are
 
 -- ---- the object was written before the deposit was put in
 

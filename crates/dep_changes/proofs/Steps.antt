@@ -20,13 +20,13 @@ pub written_again : (t : Tables) (s : State) (n : ℕ) (a b : Object) → Tables
 written_again t s n a b are = subst (λ (m : Numbered Object). TablesAre t (record s { objects = m })) (insert_twice s.objects n a b) are
 
 -- the row of an object makes the object, with its metadata and files
-pub row_is_of : (t : Tables) (s : State) (row : ObjectRow) (o : Object) → row ≡ object_row row.object o → o.metadata ≡ metadata_at s.objects row.object → o.files ≡ files_at s.objects row.object
-    → TablesAre t (with_object s row.object (object_of row (metadata_at s.objects row.object) (files_at s.objects row.object))) → TablesAre t (with_object s row.object o)
-row_is_of t s row o is texts files are =
+pub row_is_of : (t : Tables) (s : State) (row : ObjectRow) (was o : Object) → row ≡ object_row row.object o → o.metadata ≡ was.metadata → o.files ≡ was.files
+    → TablesAre t (with_object s row.object (object_of row was.metadata was.files)) → TablesAre t (with_object s row.object o)
+row_is_of t s row was o is texts files are =
     let n = row.object in
-    let same : object_of row (metadata_at s.objects n) (files_at s.objects n) ≡ o =
-    ap (λ (r : ObjectRow). object_of r (metadata_at s.objects n) (files_at s.objects n)) is
-    ∙ ap (λ (m : Texts). object_of (object_row n o) m (files_at s.objects n)) (sym texts)
+    let same : object_of row was.metadata was.files ≡ o =
+    ap (λ (r : ObjectRow). object_of r was.metadata was.files) is
+    ∙ ap (λ (m : Texts). object_of (object_row n o) m was.files) (sym texts)
     ∙ ap (λ (f : Numbered File). object_of (object_row n o) o.metadata f) (sym files) in
     subst (λ (x : Object). TablesAre t (with_object s n x)) same are
 
@@ -36,9 +36,6 @@ or_true false = refl
 
 pub texts_of : (s : State) (n : ℕ) (o : Object) → finmap.get s.objects n ≡ Some o → o.metadata ≡ metadata_at s.objects n
 texts_of s n o there = sym (ap (λ x. option_map_or (λ (y : Object). y.metadata) x finmap.empty) there)
-
-pub files_of : (s : State) (n : ℕ) (o : Object) → finmap.get s.objects n ≡ Some o → o.files ≡ files_at s.objects n
-files_of s n o there = sym (ap (λ x. option_map_or (λ (y : Object). y.files) x finmap.empty) there)
 
 -- the row that is written in the place of an object's
 module _ (s : State) (n : ℕ) (o : Object) (row : ObjectRow) (was : row ≡ object_row n o) (clock : ℕ) (next : Counters) (at_clock : clock ≡ s.clock) (at_next : next ≡ s.next) (now : ObjectRow) where
@@ -80,13 +77,6 @@ at_number t s k n it same are = subst (λ (m : ℕ). TablesAre t (with_object s 
 
 pub there_at : (m : Numbered Object) (k n : ℕ) (o : Object) → k ≡ n → finmap.get m n ≡ Some o → finmap.get m k ≡ Some o
 there_at m k n o same there = ap (finmap.get m) same ∙ there
-
--- an object that is there is written by a row, and keeps its metadata and files
-pub texts_at : (s : State) (k n : ℕ) (o it : Object) → k ≡ n → finmap.get s.objects n ≡ Some o → it.metadata ≡ o.metadata → it.metadata ≡ metadata_at s.objects k
-texts_at s k n o it same there texts = texts ∙ texts_of s k o (there_at s.objects k n o same there)
-
-pub files_kept_at : (s : State) (k n : ℕ) (o it : Object) → k ≡ n → finmap.get s.objects n ≡ Some o → it.files ≡ o.files → it.files ≡ files_at s.objects k
-files_kept_at s k n o it same there files = files ∙ files_of s k o (there_at s.objects k n o same there)
 
 -- ---- an object goes
 

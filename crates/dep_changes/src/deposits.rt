@@ -24,7 +24,7 @@ use crate::new_files::put_new_files;
 use crate::objects::{files_changed, texts_changed, write_row};
 use dep_decisions::{Deposit, NewFile};
 use dep_files::delete_files;
-use dep_objects::{append_metadata, set_metadata};
+use dep_objects::{add_object, append_metadata, set_metadata};
 use dep_rulings::View;
 use dep_tables::Statements;
 use dep_types::{Metadata, ObjectRow, StoreFault};
@@ -40,8 +40,8 @@ fn ingested_by(row: ObjectRow, ingests: bool) -> ObjectRow
     }
 }
 
-// The row of an object that has nothing but a deposit of this change.
-fn blank_row(view: &View, object: u64, ingested: bool) -> ObjectRow
+/// The row of an object that has nothing but a deposit of this change.
+pub(crate) fn blank_row(view: &View, object: u64, ingested: bool) -> ObjectRow
     ensures { result ≡ record {
       object = object;
       ingested = ingested;
@@ -109,7 +109,7 @@ pub(crate) fn create<T: Statements>(
     ensures stays { StaysWithin T.lenders T.state tx.old tx.new result }
 {
     let object = change.view.next.object;
-    write_row(tx, &blank_row(change.view, object, ingests))?;
+    add_object(tx, &blank_row(change.view, object, ingests))?;
     fill(tx, change, object, deposit)
 }
 

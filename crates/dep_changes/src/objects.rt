@@ -6,9 +6,10 @@ ghost use Rattle.dep_types.specs.State.{Object, File};
 ghost use Rattle.dep_types.specs.Limits.{IsStorable};
 ghost use Rattle.dep_types.specs.Rows.{object_row};
 ghost use Rattle.dep_types.specs.Sound.{IsSound};
-ghost use Rattle.dep_tables.specs.Clauses.{StaysWithin};
-ghost use Rattle.dep_tables.specs.Rows.{IsStorableObject};
-ghost use Rattle.dep_row_maps.specs.TablesAre.{metadata_at, files_at, with_object, without_object};
+ghost use Rattle.dep_tables.specs.Clauses.{FailsByRunning, StaysWithin};
+ghost use Rattle.dep_tables.specs.Rows.{IsStorableObject, object_values};
+ghost use Rattle.dep_tables.specs.Texts.{write_object_text};
+ghost use Rattle.dep_row_maps.specs.TablesAre.{with_object, without_object};
 ghost use Rattle.dep_row_maps.specs.Clauses.{FromMaps, KeepsOurs, SeesState};
 ghost use Rattle.dep_row_maps.specs.Causes.{FailsByOne, FailsByStatement, FailsHolding, FailsSince};
 ghost use Rattle.dep_objects.specs.Texts.{HavePlaces};
@@ -18,25 +19,25 @@ ghost use Rattle.dep_changes.specs.Told.{TellsNumbers, TellsFile, TellsObject};
 
 use crate::change::touched;
 use dep_files::{delete_file, delete_files};
-use dep_objects::{delete_object, put_object};
+use dep_objects::{delete_object, write_object};
 use dep_rulings::View;
 use dep_tables::Statements;
 use dep_types::{Metadata, ObjectRow, StoreFault};
 use std::alloc::Global;
 
-/// Writes the row of an object that keeps its metadata and files, or that is new.
+/// Writes the row of an object that is there, and keeps its metadata and files.
 pub(crate) fn write_row<T: Statements>(tx: &mut T, row: &ObjectRow) -> Result<(), StoreFault>
     ensures map { FromMaps (T.state tx.old) (T.state tx.new)
-        (λ s. (o : Object) → row.now ≡ object_row row.now.object o
-        → o.metadata ≡ metadata_at s.objects row.now.object
-        → o.files ≡ files_at s.objects row.now.object
+        (λ s. (was o : Object) → map.get s.objects row.now.object ≡ Some was
+        → row.now ≡ object_row row.now.object o
+        → o.metadata ≡ was.metadata → o.files ≡ was.files
         → OnOk result (SeesState (T.state tx.new) (with_object s row.now.object o))) }
     ensures ours { KeepsOurs (T.state tx.old) (T.state tx.new) result }
-    ensures cause { FailsByOne T.state tx.old tx.new result
-        (IsStorableObject row.now) FailsByStatement }
+    ensures cause { FailsByRunning (T.state tx.old) (T.state tx.new) result
+        (IsStorableObject row.now) write_object_text (object_values row.now) }
     ensures stays { StaysWithin T.lenders T.state tx.old tx.new result }
 {
-    put_object(tx, row)
+    write_object(tx, row)
 }
 
 /// The object becomes ingested.

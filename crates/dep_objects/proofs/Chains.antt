@@ -1,8 +1,12 @@
 -- One call after another.
-use Rattle.std.proofs.Common.{◌≡◌, ◌⊎◌, IsTrue, inl, inr, sym, ap, subst, ◌∙◌}
+use Rattle.std.proofs.Common.{◌≡◌, ◌⊎◌, IsTrue, inl, inr, Result, Ok, Err, OnOk, sym, ap, subst, ◌∙◌}
 use Rattle.sqlite.specs.State.{State, IsUnchanged, IsRolledBack}
 use Rattle.sqlite.proofs.Callers.{unchanged_then}
 use Rattle.dep_tables.specs.Tables.{tables_in, tables_of, IsOurs, HasOurTables}
+
+pub ok_both : {A E P Q R : Type 0} (r : Result A E) → OnOk r P → OnOk r Q → (P → Q → R) → OnOk r R
+ok_both (Ok x) p q f = f p q
+ok_both (Err e) p q f = tt
 
 module _ (a b : State) (same : IsUnchanged a b) where
   pub still_ours : IsOurs a → IsOurs b

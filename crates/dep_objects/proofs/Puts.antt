@@ -1,39 +1,69 @@
 -- What the statements come to on the maps.
-use Rattle.std.proofs.Common.{◌≡◌, ℕ, pos, [], not, filter, Option, None, Some, refl, sym, ap, subst, ◌∙◌}
+use Rattle.std.proofs.Common.{◌≡◌, ℕ, ℤ, pos, Bool, true, false, List, [], ◌∷◌, not, filter, find, Option, None, Some, refl, sym, ap, subst, ◌∙◌}
 use Rattle.std.specs.Prelude.{option_map}
 use Rattle.std.specs.Option.{option_map_or}
 use Rattle.std.specs.FinMap as finmap
-use Rattle.sqlite_trees.specs.Tree.{put_row, without_rowid}
+use Rattle.std.specs.Ordering.{is_eq}
+use Rattle.sqlite.specs.declared.types.Value.TheVariants.{Int}
+use Rattle.sqlite_value.specs.Order.{Row, value_cmp}
+use Rattle.sqlite_trees.specs.Tree.{has_rowid, rowid, without_rowid}
 use Rattle.dep_types.specs.State.{State, Object, Texts}
 use Rattle.dep_types.specs.Sound.{IsSound}
 use Rattle.dep_types.specs.Rows.{object_row}
 use Rattle.dep_types.specs.declared.rows.ObjectRow.{ObjectRow}
-use Rattle.dep_statements.specs.Rows.{IsOrdered, replaced, has_number}
+use Rattle.dep_statements.specs.Rows.{IsOrdered, row_at, replaced, has_number}
+use Rattle.dep_tables.specs.Edits.{LacksObjectRow, with_new_object_row, with_object_row}
 use Rattle.dep_tables.specs.Rows.{stored_object}
 use Rattle.dep_tables.specs.Tables.{Tables}
 use Rattle.dep_row_maps.specs.TablesAre.{TablesAre, metadata_at, files_at, with_object}
-use Rattle.dep_row_maps.proofs.Whole.{object_put, object_written, object_deleted}
-use Rattle.dep_row_maps.specs.Stored.{grouped, listed}
+use Rattle.dep_row_maps.proofs.Whole.{object_put, object_found, object_written, object_deleted}
+use Rattle.dep_row_maps.specs.Stored.{grouped, listed, object_stored}
 use Rattle.dep_row_maps.proofs.Metadata.{grouped-listed}
 use Rattle.dep_objects.specs.declared.objects.DescribedObject.{DescribedObject}
 use Rattle.dep_objects.specs.Objects.{object_of, described_object}
 
+-- ---- one row is put in, or written
+
+none_before : {A B : Type 0} (f : A → B) (x : Option A) → option_map f x ≡ None → x ≡ None
+none_before f None none = refl
+none_before f (Some a) none = absurd (cc)
+
+-- no row has the key of the one that is written
+kept : (id : ℤ) (new : Row) (rows : List Row) → rowid new ≡ Int id → find (has_rowid id) rows ≡ None → replaced new rows ≡ rows
+kept id new [] keyed none = refl
+kept id new (x ∷ rows) keyed none = go (has_rowid id x) refl (kept id new rows keyed)
+  where
+    go : (b : Bool) → has_rowid id x ≡ b → (find (has_rowid id) rows ≡ None → replaced new rows ≡ rows) → replaced new (x ∷ rows) ≡ x ∷ rows
+    go true is more = let found : Some x ≡ None = rw is at none in absurd (cc)
+    go false is more =
+        let later : find (has_rowid id) rows ≡ None = rw is at none in
+        let other : is_eq (value_cmp (rowid x) (rowid new)) ≡ false = ap (λ v. is_eq (value_cmp (rowid x) v)) keyed ∙ is in
+        rw other (ap (λ xs. x ∷ xs) (more later))
+
 module _ (s : State) (row : ObjectRow) where
-  abbrev pub replaced_object : Object
-  replaced_object = object_of row (metadata_at s.objects row.object) (files_at s.objects row.object)
+  pub free_of : (t : Tables) → TablesAre t s → LacksObjectRow row.object t → finmap.get s.objects row.object ≡ None
+  free_of t h free = none_before (object_stored row.object) _ (sym (object_found t s h row.object) ∙ free)
 
-  pub put_new : (t u : Tables) → TablesAre t s → u ≡ record t { objects = put_row (stored_object row) t.objects } → TablesAre u (with_object s row.object replaced_object)
-  put_new t u h after = subst (λ x. TablesAre x (with_object s row.object replaced_object)) (sym after) (object_put t s h row.object replaced_object refl refl)
+  pub put_new : (t u : Tables) → TablesAre t s → LacksObjectRow row.object t → u ≡ with_new_object_row row t
+      → TablesAre u (with_object s row.object (object_of row finmap.empty finmap.empty))
+  put_new t u h free after =
+      let none = free_of t h free in
+      let texts = sym (ap (λ o. option_map_or (λ (x : Object). x.metadata) o finmap.empty) none) in
+      let files = sym (ap (λ o. option_map_or (λ (x : Object). x.files) o finmap.empty) none) in
+      let new : Object = object_of row finmap.empty finmap.empty in
+      subst (λ x. TablesAre x (with_object s row.object new)) (sym after) (object_put t s h row.object new texts files)
 
-  pub put_over : (t u : Tables) → TablesAre t s → IsOrdered t.objects → (found : ObjectRow) → Some found ≡ option_map (object_row row.object) (finmap.get s.objects row.object)
-      → u ≡ record t { objects = replaced (stored_object row) t.objects } → TablesAre u (with_object s row.object replaced_object)
-  put_over t u h up found there after = go (finmap.get s.objects row.object) refl there
-    where
-      go : (was : Option Object) → finmap.get s.objects row.object ≡ was → Some found ≡ option_map (object_row row.object) was → TablesAre u (with_object s row.object replaced_object)
-      go None is e = absurd (cc)
-      go (Some was) is e =
-          subst (λ x. TablesAre x (with_object s row.object replaced_object)) (sym after)
-          (object_written t s h up row.object was replaced_object is (ap (λ o. option_map_or (λ (x : Object). x.metadata) o finmap.empty) is) (ap (λ o. option_map_or (λ (x : Object). x.files) o finmap.empty) is))
+  pub put_over : (t u : Tables) (was : Object) → TablesAre t s → IsOrdered t.objects → finmap.get s.objects row.object ≡ Some was → u ≡ with_object_row row t
+      → TablesAre u (with_object s row.object (object_of row was.metadata was.files))
+  put_over t u was h up there after =
+      let new : Object = object_of row was.metadata was.files in
+      subst (λ x. TablesAre x (with_object s row.object new)) (sym after) (object_written t s h up row.object was new there refl refl)
+
+  pub put_nowhere : (t u : Tables) → TablesAre t s → finmap.get s.objects row.object ≡ None → u ≡ with_object_row row t → TablesAre u s
+  put_nowhere t u h none after =
+      let free : row_at t.objects row.object ≡ None = object_found t s h row.object ∙ ap (option_map (object_stored row.object)) none in
+      let same : with_object_row row t ≡ t = ap (λ rows. record t { objects = rows }) (kept (pos row.object) (stored_object row) t.objects refl free) in
+      subst (λ x. TablesAre x s) (sym (after ∙ same)) h
 
 -- an object's metadata is deleted, and then its row
 pub object_gone : (t u v : Tables) (s : State) (n : ℕ) → TablesAre t s → files_at s.objects n ≡ finmap.empty → u ≡ record t { metadata = filter (λ r. not (has_number 1 n r)) t.metadata }

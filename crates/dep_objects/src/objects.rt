@@ -1,13 +1,14 @@
 //! The objects, by number.
 
-ghost use Rattle.std.specs.Prelude.{◌≡◌, ◌≢◌, ◌<◌, ◌^◌, pos, [], ◌∷◌, IfOk, IfErr, OnOk, option_map};
+ghost use Rattle.std.specs.Prelude.{◌≡◌, ◌≢◌, ◌<◌, ◌^◌, pos, [], ◌∷◌, Some, None, IfOk, IfErr, OnOk, option_map};
 ghost use Rattle.std.specs.FinMap as map;
 ghost use Rattle.sqlite.specs.declared.types.Value.TheVariants.{Int};
 ghost use Rattle.dep_types.specs.Rows.{object_row};
 ghost use Rattle.dep_types.specs.Sound.{IsSound};
-ghost use Rattle.dep_tables.specs.Clauses.{AtMostOne, ReadsOnly, FailsReading, FailsByReadingNumbers, RefusesNumbers, StaysWithin};
-ghost use Rattle.dep_tables.specs.Rows.{IsNumberRow, IsObjectRow, IsStorableObject};
-ghost use Rattle.dep_tables.specs.Texts.{find_object_text, next_object_text};
+ghost use Rattle.dep_types.specs.State.{Object};
+ghost use Rattle.dep_tables.specs.Clauses.{AtMostOne, ReadsOnly, FailsReading, FailsByReadingNumbers, FailsByRunning, FailsWhole, RefusesNumbers, StaysWithin};
+ghost use Rattle.dep_tables.specs.Rows.{IsNumberRow, IsObjectRow, IsStorableObject, object_values};
+ghost use Rattle.dep_tables.specs.Texts.{find_object_text, insert_object_text, next_object_text, write_object_text};
 ghost use Rattle.dep_row_maps.specs.Keyed.{next_entry};
 ghost use Rattle.dep_row_maps.specs.TablesAre.{metadata_at, files_at, with_object, without_object};
 ghost use Rattle.dep_row_maps.specs.Clauses.{FromMaps, KeepsOurs, SeesState, FailsUncommitted};
@@ -15,7 +16,7 @@ ghost use Rattle.dep_row_maps.specs.Causes.{FailsByOne, FailsByStatement, FailsH
 ghost use Rattle.dep_objects.specs.Objects.{object_of, described_object};
 
 use crate::gathering::load_metadata;
-use dep_tables::{Statements, delete_metadata, insert_object, write_object};
+use dep_tables::{Statements, delete_metadata, insert_object};
 use dep_types::{Metadata, ObjectRow, StoreFault};
 use std::alloc::Global;
 
@@ -86,23 +87,44 @@ pub fn next_object<T: Statements>(tx: &mut T, after: u64) -> Result<Option<u64>,
     dep_tables::next_object(tx, after)
 }
 
-/// Puts an object in, or writes it in the place of the one that is there, which keeps its metadata and
-/// files. A number of 2^63 or more is a fault of the store.
-pub fn put_object<T: Statements>(tx: &mut T, row: &ObjectRow) -> Result<(), StoreFault>
+/// Adds an object that has no metadata and no files. It is a fault of the store where there is one of this
+/// number, and where a number is 2^63 or more.
+pub fn add_object<T: Statements>(tx: &mut T, row: &ObjectRow) -> Result<(), StoreFault>
     ensures map { FromMaps (T.state tx.old) (T.state tx.new)
         (λ s. OnOk result (SeesState (T.state tx.new)
-        (with_object s row.now.object (object_of row.now
-        (metadata_at s.objects row.now.object) (files_at s.objects row.now.object))))) }
+        (with_object s row.now.object (object_of row.now map.empty map.empty)))) }
+    ensures free { FromMaps (T.state tx.old) (T.state tx.new)
+        (λ s. OnOk result (map.get s.objects row.now.object ≡ None)) }
     ensures ours { KeepsOurs (T.state tx.old) (T.state tx.new) result }
-    ensures cause { FailsByOne T.state tx.old tx.new result
-        (IsStorableObject row.now) FailsByStatement }
-    ensures err { FailsReading (T.state tx.old) (T.state tx.new) result }
+    ensures numbers { RefusesNumbers (T.state tx.old) (T.state tx.new) result
+        (IsStorableObject row.now) }
+    ensures cause { FailsByRunning (T.state tx.old) (T.state tx.new) result
+        (IsStorableObject row.now) insert_object_text (object_values row.now) }
+    ensures err { FailsWhole (T.state tx.old) (T.state tx.new) result }
     ensures stays { StaysWithin T.lenders T.state tx.old tx.new result }
 {
-    match dep_tables::find_object(tx, row.object)? {
-        Some(_) => write_object(tx, row),
-        None => insert_object(tx, row),
-    }
+    insert_object(tx, row)
+}
+
+/// Writes the row of an object, which keeps its metadata and files, if there is one of this number. A number
+/// of 2^63 or more is a fault of the store.
+pub fn write_object<T: Statements>(tx: &mut T, row: &ObjectRow) -> Result<(), StoreFault>
+    ensures map { FromMaps (T.state tx.old) (T.state tx.new)
+        (λ s. (o : Object) → map.get s.objects row.now.object ≡ Some o
+        → OnOk result (SeesState (T.state tx.new)
+        (with_object s row.now.object (object_of row.now o.metadata o.files)))) }
+    ensures absent { FromMaps (T.state tx.old) (T.state tx.new)
+        (λ s. map.get s.objects row.now.object ≡ None
+        → OnOk result (SeesState (T.state tx.new) s)) }
+    ensures ours { KeepsOurs (T.state tx.old) (T.state tx.new) result }
+    ensures numbers { RefusesNumbers (T.state tx.old) (T.state tx.new) result
+        (IsStorableObject row.now) }
+    ensures cause { FailsByRunning (T.state tx.old) (T.state tx.new) result
+        (IsStorableObject row.now) write_object_text (object_values row.now) }
+    ensures err { FailsWhole (T.state tx.old) (T.state tx.new) result }
+    ensures stays { StaysWithin T.lenders T.state tx.old tx.new result }
+{
+    dep_tables::write_object(tx, row)
 }
 
 /// Deletes an object that has no files, with its metadata, if there is one. A number of 2^63 or more is

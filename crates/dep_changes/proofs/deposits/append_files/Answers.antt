@@ -8,11 +8,13 @@ use Rattle.dep_row_maps.proofs.Lens.{get_here}
 use Rattle.dep_decisions.specs.Effects.{with_files}
 use Rattle.dep_changes.proofs.Chains.{ours_then}
 use Rattle.dep_changes.proofs.Added.{new_files_again}
-use Rattle.dep_changes.proofs.Steps.{files_of_row, its_number, its_own, at_number, texts_at, files_kept_at}
+use Rattle.dep_changes.proofs.Steps.{files_of_row, its_number, its_own, at_number, there_at}
 use Rattle.std.proofs.Common.{◌≢◌, []}
-use Rattle.dep_row_maps.specs.Causes.{FailsByStatement, FailsHolding}
-use Rattle.dep_row_maps.proofs.Causes.{fails_among, if_err_is}
-use Rattle.dep_changes.proofs.Causes.{by_statement, caused_later, files_fit}
+use Rattle.dep_row_maps.specs.Causes.{FailsHolding}
+use Rattle.dep_row_maps.specs.Causes.FailsHolding.{statement}
+use Rattle.dep_row_maps.specs.Causes.FailsByStatement.{object_written}
+use Rattle.dep_row_maps.proofs.Causes.{fails_first, if_err_is}
+use Rattle.dep_changes.proofs.Causes.{caused_later, files_fit}
 use Rattle.dep_changes.proofs.deposits.append_files.Goals as goal
 
 pub returns-clause-map : goal.returns-clause-map
@@ -27,7 +29,7 @@ returns-clause-map g c clean inside ours s are o it numbers there its texts file
     let is = files_of_row s n it c.args.row its view.clock view.next numbers.0 numbers.1 now it.files c.files_changed.ensures in
     let to = its_number n mark now is in
     let put = at_number (tables_of mid) s now.object n mark to
-    (c.in_ok-write_row.ensures.map before inside ours s are mark (its_own n mark now is) (texts_at s now.object n o mark to there texts) (files_kept_at s now.object n o mark to there files)) in
+    (c.in_ok-write_row.ensures.map before inside ours s are o mark (there_at s.objects now.object n o to there) (its_own n mark now is) texts files) in
     let one : State = with_object s n mark in
     ok_then c.put_new_files.result
     (c.put_new_files.ensures.map clean (c.in_ok-write_row.ensures.stays.inside before inside) (c.in_ok-write_row.ensures.ours before inside ours) one put mark numbers (get_here s.objects n mark) sources)
@@ -45,7 +47,7 @@ returns-in_err-write_row-clause-cause g c storable clean inside =
     let held = c.args.files.now ≢ [] in
     let fits = files_fit view storable.0 c.args.row c.files_changed.result storable.1 c.files_changed.ensures in
     if_err_is _ c.from_residual.result c.in_err-write_row.field-0.0 c.from_residual.ensures.1
-    (fails_among g.T.Statements.state c.args.tx.now c.write_row.new.tx FailsByStatement (FailsHolding held) (by_statement held) _ (c.in_err-write_row.ensures.cause fits clean inside))
+    (fails_first g.T.Statements.state c.args.tx.now c.write_row.new.tx (FailsHolding held) _ (statement (object_written _ (c.in_err-write_row.ensures.cause fits clean inside))))
 
 pub returns-clause-cause : goal.returns-clause-cause
 returns-clause-cause g c storable clean inside =

@@ -7,15 +7,17 @@ use Rattle.dep_row_maps.specs.TablesAre.{with_object}
 use Rattle.dep_row_maps.proofs.Lens.{get_here}
 use Rattle.dep_decisions.specs.Effects.{joined, with_texts}
 use Rattle.dep_changes.proofs.Chains.{ours_then}
-use Rattle.dep_changes.proofs.Steps.{texts_of_row, its_number, its_own, at_number, texts_at, files_kept_at, written_again}
+use Rattle.dep_changes.proofs.Steps.{texts_of_row, its_number, its_own, at_number, there_at, written_again}
 use Rattle.std.proofs.Common.{◌≡◌, ◌≢◌, ◌⊎◌, subst, sym}
 use Rattle.dep_types.specs.State.{Texts}
 use Rattle.dep_row_maps.specs.TablesAre.{metadata_at}
-use Rattle.dep_row_maps.specs.Causes.{FailsByStatement, FailsHolding}
-use Rattle.dep_row_maps.proofs.Causes.{fails_among, holding_more, if_err_is}
+use Rattle.dep_row_maps.specs.Causes.{FailsHolding}
+use Rattle.dep_row_maps.specs.Causes.FailsHolding.{statement}
+use Rattle.dep_row_maps.specs.Causes.FailsByStatement.{object_written}
+use Rattle.dep_row_maps.proofs.Causes.{fails_first, holding_more, if_err_is}
 use Rattle.dep_objects.specs.Texts.{HavePlaces}
 use Rattle.dep_changes.proofs.Steps.{texts_of}
-use Rattle.dep_changes.proofs.Causes.{by_statement, caused_later, texts_fit}
+use Rattle.dep_changes.proofs.Causes.{caused_later, texts_fit}
 use Rattle.dep_changes.proofs.deposits.append_texts.Goals as goal
 
 pub returns-clause-map : goal.returns-clause-map
@@ -30,7 +32,7 @@ returns-clause-map g c clean inside ours s are o it numbers there its texts file
     let is = texts_of_row s n it c.args.row its view.clock view.next numbers.0 numbers.1 now it.metadata c.texts_changed.ensures in
     let to = its_number n mark now is in
     let put = at_number (tables_of mid) s now.object n mark to
-    (c.in_ok-write_row.ensures.map before inside ours s are mark (its_own n mark now is) (texts_at s now.object n o mark to there texts) (files_kept_at s now.object n o mark to there files)) in
+    (c.in_ok-write_row.ensures.map before inside ours s are o mark (there_at s.objects now.object n o to there) (its_own n mark now is) texts files) in
     let one : State = with_object s n mark in
     let after : Object = with_texts s (joined (finmap.entries c.args.metadata.now) it.metadata) it in
     ok_then c.append_metadata.result
@@ -49,7 +51,7 @@ returns-in_err-write_row-clause-cause g c clean inside ours s are o it numbers t
     let held = (it.metadata ≢ finmap.empty) ⊎ (c.args.metadata.now ≢ finmap.empty) in
     let fits = texts_fit view view_fits c.args.row c.texts_changed.result row_fits c.texts_changed.ensures in
     if_err_is _ c.from_residual.result c.in_err-write_row.field-0.0 c.from_residual.ensures.1
-    (fails_among g.T.Statements.state c.args.tx.now c.write_row.new.tx FailsByStatement (FailsHolding held) (by_statement held) _ (c.in_err-write_row.ensures.cause fits clean inside))
+    (fails_first g.T.Statements.state c.args.tx.now c.write_row.new.tx (FailsHolding held) _ (statement (object_written _ (c.in_err-write_row.ensures.cause fits clean inside))))
 
 pub returns-clause-cause : goal.returns-clause-cause
 returns-clause-cause g c clean inside ours s are o it numbers there its texts files view_fits row_fits places =
@@ -63,7 +65,7 @@ returns-clause-cause g c clean inside ours s are o it numbers there its texts fi
     let is = texts_of_row s n it c.args.row its view.clock view.next numbers.0 numbers.1 now it.metadata c.texts_changed.ensures in
     let to = its_number n mark now is in
     let put = at_number (tables_of mid) s now.object n mark to
-    (c.in_ok-write_row.ensures.map before inside ours s are mark (its_own n mark now is) (texts_at s now.object n o mark to there texts) (files_kept_at s now.object n o mark to there files)) in
+    (c.in_ok-write_row.ensures.map before inside ours s are o mark (there_at s.objects now.object n o to there) (its_own n mark now is) texts files) in
     let one : State = with_object s n mark in
     let have : it.metadata ≡ metadata_at one.objects n = texts_of one n mark (get_here s.objects n mark) in
     let few = (metadata_at one.objects n ≢ finmap.empty) ⊎ (more ≢ finmap.empty) in

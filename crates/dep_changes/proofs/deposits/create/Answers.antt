@@ -1,4 +1,4 @@
-use Rattle.std.proofs.Common.{ap, ◌∙◌}
+use Rattle.std.proofs.Common.{refl, ap, ◌∙◌}
 use Rattle.dep_types.specs.State.{State, Object}
 use Rattle.dep_types.specs.declared.counters.Counters.{Counters}
 use Rattle.dep_tables.proofs.Chains.{clean_before, stays_then}
@@ -8,19 +8,21 @@ use Rattle.dep_row_maps.specs.TablesAre.{with_object}
 use Rattle.dep_row_maps.proofs.Lens.{get_here}
 use Rattle.dep_decisions.specs.Effects.{blank}
 use Rattle.dep_changes.proofs.Chains.{ours_then}
-use Rattle.dep_changes.proofs.Filled.{blank_row_is, none_texts, none_files, still_have, deposit_again}
+use Rattle.dep_changes.proofs.Filled.{blank_added, blank_row_is, still_have, deposit_again}
 use Rattle.dep_changes.proofs.Steps.{its_number, its_own, at_number, there_at}
-use Rattle.dep_row_maps.specs.Causes.{FailsByStatement, FailsHolding}
-use Rattle.dep_row_maps.proofs.Causes.{fails_among, if_err_is}
+use Rattle.dep_row_maps.specs.Causes.{FailsHolding}
+use Rattle.dep_row_maps.specs.Causes.FailsHolding.{statement}
+use Rattle.dep_row_maps.specs.Causes.FailsByStatement.{object_added}
+use Rattle.dep_row_maps.proofs.Causes.{fails_first, if_err_is}
 use Rattle.dep_changes.specs.Causes.{HasCopies}
-use Rattle.dep_changes.proofs.Causes.{blank_fits, by_statement, caused_later}
+use Rattle.dep_changes.proofs.Causes.{blank_fits, caused_later}
 use Rattle.dep_changes.proofs.deposits.create.Goals as goal
 
 pub returns-clause-map : goal.returns-clause-map
 returns-clause-map g c clean inside ours s are numbers none sources =
     let view = c.args.change.now.view.now in
     let content = c.args.change.now.content.now in
-    let mid = g.T.Statements.state c.write_row.new.tx in
+    let mid = g.T.Statements.state c.add_object.new.tx in
     let new = g.T.Statements.state c.fill.new.tx in
     let before = clean_before c.fill.ensures.stays clean in
     let k = view.next.object in
@@ -30,30 +32,29 @@ returns-clause-map g c clean inside ours s are numbers none sources =
     let it : Object = blank s c.args.ingests in
     let is = blank_row_is s view.clock view.next numbers.0 numbers.1 now k c.args.ingests c.blank_row.ensures in
     let to = its_number k it now is ∙ number in
-    let put = at_number (tables_of mid) s now.object n it to
-    (c.in_ok-write_row.ensures.map before inside ours s are it (its_own k it now is) (none_texts s now.object n to none) (none_files s now.object n to none)) in
+    let put = at_number (tables_of mid) s now.object n it to (blank_added (tables_of mid) s now it (its_own k it now is) refl refl (c.in_ok-add_object.ensures.map before inside ours s are)) in
     let one : State = with_object s n it in
     ok_then c.fill.result
-    (c.fill.ensures.map clean (c.in_ok-write_row.ensures.stays.inside before inside) (c.in_ok-write_row.ensures.ours before inside ours) one put c.args.ingests numbers (there_at one.objects k n it number (get_here s.objects n it)) (still_have one.objects s content view.uploads c.args.deposit.now sources))
+    (c.fill.ensures.map clean (c.in_ok-add_object.ensures.stays.inside before inside) (c.in_ok-add_object.ensures.ours before inside ours) one put c.args.ingests numbers (there_at one.objects k n it number (get_here s.objects n it)) (still_have one.objects s content view.uploads c.args.deposit.now sources))
     (λ done. deposit_again (tables_of new) s content k n it c.args.deposit.now c.args.ingests number done)
 
 pub returns-clause-stays : goal.returns-clause-stays
-returns-clause-stays g c = stays_then c.in_ok-write_row.ensures.stays c.fill.ensures.stays
+returns-clause-stays g c = stays_then c.in_ok-add_object.ensures.stays c.fill.ensures.stays
 
 pub returns-clause-ours : goal.returns-clause-ours
-returns-clause-ours g c = ours_then c.in_ok-write_row.ensures.stays c.fill.ensures.stays c.in_ok-write_row.ensures.ours c.fill.ensures.ours
+returns-clause-ours g c = ours_then c.in_ok-add_object.ensures.stays c.fill.ensures.stays c.in_ok-add_object.ensures.ours c.fill.ensures.ours
 
-pub returns-in_err-write_row-clause-cause : goal.returns-in_err-write_row-clause-cause
-returns-in_err-write_row-clause-cause g c storable clean inside =
+pub returns-in_err-add_object-clause-cause : goal.returns-in_err-add_object-clause-cause
+returns-in_err-add_object-clause-cause g c storable clean inside =
     let view = c.args.change.now.view.now in
     let held = HasCopies c.args.deposit.now in
     let fits = blank_fits view storable.0 c.blank_row.result _ _ storable.0.object c.blank_row.ensures in
-    if_err_is _ c.from_residual.result c.in_err-write_row.field-0.0 c.from_residual.ensures.1
-    (fails_among g.T.Statements.state c.args.tx.now c.write_row.new.tx FailsByStatement (FailsHolding held) (by_statement held) _ (c.in_err-write_row.ensures.cause fits clean inside))
+    if_err_is _ c.from_residual.result c.in_err-add_object.field-0.0 c.from_residual.ensures.1
+    (fails_first g.T.Statements.state c.args.tx.now c.add_object.new.tx (FailsHolding held) _ (statement (object_added _ (c.in_err-add_object.ensures.cause fits clean inside))))
 
 pub returns-clause-cause : goal.returns-clause-cause
 returns-clause-cause g c storable clean inside =
     let held = HasCopies c.args.deposit.now in
     let before = clean_before c.fill.ensures.stays clean in
-    caused_later g.T.Statements.state (FailsHolding held) (FailsHolding held) (λ at now fault it. it) c.fill.result c.args.tx.now c.write_row.new.tx c.fill.new.tx c.in_ok-write_row.ensures.stays.survives
-    (c.fill.ensures.cause (storable.0, storable.0.object, storable.1) clean (c.in_ok-write_row.ensures.stays.inside before inside))
+    caused_later g.T.Statements.state (FailsHolding held) (FailsHolding held) (λ at now fault it. it) c.fill.result c.args.tx.now c.add_object.new.tx c.fill.new.tx c.in_ok-add_object.ensures.stays.survives
+    (c.fill.ensures.cause (storable.0, storable.0.object, storable.1) clean (c.in_ok-add_object.ensures.stays.inside before inside))

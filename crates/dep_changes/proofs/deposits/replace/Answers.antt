@@ -9,9 +9,11 @@ use Rattle.dep_row_maps.proofs.Lens.{get_here}
 use Rattle.dep_decisions.specs.Effects.{blank, ingested_by}
 use Rattle.dep_changes.proofs.Chains.{ours_then}
 use Rattle.dep_changes.proofs.Filled.{ingested_row, blank_again, still_have, deposit_again}
-use Rattle.dep_changes.proofs.Steps.{row_is, its_number, its_own, at_number, there_at, texts_at, files_kept_at, written_again}
+use Rattle.dep_changes.proofs.Steps.{row_is, its_number, its_own, at_number, there_at, written_again}
 use Rattle.dep_row_maps.specs.Causes.{FailsByStatement, FailsHolding}
-use Rattle.dep_row_maps.proofs.Causes.{fails_among, fails_later, if_err_is}
+use Rattle.dep_row_maps.specs.Causes.FailsHolding.{statement}
+use Rattle.dep_row_maps.specs.Causes.FailsByStatement.{object_written}
+use Rattle.dep_row_maps.proofs.Causes.{fails_among, fails_later, fails_then, if_err_is}
 use Rattle.dep_changes.specs.Causes.{HasCopies}
 use Rattle.dep_changes.proofs.Causes.{by_statement, caused_later, blank_fits, found_fits, ingested_fits, never_absent}
 use Rattle.dep_changes.proofs.deposits.replace.Goals as goal
@@ -48,7 +50,7 @@ returns-clause-map g c clean inside ours s are n o numbers told sources =
     let is = blank_again s view.clock view.next numbers.0 numbers.1 now n it row row_of c.blank_row.ensures in
     let to = its_number n clear now is in
     let put = written_again (tables_of three) s n bare clear (at_number (tables_of three) second now.object n clear to
-    (c.in_ok-write_row.ensures.map clean_three inside_two ours_two second cleared clear (its_own n clear now is) (texts_at second now.object n bare clear to (get_here s.objects n bare) refl) (files_kept_at second now.object n bare clear to (get_here s.objects n bare) refl))) in
+    (c.in_ok-write_row.ensures.map clean_three inside_two ours_two second cleared bare clear (there_at second.objects now.object n bare to (get_here s.objects n bare)) (its_own n clear now is) refl refl)) in
     let third : State = with_object s n clear in
     ok_then c.fill.result
     (c.fill.ensures.map clean (c.in_ok-write_row.ensures.stays.inside clean_three inside_two) (c.in_ok-write_row.ensures.ours clean_three inside_two ours_two) third put ingested numbers
@@ -101,8 +103,8 @@ returns-in_err-write_row-clause-cause g c clean inside ours s are sound told fit
     let before = clean_before c.write_row.ensures.stays clean in
     let row = ingested_fits c.in_ok-touched.field-0 c.ingested_by-row.result c.args.ingests (found_fits view told c.in_ok-touched.field-0 c.in_ok-touched.ensures.told) c.ingested_by-row.ensures in
     if_err_is _ c.from_residual-in_err-write_row.result c.in_err-write_row.field-0.0 c.from_residual-in_err-write_row.ensures.1
-    (fails_later g.T.Statements.state c.args.tx.now c.clear_metadata.new.tx c.write_row.new.tx two.survives FailsByStatement (FailsHolding held) (by_statement held) _
-    (c.in_err-write_row.ensures.cause (blank_fits view told.numbers c.blank_row.result _ _ row.object c.blank_row.ensures) clean (two.inside before inside)))
+    (fails_then g.T.Statements.state c.args.tx.now c.clear_metadata.new.tx c.write_row.new.tx two.survives (FailsHolding held) _
+    (statement (object_written _ (c.in_err-write_row.ensures.cause (blank_fits view told.numbers c.blank_row.result _ _ row.object c.blank_row.ensures) clean (two.inside before inside)))))
 
 pub returns-clause-cause : goal.returns-clause-cause
 returns-clause-cause g c clean inside ours s are sound told fits =

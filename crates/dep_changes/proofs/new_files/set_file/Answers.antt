@@ -10,10 +10,12 @@ use Rattle.dep_row_maps.proofs.Lens.{get_here}
 use Rattle.dep_decisions.specs.Effects.{with_files}
 use Rattle.dep_changes.proofs.Chains.{ours_then}
 use Rattle.dep_changes.specs.Changed.{made_file}
-use Rattle.dep_changes.proofs.Steps.{files_row, number_is, its_number, its_own, at_number, there_at, texts_at, files_kept_at, written_again, file_replaced}
+use Rattle.dep_changes.proofs.Steps.{files_row, number_is, its_number, its_own, at_number, there_at, written_again, file_replaced}
 use Rattle.std.specs.Prelude.{⊤}
 use Rattle.dep_row_maps.specs.Causes.{FailsByStatement, FailsHolding}
-use Rattle.dep_row_maps.proofs.Causes.{fails_among, fails_later, if_err_is}
+use Rattle.dep_row_maps.specs.Causes.FailsHolding.{statement}
+use Rattle.dep_row_maps.specs.Causes.FailsByStatement.{object_written}
+use Rattle.dep_row_maps.proofs.Causes.{fails_first, fails_later, if_err_is}
 use Rattle.dep_changes.proofs.Causes.{by_statement, caused_later, files_fit, found_fits, never_absent}
 use Rattle.dep_changes.proofs.new_files.set_file.Goals as goal
 
@@ -36,7 +38,7 @@ returns-clause-map g c clean inside ours s are n o file numbers told source =
     let is = files_row s n o view.object told.0.0 row c.in_ok-row.ensures.told view.clock view.next numbers.0 numbers.1 now o.files c.files_changed.ensures in
     let to = its_number n mark now is in
     let put = at_number (tables_of one) s now.object n mark to
-    (c.in_ok-write_row.ensures.map clean_one inside ours s are mark (its_own n mark now is) (texts_at s now.object n o mark to told.0.1 refl) (files_kept_at s now.object n o mark to told.0.1 refl)) in
+    (c.in_ok-write_row.ensures.map clean_one inside ours s are o mark (there_at s.objects now.object n o to told.0.1) (its_own n mark now is) refl refl) in
     let first : State = with_object s n mark in
     let left : Object = with_files s (finmap.remove o.files f) o in
     let gone = written_again (tables_of two) s n mark left
@@ -71,7 +73,7 @@ returns-in_err-write_row-clause-cause g c storable clean inside =
     let row = c.in_ok-row.row in
     let fits = files_fit view storable.0.numbers row c.files_changed.result (found_fits view storable.0 row c.in_ok-row.ensures.told) c.files_changed.ensures in
     if_err_is _ c.from_residual-in_err-write_row.result c.in_err-write_row.field-0.0 c.from_residual-in_err-write_row.ensures.1
-    (fails_among g.T.Statements.state c.args.tx.now c.write_row.new.tx FailsByStatement (FailsHolding ⊤) (by_statement ⊤) _ (c.in_err-write_row.ensures.cause fits clean inside))
+    (fails_first g.T.Statements.state c.args.tx.now c.write_row.new.tx (FailsHolding ⊤) _ (statement (object_written _ (c.in_err-write_row.ensures.cause fits clean inside))))
 
 pub returns-in_err-delete_file-clause-cause : goal.returns-in_err-delete_file-clause-cause
 returns-in_err-delete_file-clause-cause g c storable clean inside =

@@ -9,10 +9,12 @@ use Rattle.dep_row_maps.proofs.Lens.{get_here}
 use Rattle.dep_decisions.specs.Effects.{with_files}
 use Rattle.dep_changes.proofs.Chains.{ours_then}
 use Rattle.dep_changes.proofs.Added.{new_files_again}
-use Rattle.dep_changes.proofs.Steps.{files_row, number_is, its_number, its_own, at_number, there_at, texts_at, files_kept_at, written_again}
+use Rattle.dep_changes.proofs.Steps.{files_row, number_is, its_number, its_own, at_number, there_at, written_again}
 use Rattle.std.proofs.Common.{◌≢◌, []}
 use Rattle.dep_row_maps.specs.Causes.{FailsByStatement, FailsHolding}
-use Rattle.dep_row_maps.proofs.Causes.{fails_among, fails_later, if_err_is}
+use Rattle.dep_row_maps.specs.Causes.FailsHolding.{statement}
+use Rattle.dep_row_maps.specs.Causes.FailsByStatement.{object_written}
+use Rattle.dep_row_maps.proofs.Causes.{fails_among, fails_then, if_err_is}
 use Rattle.dep_changes.proofs.Causes.{by_statement, caused_later, files_fit, found_fits, never_absent}
 use Rattle.dep_changes.proofs.new_files.set_files.Goals as goal
 
@@ -37,7 +39,7 @@ returns-clause-map g c clean inside ours s are n o numbers told sources =
     let is = files_row s n o view.object told.0 row c.in_ok-row.ensures.told view.clock view.next numbers.0 numbers.1 now finmap.empty c.files_changed.ensures in
     let to = its_number n bare now is in
     let put = written_again (tables_of two) s n left bare (at_number (tables_of two) first now.object n bare to
-    (c.in_ok-write_row.ensures.map clean_two inside_one ours_one first gone bare (its_own n bare now is) (texts_at first now.object n left bare to (get_here s.objects n left) refl) (files_kept_at first now.object n left bare to (get_here s.objects n left) refl))) in
+    (c.in_ok-write_row.ensures.map clean_two inside_one ours_one first gone left bare (there_at first.objects now.object n left to (get_here s.objects n left)) (its_own n bare now is) refl refl)) in
     let second : State = with_object s n bare in
     ok_then c.put_new_files.result
     (c.put_new_files.ensures.map clean (c.in_ok-write_row.ensures.stays.inside clean_two inside_one) (c.in_ok-write_row.ensures.ours clean_two inside_one ours_one) second put bare numbers
@@ -75,8 +77,8 @@ returns-in_err-write_row-clause-cause g c clean inside ours s are sound told sou
     let row = c.in_ok-row.row in
     let fits = files_fit view told.numbers row c.files_changed.result (found_fits view told row c.in_ok-row.ensures.told) c.files_changed.ensures in
     if_err_is _ c.from_residual-in_err-write_row.result c.in_err-write_row.field-0.0 c.from_residual-in_err-write_row.ensures.1
-    (fails_later g.T.Statements.state c.args.tx.now c.delete_files.new.tx c.write_row.new.tx c.in_ok-delete_files.ensures.stays.survives FailsByStatement (FailsHolding held) (by_statement held) _
-    (c.in_err-write_row.ensures.cause fits clean (c.in_ok-delete_files.ensures.stays.inside before inside)))
+    (fails_then g.T.Statements.state c.args.tx.now c.delete_files.new.tx c.write_row.new.tx c.in_ok-delete_files.ensures.stays.survives (FailsHolding held) _
+    (statement (object_written _ (c.in_err-write_row.ensures.cause fits clean (c.in_ok-delete_files.ensures.stays.inside before inside)))))
 
 pub returns-clause-cause : goal.returns-clause-cause
 returns-clause-cause g c clean inside ours s are sound told sources =

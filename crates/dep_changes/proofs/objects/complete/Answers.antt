@@ -2,8 +2,11 @@ use Rattle.std.proofs.Common.{true, refl}
 use Rattle.dep_types.specs.State.{Object}
 use Rattle.dep_tables.specs.Tables.{tables_of}
 use Rattle.dep_tables.proofs.Results.{ok_then}
+use Rattle.dep_row_maps.specs.Causes.{FailsByStatement}
+use Rattle.dep_row_maps.specs.Causes.FailsByStatement.{object_written}
+use Rattle.dep_row_maps.proofs.Causes.{fails_first, if_err_then}
 use Rattle.dep_decisions.specs.Effects.{changed, ingested_by}
-use Rattle.dep_changes.proofs.Steps.{completed_row, number_is, its_own, at_number, texts_at, files_kept_at}
+use Rattle.dep_changes.proofs.Steps.{completed_row, number_is, its_own, at_number, there_at}
 use Rattle.dep_changes.proofs.Causes.{completed_fits, found_fits, never_absent}
 use Rattle.dep_changes.proofs.objects.complete.Goals as goal
 
@@ -16,14 +19,15 @@ returns-clause-map g c clean inside ours s are n o numbers told =
     let is = completed_row s n o view.object told.0 row found view.clock view.next numbers.0 numbers.1 _ refl in
     let number = number_is s n o view.object told.0 row found in
     ok_then c.write_row.result
-    (c.write_row.ensures.map clean inside ours s are it (its_own n it _ is) (texts_at s row.object n o it number told.1 refl) (files_kept_at s row.object n o it number told.1 refl))
+    (c.write_row.ensures.map clean inside ours s are o it (there_at s.objects row.object n o number told.1) (its_own n it _ is) refl refl)
     (λ put. at_number (tables_of (g.T.Statements.state c.write_row.new.tx)) s row.object n it number put)
 
 pub returns-in_err-row-clause-cause : goal.returns-in_err-row-clause-cause
 returns-in_err-row-clause-cause g c told clean inside = never_absent c.args.view.now told c.in_err-row.ensures.absent
 
 pub returns-clause-cause : goal.returns-clause-cause
-returns-clause-cause g c told =
+returns-clause-cause g c told clean inside =
     let view = c.args.view.now in
     let row = c.in_ok-row.row in
-    c.write_row.ensures.cause (completed_fits view told.numbers row row (found_fits view told row c.in_ok-row.ensures.told))
+    if_err_then c.write_row.result (c.write_row.ensures.cause (completed_fits view told.numbers row row (found_fits view told row c.in_ok-row.ensures.told)) clean inside)
+    (λ fault failed. fails_first g.T.Statements.state c.args.tx.now c.write_row.new.tx FailsByStatement fault (object_written _ failed))

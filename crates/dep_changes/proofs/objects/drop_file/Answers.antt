@@ -8,9 +8,10 @@ use Rattle.dep_row_maps.specs.TablesAre.{with_object}
 use Rattle.dep_row_maps.proofs.Lens.{get_here}
 use Rattle.dep_decisions.specs.Effects.{with_files}
 use Rattle.dep_changes.proofs.Chains.{ours_then}
-use Rattle.dep_changes.proofs.Steps.{files_row, its_number, its_own, at_number, texts_at, files_kept_at, written_again}
+use Rattle.dep_changes.proofs.Steps.{files_row, its_number, its_own, at_number, there_at, written_again}
 use Rattle.dep_row_maps.specs.Causes.{FailsByStatement}
-use Rattle.dep_row_maps.proofs.Causes.{if_err_is}
+use Rattle.dep_row_maps.specs.Causes.FailsByStatement.{object_written}
+use Rattle.dep_row_maps.proofs.Causes.{fails_first, if_err_is}
 use Rattle.dep_changes.proofs.Causes.{caused_later, files_fit, found_fits, never_absent}
 use Rattle.dep_changes.proofs.objects.drop_file.Goals as goal
 
@@ -26,7 +27,7 @@ returns-clause-map g c clean inside ours s are n o file numbers told =
     let is = files_row s n o view.object told.0.0 row c.in_ok-row.ensures.told view.clock view.next numbers.0 numbers.1 now o.files c.files_changed.ensures in
     let to = its_number n mark now is in
     let put = at_number (tables_of mid) s now.object n mark to
-    (c.in_ok-write_row.ensures.map before inside ours s are mark (its_own n mark now is) (texts_at s now.object n o mark to told.0.1 refl) (files_kept_at s now.object n o mark to told.0.1 refl)) in
+    (c.in_ok-write_row.ensures.map before inside ours s are o mark (there_at s.objects now.object n o to told.0.1) (its_own n mark now is) refl refl) in
     let one : State = with_object s n mark in
     let it : Object = with_files s (finmap.remove o.files c.args.file) o in
     ok_then c.delete_file.result
@@ -47,7 +48,8 @@ returns-in_err-write_row-clause-cause g c storable clean inside =
     let view = c.args.view.now in
     let row = c.in_ok-row.row in
     let fits = files_fit view storable.0.numbers row c.files_changed.result (found_fits view storable.0 row c.in_ok-row.ensures.told) c.files_changed.ensures in
-    if_err_is _ c.from_residual-in_err-write_row.result c.in_err-write_row.field-0.0 c.from_residual-in_err-write_row.ensures.1 (c.in_err-write_row.ensures.cause fits clean inside)
+    if_err_is _ c.from_residual-in_err-write_row.result c.in_err-write_row.field-0.0 c.from_residual-in_err-write_row.ensures.1
+    (fails_first g.T.Statements.state c.args.tx.now c.write_row.new.tx FailsByStatement _ (object_written _ (c.in_err-write_row.ensures.cause fits clean inside)))
 
 pub returns-clause-cause : goal.returns-clause-cause
 returns-clause-cause g c storable clean inside =

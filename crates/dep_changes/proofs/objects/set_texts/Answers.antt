@@ -7,12 +7,14 @@ use Rattle.dep_row_maps.specs.TablesAre.{with_object}
 use Rattle.dep_row_maps.proofs.Lens.{get_here}
 use Rattle.dep_decisions.specs.Effects.{with_texts}
 use Rattle.dep_changes.proofs.Chains.{ours_then}
-use Rattle.dep_changes.proofs.Steps.{texts_row, number_is, its_number, its_own, at_number, there_at, texts_at, files_kept_at, written_again}
+use Rattle.dep_changes.proofs.Steps.{texts_row, number_is, its_number, its_own, at_number, there_at, written_again}
 use Rattle.std.proofs.Common.{◌≢◌}
 use Rattle.std.specs.FinMap as finmap
-use Rattle.dep_row_maps.specs.Causes.{FailsByStatement, FailsHolding}
-use Rattle.dep_row_maps.proofs.Causes.{fails_among, if_err_is}
-use Rattle.dep_changes.proofs.Causes.{by_statement, caused_later, found_fits, never_absent, texts_fit}
+use Rattle.dep_row_maps.specs.Causes.{FailsHolding}
+use Rattle.dep_row_maps.specs.Causes.FailsHolding.{statement}
+use Rattle.dep_row_maps.specs.Causes.FailsByStatement.{object_written}
+use Rattle.dep_row_maps.proofs.Causes.{fails_first, if_err_is}
+use Rattle.dep_changes.proofs.Causes.{caused_later, found_fits, never_absent, texts_fit}
 use Rattle.dep_changes.proofs.objects.set_texts.Goals as goal
 
 pub returns-clause-map : goal.returns-clause-map
@@ -28,7 +30,7 @@ returns-clause-map g c clean inside ours s are n o numbers told =
     let is = texts_row s n o view.object told.0 row c.in_ok-row.ensures.told view.clock view.next numbers.0 numbers.1 now o.metadata c.texts_changed.ensures in
     let to = its_number n mark now is in
     let put = at_number (tables_of mid) s now.object n mark to
-    (c.in_ok-write_row.ensures.map before inside ours s are mark (its_own n mark now is) (texts_at s now.object n o mark to told.1 refl) (files_kept_at s now.object n o mark to told.1 refl)) in
+    (c.in_ok-write_row.ensures.map before inside ours s are o mark (there_at s.objects now.object n o to told.1) (its_own n mark now is) refl refl) in
     let one : State = with_object s n mark in
     let it : Object = with_texts s c.args.metadata.now o in
     ok_then c.set_metadata.result
@@ -51,7 +53,7 @@ returns-in_err-write_row-clause-cause g c storable clean inside =
     let row = c.in_ok-row.row in
     let fits = texts_fit view storable.0.numbers row c.texts_changed.result (found_fits view storable.0 row c.in_ok-row.ensures.told) c.texts_changed.ensures in
     if_err_is _ c.from_residual-in_err-write_row.result c.in_err-write_row.field-0.0 c.from_residual-in_err-write_row.ensures.1
-    (fails_among g.T.Statements.state c.args.tx.now c.write_row.new.tx FailsByStatement (FailsHolding held) (by_statement held) _ (c.in_err-write_row.ensures.cause fits clean inside))
+    (fails_first g.T.Statements.state c.args.tx.now c.write_row.new.tx (FailsHolding held) _ (statement (object_written _ (c.in_err-write_row.ensures.cause fits clean inside))))
 
 pub returns-clause-cause : goal.returns-clause-cause
 returns-clause-cause g c storable clean inside =
