@@ -19,7 +19,7 @@ ghost use Rattle.dep_changes.specs.Told.{TellsNumbers, TellsFile, TellsObject};
 
 use crate::change::touched;
 use dep_files::{delete_file, delete_files};
-use dep_objects::{delete_object, write_object};
+use dep_objects::{delete_object, put_object};
 use dep_rulings::View;
 use dep_tables::Statements;
 use dep_types::{Metadata, ObjectRow, StoreFault};
@@ -37,7 +37,7 @@ pub(crate) fn write_row<T: Statements>(tx: &mut T, row: &ObjectRow) -> Result<()
         (IsStorableObject row.now) write_object_text (object_values row.now) }
     ensures stays { StaysWithin T.lenders T.state tx.old tx.new result }
 {
-    write_object(tx, row)
+    put_object(tx, row)
 }
 
 /// The object becomes ingested.

@@ -106,9 +106,9 @@ pub fn add_object<T: Statements>(tx: &mut T, row: &ObjectRow) -> Result<(), Stor
     insert_object(tx, row)
 }
 
-/// Writes the row of an object, which keeps its metadata and files, if there is one of this number. A number
+/// Puts this row in the place of an object's, which keeps its metadata and files, if there is one of this number. A number
 /// of 2^63 or more is a fault of the store.
-pub fn write_object<T: Statements>(tx: &mut T, row: &ObjectRow) -> Result<(), StoreFault>
+pub fn put_object<T: Statements>(tx: &mut T, row: &ObjectRow) -> Result<(), StoreFault>
     ensures map { FromMaps (T.state tx.old) (T.state tx.new)
         (λ s. (o : Object) → map.get s.objects row.now.object ≡ Some o
         → OnOk result (SeesState (T.state tx.new)

@@ -5,5 +5,5 @@ use Rattle.dep_changes.proofs.objects.write_row.Goals as goal
 
 pub returns-clause-map : goal.returns-clause-map
 returns-clause-map g c clean inside ours s are was o there is texts files =
-    ok_then c.write_object.result (c.write_object.ensures.map clean inside ours s are was there)
-    (λ put. row_is_of (tables_of (g.T.Statements.state c.write_object.new.tx)) s c.args.row.now was o is texts files put)
+    ok_then c.put_object.result (c.put_object.ensures.map clean inside ours s are was there)
+    (λ put. row_is_of (tables_of (g.T.Statements.state c.put_object.new.tx)) s c.args.row.now was o is texts files put)

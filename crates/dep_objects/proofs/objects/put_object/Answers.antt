@@ -1,7 +1,7 @@
 use Rattle.dep_tables.proofs.Results.{ok_then}
 use Rattle.dep_tables.specs.Tables.{tables_of}
 use Rattle.dep_objects.proofs.Puts.{put_nowhere, put_over}
-use Rattle.dep_objects.proofs.objects.write_object.Goals as goal
+use Rattle.dep_objects.proofs.objects.put_object.Goals as goal
 
 pub returns-clause-map : goal.returns-clause-map
 returns-clause-map g c clean inside ours s are o there =
