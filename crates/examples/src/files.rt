@@ -3,7 +3,7 @@
 use dep_store::{Store, Unwatched};
 use example_faults::{Fault, FaultPlay, FaultyFile, FaultyFiles};
 use example_text::Trouble;
-use sqlite::{Alter, Connection, Files, Options};
+use sqlite::{Alter, Connection, FileStore, Files, Options};
 use sqlite_disk::{Crash, Disk, Fuse, Memory};
 use std::alloc::Global;
 
@@ -39,7 +39,7 @@ impl FaultyFiles for MemoryFiles {
 
     fn played(self, alloc: Global, play: &mut FaultPlay<'_>) -> MemoryFiles {
         MemoryFiles {
-            files: played_in(alloc, self.files, play),
+            files: used(alloc, self.files, Task::Play(play)).0,
         }
     }
 
@@ -77,40 +77,76 @@ fn copied(alloc: Global, file: &Fuse<Memory>, calls: u64) -> Result<Fuse<Memory>
     Ok(Fuse::new(copy, calls))
 }
 
+// What is done over a database once it is open.
+#[derive(Drop)]
+enum Task<'a, 'b> {
+    // These statements are run, and the log is copied into the database.
+    Fill(&'a str),
+    Play(&'a mut FaultPlay<'b>),
+}
+
 // The files, whose database these statements have made, where there are any. The log is empty then, unless memory was refused.
 fn filled(
     alloc: Global,
     files: Files<Fuse<Memory>>,
     statements: &str,
 ) -> Result<Files<Fuse<Memory>>, Trouble> {
-    if statements.is_empty() || !files.may_be_used() {
+    if statements.is_empty() {
         return Ok(files);
     }
-    let Ok(mut connection) = Connection::open_files(alloc, files, options()) else {
-        return Err(Trouble::Memory);
-    };
-    let executed = connection.execute_batch(statements);
-    let files = match connection.close_files() {
-        Ok(files) => files,
-        Err((_, store)) => store.close(),
-    };
-    if executed.is_err() {
-        return Err(Trouble::Memory);
+    match used(alloc, files, Task::Fill(statements)) {
+        (files, true) => Ok(files),
+        (files, false) => {
+            drop(files);
+            Err(Trouble::Memory)
+        }
     }
-    Ok(files)
 }
 
-fn played_in(
+// Opens the database in the files and does the task: whether it was done stands beside the files. One function alone
+// opens such a database, since each one that does costs the proof of this program a minute.
+fn used(
     alloc: Global,
     files: Files<Fuse<Memory>>,
-    play: &mut FaultPlay<'_>,
-) -> Files<Fuse<Memory>> {
+    task: Task<'_, '_>,
+) -> (Files<Fuse<Memory>>, bool) {
     if !files.may_be_used() {
-        return files;
+        return (files, true);
     }
     match Connection::open_files(alloc, files, options()) {
-        Ok(connection) => played_on(alloc, connection, play).into_store().close(),
-        Err((_, left)) => left.into_files(),
+        Ok(connection) => {
+            let copies_log = matches!(task, Task::Fill(_));
+            let (connection, is_done) = worked(alloc, connection, task);
+            (closed(connection, copies_log), is_done)
+        }
+        Err((_, left)) => (left.into_files(), false),
+    }
+}
+
+fn closed(
+    connection: Connection<FileStore<Fuse<Memory>>>,
+    copies_log: bool,
+) -> Files<Fuse<Memory>> {
+    if !copies_log {
+        return connection.into_store().close();
+    }
+    match connection.close_files() {
+        Ok(files) => files,
+        Err((_, store)) => store.close(),
+    }
+}
+
+fn worked<S: Alter + Drop>(
+    alloc: Global,
+    mut connection: Connection<S>,
+    task: Task<'_, '_>,
+) -> (Connection<S>, bool) {
+    match task {
+        Task::Fill(statements) => {
+            let is_done = connection.execute_batch(statements).is_ok();
+            (connection, is_done)
+        }
+        Task::Play(play) => (played_on(alloc, connection, play), true),
     }
 }
 
