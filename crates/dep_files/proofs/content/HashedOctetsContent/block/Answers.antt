@@ -1,6 +1,6 @@
 use Rattle.std.proofs.Common.{◌≡◌, ap, arith, rules, ◌*◌, ◌<◌, length}
 use Rattle.dep_files.proofs.Cuts.{before_end, block_is}
-use Rattle.dep_files.proofs.content.OctetsContent.block.Goals as goal
+use Rattle.dep_files.proofs.content.HashedOctetsContent.block.Goals as goal
 
 pub overflow_mul-start : goal.overflow_mul-start
 overflow_mul-start c =

@@ -1,6 +1,6 @@
 use Rattle.std.proofs.Common.{◌<◌, ◌^◌, length, sym, subst, arith}
 use Rattle.dep_files.proofs.Cuts.{block_count, few_blocks}
-use Rattle.dep_files.proofs.content.OctetsContent.count.Goals as goal
+use Rattle.dep_files.proofs.content.HashedOctetsContent.count.Goals as goal
 
 pub returns-clause-exact : goal.returns-clause-exact
 returns-clause-exact c = rw (c.div_ceil.ensures, c.as_slice.ensures) (block_count c.args.self.now)
