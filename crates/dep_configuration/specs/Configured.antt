@@ -1,29 +1,26 @@
--- What a configuration is read from, and why a text is refused.
-use Rattle.std.specs.Prelude.{◌≡◌, ◌⊎◌, ℕ, false, string_bytes, MatchOption, List, Option, Some, codes}
+-- What a configuration is read from.
+use Rattle.std.specs.Prelude.{◌≡◌, ℕ, List, Some, codes}
 use Rattle.json.specs.Json.{Json, document}
 use Rattle.dep_types.specs.Config.{IsChecked}
 use Rattle.dep_types.specs.declared.config.Config.{Config}
-use Rattle.dep_configuration.specs.Fields.{bounds_of}
-use Rattle.dep_configuration.specs.Readings.{base_text_of, filled_text_of, flag_of, given, number_of, is_field_name, number_within, optional, text_of, HasCause, IsAddressOf}
+use Rattle.dep_configuration.specs.Names.{GivesFields}
+use Rattle.dep_configuration.specs.Readings.{filled_text_of, flag_of, given_text, number_of, optional_number_of, text_of, IsAddressOf}
 use Rattle.dep_configuration.specs.declared.configuration.Configuration.{Configuration}
 use Rattle.dep_configuration.specs.declared.configuration.Limits.{Limits}
-use Rattle.dep_configuration.specs.declared.fault.ConfigurationFault.{ConfigurationFault}
-use Rattle.dep_configuration.specs.declared.fault.ConfigurationFault.TheVariants.{Malformed, NotObject, Unknown, Repeated, Missing, Invalid, Memory}
 use Rattle.dep_configuration.specs.declared.field.Field.TheVariants.{Port, Database, SpoolFolder, Base, Title, Abstract, Depositor, OnBehalfOf, RequireIfMatch, MaxUpload, MaxAssembled, MaxSegments, StagingMaxIdle, IdleSeconds, LeastRate, Connections, AddressConnections, SpoolBytes, UnfinishedBytes}
 
 -- a value gives these limits
 pub record HasLimits (limits : Limits) (j : Json) : Type 0 where
   pub idle : number_of IdleSeconds 60 j ≡ Some limits.idle_seconds
   pub rate : number_of LeastRate 4096 j ≡ Some limits.least_rate
-  pub all : optional (number_within (bounds_of Connections)) (given Connections j)
-      ≡ Some limits.connections
+  pub all : optional_number_of Connections j ≡ Some limits.connections
   pub address : number_of AddressConnections 1024 j ≡ Some limits.address_connections
   pub spool : number_of SpoolBytes 68719476736 j ≡ Some limits.spool_bytes
   pub unfinished : number_of UnfinishedBytes 1073741824 j ≡ Some limits.unfinished_bytes
 
 -- a value gives what the server itself is set up with
 pub record HasConfig (config : Config) (j : Json) : Type 0 where
-  pub base : base_text_of j ≡ Some config.base
+  pub base : given_text Base j ≡ Some config.base
   pub title : text_of Title (codes "swordd") j ≡ Some config.title
   pub abstract_text : text_of Abstract (codes "Deposit service") j ≡ Some config.abstract_text
   pub depositor : text_of Depositor (codes "depositor") j ≡ Some config.depositor
@@ -43,33 +40,14 @@ pub record HasConfiguration (c : Configuration) (j : Json) : Type 0 where
   pub config : HasConfig c.config j
   pub limits : HasLimits c.limits j
 
--- of these faults no more is said: of names, and of what is looked at once more when all fields are read
-abbrev pub IsUnexplained : ConfigurationFault → Type 0
-IsUnexplained Malformed = ⊥
-IsUnexplained NotObject = ⊥
-IsUnexplained (Unknown name) = is_field_name (string_bytes name) ≡ false
-IsUnexplained (Repeated name) = Unit {0}
-IsUnexplained (Missing field) = ⊥
-IsUnexplained (Invalid field) = (field ≡ Port) ⊎ (field ≡ Base) ⊎ (field ≡ MaxUpload)
-IsUnexplained Memory = Unit {0}
+-- a value gives fields alone, each once, which are the configuration, and a server can be set up with it
+pub record IsRead (c : Configuration) (j : Json) : Type 0 where
+  pub names : GivesFields j
+  pub given : HasConfiguration c j
+  pub checked : IsChecked c.config
 
--- without a value it is refused for these alone
-abbrev pub IsUnread : ConfigurationFault → Type 0
-IsUnread Malformed = Unit {0}
-IsUnread NotObject = ⊥
-IsUnread (Unknown name) = ⊥
-IsUnread (Repeated name) = ⊥
-IsUnread (Missing field) = ⊥
-IsUnread (Invalid field) = ⊥
-IsUnread Memory = Unit {0}
-
--- why a text is refused that has this value
-abbrev pub HasCauseIn : ConfigurationFault → Option Json → Type 0
-HasCauseIn e d = MatchOption d (IsUnread e) (λ j. HasCause e j ⊎ IsUnexplained e)
-
--- a text is the configuration, which a server can be set up with
+-- a text is the configuration
 pub record IsConfiguration (c : Configuration) (text : List ℕ) : Type 0 where
   pub json : Json
   pub reads : document text ≡ Some json
-  pub given : HasConfiguration c json
-  pub checked : IsChecked c.config
+  pub read : IsRead c json

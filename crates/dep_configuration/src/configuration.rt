@@ -1,20 +1,23 @@
 //! The configuration of a server, and how it is read.
-ghost use Rattle.std.specs.Prelude.{◌⊎◌, IfOk, IfErr};
+ghost use Rattle.std.specs.Prelude.{◌≡◌, ◌⊎◌, IfOk, IfErr, OnOk};
 ghost use Rattle.json.specs.Json.{document};
 ghost use Rattle.json.specs.Value.{value_view};
-ghost use Rattle.dep_types.specs.Config.{IsChecked};
-ghost use Rattle.dep_configuration.specs.Configured.{HasCauseIn, HasConfig, HasConfiguration, HasLimits, IsConfiguration, IsUnexplained};
-ghost use Rattle.dep_configuration.specs.Readings.{HasCause};
+ghost use Rattle.dep_configuration.specs.declared.fault.ConfigurationFault.TheVariants.{Invalid, Memory};
+ghost use Rattle.dep_types.specs.Base.{IsBase};
+ghost use Rattle.dep_types.specs.Config.{IsChecked, HasLimits as IsLimited};
+ghost use Rattle.dep_configuration.specs.Configured.{HasConfig, HasConfiguration, HasLimits, IsConfiguration, IsRead};
+ghost use Rattle.dep_configuration.specs.Faults.{AreReadable, IsFirstFault, IsRefused};
 
+use crate::checks::check_fields;
 use crate::fault::ConfigurationFault;
 use crate::field::Field;
 use crate::names::check_names;
-use crate::values::{address, base, filled_text, flag, given_number, number, text};
+use crate::values::{address, base, filled_text, flag, number, optional_number, text};
 use dep_types::{
     Config, ConfigFault, GREATEST_MAX_ASSEMBLED, GREATEST_MAX_SEGMENTS, GREATEST_MAX_UPLOAD, Text,
 };
 use json::{Error, Scratch, Value};
-use std::alloc::Global;
+use std::alloc::{AllocError, Global};
 use std::net::IpAddr;
 
 /// The configuration of a server.
@@ -55,10 +58,12 @@ pub struct Limits {
 impl Configuration {
     /// Reads a configuration: an object of JSON (RFC 8259) whose members are fields, each at most once. Unknown
     /// fields are refused, and so is whatever isn't written as its field asks, as a number in quotes. A field that
-    /// isn't there has its default; `database`, `spool_folder` and `base` have none. Of several faults one is told.
+    /// isn't there has its default; `database`, `spool_folder` and `base` have none. Of several faults the first
+    /// is told: of the names, in their order; of the fields, in the order of the example; and last, that the text
+    /// of `base` isn't a base.
     pub fn read(alloc: Global, text: &str) -> Result<Configuration, ConfigurationFault>
         ensures read { IfOk result (λ c. IsConfiguration c text.now) }
-        ensures refused { IfErr result (λ e. HasCauseIn e (document text.now)) }
+        ensures refused { IfErr result (λ e. IsRefused e (document text.now)) }
     {
         let mut scratch = Scratch::new(alloc);
         let value = match Value::parse(alloc, text, &mut scratch) {
@@ -66,82 +71,92 @@ impl Configuration {
             Err(Error::OutOfMemory) => return Err(ConfigurationFault::Memory),
             Err(_) => return Err(ConfigurationFault::Malformed),
         };
-        check_names(alloc, &value)?;
-        let configuration = configuration_in(alloc, &value)?;
-        configuration.check(alloc)?;
-        Ok(configuration)
+        read_value(alloc, &value)
     }
+}
 
-    // A server can be set up so.
-    fn check(&self, alloc: Global) -> Result<(), ConfigurationFault>
-        ensures checked { IfOk result (λ _. IsChecked self.now.config) }
-        ensures refused { IfErr result (λ e. IsUnexplained e) }
-    {
-        match self.config.check(alloc) {
-            Ok(()) => Ok(()),
-            Err(ConfigFault::Base) => Err(ConfigurationFault::Invalid(Field::Base)),
-            Err(ConfigFault::Limit) => Err(ConfigurationFault::Invalid(Field::MaxUpload)),
-            Err(ConfigFault::Memory) => Err(ConfigurationFault::Memory),
+fn read_value(alloc: Global, value: &Value<'_>) -> Result<Configuration, ConfigurationFault>
+    ensures read { IfOk result (λ c. IsRead c (value_view value.now)) }
+    ensures refused { IfErr result (λ e. (e ≡ Memory) ⊎ IsFirstFault e (value_view value.now)) }
+{
+    check_names(alloc, value)?;
+    check_fields(value)?;
+    let configuration = configuration_in(alloc, value)?;
+    match check_config(alloc, &configuration.config) {
+        Ok(()) => Ok(configuration),
+        Err(fault) => {
+            drop(configuration);
+            Err(fault)
         }
     }
 }
 
-#[tactic(auto, unfolding(crate::specs::Fields::wanted_of, crate::specs::Fields::bounds_of))]
-fn configuration_in(alloc: Global, value: &Value<'_>) -> Result<Configuration, ConfigurationFault>
-    ensures read { IfOk result (λ c. HasConfiguration c (value_view value.now)) }
-    ensures refused { IfErr result (λ e. HasCause e (value_view value.now) ⊎ IsUnexplained e) }
+// Whether a server can be set up so, which has its limits.
+fn check_config(alloc: Global, config: &Config) -> Result<(), ConfigurationFault>
+    requires { IsLimited config.now }
+    ensures checked { OnOk result (IsChecked config.now) }
+    ensures refused { IfErr result (λ e. (e ≡ Memory)
+        ⊎ ((e ≡ Invalid Field.Base) × (¬ IsBase config.now.base))) }
 {
-    let address = address(value)?;
-    let Ok(port) = u16::try_from(number(value, Field::Port, 8_080)?) else {
-        return Err(ConfigurationFault::Invalid(Field::Port));
-    };
-    let limits = limits_in(value)?;
-    let database = Text::copied(alloc, filled_text(value, Field::Database)?)?;
-    let spool_folder = Text::copied(alloc, filled_text(value, Field::SpoolFolder)?)?;
+    match config.check(alloc) {
+        Ok(()) => Ok(()),
+        Err(ConfigFault::Base) => Err(ConfigurationFault::Invalid(Field::Base)),
+        Err(ConfigFault::Limit) => unreachable!(),
+        Err(ConfigFault::Memory) => Err(ConfigurationFault::Memory),
+    }
+}
+
+#[tactic(auto, unfolding(crate::specs::Fields::wanted_of, crate::specs::Fields::bounds_of))]
+fn configuration_in(alloc: Global, value: &Value<'_>) -> Result<Configuration, AllocError>
+    requires { AreReadable (value_view value.now) }
+    ensures { IfOk result (λ c. HasConfiguration c (value_view value.now)) }
+{
+    let database = Text::copied(alloc, filled_text(value, Field::Database))?;
+    let spool_folder = Text::copied(alloc, filled_text(value, Field::SpoolFolder))?;
     Ok(Configuration {
-        address,
-        port,
+        address: address(value),
+        port: number(value, Field::Port, 8_080) as u16,
         database,
         spool_folder,
         config: config_in(alloc, value)?,
-        limits,
+        limits: limits_in(value),
     })
 }
 
 #[tactic(auto, unfolding(crate::specs::Fields::wanted_of, crate::specs::Fields::bounds_of))]
-fn config_in(alloc: Global, value: &Value<'_>) -> Result<Config, ConfigurationFault>
-    ensures read { IfOk result (λ c. HasConfig c (value_view value.now)) }
-    ensures refused { IfErr result (λ e. HasCause e (value_view value.now)) }
+fn config_in(alloc: Global, value: &Value<'_>) -> Result<Config, AllocError>
+    requires { AreReadable (value_view value.now) }
+    ensures { IfOk result (λ c. HasConfig c (value_view value.now)) }
 {
-    let base = base(value)?;
-    let title = text(value, Field::Title, "swordd")?;
-    let abstract_text = text(value, Field::Abstract, "Deposit service")?;
-    let depositor = text(value, Field::Depositor, "depositor")?;
+    let base = Text::copied(alloc, base(value))?;
+    let title = Text::copied(alloc, text(value, Field::Title, "swordd"))?;
+    let abstract_text = Text::copied(alloc, text(value, Field::Abstract, "Deposit service"))?;
+    let depositor = Text::copied(alloc, text(value, Field::Depositor, "depositor"))?;
     Ok(Config {
-        base: Text::copied(alloc, base)?,
-        title: Text::copied(alloc, title)?,
-        abstract_text: Text::copied(alloc, abstract_text)?,
-        depositor: Text::copied(alloc, depositor)?,
-        on_behalf_of: flag(value, Field::OnBehalfOf)?,
-        require_if_match: flag(value, Field::RequireIfMatch)?,
-        max_upload: number(value, Field::MaxUpload, GREATEST_MAX_UPLOAD)?,
-        max_assembled: number(value, Field::MaxAssembled, GREATEST_MAX_ASSEMBLED)?,
-        max_segments: number(value, Field::MaxSegments, GREATEST_MAX_SEGMENTS)?,
-        staging_max_idle: number(value, Field::StagingMaxIdle, 3_600)?,
+        base,
+        title,
+        abstract_text,
+        depositor,
+        on_behalf_of: flag(value, Field::OnBehalfOf),
+        require_if_match: flag(value, Field::RequireIfMatch),
+        max_upload: number(value, Field::MaxUpload, GREATEST_MAX_UPLOAD),
+        max_assembled: number(value, Field::MaxAssembled, GREATEST_MAX_ASSEMBLED),
+        max_segments: number(value, Field::MaxSegments, GREATEST_MAX_SEGMENTS),
+        staging_max_idle: number(value, Field::StagingMaxIdle, 3_600),
     })
 }
 
 #[tactic(auto, unfolding(crate::specs::Fields::wanted_of, crate::specs::Fields::bounds_of))]
-fn limits_in(value: &Value<'_>) -> Result<Limits, ConfigurationFault>
-    ensures read { IfOk result (λ limits. HasLimits limits (value_view value.now)) }
-    ensures refused { IfErr result (λ e. HasCause e (value_view value.now)) }
+fn limits_in(value: &Value<'_>) -> Limits
+    requires { AreReadable (value_view value.now) }
+    ensures { HasLimits result (value_view value.now) }
 {
-    Ok(Limits {
-        idle_seconds: number(value, Field::IdleSeconds, 60)?,
-        least_rate: number(value, Field::LeastRate, 4_096)?,
-        connections: given_number(value, Field::Connections)?,
-        address_connections: number(value, Field::AddressConnections, 1_024)?,
-        spool_bytes: number(value, Field::SpoolBytes, 68_719_476_736)?,
-        unfinished_bytes: number(value, Field::UnfinishedBytes, 1_073_741_824)?,
-    })
+    Limits {
+        idle_seconds: number(value, Field::IdleSeconds, 60),
+        least_rate: number(value, Field::LeastRate, 4_096),
+        connections: optional_number(value, Field::Connections),
+        address_connections: number(value, Field::AddressConnections, 1_024),
+        spool_bytes: number(value, Field::SpoolBytes, 68_719_476_736),
+        unfinished_bytes: number(value, Field::UnfinishedBytes, 1_073_741_824),
+    }
 }

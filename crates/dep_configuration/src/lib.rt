@@ -2,10 +2,12 @@
 #![tactic(auto)]
 
 mod access_log;
+mod checks;
 mod configuration;
 mod example;
 mod fault;
 mod field;
+pub mod laws;
 mod names;
 mod reply_front;
 mod values;

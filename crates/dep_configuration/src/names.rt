@@ -1,8 +1,11 @@
 //! The names of the fields that a configuration gives.
-ghost use Rattle.std.specs.Prelude.{◌≡◌, ◌⊎◌, IfErr};
-ghost use Rattle.json.specs.Value.{value_view};
-ghost use Rattle.dep_configuration.specs.Readings.{is_field_name, HasCause};
-ghost use Rattle.dep_configuration.specs.Configured.{IsUnexplained};
+ghost use Rattle.std.specs.Prelude.{◌≡◌, ◌⊎◌, bytes_eq, IfErr, MatchOption, OnOk};
+ghost use Rattle.std.specs.List.{list_any};
+ghost use Rattle.json.specs.Find.{as_object};
+ghost use Rattle.json.specs.Strict.{keys};
+ghost use Rattle.json.specs.Value.{members_view, value_view};
+ghost use Rattle.dep_configuration.specs.declared.fault.ConfigurationFault.TheVariants.{Memory, NotObject};
+ghost use Rattle.dep_configuration.specs.Names.{is_field_name, AreFieldNames, GivesFields, IsFaultOfNames};
 
 use crate::fault::ConfigurationFault;
 use crate::field::FIELDS;
@@ -11,7 +14,10 @@ use std::alloc::Global;
 
 /// Whether a value is an object whose members are fields, each of them once.
 pub(crate) fn check_names(alloc: Global, value: &Value<'_>) -> Result<(), ConfigurationFault>
-    ensures { IfErr result (λ e. HasCause e (value_view value.now) ⊎ IsUnexplained e) }
+    ensures taken { OnOk result (GivesFields (value_view value.now)) }
+    ensures refused { IfErr result (λ e. (e ≡ Memory)
+        ⊎ MatchOption (as_object (value_view value.now)) (e ≡ NotObject)
+        (λ members. IsFaultOfNames e (keys members))) }
 {
     let Value::Object(members) = value else {
         return Err(ConfigurationFault::NotObject);
@@ -19,8 +25,11 @@ pub(crate) fn check_names(alloc: Global, value: &Value<'_>) -> Result<(), Config
     check_members(alloc, members)
 }
 
+// Of several names that are refused the first is told.
 fn check_members(alloc: Global, members: &[(&str, Value<'_>)]) -> Result<(), ConfigurationFault>
-    ensures { IfErr result (λ e. IsUnexplained e) }
+    ensures taken { OnOk result (AreFieldNames (keys (members_view members.now))) }
+    ensures refused { IfErr result (λ e. (e ≡ Memory)
+        ⊎ IsFaultOfNames e (keys (members_view members.now))) }
 {
     for (place, member) in members.iter().enumerate() {
         if !is_field(member.0) {
@@ -39,6 +48,8 @@ fn is_field(name: &str) -> bool
     FIELDS.iter().any(|field| field.name() == name)
 }
 
-fn has_name(members: &[(&str, Value<'_>)], name: &str) -> bool {
+fn has_name(members: &[(&str, Value<'_>)], name: &str) -> bool
+    ensures { result ≡ list_any (λ member. bytes_eq member.0.now name.now) members.now }
+{
     members.iter().any(|member| member.0 == name)
 }

@@ -1,0 +1,296 @@
+-- The text of the example, read step by step.
+use Rattle.std.proofs.Common.{◌≡◌, ◌≢◌, ◌∙◌, ℕ, Bool, true, false, List, [], ◌∷◌, Option, Some, None, option_and_then, inr, refl, sym, ap, codes, All, AllPairs, bytes_eq, IsTrue, arith}
+use Rattle.std.specs.List.{AllByRecursion, IsDistinct}
+use Rattle.std.specs.Fmt.{digits}
+use Rattle.std.specs.Net.Grammar.{IsDotted}
+use Rattle.std.proofs.lemmas.List.Elements.{All-from_recursion}
+use Rattle.std.proofs.lemmas.Map.Made.{AllPairs-from_IsDistinct}
+use Rattle.std.proofs.lemmas.Slice.Eq.{bytes_eq-Decides}
+use Rattle.json.specs.Token.{Token}
+use Rattle.json.specs.Lex.{Lexeme, token, comma, colon, between, fresh, lex, punctuate}
+use Rattle.json.specs.Text.{content, short_escape, code_unit}
+use Rattle.json.specs.Word.{after_number, word}
+use Rattle.json.specs.Json.{Json, Members, no_members, member, object, document, value, items, members, max_depth, if_last}
+use Rattle.json.specs.Strict.{keys}
+use Rattle.dep_configuration.specs.Configured.{HasConfig, HasConfiguration, HasLimits}
+use Rattle.dep_configuration.specs.Example.{example_config, example_configuration, example_limits}
+use Rattle.dep_configuration.specs.Fields.{bounds_of, name_of}
+use Rattle.dep_configuration.specs.Names.{is_field_name, AreFieldNames, GivesFields}
+use Rattle.dep_configuration.specs.Readings.{number_within}
+use Rattle.dep_configuration.specs.declared.example.TheConstants.{EXAMPLE}
+
+unfoldable pub example_lexemes : List Lexeme
+example_lexemes =
+    (token Token.begin_object)
+    ∷ (token (Token.string (codes "address")))
+    ∷ colon
+    ∷ (token (Token.string (codes "127.0.0.1")))
+    ∷ comma
+    ∷ (token (Token.string (codes "port")))
+    ∷ colon
+    ∷ (token (Token.number (codes "8080")))
+    ∷ comma
+    ∷ (token (Token.string (codes "database")))
+    ∷ colon
+    ∷ (token (Token.string (codes "/var/lib/swordd/deposits.db")))
+    ∷ comma
+    ∷ (token (Token.string (codes "spool_folder")))
+    ∷ colon
+    ∷ (token (Token.string (codes "/var/spool/swordd")))
+    ∷ comma
+    ∷ (token (Token.string (codes "base")))
+    ∷ colon
+    ∷ (token (Token.string (codes "http://127.0.0.1:8080")))
+    ∷ comma
+    ∷ (token (Token.string (codes "title")))
+    ∷ colon
+    ∷ (token (Token.string (codes "swordd")))
+    ∷ comma
+    ∷ (token (Token.string (codes "abstract")))
+    ∷ colon
+    ∷ (token (Token.string (codes "Deposit service")))
+    ∷ comma
+    ∷ (token (Token.string (codes "depositor")))
+    ∷ colon
+    ∷ (token (Token.string (codes "depositor")))
+    ∷ comma
+    ∷ (token (Token.string (codes "on_behalf_of")))
+    ∷ colon
+    ∷ (token (Token.boolean false))
+    ∷ comma
+    ∷ (token (Token.string (codes "require_if_match")))
+    ∷ colon
+    ∷ (token (Token.boolean false))
+    ∷ comma
+    ∷ (token (Token.string (codes "max_upload")))
+    ∷ colon
+    ∷ (token (Token.number (codes "16777216")))
+    ∷ comma
+    ∷ (token (Token.string (codes "max_assembled")))
+    ∷ colon
+    ∷ (token (Token.number (codes "17179869184")))
+    ∷ comma
+    ∷ (token (Token.string (codes "max_segments")))
+    ∷ colon
+    ∷ (token (Token.number (codes "10000")))
+    ∷ comma
+    ∷ (token (Token.string (codes "staging_max_idle")))
+    ∷ colon
+    ∷ (token (Token.number (codes "3600")))
+    ∷ comma
+    ∷ (token (Token.string (codes "idle_seconds")))
+    ∷ colon
+    ∷ (token (Token.number (codes "60")))
+    ∷ comma
+    ∷ (token (Token.string (codes "least_rate")))
+    ∷ colon
+    ∷ (token (Token.number (codes "4096")))
+    ∷ comma
+    ∷ (token (Token.string (codes "address_connections")))
+    ∷ colon
+    ∷ (token (Token.number (codes "1024")))
+    ∷ comma
+    ∷ (token (Token.string (codes "spool_bytes")))
+    ∷ colon
+    ∷ (token (Token.number (codes "68719476736")))
+    ∷ comma
+    ∷ (token (Token.string (codes "unfinished_bytes")))
+    ∷ colon
+    ∷ (token (Token.number (codes "1073741824")))
+    ∷ (token Token.end_object) ∷ []
+
+unfoldable pub example_tokens : List Token
+example_tokens =
+    Token.begin_object
+    ∷ (Token.key (codes "address"))
+    ∷ (Token.string (codes "127.0.0.1"))
+    ∷ (Token.key (codes "port"))
+    ∷ (Token.number (codes "8080"))
+    ∷ (Token.key (codes "database"))
+    ∷ (Token.string (codes "/var/lib/swordd/deposits.db"))
+    ∷ (Token.key (codes "spool_folder"))
+    ∷ (Token.string (codes "/var/spool/swordd"))
+    ∷ (Token.key (codes "base"))
+    ∷ (Token.string (codes "http://127.0.0.1:8080"))
+    ∷ (Token.key (codes "title"))
+    ∷ (Token.string (codes "swordd"))
+    ∷ (Token.key (codes "abstract"))
+    ∷ (Token.string (codes "Deposit service"))
+    ∷ (Token.key (codes "depositor"))
+    ∷ (Token.string (codes "depositor"))
+    ∷ (Token.key (codes "on_behalf_of"))
+    ∷ (Token.boolean false)
+    ∷ (Token.key (codes "require_if_match"))
+    ∷ (Token.boolean false)
+    ∷ (Token.key (codes "max_upload"))
+    ∷ (Token.number (codes "16777216"))
+    ∷ (Token.key (codes "max_assembled"))
+    ∷ (Token.number (codes "17179869184"))
+    ∷ (Token.key (codes "max_segments"))
+    ∷ (Token.number (codes "10000"))
+    ∷ (Token.key (codes "staging_max_idle"))
+    ∷ (Token.number (codes "3600"))
+    ∷ (Token.key (codes "idle_seconds"))
+    ∷ (Token.number (codes "60"))
+    ∷ (Token.key (codes "least_rate"))
+    ∷ (Token.number (codes "4096"))
+    ∷ (Token.key (codes "address_connections"))
+    ∷ (Token.number (codes "1024"))
+    ∷ (Token.key (codes "spool_bytes"))
+    ∷ (Token.number (codes "68719476736"))
+    ∷ (Token.key (codes "unfinished_bytes"))
+    ∷ (Token.number (codes "1073741824"))
+    ∷ Token.end_object ∷ []
+
+unfoldable pub example_members : Members
+example_members = member (codes "address") (Json.string (codes "127.0.0.1")) (
+    member (codes "port") (Json.number (codes "8080")) (
+    member (codes "database") (Json.string (codes "/var/lib/swordd/deposits.db")) (
+    member (codes "spool_folder") (Json.string (codes "/var/spool/swordd")) (
+    member (codes "base") (Json.string (codes "http://127.0.0.1:8080")) (
+    member (codes "title") (Json.string (codes "swordd")) (
+    member (codes "abstract") (Json.string (codes "Deposit service")) (
+    member (codes "depositor") (Json.string (codes "depositor")) (
+    member (codes "on_behalf_of") (Json.boolean false) (
+    member (codes "require_if_match") (Json.boolean false) (
+    member (codes "max_upload") (Json.number (codes "16777216")) (
+    member (codes "max_assembled") (Json.number (codes "17179869184")) (
+    member (codes "max_segments") (Json.number (codes "10000")) (
+    member (codes "staging_max_idle") (Json.number (codes "3600")) (
+    member (codes "idle_seconds") (Json.number (codes "60")) (
+    member (codes "least_rate") (Json.number (codes "4096")) (
+    member (codes "address_connections") (Json.number (codes "1024")) (
+    member (codes "spool_bytes") (Json.number (codes "68719476736")) (
+    member (codes "unfinished_bytes") (Json.number (codes "1073741824")) (
+    no_members)))))))))))))))))))
+
+lexed : lex between EXAMPLE.now ≡ example_lexemes
+unfolding lex content short_escape code_unit word after_number example_lexemes
+lexed = refl
+
+punctuated : punctuate fresh example_lexemes ≡ example_tokens
+unfolding punctuate example_lexemes example_tokens
+punctuated = refl
+
+valued : value max_depth example_tokens ≡ Some (object example_members, [])
+unfolding value items members example_tokens example_members
+valued = refl
+
+pub example-document : document EXAMPLE.now ≡ Some (object example_members)
+example-document =
+    ap (λ ls. option_and_then (λ p. if_last p.0 p.1) (value max_depth (punctuate fresh ls))) lexed
+    ∙ ap (λ ts. option_and_then (λ p. if_last p.0 p.1) (value max_depth ts)) punctuated
+    ∙ ap (λ (r : Option (Json × List Token)). option_and_then (λ p. if_last p.0 p.1) r) valued
+
+all-known : AllByRecursion (λ name. IsTrue (is_field_name name)) (keys example_members)
+unfolding name_of example_members
+all-known = (refl, (refl, (refl, (refl, (refl, (refl, (refl, (refl, (refl, (refl, (refl, (refl, (refl, (refl, (refl, (refl, (refl, (refl, (refl, tt)))))))))))))))))))
+
+all-once : IsDistinct bytes_eq (keys example_members)
+unfolding IsDistinct example_members
+all-once = (
+  (refl, (refl, (refl, (refl, (refl, (refl, (refl, (refl, (refl, (refl, (refl, (refl, (refl, (refl, (refl, (refl, (refl, (refl, tt)))))))))))))))))),
+  (
+    (refl, (refl, (refl, (refl, (refl, (refl, (refl, (refl, (refl, (refl, (refl, (refl, (refl, (refl, (refl, (refl, (refl, tt))))))))))))))))),
+    (
+      (refl, (refl, (refl, (refl, (refl, (refl, (refl, (refl, (refl, (refl, (refl, (refl, (refl, (refl, (refl, (refl, tt)))))))))))))))),
+      (
+        (refl, (refl, (refl, (refl, (refl, (refl, (refl, (refl, (refl, (refl, (refl, (refl, (refl, (refl, (refl, tt))))))))))))))),
+        (
+          (refl, (refl, (refl, (refl, (refl, (refl, (refl, (refl, (refl, (refl, (refl, (refl, (refl, (refl, tt)))))))))))))),
+          (
+            (refl, (refl, (refl, (refl, (refl, (refl, (refl, (refl, (refl, (refl, (refl, (refl, (refl, tt))))))))))))),
+            (
+              (refl, (refl, (refl, (refl, (refl, (refl, (refl, (refl, (refl, (refl, (refl, (refl, tt)))))))))))),
+              (
+                (refl, (refl, (refl, (refl, (refl, (refl, (refl, (refl, (refl, (refl, (refl, tt))))))))))),
+                (
+                  (refl, (refl, (refl, (refl, (refl, (refl, (refl, (refl, (refl, (refl, tt)))))))))),
+                  (
+                    (refl, (refl, (refl, (refl, (refl, (refl, (refl, (refl, (refl, tt))))))))),
+                    (
+                      (refl, (refl, (refl, (refl, (refl, (refl, (refl, (refl, tt)))))))),
+                      (
+                        (refl, (refl, (refl, (refl, (refl, (refl, (refl, tt))))))),
+                        (
+                          (refl, (refl, (refl, (refl, (refl, (refl, tt)))))),
+                          (
+                            (refl, (refl, (refl, (refl, (refl, tt))))),
+                            (
+                              (refl, (refl, (refl, (refl, tt)))),
+                              (
+                                (refl, (refl, (refl, tt))),
+                                (
+                                  (refl, (refl, tt)),
+                                  (
+                                    (refl, tt),
+                                    (
+                                      tt,
+                                      tt,
+                                    ),
+                                  ),
+                                ),
+                              ),
+                            ),
+                          ),
+                        ),
+                      ),
+                    ),
+                  ),
+                ),
+              ),
+            ),
+          ),
+        ),
+      ),
+    ),
+  ),
+)
+
+pub example-names : AreFieldNames (keys example_members)
+example-names = record {
+  known = All-from_recursion (λ name. IsTrue (is_field_name name)) (keys example_members) all-known;
+  once = AllPairs-from_IsDistinct bytes_eq-Decides (keys example_members) all-once;
+}
+
+example-limits : HasLimits example_limits (object example_members)
+unfolding name_of bounds_of number_within example_members
+example-limits = record { idle = refl; rate = refl; all = refl; address = refl; spool = refl; unfinished = refl }
+
+pub example-config : HasConfig example_config (object example_members)
+unfolding name_of bounds_of number_within example_members
+example-config = record {
+  base = refl;
+  title = refl;
+  abstract_text = refl;
+  depositor = refl;
+  on_behalf_of = refl;
+  require_if_match = refl;
+  upload = refl;
+  assembled = refl;
+  segments = refl;
+  idle = refl;
+}
+
+localhost-dotted : IsDotted (codes "127.0.0.1") (127 ∷ 0 ∷ 0 ∷ 1 ∷ [])
+unfolding digits
+localhost-dotted = record {
+  a = 127;
+  b = 0;
+  c = 0;
+  d = 1;
+  fit = (omega arith, omega arith, omega arith, omega arith);
+  value = refl;
+  spelled = refl;
+}
+
+pub example-given : HasConfiguration example_configuration (object example_members)
+unfolding name_of bounds_of number_within example_members
+example-given = record {
+  address = inr localhost-dotted;
+  port = refl;
+  database = refl;
+  spool_folder = refl;
+  config = example-config;
+  limits = example-limits;
+}

@@ -1,0 +1,10 @@
+use Rattle.std.proofs.Common.{◌∙◌, sym, ap, refl, option_map}
+use Rattle.json.specs.Value.{value_view}
+use Rattle.dep_configuration.proofs.ValuesGiven.{text-or, unwrapped}
+use Rattle.dep_configuration.proofs.values.text.Goals as goal
+
+pub returns : goal.returns
+returns c =
+    let h = text-or c.args.field c.args.default.now (value_view c.args.value.now) c.requires.readable c.requires.wanted in
+    let g = unwrapped c.given_text.result c.args.default in
+    cc

@@ -1,0 +1,82 @@
+-- Why the fields of a configuration are refused, and which fault is told of several.
+use Rattle.std.specs.Prelude.{◌≡◌, ◌⊎◌, ℕ, Bool, true, false, IsTrue, IsSome, IsSomeAnd, MatchOption, List, ◌∷◌, ◌++◌, All, Option, Some, None}
+use Rattle.std.specs.Net.Grammar.{IsIpText}
+use Rattle.std.specs.declared.net.ip_addr.IpAddr.{IpAddr}
+use Rattle.json.specs.Json.{Json}
+use Rattle.json.specs.Find.{as_bool, as_object, as_str}
+use Rattle.json.specs.Strict.{keys}
+use Rattle.dep_types.specs.Base.{IsBase}
+use Rattle.dep_types.specs.Maps.{◌>>=◌}
+use Rattle.dep_configuration.specs.Fields.{wanted_of}
+use Rattle.dep_configuration.specs.Names.{GivesFields, IsFaultOfNames}
+use Rattle.dep_configuration.specs.Readings.{filled, given, given_text, number_within}
+use Rattle.dep_configuration.specs.declared.field.TheConstants.{FIELDS}
+use Rattle.dep_configuration.specs.declared.field.Field.{Field}
+use Rattle.dep_configuration.specs.declared.field.Field.TheVariants as Name
+use Rattle.dep_configuration.specs.declared.field.Wanted.{Wanted}
+use Rattle.dep_configuration.specs.declared.field.Wanted.TheVariants.{AnyText, FilledText, Flag, Address, Base, WholeNumber}
+use Rattle.dep_configuration.specs.declared.fault.ConfigurationFault.{ConfigurationFault}
+use Rattle.dep_configuration.specs.declared.fault.ConfigurationFault.TheVariants.{Malformed, NotObject, Unknown, Repeated, Missing, Invalid, Memory}
+
+-- these fields have to be given
+abbrev pub is_required : Wanted → Bool
+is_required AnyText = false
+is_required FilledText = true
+is_required Flag = false
+is_required Address = false
+is_required Base = true
+is_required (WholeNumber b) = false
+
+-- a value is what is wanted; of a base, a text
+abbrev pub Suits : Wanted → Json → Type 0
+Suits AnyText v = IsSome (as_str v)
+Suits FilledText v = IsSome (as_str v >>= filled)
+Suits Flag v = IsSome (as_bool v)
+Suits Address v = (a : IpAddr) × IsSomeAnd (as_str v) (λ text. IsIpText text a)
+Suits Base v = IsSome (as_str v)
+Suits (WholeNumber b) v = IsSome (number_within b v)
+
+-- a field is given as what is wanted, or isn't given and need not be
+abbrev pub IsReadable : Field → Json → Type 0
+IsReadable field j =
+    MatchOption (given field j) (is_required (wanted_of field) ≡ false) (Suits (wanted_of field))
+
+abbrev pub AreReadable : Json → Type 0
+AreReadable j = (field : Field) → IsReadable field j
+
+-- a fault is this field's: it isn't given and has to be, or is given as something else
+abbrev pub IsFaultOf : Field → ConfigurationFault → Json → Type 0
+IsFaultOf field Malformed j = ⊥
+IsFaultOf field NotObject j = ⊥
+IsFaultOf field (Unknown name) j = ⊥
+IsFaultOf field (Repeated name) j = ⊥
+IsFaultOf field (Missing told) j =
+    (told ≡ field) × (given field j ≡ None) × IsTrue (is_required (wanted_of field))
+IsFaultOf field (Invalid told) j =
+    (told ≡ field) × IsSomeAnd (given field j) (λ v. ¬ Suits (wanted_of field) v)
+IsFaultOf field Memory j = ⊥
+
+-- a fault is that of the first field which can't be read, as the example has them
+pub record IsFirstOfFields (e : ConfigurationFault) (j : Json) : Type 0 where
+  pub front : List Field
+  pub field : Field
+  pub behind : List Field
+  pub stands : FIELDS ≡ front ++ field ∷ behind
+  pub before : All (λ f. IsReadable f j) front
+  pub fault : IsFaultOf field e j
+
+-- whether the text of the base is a base is looked at when all fields can be read
+pub record IsFaultOfBase (e : ConfigurationFault) (j : Json) : Type 0 where
+  pub told : e ≡ Invalid Name.Base
+  pub readable : AreReadable j
+  pub cause : IsSomeAnd (given_text Name.Base j) (λ text. ¬ IsBase text)
+
+-- why a value is refused, unless memory was wanting: of several faults the first one in this order
+abbrev pub IsFirstFault : ConfigurationFault → Json → Type 0
+IsFirstFault e j =
+    MatchOption (as_object j) (e ≡ NotObject) (λ members. IsFaultOfNames e (keys members))
+    ⊎ (GivesFields j × (IsFirstOfFields e j ⊎ IsFaultOfBase e j))
+
+-- why a text is refused, of which this is the value
+abbrev pub IsRefused : ConfigurationFault → Option Json → Type 0
+IsRefused e document = (e ≡ Memory) ⊎ MatchOption document (e ≡ Malformed) (IsFirstFault e)
