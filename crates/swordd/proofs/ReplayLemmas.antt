@@ -1,5 +1,5 @@
 -- A replay is a run of one connection.
-use Rattle.std.proofs.Common.{◌≡◌, ℕ, zero, suc, List, [], ◌∷◌, ◌++◌, refl, subst, arith}
+use Rattle.std.proofs.Common.{◌≡◌, ℕ, Bool, true, false, zero, suc, List, [], ◌∷◌, ◌++◌, refl, subst, arith}
 use Rattle.std.specs.Prelude.{All}
 use Rattle.std.specs.List.{FoldsTo}
 use Rattle.sqlite.specs.State as db
@@ -18,7 +18,19 @@ use Rattle.dep_server.proofs.TalkLemmas.{conversation_run}
 use Rattle.dep_server.specs.declared.connection.Served.{Served}
 use Rattle.dep_server.specs.declared.connection.Served.TheVariants.{Ended, Closed, Unserved, ReadFault, WriteFault, Bound}
 use Rattle.dep_program.specs.Setup.{program_config}
-use Rattle.swordd.specs.Replays.{IsReplayed, Replays, replayed, not_begun, outcome_of}
+use Rattle.swordd.specs.Replays.{IsReplayed, Replays, replayed, not_begun, outcome_of, outcome_sent}
+use Rattle.dep_program.specs.declared.outcome.Outcome.{Outcome}
+use Rattle.dep_program.specs.declared.outcome.Outcome.TheVariants.{Done, Usage, NoSuchObject, StoreFault, TransferFault, Damaged}
+
+-- a replay is done only where its outlet hasn't given up
+pub done_open : (has_failed : Bool) (outcome : Outcome) → outcome_sent has_failed outcome ≡ Done → has_failed ≡ false
+done_open false outcome e = refl
+done_open true Done e = cc
+done_open true Usage e = cc
+done_open true NoSuchObject e = cc
+done_open true StoreFault e = cc
+done_open true TransferFault e = cc
+done_open true Damaged e = cc
 
 all_none : (P : Turn → Type 0) → All P []
 all_none P k d l = absurd (omega arith)

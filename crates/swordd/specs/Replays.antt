@@ -1,5 +1,5 @@
 -- One connection, replayed over an archive that is empty at first.
-use Rattle.std.specs.Prelude.{◌≡◌, ◌≤◌, ◌+◌, ℕ, List, All}
+use Rattle.std.specs.Prelude.{◌≡◌, ◌≤◌, ◌+◌, ℕ, Bool, true, List, All}
 use Rattle.dep_types.specs.State.{empty_state}
 use Rattle.dep_types.specs.Config.{IsChecked}
 use Rattle.dep_server.specs.Records.{World, first_world, Run}
@@ -19,6 +19,11 @@ outcome_of Unserved = StoreFault
 outcome_of ReadFault = TransferFault
 outcome_of WriteFault = TransferFault
 outcome_of Bound = TransferFault
+
+-- the same, once the outlet was asked whether it gave up
+abbrev pub outcome_sent : (has_failed : Bool) → Outcome → Outcome
+outcome_sent true Done = TransferFault
+outcome_sent has_failed outcome = outcome
 
 -- One connection of the machine, from its opening over the empty archive to its close, each piece at
 -- the moment: what was read are its pieces, what was written is what the machine sends for them, and

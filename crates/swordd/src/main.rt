@@ -12,12 +12,13 @@ mod service;
 mod store_file;
 
 use crate::command::{Command, unread};
-pub use crate::replay::replay;
+pub use crate::replay::{replay, replay_gathered};
 use crate::store_file::work_on;
 use dep_moment::Moment;
+use dep_program::Gathered;
 pub use dep_program::{Outcome, serve_on};
 pub use dep_store::{audit_all, export_object};
-use dep_types::{ReaderInlet, Through};
+use dep_types::ReaderInlet;
 use std::process::ExitCode;
 use std::{env, io};
 
@@ -43,12 +44,16 @@ fn run(rt: &HostRuntime) -> Outcome {
 
 // Over standard input and output.
 fn replay_here(rt: &HostRuntime, moment: u64, base: &str) -> Outcome {
-    replay(
+    let Ok(mut outlet) = Gathered::new(rt.alloc(), rt.stdout()) else {
+        return Outcome::StoreFault;
+    };
+    let mut inlet = ReaderInlet::new(rt.stdin());
+    replay_gathered(
         rt.alloc(),
         Moment::new(moment),
         base,
-        &mut ReaderInlet::new(rt.stdin()),
-        &mut Through::new(rt.stdout()),
+        &mut inlet,
+        &mut outlet,
     )
 }
 

@@ -1,20 +1,24 @@
 //! One connection over a store in memory.
 ghost use Rattle.std.specs.Prelude.{◌≡◌, IfOk};
+ghost use Rattle.std.specs.Io.KnownBytes.{Keeps};
 ghost use Rattle.sqlite.specs.Held.{state};
 ghost use Rattle.sqlite.specs.Steps.{over_memory};
 ghost use Rattle.dep_types.specs.State.{empty_state};
 ghost use Rattle.dep_schema.specs.States.{StandsFor};
 ghost use Rattle.dep_server.specs.Conversation.{wire};
-ghost use Rattle.swordd.specs.Replays.{Replays, outcome_of};
+ghost use Rattle.dep_server.specs.Flushing.{IsFlushed};
+ghost use Rattle.dep_program.specs.Gathering.{told, held_in, given};
+ghost use Rattle.swordd.specs.Replays.{Replays, outcome_of, outcome_sent};
 
 use dep_moment::Moment;
-use dep_program::{Outcome, configuration};
+use dep_program::{Gathered, Outcome, configuration};
 use dep_schema::OpenFault;
 use dep_server::{Flush, Hub, HubFault, Served, serve_connection};
 use dep_store::{Store, Unwatched};
 use dep_types::Inlet;
 use sqlite::{Connection, MemStore};
 use std::alloc::Global;
+use std::io::Write;
 
 /// Serves one connection over a store in memory, which is empty at first: the reader is read to its end,
 /// or until the connection is closed, each piece at the moment, and the replies go to the writer.
@@ -25,11 +29,13 @@ pub fn replay<R: Inlet, W: Flush>(
     reader: &mut R,
     writer: &mut W,
 ) -> Outcome
-    ensures { Replays base.now moment
+    ensures replays { Replays base.now moment
         (wire (R.unread reader.old) (R.reads reader.old) (R.last reader.old)
         (W.taken writer.old) (W.failures writer.old))
         (wire (R.unread reader.new) (R.reads reader.new) (R.last reader.new)
         (W.taken writer.new) (W.failures writer.new)) result }
+    ensures flushed { IsFlushed (W.held writer.old) (W.has_failed writer.old)
+        → IsFlushed (W.held writer.new) (W.has_failed writer.new) }
 {
     let Ok(config) = configuration(alloc, base) else {
         return Outcome::StoreFault;
@@ -46,6 +52,29 @@ pub fn replay<R: Inlet, W: Flush>(
         ensures { result ≡ moment }
     { moment };
     outcome_of(serve_connection(alloc, reader, writer, &mut hub, &mut clock))
+}
+
+/// Replays a connection over an outlet that gathers. It is done only where the writer took all replies.
+pub fn replay_gathered<R: Inlet, W: Write + Drop>(
+    alloc: Global,
+    moment: Moment,
+    base: &str,
+    reader: &mut R,
+    outlet: &mut Gathered<W>,
+) -> Outcome
+    ensures replays { (outcome : Outcome)
+        × Replays base.now moment
+        (wire (R.unread reader.old) (R.reads reader.old) (R.last reader.old)
+        (told W.contents outlet.old) outlet.old.failures)
+        (wire (R.unread reader.new) (R.reads reader.new) (R.last reader.new)
+        (told W.contents outlet.new) outlet.new.failures) outcome
+        × (result ≡ outcome_sent outlet.new.has_failed outcome) }
+    // The writer has all that was sent.
+    ensures sent { result ≡ Outcome.Done → IsFlushed (held_in outlet.old) outlet.old.has_failed
+        → Keeps (told W.contents outlet.new) (given W.contents outlet.new) }
+{
+    let outcome = replay(alloc, moment, base, reader, outlet);
+    outcome_sent(outlet.has_failed(), outcome)
 }
 
 /// A new store in memory.
@@ -68,5 +97,15 @@ fn outcome_of(served: Served) -> Outcome
         Served::Ended | Served::Closed => Outcome::Done,
         Served::Unserved => Outcome::StoreFault,
         Served::ReadFault | Served::WriteFault | Served::Bound => Outcome::TransferFault,
+    }
+}
+
+// What it comes to, once the outlet was asked whether it gave up.
+fn outcome_sent(has_failed: bool, outcome: Outcome) -> Outcome
+    ensures { result ≡ outcome_sent has_failed outcome }
+{
+    match (has_failed, outcome) {
+        (true, Outcome::Done) => Outcome::TransferFault,
+        (_, outcome) => outcome,
     }
 }

@@ -8,22 +8,22 @@ use Rattle.dep_program.specs.declared.outcome.Outcome.{Outcome}
 use Rattle.swordd.proofs.ReplayLemmas.{comes_to, rests_same}
 use Rattle.swordd.proofs.replay.replay.Goals as goal
 
-pub returns-in_default : goal.returns-in_default
-returns-in_default g c = not_begun (rests_same (wire (g.R.Inlet.unread c.args.reader.now) (g.R.Inlet.reads c.args.reader.now) (g.R.Inlet.last c.args.reader.now) (g.W.Outlet.taken c.args.writer.now) (g.W.Outlet.failures c.args.writer.now)))
+pub returns-in_default-clause-replays : goal.returns-in_default-clause-replays
+returns-in_default-clause-replays g c = not_begun (rests_same (wire (g.R.Inlet.unread c.args.reader.now) (g.R.Inlet.reads c.args.reader.now) (g.R.Inlet.last c.args.reader.now) (g.W.Outlet.taken c.args.writer.now) (g.W.Outlet.failures c.args.writer.now)))
 
-pub returns-in_default-new_store : goal.returns-in_default-new_store
-returns-in_default-new_store g c = not_begun (rests_same (wire (g.R.Inlet.unread c.args.reader.now) (g.R.Inlet.reads c.args.reader.now) (g.R.Inlet.last c.args.reader.now) (g.W.Outlet.taken c.args.writer.now) (g.W.Outlet.failures c.args.writer.now)))
+pub returns-in_default-new_store-clause-replays : goal.returns-in_default-new_store-clause-replays
+returns-in_default-new_store-clause-replays g c = not_begun (rests_same (wire (g.R.Inlet.unread c.args.reader.now) (g.R.Inlet.reads c.args.reader.now) (g.R.Inlet.last c.args.reader.now) (g.W.Outlet.taken c.args.writer.now) (g.W.Outlet.failures c.args.writer.now)))
 
-pub returns-in-Err-Memory-default : goal.returns-in-Err-Memory-default
-returns-in-Err-Memory-default g c = not_begun (rests_same (wire (g.R.Inlet.unread c.args.reader.now) (g.R.Inlet.reads c.args.reader.now) (g.R.Inlet.last c.args.reader.now) (g.W.Outlet.taken c.args.writer.now) (g.W.Outlet.failures c.args.writer.now)))
+pub returns-in-Err-Memory-default-clause-replays : goal.returns-in-Err-Memory-default-clause-replays
+returns-in-Err-Memory-default-clause-replays g c = not_begun (rests_same (wire (g.R.Inlet.unread c.args.reader.now) (g.R.Inlet.reads c.args.reader.now) (g.R.Inlet.last c.args.reader.now) (g.W.Outlet.taken c.args.writer.now) (g.W.Outlet.failures c.args.writer.now)))
 
-pub returns-in-Err-Config-default : goal.returns-in-Err-Config-default
-returns-in-Err-Config-default g c =
+pub returns-in-Err-Config-default-clause-replays : goal.returns-in-Err-Config-default-clause-replays
+returns-in-Err-Config-default-clause-replays g c =
     refused (λ checked. c.in-Err-Config-default.ensures.refused c.in-Err-Config-default.field-0-0-is (subst (λ (x : Config). IsChecked x) (sym c.in-Ok.ensures) checked))
     (rests_same (wire (g.R.Inlet.unread c.args.reader.now) (g.R.Inlet.reads c.args.reader.now) (g.R.Inlet.last c.args.reader.now) (g.W.Outlet.taken c.args.writer.now) (g.W.Outlet.failures c.args.writer.now)))
 
-pub returns : goal.returns
-returns g c =
+pub returns-clause-replays : goal.returns-clause-replays
+returns-clause-replays g c =
     let before = wire (g.R.Inlet.unread c.args.reader.now) (g.R.Inlet.reads c.args.reader.now) (g.R.Inlet.last c.args.reader.now) (g.W.Outlet.taken c.args.writer.now) (g.W.Outlet.failures c.args.writer.now) in
     let after = wire (g.R.Inlet.unread c.serve_connection.new.reader) (g.R.Inlet.reads c.serve_connection.new.reader) (g.R.Inlet.last c.serve_connection.new.reader) (g.W.Outlet.taken c.serve_connection.new.writer) (g.W.Outlet.failures c.serve_connection.new.writer) in
     subst (λ (o : Outcome). Replays c.args.base.now c.args.moment before after o) (sym c.outcome_of.ensures)
