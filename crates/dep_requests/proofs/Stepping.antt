@@ -1,5 +1,6 @@
 -- What a request's step is, by the ruling on it.
 use Rattle.std.proofs.Common.{◌≡◌, ℕ, Option, Some, None, Result, Ok, Err, IfOk, OnOk, IsTrue, min, inl, inr, refl, sym, ap, subst, ◌∙◌, arith}
+use Rattle.std.specs.Prelude.{option_and_then}
 use Rattle.std.specs.Option.{option_map, option_map_or}
 use Rattle.sqlite.specs.Effect.{Database}
 use Rattle.sqlite.specs.State as db
@@ -25,7 +26,7 @@ use Rattle.dep_decisions.specs.Rules.{refusal}
 use Rattle.dep_decisions.specs.declared.decision.Decision.{Decision}
 use Rattle.dep_decisions.specs.declared.operation.Operation.{Operation}
 use Rattle.dep_rulings.specs.Rulings.{IsRuling}
-use Rattle.dep_rulings.specs.Views.{file_in, object_in, true_view}
+use Rattle.dep_rulings.specs.Views.{file_in, object_in, path_in, true_view}
 use Rattle.dep_rulings.specs.declared.ruling.Ruling.{Ruling}
 use Rattle.dep_rulings.specs.declared.ruling.Ruling.TheVariants.{Do, Refuse}
 use Rattle.dep_rulings.specs.declared.view.View.{View}
@@ -35,7 +36,7 @@ use Rattle.dep_decisions.proofs.ReadAlone.{reads_keep}
 use Rattle.dep_answers.specs.Performing.{IsReady, IsReply}
 use Rattle.dep_answers.specs.Replies.{answer_to, refused_answer}
 use Rattle.dep_answers.specs.Steps.{operation_step, step_by, answered_step, accepted_answer, refused_step, accepted_step, is_head}
-use Rattle.dep_answers.specs.Subjects.{shown_at, subject_of}
+use Rattle.dep_answers.specs.Subjects.{shown_at, subject_in_bag, subject_of}
 use Rattle.dep_answers.specs.declared.performed.Delivery.{Delivery}
 use Rattle.dep_answers.specs.declared.performed.Performed.{Performed}
 use Rattle.dep_answers.specs.declared.subject.Shown.{Shown}
@@ -47,7 +48,9 @@ use Rattle.dep_tables.proofs.Results.{if_ok}
 use Rattle.dep_row_maps.specs.TablesAre.{TablesAre}
 use Rattle.dep_row_maps.specs.Clauses.{SeesState}
 use Rattle.dep_row_maps.proofs.Causes.{survives_itself}
-use Rattle.dep_requests.specs.Performing.{ChangesNothing, OnlyReads}
+use Rattle.dep_views.specs.Seen.{file_at_path}
+use Rattle.dep_requests.specs.declared.performing.Ruled.{Ruled}
+use Rattle.dep_requests.specs.Performing.{ChangesNothing, OnlyReads, Rules}
 
 -- a step leaves a sound state
 pub step_sound : (config : Config) (s : State) (op : Operation) → AreFit op.fields → IsSound s → IsSound (operation_step config s op).state
@@ -166,12 +169,48 @@ row_seen s next (resource.Upload u) m row h e = absurd (cc)
 row_seen s next (resource.BagList n) m row h e = absurd (cc)
 row_seen s next (resource.BagFile n path) m row h e = absurd (cc)
 
--- so it is at the state that such a request leaves, which is the same
-pub row_shown : (config : Config) (s : State) (op : Operation) (view : View) (row : FileRow) → IsTrue (is_read op.target.method) → view ≡ true_view config s op
-    → view.file ≡ Some row → (effect config s op ≡ s)
-    × (shown.File row ≡ shown_at (effect config s op) (subject_of (effect config s op).next op.target.resource op.target.method))
-row_shown config s op view row read seen has =
-    let kept : effect config s op ≡ s = reads_keep config s op read in
-    let looked : Some row ≡ file_looked_at s op.target.resource = sym has ∙ ap (λ (v : View). v.file) seen in
-    let told : shown.File row ≡ shown_at s (subject_of s.next op.target.resource op.target.method) = row_seen s s.next op.target.resource op.target.method row read looked in
-    (kept, told ∙ sym (ap (λ (after : State). shown_at after (subject_of after.next op.target.resource op.target.method)) kept))
+-- ---- a payload file of a bag, whose row was looked at
+
+in_bag : (s : State) (n : ℕ) (row : FileRow) (k : Option ℕ) → Some row ≡ option_and_then (λ f. option_map (file_row n f) (file_at s n f)) k → shown.File row ≡ shown_at s (subject_in_bag n k)
+in_bag s n row None e = absurd (cc)
+in_bag s n row (Some f) e = by_row n f row (file_at s n f) e
+
+abbrev payload_looked_at : State → Resource → Option FileRow
+payload_looked_at s r = object_in r >>= (λ n. path_in r >>= file_at_path s n)
+
+payload_seen : (s : State) (next : Counters) (r : Resource) (m : Method) (row : FileRow) → IsTrue (is_read m) → Some row ≡ payload_looked_at s r
+    → shown.File row ≡ shown_at s (subject_of next r m)
+payload_seen s next (resource.BagFile n path) Get row h e = in_bag s n row _ e
+payload_seen s next (resource.BagFile n path) Head row h e = in_bag s n row _ e
+payload_seen s next (resource.BagFile n path) Post row h e = cc h
+payload_seen s next (resource.BagFile n path) Put row h e = cc h
+payload_seen s next (resource.BagFile n path) Delete row h e = cc h
+payload_seen s next resource.Service m row h e = absurd (cc)
+payload_seen s next (resource.Object n) m row h e = absurd (cc)
+payload_seen s next (resource.Metadata n) m row h e = absurd (cc)
+payload_seen s next (resource.FileSet n) m row h e = absurd (cc)
+payload_seen s next (resource.File n f) m row h e = absurd (cc)
+payload_seen s next resource.Staging m row h e = absurd (cc)
+payload_seen s next (resource.Upload u) m row h e = absurd (cc)
+payload_seen s next (resource.BagList n) m row h e = absurd (cc)
+
+-- ---- what is read of either is shown at the state that such a request leaves, which is the same
+
+module _ (config : Config) (s : State) (op : Operation) (ruled : Ruled) (row : FileRow) (read : IsTrue (is_read op.target.method)) (rules : Rules config s op ruled) where
+  abbrev ShowsRow : Type 0
+  ShowsRow = (effect config s op ≡ s) × (shown.File row ≡ shown_at (effect config s op) (subject_of (effect config s op).next op.target.resource op.target.method))
+
+  shown_still : shown.File row ≡ shown_at s (subject_of s.next op.target.resource op.target.method) → ShowsRow
+  shown_still told =
+      let kept : effect config s op ≡ s = reads_keep config s op read in
+      (kept, told ∙ sym (ap (λ (after : State). shown_at after (subject_of after.next op.target.resource op.target.method)) kept))
+
+  pub row_shown : ruled.view.file ≡ Some row → ShowsRow
+  row_shown has =
+      let looked : Some row ≡ file_looked_at s op.target.resource = sym has ∙ ap (λ (v : View). v.file) rules.view in
+      shown_still (row_seen s s.next op.target.resource op.target.method row read looked)
+
+  pub payload_shown : ruled.payload ≡ Some row → ShowsRow
+  payload_shown has =
+      let looked : Some row ≡ payload_looked_at s op.target.resource = sym has ∙ rules.payload in
+      shown_still (payload_seen s s.next op.target.resource op.target.method row read looked)

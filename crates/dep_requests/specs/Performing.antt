@@ -7,14 +7,16 @@ use Rattle.dep_decisions.specs.Rules.{refusal}
 use Rattle.dep_decisions.specs.declared.decision.Decision.TheVariants.{Show}
 use Rattle.dep_decisions.specs.declared.operation.Operation.{Operation}
 use Rattle.dep_rulings.specs.Rulings.{IsRuling}
-use Rattle.dep_rulings.specs.Views.{true_view}
+use Rattle.dep_rulings.specs.Views.{touched_by, true_view}
 use Rattle.dep_rulings.specs.declared.ruling.Ruling.{Ruling}
 use Rattle.dep_rulings.specs.declared.ruling.Ruling.TheVariants.{Do, Refuse}
+use Rattle.dep_views.specs.Seen.{touched_payload}
 use Rattle.dep_requests.specs.declared.performing.Ruled.{Ruled}
 
--- the view tells the state truly, and the ruling is right there
+-- the view tells the state truly, and so does the row of a payload file, and the ruling is right there
 pub record Rules (config : Config) (s : State) (op : Operation) (ruled : Ruled) : Type 0 where
   pub view : ruled.view ≡ true_view config s op
+  pub payload : ruled.payload ≡ touched_payload s (touched_by config op)
   pub ruling : IsRuling config s op ruled.ruling
 
 -- nothing is changed where it is refused, or only asks to be shown

@@ -18,7 +18,8 @@ use Rattle.dep_bag.proofs.Numbered.{HasStorable, files_storable, found_by_number
 use Rattle.dep_decisions.specs.Rules.{has_bag_path}
 use Rattle.dep_rulings.specs.Views.{has_path, touched_object}
 use Rattle.dep_rulings.specs.declared.view.Touched.{Touched}
-use Rattle.dep_views.specs.Seen.{file_at_path}
+use Rattle.dep_views.specs.declared.touched.PathSeen.{PathSeen}
+use Rattle.dep_views.specs.Seen.{file_at_path, path_seen, touched_payload}
 
 -- a path is among those of the files where a file is found there
 any_found : (path : List ℕ) (es : List (ℕ × File)) → list_any (bytes_eq path) (map (λ e. payload_path e.0 e.1.name) es) ≡ is_some (find (stands_at path) es)
@@ -87,3 +88,53 @@ path_told s t row path sound there at = go t.object refl there
         ap (λ k. list_any (bytes_eq path) (tag_paths ++ map row_path (option_to_list (file_at_path s k path)))) (row_number s n row (finmap.get s.objects n) e)
         ∙ of_object s sound n path row (finmap.get s.objects n) refl e
         ∙ sym (ap (λ x. option_map_or (λ n. option_map_or (has_bag_path s n) t.path false) x false) is ∙ ap (λ x. option_map_or (has_bag_path s n) x false) at)
+
+-- ---- what is there at the path that is touched
+
+-- the row that was found for an object that is there
+pub payload_seen : (s : State) (t : Touched) (row : ObjectRow) (path : List ℕ) → Some row ≡ touched_object s t → t.path ≡ Some path → file_at_path s row.object path ≡ touched_payload s t
+payload_seen s t row path there at = go t.object refl there
+  where
+    go : (n : Option ℕ) → t.object ≡ n → Some row ≡ maps.◌>>=◌ n (λ n. option_map (object_row n) (finmap.get s.objects n)) → file_at_path s row.object path ≡ touched_payload s t
+    go None is e = absurd (cc)
+    go (Some n) is e =
+        ap (λ k. file_at_path s k path) (row_number s n row (finmap.get s.objects n) e)
+        ∙ sym (ap (λ x. maps.◌>>=◌ x (λ n. maps.◌>>=◌ t.path (file_at_path s n))) is ∙ ap (λ x. maps.◌>>=◌ x (file_at_path s n)) at)
+
+abbrev nothing_seen : PathSeen
+nothing_seen = record { has_path = false; payload = None }
+
+-- no object is there, or no path is touched
+pub nowhere_seen : (s : State) (t : Touched) → ◌≡◌ {A = Option ObjectRow} None (touched_object s t) → nothing_seen ≡ path_seen s t
+nowhere_seen s t none = go t.object refl none
+  where
+    no_file : (n : ℕ) (path : List ℕ) (k : Option ℕ) → finmap.get s.objects n ≡ None → ◌≡◌ {A = Option FileRow} None (option_and_then (λ f. option_map (file_row n f) (file_at s n f)) k)
+    no_file n path None is = refl
+    no_file n path (Some f) is = sym (ap (λ (x : Option Object). option_map (file_row n f) (option_and_then (λ (o : Object). finmap.get o.files f) x)) is)
+
+    at_path : (n : ℕ) (p : Option (List ℕ)) → finmap.get s.objects n ≡ None
+        → nothing_seen ≡ record { has_path = option_map_or (has_bag_path s n) p false; payload = maps.◌>>=◌ p (file_at_path s n) }
+    at_path n None is = refl
+    at_path n (Some path) is =
+        let has : false ≡ has_bag_path s n path = sym (ap (λ x. option_map_or (λ (o : Object). list_any (bytes_eq path) (bag_paths o)) x false) is) in
+        let row = no_file n path (file_number path) is in
+        λ i. record { has_path = has i; payload = row i }
+
+    of_object : (n : ℕ) (x : Option Object) → finmap.get s.objects n ≡ x → ◌≡◌ {A = Option ObjectRow} None (option_map (object_row n) x)
+        → nothing_seen ≡ record { has_path = option_map_or (has_bag_path s n) t.path false; payload = maps.◌>>=◌ t.path (file_at_path s n) }
+    of_object n None is e = at_path n t.path is
+    of_object n (Some o) is e = absurd (cc)
+
+    go : (n : Option ℕ) → t.object ≡ n → ◌≡◌ {A = Option ObjectRow} None (maps.◌>>=◌ n (λ n. option_map (object_row n) (finmap.get s.objects n))) → nothing_seen ≡ path_seen s t
+    go None is e =
+        sym (ap (λ x. record { has_path = option_map_or (λ n. option_map_or (has_bag_path s n) t.path false) x false; payload = maps.◌>>=◌ x (λ n. maps.◌>>=◌ t.path (file_at_path s n)) }) is)
+    go (Some n) is e =
+        of_object n (finmap.get s.objects n) refl e
+        ∙ sym (ap (λ x. record { has_path = option_map_or (λ n. option_map_or (has_bag_path s n) t.path false) x false; payload = maps.◌>>=◌ x (λ n. maps.◌>>=◌ t.path (file_at_path s n)) }) is)
+
+pub no_path_seen : (s : State) (t : Touched) → t.path ≡ None → nothing_seen ≡ path_seen s t
+no_path_seen s t none = go t.object ∙ sym (ap (λ p. record { has_path = option_map_or (λ n. option_map_or (has_bag_path s n) p false) t.object false; payload = maps.◌>>=◌ t.object (λ n. maps.◌>>=◌ p (file_at_path s n)) }) none)
+  where
+    go : (n : Option ℕ) → nothing_seen ≡ record { has_path = option_map_or (λ n. option_map_or (has_bag_path s n) None false) n false; payload = maps.◌>>=◌ n (λ n. maps.◌>>=◌ None (file_at_path s n)) }
+    go None = refl
+    go (Some n) = refl

@@ -13,4 +13,4 @@ mod view;
 
 pub use objects::load_object_view;
 pub use shown::load_shown;
-pub use view::load_view;
+pub use view::{LoadedView, load_view};

@@ -6,12 +6,12 @@ ghost use Rattle.std.specs.Option.{option_copied, option_to_list};
 ghost use Rattle.dep_types.specs.BagPaths.{tag_paths};
 ghost use Rattle.dep_bag.specs.Parts.{row_path};
 ghost use Rattle.dep_types.specs.Sound.{IsSound};
-ghost use Rattle.dep_rulings.specs.Views.{has_path, touched_file, touched_object};
+ghost use Rattle.dep_rulings.specs.Views.{touched_file, touched_object};
 ghost use Rattle.dep_tables.specs.Clauses.{ReadsOnly, FailsReading, StaysWithin};
 ghost use Rattle.dep_row_maps.specs.Clauses.{FromMaps};
 ghost use Rattle.dep_row_maps.specs.Causes.{FailsByOne, FailsByStatement, FailsSince};
 ghost use Rattle.dep_views.specs.Causes.{AreStorable};
-ghost use Rattle.dep_views.specs.Seen.{file_at_path};
+ghost use Rattle.dep_views.specs.Seen.{file_at_path, path_seen};
 
 use dep_bag::{file_number, has_bag_path};
 use dep_files::find_file;
@@ -19,6 +19,7 @@ use dep_objects::find_object;
 use dep_rulings::Touched;
 use dep_tables::Statements;
 use dep_types::{FileRow, ObjectRow, StoreFault};
+use std::slice;
 
 /// The row of the object.
 pub(crate) fn find_touched_object<T: Statements>(
@@ -81,25 +82,35 @@ fn find_file_at_path<T: Statements>(
 }
 
 // Whether a bag with this payload file, or with none, has the path.
-fn has_path_with(file: Option<FileRow>, path: &[u8]) -> bool
-    ensures { result ≡ list_any (bytes_eq path.now) (tag_paths ++ map row_path (option_to_list file)) }
+fn has_path_with(file: &Option<FileRow>, path: &[u8]) -> bool
+    ensures { result
+        ≡ list_any (bytes_eq path.now) (tag_paths ++ map row_path (option_to_list file.now)) }
 {
     match file {
-        Some(row) => has_bag_path(&[row], path),
+        Some(row) => has_bag_path(slice::from_ref(row), path),
         None => has_bag_path(&[], path),
     }
 }
 
-/// Whether the object, which was found so, has the path in its bag. No more of its files is read than the one whose
-/// number the path has.
+/// What is there at a path of a bag.
+#[derive(Drop)]
+pub(crate) struct PathSeen {
+    /// Whether the bag has the path.
+    pub(crate) has_path: bool,
+    /// The row of the one payload file that can stand there.
+    pub(crate) payload: Option<FileRow>,
+}
+
+/// What is there at the path, in the bag of the object, which was found so. No more of its files is read than the one
+/// whose number the path has.
 pub(crate) fn find_touched_path<T: Statements>(
     tx: &mut T,
     touched: &Touched,
     object: Option<&ObjectRow>,
-) -> Result<bool, StoreFault>
+) -> Result<PathSeen, StoreFault>
     ensures map { FromMaps (T.state tx.old) (T.state tx.new)
         (λ s. IsSound s → option_copied object.entry ≡ touched_object s touched.now
-        → IfOk result (λ has. has ≡ has_path s touched.now)) }
+        → IfOk result (λ seen. seen ≡ path_seen s touched.now)) }
     ensures same { IsTrue (T.state tx.old).is_open
         → ReadsOnly (T.state tx.old) (T.state tx.new) result }
     ensures cause { FailsByOne T.state tx.old tx.new result ⊤ FailsByStatement }
@@ -109,9 +120,15 @@ pub(crate) fn find_touched_path<T: Statements>(
     match (object, &touched.path) {
         (Some(object), Some(path)) => {
             let path = path.as_slice();
-            let file = find_file_at_path(tx, object.object, path)?;
-            Ok(has_path_with(file, path))
+            let payload = find_file_at_path(tx, object.object, path)?;
+            Ok(PathSeen {
+                has_path: has_path_with(&payload, path),
+                payload,
+            })
         }
-        _ => Ok(false),
+        _ => Ok(PathSeen {
+            has_path: false,
+            payload: None,
+        }),
     }
 }

@@ -7,13 +7,13 @@ use Rattle.dep_requests.proofs.Stepping.{next_after, reads_alone, shown_after}
 use Rattle.dep_requests.proofs.performing.carry.Goals as goal
 
 pub returns-clause-map : goal.returns-clause-map
-returns-clause-map g c clean within ours s are config sound fit seen ruling =
+returns-clause-map g c clean within ours s are config sound fit rules ruling =
     let op = c.args.operation.now in
     let mid = g.T.Statements.state c.carry_out.new.tx in
     let before = clean_before c.load_shown.ensures.stays clean in
-    let made = c.in_ok-carry_out.ensures.map before within ours s are config op sound seen ruling refl in
+    let made = c.in_ok-carry_out.ensures.map before within ours s are config op sound rules.view ruling refl in
     let then = c.in_ok-carry_out.ensures.ours before within ours in
-    let next = next_after config s op c.args.view.now c.args.decision.now c.after_taking-next.result seen ruling.1 (rw c.numbers_for.ensures at c.after_taking-next.ensures) in
+    let next = next_after config s op c.args.ruled.now.view c.args.decision.now c.after_taking-next.result rules.view ruling.1 (rw c.numbers_for.ensures at c.after_taking-next.ensures) in
     shown_after (effect config s op) op mid (g.T.Statements.state c.load_shown.new.tx) c.after_taking-next.result c.of-subject.result c.load_shown.result made c.of-subject.ensures next
     (c.load_shown.ensures.still clean then)
     (c.load_shown.ensures.map clean (c.in_ok-carry_out.ensures.stays.inside before within) then (effect config s op) made (effect_sound config s op fit ruling.0 sound))

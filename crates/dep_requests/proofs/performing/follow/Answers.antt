@@ -26,7 +26,7 @@ returns-in_ok-shown-in-Do-clause-map g c clean within ours s are sound fit rules
     let way = delivered s op c.args.ruled.now.view.clock c.delivery_at-delivery.result sound (ap (λ (v : View). v.clock) rules.view)
     c.delivery_at-delivery.ensures.clock c.delivery_at-delivery.ensures.bare c.delivery_at-delivery.ensures.closes in
     let ruling = subst (λ (r : Ruling). IsRuling config s op r) c.in-Do.is rules.ruling in
-    let carried = c.in_ok-shown-in-Do.ensures.map clean within ours s are config sound fit rules.view ruling in
+    let carried = c.in_ok-shown-in-Do.ensures.map clean within ours s are config sound fit rules ruling in
     accepted_then config s op (SeesState (g.T.Statements.state c.see.new.tx)) c.delivery_at-delivery.result _ c.accept-performed.result fit sound ruling.0 way carried c.accept-performed.ensures
 
 pub returns-in-Refuse-clause-ours : goal.returns-in-Refuse-clause-ours

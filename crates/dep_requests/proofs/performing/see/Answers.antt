@@ -7,9 +7,9 @@ use Rattle.dep_requests.proofs.Stepping.{row_shown}
 use Rattle.dep_requests.proofs.performing.see.Goals as goal
 
 pub returns-in-Some-clause-map : goal.returns-in-Some-clause-map
-returns-in-Some-clause-map g c clean within ours s are config sound fit seen ruling =
+returns-in-Some-clause-map g c clean within ours s are config sound fit rules ruling =
     let read = sym c.is_read.ensures ∙ c.if-is_read.true in
-    let shows = row_shown config s c.args.operation.now c.args.view.now c.in-Some.row read seen c.in-Some.is in (
+    let shows = row_shown config s c.args.operation.now c.args.ruled.now c.in-Some.row read rules c.in-Some.is in (
       subst (λ (after : State). SeesState (g.T.Statements.state c.args.tx.now) after) (sym shows.0) are,
       ap (λ (row : FileRow). shown.File row) c.in_ok-copied_row.ensures ∙ shows.1,
     )
