@@ -108,12 +108,12 @@ not_before (y ∷ xs) (suc i) x u once at is = go (upload_of y.source) once (λ 
 
 -- ---- one file more
 
-take_next : (xs : List NewFile) (i : ℕ) (x : NewFile) → slice_get xs i ≡ Some x → take (i + 1) xs ≡ take i xs ++ x ∷ []
+pub take_next : (xs : List NewFile) (i : ℕ) (x : NewFile) → slice_get xs i ≡ Some x → take (i + 1) xs ≡ take i xs ++ x ∷ []
 take_next [] i x at = cc at
 take_next (y ∷ xs) zero x at = let same : y ≡ x = cc at in ap (λ (z : NewFile). z ∷ []) same
 take_next (y ∷ xs) (suc i) x at = ap (λ (k : ℕ). take k (y ∷ xs)) (add-one (suc i)) ∙ ap (λ (zs : List NewFile). y ∷ zs) (ap (λ (k : ℕ). take k xs) (sym (add-one i)) ∙ take_next xs i x at)
 
-length_before : (xs : List NewFile) (i : ℕ) (x : NewFile) → slice_get xs i ≡ Some x → length (take i xs) ≡ i
+pub length_before : (xs : List NewFile) (i : ℕ) (x : NewFile) → slice_get xs i ≡ Some x → length (take i xs) ≡ i
 length_before [] i x at = cc at
 length_before (y ∷ xs) zero x at = refl
 length_before (y ∷ xs) (suc i) x at = ap suc (length_before xs i x at)

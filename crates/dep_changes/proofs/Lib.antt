@@ -9,3 +9,4 @@ pub mod Carried
 pub mod Causes
 pub mod Fits
 pub mod Opened
+pub mod NewObject

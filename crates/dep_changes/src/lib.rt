@@ -4,9 +4,11 @@
 
 mod carrying;
 mod change;
+mod created;
 mod deposits;
 mod new_files;
 mod objects;
 mod uploads;
 
 pub use carrying::carry_out;
+pub use created::created_view;

@@ -33,18 +33,18 @@ use dep_tables::Statements;
 use dep_types::{FileRow, StoreFault, Text, UploadRow};
 use std::alloc::Global;
 
-// The numbers of a file and of its object.
+/// The numbers of a file and of its object.
 #[derive(Clone, Copy)]
-struct FileNumbers {
-    object: u64,
-    file: u64,
+pub(crate) struct FileNumbers {
+    pub(crate) object: u64,
+    pub(crate) file: u64,
 }
 
-// How many bytes a content has, and their digests.
+/// How many bytes a content has, and their digests.
 #[derive(Clone, Copy)]
-struct Extent {
-    size: u64,
-    digests: Digests,
+pub(crate) struct Extent {
+    pub(crate) size: u64,
+    pub(crate) digests: Digests,
 }
 
 fn copied(alloc: Global, text: &Text) -> Result<Text, StoreFault>
@@ -76,7 +76,8 @@ fn is_reference(source: Source) -> bool
     }
 }
 
-fn new_row(
+/// The row of a new file that has such an extent.
+pub(crate) fn new_row(
     change: &Change<'_>,
     numbers: FileNumbers,
     new: &NewFile,
@@ -141,16 +142,16 @@ fn put_posted<T: Statements>(
     put_file(tx, &row, change.content)
 }
 
-// An upload that is whole, with the digests of its bytes.
+/// An upload that is whole, with the digests of its bytes.
 #[derive(Clone, Copy)]
-struct WholeUpload {
-    row: UploadRow,
-    digests: Digests,
+pub(crate) struct WholeUpload {
+    pub(crate) row: UploadRow,
+    pub(crate) digests: Digests,
 }
 
-// The upload that is seen at this place. That it isn't there or isn't whole is a fault of the store, as the rules let
-// no such request through.
-fn whole_upload(view: &View, index: usize) -> Result<WholeUpload, StoreFault>
+/// The upload that is seen at this place. That it isn't there or isn't whole is a fault of the store, as the rules let
+/// no such request through.
+pub(crate) fn whole_upload(view: &View, index: usize) -> Result<WholeUpload, StoreFault>
     ensures told { IfOk result (λ whole. (u : ℕ) (it : Upload)
         → slice_get view.now.uploads index ≡ Some (whole_view u it)
         → (whole.row ≡ upload_row u it) × (whole.digests ≡ digests_of (assembled it))) }

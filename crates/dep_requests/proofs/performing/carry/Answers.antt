@@ -1,9 +1,17 @@
-use Rattle.std.proofs.Common.{refl}
+use Rattle.std.proofs.Common.{◌≡◌, List, length, refl, sym, ap, ◌∙◌}
 use Rattle.dep_tables.proofs.Chains.{clean_before, stays_then}
 use Rattle.dep_decisions.specs.Effects.{effect}
 use Rattle.dep_changes.proofs.Chains.{ours_then}
 use Rattle.dep_decisions.proofs.Accepted.{effect_sound}
 use Rattle.dep_requests.proofs.Stepping.{next_after, reads_alone, shown_after}
+use Rattle.dep_decisions.specs.Decisions.{numbers_for}
+use Rattle.dep_decisions.specs.declared.decision.Decision.{Decision}
+use Rattle.dep_decisions.specs.declared.decision.Deposit.{Deposit}
+use Rattle.dep_decisions.specs.declared.decision.NewFile.{NewFile}
+use Rattle.dep_changes.proofs.Carried.{room_of_files}
+use Rattle.dep_decisions.specs.declared.decision.Decision.TheVariants.{Create}
+use Rattle.dep_decisions.specs.declared.decision.Deposit.TheVariants.{Files}
+use Rattle.dep_requests.proofs.Created.{created_shown}
 use Rattle.dep_requests.proofs.performing.carry.Goals as goal
 
 pub returns-clause-map : goal.returns-clause-map
@@ -28,3 +36,19 @@ returns-clause-ours g c =
 pub returns-clause-unchanged : goal.returns-clause-unchanged
 returns-clause-unchanged g c show =
     reads_alone g.T.Statements.state c.args.tx.now c.carry_out.new.tx c.load_shown.new.tx c.load_shown.result (c.in_ok-carry_out.ensures.untouched show).1 c.load_shown.ensures.same
+
+pub created_view-requires : goal.created_view-requires
+created_view-requires g c =
+    room_of_files c.args.ruled.now.view.next c.args.decision.now _
+    (ap (λ (d : Decision). (numbers_for d).file) (c.in-Create.is ∙ ap (λ (x : Deposit). Create x c.in-Create.ingests) c.in-Files.is) ∙ ap length (sym c.as_slice.ensures)) c.requires
+
+pub returns-in-Files-clause-map : goal.returns-in-Files-clause-map
+returns-in-Files-clause-map g c clean within ours s are config sound fit rules ruling =
+    let op = c.args.operation.now in
+    let made = c.in_ok-carry_out.ensures.map clean within ours s are config op sound rules.view ruling refl in
+    let files = c.as_slice.result.now in
+    let same : c.args.decision.now ≡ Create (Files files) c.in-Create.ingests =
+    c.in-Create.is ∙ ap (λ (x : Deposit). Create x c.in-Create.ingests) (c.in-Files.is ∙ ap (λ (fs : List NewFile). Files fs) (sym c.as_slice.ensures)) in
+    let asked = sym same ∙ ruling.1 in
+    let told = c.in_ok-created.ensures.told config s op sound rules.view (ruling.0, asked) refl in
+    (made, created_shown config s op (Files files) c.in-Create.ingests c.in_ok-created.created asked told)

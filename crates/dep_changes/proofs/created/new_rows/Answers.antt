@@ -1,0 +1,48 @@
+use Rattle.std.proofs.Common.{◌≡◌, ◌<◌, ◌+◌, ◌++◌, ◌∷◌, [], List, length, slice_get, take, Some, refl, sym, ap, ◌∙◌, arith}
+use Rattle.std.proofs.lemmas.Option.{slice_get_read}
+use Rattle.std.proofs.lemmas.List.{take_all}
+use Rattle.dep_types.specs.Rows.{file_row}
+use Rattle.dep_types.specs.declared.counters.Counters.{Counters}
+use Rattle.dep_types.specs.declared.rows.FileRow.{FileRow}
+use Rattle.dep_row_maps.proofs.Causes.{if_err_is}
+use Rattle.dep_decisions.specs.Effects.{file_from}
+use Rattle.dep_objects.proofs.Named.{pushed}
+use Rattle.dep_objects.proofs.Places.{has_some}
+use Rattle.dep_changes.proofs.NewObject.{no_rows, rows_added, rows_more}
+use Rattle.dep_changes.proofs.created.new_rows.Goals as goal
+
+pub files-init : goal.files-init
+files-init c s numbers sources = c.new-rows.ensures.items ∙ no_rows s c.args.change.now.content.now c.args.object s.next.file
+
+pub files-preserved : goal.files-preserved
+files-preserved c s numbers sources =
+    let content = c.args.change.now.content.now in
+    let files = c.args.files.now in
+    let i = c.files.index in
+    let x = c.index-files-index.result in
+    let n = c.args.object in
+    let within : i < length files = omega arith in
+    let at : slice_get files i ≡ Some x = slice_get_read files (length files) i x refl within c.index-files-index.is in
+    let row : c.in_ok-row.row ≡ file_row n (s.next.file + i) (file_from s content x) =
+    c.in_ok-row.ensures.told s numbers (sources.0 i x at) ∙ ap (λ (k : Counters). file_row n (k.file + i) (file_from s content x)) numbers.1 in
+    let before = c.files.rows.items in
+    let grown = pushed c.push.result c.push.new.self.items (before ++ c.in_ok-row.row ∷ []) before (sym c.is_err.ensures.value ∙ c.if-is_err.false) c.push.ensures.items in
+    grown
+    ∙ ap (λ (l : List FileRow). l ++ c.in_ok-row.row ∷ []) (c.files.invariant s numbers sources)
+    ∙ ap (λ (r : FileRow). rows_added s content n s.next.file (take i files) ++ r ∷ []) row
+    ∙ sym (rows_more s content n s.next.file files i x at)
+
+pub returns-clause-told : goal.returns-clause-told
+returns-clause-told c s numbers sources =
+    c.new.ensures
+    ∙ c.files.invariant s numbers sources
+    ∙ ap (rows_added s c.args.change.now.content.now c.args.object s.next.file) (take_all c.files.index c.args.files.now c.files-test.false)
+
+pub returns-in_err-row-clause-cause : goal.returns-in_err-row-clause-cause
+returns-in_err-row-clause-cause c s sources =
+    let files = c.args.files.now in
+    let i = c.files.index in
+    let x = c.index-files-index.result in
+    let within : i < length files = omega arith in
+    let at : slice_get files i ≡ Some x = slice_get_read files (length files) i x refl within c.index-files-index.is in
+    if_err_is _ c.from_residual.result c.in_err-row.field-0.0 c.from_residual.ensures.1 (has_some files i within, c.in_err-row.ensures.cause s (sources.0 i x at))

@@ -1,0 +1,11 @@
+use Rattle.std.proofs.Common.{◌≡◌, take}
+use Rattle.dep_types.specs.State.{State}
+use Rattle.dep_changes.specs.Told.{TellsNumbers, AreSources}
+use Rattle.dep_changes.proofs.NewObject.{rows_added}
+use Rattle.dep_changes.proofs.created.new_rows.Given as goal
+
+-- the rows are those of the files so far
+abbrev pub invariant-files : goal.invariant-files
+invariant-files l =
+    (s : State) → TellsNumbers l.change.view.now s → AreSources s l.change.content.now l.change.view.now.uploads l.files
+    → l.rows.items ≡ rows_added s l.change.content.now l.object s.next.file (take l.index l.files)
