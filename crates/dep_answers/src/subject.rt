@@ -6,7 +6,7 @@ ghost use Rattle.dep_answers.specs.Subjects.{subject_at, subject_in_bag, subject
 
 use crate::performed::FileId;
 use dep_bag::file_number;
-use dep_rulings::Numbers;
+use dep_operations::Numbers;
 use dep_types::{
     Counters, FileRow, Metadata, Method, ObjectRow, ObjectView, Resource, Target, UploadRow,
 };

@@ -5,8 +5,8 @@ ghost use Rattle.dep_answers.specs.Told.{told_upload, told_opened, ordered_uploa
 use crate::answer::{Answer, Content};
 use crate::subject::Shown;
 use dep_docs_out::{upload_doc, upload_url};
+use dep_operations::Numbers;
 use dep_reply::Status;
-use dep_rulings::Numbers;
 use dep_types::{Config, Text, UploadRow};
 use std::alloc::{AllocError, Global};
 

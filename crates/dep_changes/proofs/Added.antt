@@ -15,7 +15,7 @@ use Rattle.dep_decisions.specs.Effects.{added, added_from, bytes_from, file_from
 use Rattle.dep_decisions.specs.declared.decision.Source.{Source}
 use Rattle.dep_decisions.specs.declared.decision.Source.TheVariants.{Posted, Assembled}
 use Rattle.dep_decisions.specs.declared.decision.NewFile.{NewFile}
-use Rattle.dep_rulings.specs.declared.view.UploadView.{UploadView}
+use Rattle.dep_operations.specs.declared.view.UploadView.{UploadView}
 use Rattle.dep_changes.specs.Told.{IsSource, AreSources}
 use Rattle.dep_changes.specs.Changed.{made_file, with_new_file, with_new_files}
 

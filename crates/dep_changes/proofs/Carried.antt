@@ -20,8 +20,8 @@ use Rattle.dep_decisions.specs.Effects.{at, effect, effect_of}
 use Rattle.dep_decisions.specs.Rules.{refusal}
 use Rattle.dep_decisions.specs.declared.operation.Operation.{Operation}
 use Rattle.dep_decisions.specs.declared.decision.Decision.{Decision}
-use Rattle.dep_rulings.specs.Views.{true_view}
-use Rattle.dep_rulings.specs.declared.view.View.{View}
+use Rattle.dep_operations.specs.Views.{true_view}
+use Rattle.dep_operations.specs.declared.view.View.{View}
 use Rattle.dep_changes.specs.Told.{TellsFor, TellsNumbers}
 use Rattle.dep_changes.specs.Changed.{with_maps}
 use Rattle.dep_changes.proofs.Accepted.{told_for}

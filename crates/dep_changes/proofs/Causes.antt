@@ -24,8 +24,8 @@ use Rattle.dep_objects.specs.Texts.{HavePlaces}
 use Rattle.dep_decisions.specs.declared.decision.NewFile.{NewFile}
 use Rattle.dep_decisions.specs.declared.decision.Deposit.{Deposit}
 use Rattle.dep_decisions.specs.declared.decision.Deposit.TheVariants.{Files, Metadata}
-use Rattle.dep_rulings.specs.declared.view.View.{View}
-use Rattle.dep_rulings.specs.declared.view.UploadView.{UploadView}
+use Rattle.dep_operations.specs.declared.view.View.{View}
+use Rattle.dep_operations.specs.declared.view.UploadView.{UploadView}
 use Rattle.dep_changes.specs.Causes.{AreStorableSources, CopiesBeside, HasCopies, HasStorableNumbers, IsStorableDeposit, TellsStorableObject}
 
 -- ---- which failures are among which

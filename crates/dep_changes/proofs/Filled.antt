@@ -14,7 +14,7 @@ use Rattle.dep_decisions.specs.Effects.{blank, filled, ingested_by, joined, uplo
 use Rattle.dep_decisions.specs.declared.decision.NewFile.{NewFile}
 use Rattle.dep_decisions.specs.declared.decision.Deposit.{Deposit}
 use Rattle.dep_decisions.specs.declared.decision.Deposit.TheVariants.{Files, Metadata}
-use Rattle.dep_rulings.specs.declared.view.UploadView.{UploadView}
+use Rattle.dep_operations.specs.declared.view.UploadView.{UploadView}
 use Rattle.dep_changes.specs.Told.{AreSources, HasSources}
 use Rattle.dep_changes.specs.Changed.{with_appended, with_deposit, with_new_files}
 use Rattle.dep_changes.proofs.Added.{added_alike}

@@ -22,10 +22,10 @@ use Rattle.dep_decisions.specs.declared.decision.NewFile.{NewFile}
 use Rattle.dep_decisions.specs.declared.decision.Deposit.{Deposit}
 use Rattle.dep_decisions.specs.declared.decision.Deposit.TheVariants.{Files, Metadata}
 use Rattle.dep_decisions.specs.declared.decision.Decision.{Decision}
-use Rattle.dep_rulings.specs.Views.{live_upload}
-use Rattle.dep_rulings.specs.declared.view.View.{View}
-use Rattle.dep_rulings.specs.declared.view.UploadView.{UploadView}
-use Rattle.dep_rulings.specs.declared.view.UploadState.TheVariants.{TimedOut, Unknown, Live}
+use Rattle.dep_operations.specs.Views.{live_upload}
+use Rattle.dep_operations.specs.declared.view.View.{View}
+use Rattle.dep_operations.specs.declared.view.UploadView.{UploadView}
+use Rattle.dep_operations.specs.declared.view.UploadState.TheVariants.{TimedOut, Unknown, Live}
 use Rattle.dep_changes.specs.Told.{AreSources, HasSources, IsSource, TellsFor, TellsNumbers, TellsObject, TellsUpload}
 use Rattle.dep_changes.specs.Causes.{AreStorableSizes, AreStorableSources, HasPlaces, HasStorableNumbers, IsStorableDecision, IsStorableDeposit, IsStorableSource, TakesMemory, TellsStorableObject, TellsStorableUpload}
 

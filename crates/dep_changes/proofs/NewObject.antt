@@ -23,7 +23,7 @@ use Rattle.dep_decisions.specs.declared.decision.Source.{Source}
 use Rattle.dep_decisions.specs.declared.decision.Source.TheVariants.{Posted, Assembled}
 use Rattle.dep_decisions.specs.declared.decision.Deposit.TheVariants.{Files}
 use Rattle.dep_decisions.specs.declared.decision.NewFile.{NewFile}
-use Rattle.dep_rulings.specs.declared.view.UploadView.{UploadView}
+use Rattle.dep_operations.specs.declared.view.UploadView.{UploadView}
 use Rattle.dep_changes.specs.Told.{IsSource, whole_view}
 use Rattle.dep_changes.proofs.Added.{length_before, take_next}
 use Rattle.dep_changes.proofs.Filled.{blank_row_is}

@@ -15,10 +15,10 @@ use Rattle.dep_decisions.specs.declared.decision.Deposit.{Deposit}
 use Rattle.dep_decisions.specs.declared.decision.Deposit.TheVariants.{Files, Metadata}
 use Rattle.dep_decisions.specs.declared.decision.Decision.{Decision}
 use Rattle.dep_decisions.specs.declared.decision.Decision.TheVariants.{Create, Append, Replace, SetMetadata, SetFiles, SetFile, Open}
-use Rattle.dep_rulings.specs.declared.view.View.{View}
-use Rattle.dep_rulings.specs.declared.view.LiveUpload.{LiveUpload}
-use Rattle.dep_rulings.specs.declared.view.UploadView.{UploadView}
-use Rattle.dep_rulings.specs.declared.view.UploadState.TheVariants.{Live}
+use Rattle.dep_operations.specs.declared.view.View.{View}
+use Rattle.dep_operations.specs.declared.view.LiveUpload.{LiveUpload}
+use Rattle.dep_operations.specs.declared.view.UploadView.{UploadView}
+use Rattle.dep_operations.specs.declared.view.UploadState.TheVariants.{Live}
 use Rattle.dep_changes.specs.Told.{whole_view}
 
 -- ---- numbers that a table can hold

@@ -3,7 +3,7 @@
 ghost use Rattle.std.specs.Prelude.{◌≡◌, Some, None, IfOk, IfErr};
 
 use dep_fixity::HashedOctets;
-use dep_rulings::View;
+use dep_operations::View;
 use dep_types::{ObjectRow, StoreFault};
 use std::alloc::Global;
 

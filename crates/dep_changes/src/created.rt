@@ -13,16 +13,16 @@ ghost use Rattle.dep_decisions.specs.Effects.{added, bytes_from, file_from, fill
 ghost use Rattle.dep_decisions.specs.declared.decision.Decision.TheVariants.{Create};
 ghost use Rattle.dep_decisions.specs.declared.decision.Deposit.TheVariants as deposit;
 ghost use Rattle.dep_decisions.specs.declared.operation.Operation.{Operation};
-ghost use Rattle.dep_rulings.specs.Rulings.{IsRuling};
-ghost use Rattle.dep_rulings.specs.Views.{true_view};
-ghost use Rattle.dep_rulings.specs.declared.ruling.Ruling.TheVariants.{Do};
+ghost use Rattle.dep_operations.specs.Rulings.{IsRuling};
+ghost use Rattle.dep_operations.specs.Views.{true_view};
+ghost use Rattle.dep_operations.specs.declared.ruling.Ruling.TheVariants.{Do};
 ghost use Rattle.dep_changes.specs.Told.{TellsNumbers, AreSources, IsSource};
 
 use crate::change::Change;
 use crate::deposits::blank_row;
 use crate::new_files::{Extent, FileNumbers, new_row, whole_upload};
 use dep_decisions::{NewFile, Source};
-use dep_rulings::View;
+use dep_operations::View;
 use dep_types::{FileRow, FileRows, Metadata, ObjectView, Octets, StoreFault};
 use std::alloc::Global;
 

@@ -25,7 +25,7 @@ use crate::objects::{files_changed, texts_changed, write_row};
 use dep_decisions::{Deposit, NewFile};
 use dep_files::delete_files;
 use dep_objects::{add_object, append_metadata, set_metadata};
-use dep_rulings::View;
+use dep_operations::View;
 use dep_tables::Statements;
 use dep_types::{Metadata, ObjectRow, StoreFault};
 use std::alloc::Global;

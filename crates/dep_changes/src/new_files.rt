@@ -27,7 +27,7 @@ use crate::objects::{files_changed, write_row};
 use dep_decisions::{NewFile, Source};
 use dep_files::{delete_file, delete_files, put_file};
 use dep_fixity::Digests;
-use dep_rulings::{UploadState, UploadView, View};
+use dep_operations::{UploadState, UploadView, View};
 use dep_staging::assemble;
 use dep_tables::Statements;
 use dep_types::{FileRow, StoreFault, Text, UploadRow};

@@ -20,7 +20,7 @@ ghost use Rattle.dep_changes.specs.Told.{TellsNumbers, TellsFile, TellsObject};
 use crate::change::touched;
 use dep_files::{delete_file, delete_files};
 use dep_objects::{delete_object, put_object};
-use dep_rulings::View;
+use dep_operations::View;
 use dep_tables::Statements;
 use dep_types::{Metadata, ObjectRow, StoreFault};
 use std::alloc::Global;

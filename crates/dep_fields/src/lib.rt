@@ -8,6 +8,7 @@ pub mod laws;
 mod opening;
 mod values;
 
+pub use dep_tags::IfMatch;
 pub use field::Field;
 pub use fields::SwordFields;
 pub use kind::{Kind, Opening};

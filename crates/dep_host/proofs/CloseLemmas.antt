@@ -3,10 +3,10 @@ use Rattle.std.proofs.Common.{◌≡◌, ◌⊎◌, inl, inr, ℕ, List, [], ◌
 use Rattle.std.proofs.lemmas.List.{append-nil}
 use Rattle.dep_types.specs.Conditions.{Condition}
 use Rattle.dep_types.specs.State.{State}
-use Rattle.dep_server.specs.Records.{Record}
-use Rattle.dep_server.specs.Holding.{StandsHoldingAfter}
-use Rattle.dep_server.specs.Standing.{IsClean}
-use Rattle.dep_server.specs.declared.hub.Hub.{Hub}
+use Rattle.dep_hub.specs.Records.{Record}
+use Rattle.dep_hub.specs.Holding.{StandsHoldingAfter}
+use Rattle.dep_hub.specs.Standing.{IsClean}
+use Rattle.dep_hub.specs.declared.hub.Hub.{Hub}
 use Rattle.dep_host.specs.declared.seat.Seat.{Seat}
 use Rattle.dep_host.specs.Hosting.{Position, slot, Deed, Opens, Takes, Replies, Declines, Closes, Step, refused, asks, comes, rests, offers, refuses, answers, leaves, Steps, begins, goes_on, GoesOn}
 use Rattle.dep_host.specs.Runs.{KeepsPromise, Promises}

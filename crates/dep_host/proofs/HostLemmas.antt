@@ -6,10 +6,10 @@ use Rattle.std.proofs.KnownBytes.{Keeps-refl}
 use Rattle.std.specs.Prelude.{IfSome, IsSomeAnd, MatchOption}
 use Rattle.std.specs.Io.KnownBytes.{Keeps}
 use Rattle.dep_types.specs.Conditions.{Condition}
-use Rattle.dep_server.specs.Holding.{KeepsHolding}
-use Rattle.dep_server.specs.declared.hub.Hub.{Hub}
-use Rattle.dep_server.specs.Standing.{IsClean, IsHonest}
-use Rattle.dep_server.specs.Shut.{TellsOpen}
+use Rattle.dep_hub.specs.Holding.{KeepsHolding}
+use Rattle.dep_hub.specs.declared.hub.Hub.{Hub}
+use Rattle.dep_hub.specs.Standing.{IsClean, IsHonest}
+use Rattle.dep_hub.specs.Shut.{TellsOpen}
 use Rattle.dep_outbox.specs.declared.wire.Wire.{Wire}
 use Rattle.dep_outbox.specs.Wires.{told}
 use Rattle.dep_host.specs.Courses.{is_ended, closing as why}

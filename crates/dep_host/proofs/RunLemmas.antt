@@ -4,11 +4,11 @@ use Rattle.std.proofs.lemmas.List.{append-nil}
 use Rattle.dep_types.specs.State.{State}
 use Rattle.dep_types.specs.declared.config.Config.{Config}
 use Rattle.dep_types.specs.Conditions.{Condition, StandsFor, HasCleanDisk}
-use Rattle.dep_server.specs.Records.{Record, Connect, Arrive, Close, Line, Live, Absent, Run}
-use Rattle.dep_server.specs.Standing.{IsClean}
-use Rattle.dep_server.specs.Holding.{KeepsHolding, StandsHoldingAfter, MovesLine, PartArrives, with_held}
-use Rattle.dep_server.specs.declared.hub.Hub.{Hub}
-use Rattle.dep_server.specs.declared.arrived.Arrived.{Arrived}
+use Rattle.dep_hub.specs.Records.{Record, Connect, Arrive, Close, Line, Live, Absent, Run}
+use Rattle.dep_hub.specs.Standing.{IsClean}
+use Rattle.dep_hub.specs.Holding.{KeepsHolding, StandsHoldingAfter, MovesLine, PartArrives, with_held}
+use Rattle.dep_hub.specs.declared.hub.Hub.{Hub}
+use Rattle.dep_hub.specs.declared.arrived.Arrived.{Arrived}
 use Rattle.dep_host.proofs.CloseLemmas.{clean_before}
 use Rattle.dep_host.specs.Hosting.{Position, Deed, Step, refused, asks, comes, rests, offers, refuses, answers, leaves, Steps, begins, goes_on}
 use Rattle.dep_host.specs.Runs.{Follows, begins as follows_none, opens, takes, replies, declines, closes, StandsBehind}

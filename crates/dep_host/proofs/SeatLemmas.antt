@@ -5,13 +5,13 @@ use Rattle.std.proofs.lemmas.Bool.{lt-ltb}
 use Rattle.std.proofs.Math.Bool.{or-true}
 use Rattle.std.specs.Io.KnownBytes.{Keeps, Appends, Consumes, IsAtEnd}
 use Rattle.dep_types.specs.Conditions.{Condition}
-use Rattle.dep_server.specs.Holding.{AnswersOver, ComesToNext, OffersTo, Outcome, IsNext, IsRefused, arrived_by}
-use Rattle.dep_server.specs.Turns.{most_read}
-use Rattle.dep_server.specs.declared.hub.Hub.{Hub}
-use Rattle.dep_server.specs.declared.arrived.Arrived.{Arrived}
-use Rattle.dep_server.specs.declared.arrived.Arrived.TheVariants as came
-use Rattle.dep_server.specs.declared.next.Next.{Next}
-use Rattle.dep_server.specs.declared.next.Next.TheVariants.{More, Waiting, Closed, Cut, NoSuch}
+use Rattle.dep_hub.specs.Holding.{AnswersOver, ComesToNext, OffersTo, Outcome, IsNext, IsRefused, arrived_by}
+use Rattle.dep_hub.specs.Turns.{most_read}
+use Rattle.dep_hub.specs.declared.hub.Hub.{Hub}
+use Rattle.dep_hub.specs.declared.arrived.Arrived.{Arrived}
+use Rattle.dep_hub.specs.declared.arrived.Arrived.TheVariants as came
+use Rattle.dep_hub.specs.declared.next.Next.{Next}
+use Rattle.dep_hub.specs.declared.next.Next.TheVariants.{More, Waiting, Closed, Cut, NoSuch}
 use Rattle.dep_outbox.specs.declared.wire.Wire.{Wire}
 use Rattle.dep_outbox.specs.Wires.{told, owed}
 use Rattle.dep_host.specs.declared.seat.Seat.{Seat}

@@ -1,7 +1,7 @@
 -- What a host does once it was told that its store is shut.
 use Rattle.std.proofs.Common.{◌≡◌, inl, inr, ℕ, true, false, List, [], ◌∷◌, ◌++◌, Option, Some, is_some, sym, ap, subst, ◌∙◌}
 use Rattle.dep_types.specs.Conditions.{Condition}
-use Rattle.dep_server.specs.Standing.{IsClean}
+use Rattle.dep_hub.specs.Standing.{IsClean}
 use Rattle.dep_host.specs.Hosting.{Position, Deed, AreOutgoing, IsRightlyTold, Step, refused, asks, comes, rests, offers, refuses, answers, leaves, Steps, begins, goes_on}
 use Rattle.dep_host.proofs.CloseLemmas.{clean_before}
 

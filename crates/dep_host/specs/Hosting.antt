@@ -4,10 +4,10 @@ use Rattle.std.specs.List.{flat_map}
 use Rattle.std.specs.Io.KnownBytes.{IsAtEnd}
 use Rattle.dep_types.specs.Conditions.{Condition}
 use Rattle.dep_types.specs.State.{State}
-use Rattle.dep_server.specs.Records.{Record, Line, Live, Absent}
-use Rattle.dep_server.specs.Standing.{IsClean, IsHonest}
-use Rattle.dep_server.specs.Holding.{KeepsHolding, MovesLine, StandsHoldingAfter, with_held}
-use Rattle.dep_server.specs.declared.hub.Hub.{Hub}
+use Rattle.dep_hub.specs.Records.{Record, Line, Live, Absent}
+use Rattle.dep_hub.specs.Standing.{IsClean, IsHonest}
+use Rattle.dep_hub.specs.Holding.{KeepsHolding, MovesLine, StandsHoldingAfter, with_held}
+use Rattle.dep_hub.specs.declared.hub.Hub.{Hub}
 use Rattle.dep_outbox.specs.Wires.{told}
 use Rattle.dep_host.specs.declared.course.Phase.TheVariants.{Open}
 use Rattle.dep_host.specs.declared.seat.Seat.{Seat}

@@ -3,10 +3,10 @@ use Rattle.std.specs.Prelude.{◌≡◌, ◌==◌, ℕ, List, [], ◌∷◌, ◌
 use Rattle.std.specs.List.{flat_map}
 use Rattle.dep_types.specs.State.{State}
 use Rattle.dep_types.specs.Conditions.{Condition}
-use Rattle.dep_server.specs.Records.{Event, Record, Connect, Arrive, Close, Stop}
-use Rattle.dep_server.specs.Standing.{IsClean}
-use Rattle.dep_server.specs.Holding.{StandsHoldingAfter, with_held}
-use Rattle.dep_server.specs.declared.hub.Hub.{Hub}
+use Rattle.dep_hub.specs.Records.{Event, Record, Connect, Arrive, Close, Stop}
+use Rattle.dep_hub.specs.Standing.{IsClean}
+use Rattle.dep_hub.specs.Holding.{StandsHoldingAfter, with_held}
+use Rattle.dep_hub.specs.declared.hub.Hub.{Hub}
 use Rattle.dep_outbox.specs.Wires.{told}
 use Rattle.dep_host.specs.declared.seat.Seat.{Seat}
 use Rattle.dep_host.specs.Courses.{is_ended}

@@ -2,14 +2,14 @@
 use Rattle.std.specs.Prelude.{◌≡◌, ◌⊎◌, ◌<◌, ◌≤◌, ◌+◌, ◌-◌, ◌^◌, min, ℕ, Bool, List, ◌++◌, length, Option, true, false}
 use Rattle.std.specs.Io.KnownBytes.{Keeps, Consumes, IsAtEnd}
 use Rattle.dep_types.specs.Conditions.{Condition}
-use Rattle.dep_server.specs.Records.{Line}
-use Rattle.dep_server.specs.Turns.{most_read}
-use Rattle.dep_server.specs.Holding.{KeepsHolding, AnswersOver, IsNext, IsRefused, arrived_by, with_held}
-use Rattle.dep_server.specs.declared.hub.Hub.{Hub}
-use Rattle.dep_server.specs.declared.arrived.Arrived.{Arrived}
-use Rattle.dep_server.specs.declared.arrived.Arrived.TheVariants as came
-use Rattle.dep_server.specs.declared.next.Next.{Next}
-use Rattle.dep_server.specs.declared.next.Next.TheVariants.{More, Waiting, Closed, Cut, NoSuch}
+use Rattle.dep_hub.specs.Records.{Line}
+use Rattle.dep_hub.specs.Turns.{most_read}
+use Rattle.dep_hub.specs.Holding.{KeepsHolding, AnswersOver, IsNext, IsRefused, arrived_by, with_held}
+use Rattle.dep_hub.specs.declared.hub.Hub.{Hub}
+use Rattle.dep_hub.specs.declared.arrived.Arrived.{Arrived}
+use Rattle.dep_hub.specs.declared.arrived.Arrived.TheVariants as came
+use Rattle.dep_hub.specs.declared.next.Next.{Next}
+use Rattle.dep_hub.specs.declared.next.Next.TheVariants.{More, Waiting, Closed, Cut, NoSuch}
 use Rattle.dep_outbox.specs.Wires.{told, owed}
 use Rattle.dep_host.specs.declared.seat.Seat.{Seat}
 use Rattle.dep_host.specs.declared.course.Phase.{Phase}

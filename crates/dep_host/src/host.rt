@@ -1,7 +1,7 @@
 //! All connections, over one hub.
 ghost use Rattle.std.specs.Prelude.{◌≡◌, ◌⊎◌, ◌<◌, ◌≤◌, ℕ, List, [], None, Some, Option, length, nat_lt, IfOk, IfErr, IfSome, IsSomeAnd, MatchOption, is_some, IsSome, IsNone, ◌∷◌, true, false};
 ghost use Rattle.std.specs.Io.KnownBytes.{IsAtEnd};
-ghost use Rattle.dep_server.specs.Turns.{most_read};
+ghost use Rattle.dep_hub.specs.Turns.{most_read};
 ghost use Rattle.dep_outbox.specs.Wires.{told};
 ghost use Rattle.dep_host.specs.Hosting.{GoesOn, Steps, Serves, Goes, GoesRound, Sheds, HasTime, MayGo, IsVacant, position, slot, unfinished_of, unfinished_in};
 ghost use Rattle.dep_host.specs.Coming.{origin, seated_from};
@@ -14,8 +14,8 @@ use crate::events::{Client, comes_from, origin};
 use crate::limits::Limits;
 use crate::log::{Closing, HostLog, Refusal};
 use crate::seat::{Seat, Time, Turn};
+use dep_hub::{Archive, ConnectFault, Hub};
 use dep_outbox::{Sink, Source, Spool};
-use dep_server::{Archive, ConnectFault, Hub};
 use std::alloc::{AllocError, Global};
 use std::net::IpAddr;
 

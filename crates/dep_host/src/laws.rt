@@ -1,17 +1,17 @@
 //! What follows from how a host goes on, apart from any code.
 ghost use Rattle.std.specs.Prelude.{◌≡◌, ◌++◌, ℕ, List, [], None, Some};
 ghost use Rattle.dep_types.specs.State.{State};
-ghost use Rattle.dep_server.specs.Records.{Record};
-ghost use Rattle.dep_server.specs.Standing.{IsClean};
-ghost use Rattle.dep_server.specs.Holding.{StandsHoldingAfter};
+ghost use Rattle.dep_hub.specs.Records.{Record};
+ghost use Rattle.dep_hub.specs.Standing.{IsClean};
+ghost use Rattle.dep_hub.specs.Holding.{StandsHoldingAfter};
 ghost use Rattle.dep_host.specs.Hosting.{Position, Deed, Steps, Tells, AreOutgoing, slot, replies_to};
 ghost use Rattle.dep_outbox.specs.Wires.{told};
 ghost use Rattle.dep_host.specs.declared.seat.Seat.{Seat};
 ghost use Rattle.dep_host.specs.Runs.{StandsBehind, KeepsPromise, Follows, StaysOpen, read_of, arrived_of};
 
+use dep_hub::Archive;
+use dep_hub::laws::{answers_make_a_run, connections_make_a_run};
 use dep_outbox::{Sink, Source, Spool};
-use dep_server::Archive;
-use dep_server::laws::{answers_make_a_run, connections_make_a_run};
 
 /// Whatever a host does, it makes a run: behind all records that its hub stood for, the hub stands for
 /// those of what was done, and holds the bytes that were read and not answered, while its store is open.

@@ -1,6 +1,6 @@
 //! What is told of each connection, for a log of them.
 
-use dep_server::{AccessLog, ConnId, Next};
+use dep_hub::{AccessLog, ConnId, Next};
 use std::net::IpAddr;
 
 /// Why a client was turned away.

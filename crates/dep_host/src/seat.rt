@@ -1,11 +1,11 @@
 //! A connection that is served.
 ghost use Rattle.std.specs.Prelude.{◌≡◌, ◌≢◌, ◌<◌, ◌≤◌, ◌⊎◌, ◌+◌, ◌-◌, ◌^◌, ◌||◌, min, nat_lt, ℕ, Bool, length, true, false};
 ghost use Rattle.std.specs.Io.KnownBytes.{Keeps, Consumes, IsAtEnd};
-ghost use Rattle.dep_server.specs.Holding.{ComesToNext, OffersTo};
-ghost use Rattle.dep_server.specs.Standing.{IsClean, IsHonest};
-ghost use Rattle.dep_server.specs.Turns.{most_read};
-ghost use Rattle.dep_server.specs.declared.arrived.Arrived.{Arrived as AnyArrived};
-ghost use Rattle.dep_server.specs.declared.next.Next.{Next as AnyNext};
+ghost use Rattle.dep_hub.specs.Holding.{ComesToNext, OffersTo};
+ghost use Rattle.dep_hub.specs.Standing.{IsClean, IsHonest};
+ghost use Rattle.dep_hub.specs.Turns.{most_read};
+ghost use Rattle.dep_hub.specs.declared.arrived.Arrived.{Arrived as AnyArrived};
+ghost use Rattle.dep_hub.specs.declared.next.Next.{Next as AnyNext};
 ghost use Rattle.dep_outbox.specs.Wires.{told, owed};
 ghost use Rattle.dep_host.specs.Courses.{closing, is_ended};
 ghost use Rattle.dep_host.specs.Seats.{TakesTurn, Rests, Answers, phase_offered, phase_answered, left_unfinished};
@@ -13,9 +13,9 @@ ghost use Rattle.dep_host.specs.Seats.{TakesTurn, Rests, Answers, phase_offered,
 use crate::course::{Course, Duty, Phase};
 use crate::limits::Limits;
 use crate::log::{Bytes, Closing, HostLog};
+use dep_hub::{Archive, Arrived, ConnId, Hub, Next};
 use dep_moment::Moment;
 use dep_outbox::{Flushed, Received, Sink, Source, Spool, Wire};
-use dep_server::{Archive, Arrived, ConnId, Hub, Next};
 use std::net::IpAddr;
 
 /// When something happens.

@@ -1,7 +1,7 @@
 //! Serving all clients until no more comes.
 ghost use Rattle.std.specs.Prelude.{◌≡◌, ◌≢◌, ◌≤◌, [], ◌∷◌, Err, length, IfOk, IfSome, IsSome, IsTrue, false};
 ghost use Rattle.std.specs.List.{AllByRecursion};
-ghost use Rattle.dep_server.specs.Turns.{most_read};
+ghost use Rattle.dep_hub.specs.Turns.{most_read};
 ghost use Rattle.dep_host.specs.Coming.{IsFresh, seconds_of};
 ghost use Rattle.dep_host.specs.Courses.{is_overdue};
 ghost use Rattle.dep_host.specs.Hosting.{GoesOn, Steps, IsRightlyTold, IsVacant, position};
@@ -12,8 +12,8 @@ use crate::events::{Client, Event, Events};
 use crate::host::Host;
 use crate::laws::hosts_keep_the_archive_promise;
 use crate::log::{HostLog, Refusal};
+use dep_hub::Archive;
 use dep_outbox::{Sink, Source, Spool};
-use dep_server::Archive;
 
 /// Why no more is served.
 #[derive(Clone, Copy, Debug, PartialEq, Eq)]

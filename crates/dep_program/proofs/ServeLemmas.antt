@@ -7,14 +7,14 @@ use Rattle.std.specs.List.{FoldsTo}
 use Rattle.dep_types.specs.Conditions.{Condition}
 use Rattle.dep_types.specs.declared.inlet.LastRead.{LastRead}
 use Rattle.dep_types.specs.declared.inlet.LastRead.TheVariants.{NoneYet}
-use Rattle.dep_server.specs.Standing.{StandsAfter, IsClean}
-use Rattle.dep_server.specs.Turns.{Turn, records_of, ArePieces}
-use Rattle.dep_server.specs.Conversation.{Wire, wire, session, Clocks, Converses, ConversesOver}
-use Rattle.dep_server.specs.declared.connection.Served.{Served}
-use Rattle.dep_server.specs.declared.connection.Served.TheVariants.{Ended, Closed, Unserved, ReadFault, WriteFault, Bound}
-use Rattle.dep_server.specs.declared.hub.Hub.{Hub}
-use Rattle.dep_server.proofs.TalkLemmas.{unserved}
-use Rattle.dep_server.proofs.Leaving.{Settles, stays_as}
+use Rattle.dep_hub.specs.Standing.{StandsAfter, IsClean}
+use Rattle.dep_hub.specs.Turns.{Turn, records_of, ArePieces}
+use Rattle.dep_hub.specs.Conversation.{Wire, wire, session, Clocks, Converses, ConversesOver}
+use Rattle.dep_hub.specs.declared.connection.Served.{Served}
+use Rattle.dep_hub.specs.declared.connection.Served.TheVariants.{Ended, Closed, Unserved, ReadFault, WriteFault, Bound}
+use Rattle.dep_hub.specs.declared.hub.Hub.{Hub}
+use Rattle.dep_hub.proofs.TalkLemmas.{unserved}
+use Rattle.dep_hub.proofs.Leaving.{Settles, stays_as}
 use Rattle.dep_program.specs.Serves.{ServesOne, socket_wire, Conversation, AreAmong, ServesThese, all_records_of, all_turns_of}
 
 -- one list of steps behind another

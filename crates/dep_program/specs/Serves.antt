@@ -1,13 +1,13 @@
 -- Connections that are accepted at a listener and served one after another.
 use Rattle.std.specs.Prelude.{◌≡◌, ◌⊎◌, ◌<◌, ◌+◌, ℕ, List, All, None, length}
 use Rattle.std.specs.List.{flat_map}
-use Rattle.dep_server.specs.Records.{Record}
-use Rattle.dep_server.specs.Turns.{Turn, records_of, ArePieces}
-use Rattle.dep_server.specs.Conversation.{Wire, wire, session, AddsAll, Clocks, ConversesOver}
+use Rattle.dep_hub.specs.Records.{Record}
+use Rattle.dep_hub.specs.Turns.{Turn, records_of, ArePieces}
+use Rattle.dep_hub.specs.Conversation.{Wire, wire, session, AddsAll, Clocks, ConversesOver}
 use Rattle.dep_types.specs.Conditions.{Condition}
 use Rattle.dep_types.specs.declared.inlet.LastRead.TheVariants.{NoneYet}
-use Rattle.dep_server.specs.declared.hub.Hub.{Hub}
-use Rattle.dep_server.specs.declared.connection.Served.{Served}
+use Rattle.dep_hub.specs.declared.hub.Hub.{Hub}
+use Rattle.dep_hub.specs.declared.connection.Served.{Served}
 use Rattle.dep_program.specs.declared.outcome.Outcome.{Outcome}
 use Rattle.dep_program.specs.declared.outcome.Outcome.TheVariants.{Done, TransferFault}
 

@@ -1,13 +1,13 @@
 //! A port of 127.0.0.1.
 ghost use Rattle.std.specs.Prelude.{◌≡◌};
-ghost use Rattle.dep_server.specs.Standing.{IsClean, IsHonest};
+ghost use Rattle.dep_hub.specs.Standing.{IsClean, IsHonest};
 ghost use Rattle.dep_program.specs.Addresses.{IsLocal};
 ghost use Rattle.dep_program.specs.Serves.{ServesAt};
 
 use crate::clock::moment_of;
 use crate::outcome::Outcome;
 use crate::serve::serve_on;
-use dep_server::{Archive, Hub};
+use dep_hub::{Archive, Hub};
 use std::alloc::Global;
 use std::net::{IpAddr, Ipv4Addr, Net, SocketAddr, TcpListener, TcpStream};
 use std::time::{Clock, SystemTime};

@@ -1,12 +1,12 @@
 //! Connections over sockets, one after another.
 ghost use Rattle.std.specs.Prelude.{◌≡◌, IfOk, OnErr};
-ghost use Rattle.dep_server.specs.Standing.{IsClean, IsHonest};
+ghost use Rattle.dep_hub.specs.Standing.{IsClean, IsHonest};
 ghost use Rattle.dep_program.specs.Serves.{Serves, ServesOne};
 
 use crate::gathered::Gathered;
 use crate::outcome::Outcome;
+use dep_hub::{Archive, Hub, Served, serve_connection};
 use dep_moment::Moment;
-use dep_server::{Archive, Hub, Served, serve_connection};
 use dep_types::ReaderInlet;
 use std::alloc::Global;
 use std::io;

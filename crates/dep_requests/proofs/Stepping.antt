@@ -25,11 +25,11 @@ use Rattle.dep_decisions.specs.Effects.{effect}
 use Rattle.dep_decisions.specs.Rules.{refusal}
 use Rattle.dep_decisions.specs.declared.decision.Decision.{Decision}
 use Rattle.dep_decisions.specs.declared.operation.Operation.{Operation}
-use Rattle.dep_rulings.specs.Rulings.{IsRuling}
-use Rattle.dep_rulings.specs.Views.{file_in, object_in, path_in, true_view}
-use Rattle.dep_rulings.specs.declared.ruling.Ruling.{Ruling}
-use Rattle.dep_rulings.specs.declared.ruling.Ruling.TheVariants.{Do, Refuse}
-use Rattle.dep_rulings.specs.declared.view.View.{View}
+use Rattle.dep_operations.specs.Rulings.{IsRuling}
+use Rattle.dep_operations.specs.Views.{file_in, object_in, path_in, true_view}
+use Rattle.dep_operations.specs.declared.ruling.Ruling.{Ruling}
+use Rattle.dep_operations.specs.declared.ruling.Ruling.TheVariants.{Do, Refuse}
+use Rattle.dep_operations.specs.declared.view.View.{View}
 use Rattle.dep_decisions.specs.Laws.{is_read}
 use Rattle.dep_decisions.proofs.Accepted.{effect_sound}
 use Rattle.dep_decisions.proofs.ReadAlone.{reads_keep}

@@ -6,10 +6,10 @@ use Rattle.dep_decisions.specs.Decisions.{decision}
 use Rattle.dep_decisions.specs.Rules.{refusal}
 use Rattle.dep_decisions.specs.declared.decision.Decision.TheVariants.{Show}
 use Rattle.dep_decisions.specs.declared.operation.Operation.{Operation}
-use Rattle.dep_rulings.specs.Rulings.{IsRuling}
-use Rattle.dep_rulings.specs.Views.{touched_by, true_view}
-use Rattle.dep_rulings.specs.declared.ruling.Ruling.{Ruling}
-use Rattle.dep_rulings.specs.declared.ruling.Ruling.TheVariants.{Do, Refuse}
+use Rattle.dep_operations.specs.Rulings.{IsRuling}
+use Rattle.dep_operations.specs.Views.{touched_by, true_view}
+use Rattle.dep_operations.specs.declared.ruling.Ruling.{Ruling}
+use Rattle.dep_operations.specs.declared.ruling.Ruling.TheVariants.{Do, Refuse}
 use Rattle.dep_views.specs.Seen.{touched_payload}
 use Rattle.dep_requests.specs.declared.performing.Ruled.{Ruled}
 

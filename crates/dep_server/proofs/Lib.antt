@@ -1,14 +1,15 @@
-pub mod Leaving
-mod StepLemmas
-mod ServingLemmas
-mod SendingLemmas
-mod ConnectionLemmas
-pub mod HubLemmas
-pub mod TalkLemmas
-mod TurnLemmas
-mod ShutLemmas
-mod Endings
-mod NextLemmas
-mod HeldLemmas
-mod PartLemmas
-mod HoldingLemmas
+mod CalmLemmas
+mod StreamLemmas
+mod SoundLemmas
+mod RunKeeps
+mod UploadsKept
+mod SegmentsStay
+mod MovesLead
+mod FilesStay
+mod UploadsStay
+mod Refusing
+mod BareLemmas
+mod HeadLemmas
+pub mod Acknowledging
+mod TakenAgain
+pub mod CallsStand

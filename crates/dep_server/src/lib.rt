@@ -1,27 +1,10 @@
-//! All connections over one store, from the bytes of requests to the bytes of replies.
+//! The deposit server as one reads it from outside: the hub that serves all connections (`dep_hub`, handed on), and the laws
+//! of the runs of the deposit machine: what follows for whoever deposits from the promise that the server keeps.
 #![tactic(auto)]
 
-mod access_log;
-mod archive;
-mod arrived;
-mod connection;
-mod connections;
-mod faults;
-mod flush;
-mod hub;
 pub mod laws;
-mod next;
-mod sending;
-mod serving;
-mod site;
-mod step;
 
-pub use access_log::{AccessLog, NoLog};
-pub use archive::Archive;
-pub use arrived::Arrived;
-pub use connection::{Served, serve_connection};
-pub use connections::ConnId;
-pub use faults::{ConnectFault, HubFault};
-pub use flush::Flush;
-pub use hub::Hub;
-pub use next::Next;
+pub use dep_hub::{
+    AccessLog, Archive, Arrived, ConnId, ConnectFault, Hub, HubFault, Next, NoLog, Served,
+    serve_connection,
+};

@@ -7,8 +7,8 @@ use Rattle.dep_types.specs.State.{State, empty_state}
 use Rattle.dep_types.specs.declared.config.Config.{Config}
 use Rattle.dep_schema.specs.Standing.{HoldsNone}
 use Rattle.dep_schema.specs.States.{IsLeftAs, Leaves}
-use Rattle.dep_server.specs.Records.{Record, Run, first_world, stopped}
-use Rattle.dep_server.specs.declared.faults.HubFault.TheVariants as refused
+use Rattle.dep_hub.specs.Records.{Record, Run, first_world, stopped}
+use Rattle.dep_hub.specs.declared.faults.HubFault.TheVariants as refused
 use Rattle.dep_program.specs.declared.outcome.Outcome.{Outcome}
 use Rattle.dep_program.specs.declared.outcome.Outcome.TheVariants.{Usage, StoreFault}
 use Rattle.dep_store.specs.declared.starting.StartFault.{StartFault}

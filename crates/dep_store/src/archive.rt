@@ -6,8 +6,8 @@ ghost use Rattle.dep_store.specs.Archive.{condition_of};
 use crate::store::Store;
 use dep_answers::{Performed, Service};
 use dep_decisions::Operation;
+use dep_hub::Archive;
 use dep_moment::Moment;
-use dep_server::Archive;
 use dep_types::{Config, Outlet, StoreFault, StreamFault};
 use sqlite::Alter;
 

@@ -8,7 +8,7 @@ ghost use Rattle.dep_types.specs.Sound.{IsSound};
 ghost use Rattle.dep_tables.specs.Clauses.{StaysWithin};
 ghost use Rattle.dep_tables.specs.Faults.{fault_for};
 ghost use Rattle.dep_row_maps.specs.Clauses.{FromMaps};
-ghost use Rattle.dep_server.specs.Shut.{TellsOpen};
+ghost use Rattle.dep_hub.specs.Shut.{TellsOpen};
 ghost use Rattle.dep_store.specs.Archive.{shown_by};
 ghost use Rattle.dep_store.specs.Remembering.{Recalls, IsRecalled, is_left};
 ghost use Rattle.dep_store.specs.Shut.{FailsToTell};

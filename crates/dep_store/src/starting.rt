@@ -8,14 +8,14 @@ ghost use Rattle.dep_schema.specs.Standing.{HoldsNone, IsOpenable};
 ghost use Rattle.dep_schema.specs.States.{IsLeftAs, StandsFor};
 ghost use Rattle.dep_upgrading.specs.Migrating.{Keeps};
 ghost use Rattle.dep_store.specs.Starting.{OpeningLeaves, outcome_of_start};
-ghost use Rattle.dep_server.specs.Records.{Record, Run, first_world};
-ghost use Rattle.dep_server.specs.Standing.{StandsAfter, IsClean, IsHonest};
+ghost use Rattle.dep_hub.specs.Records.{Record, Run, first_world};
+ghost use Rattle.dep_hub.specs.Standing.{StandsAfter, IsClean, IsHonest};
 ghost use Rattle.dep_store.specs.Archive.{condition_of};
 
 use crate::store::Store;
+use dep_hub::{Hub, HubFault};
 use dep_program::Outcome;
 use dep_schema::OpenFault;
-use dep_server::{Hub, HubFault};
 use dep_streams::Watch;
 use dep_types::Config;
 use sqlite::{Alter, Connection};

@@ -22,7 +22,7 @@ ghost use Rattle.dep_schema.specs.States.{StandsFor, IsLeftAs, Leaves};
 ghost use Rattle.dep_schema.specs.Performing.{Performs};
 ghost use Rattle.dep_upgrading.specs.Causes.{FailsToOpenTables, FindsOrUpgrades};
 ghost use Rattle.dep_upgrading.specs.Migrating.{Keeps, OpenLeaves, OpensOlder, Stood};
-ghost use Rattle.dep_server.specs.Shut.{TellsOpen};
+ghost use Rattle.dep_hub.specs.Shut.{TellsOpen};
 ghost use Rattle.dep_store.specs.Archive.{condition_of};
 ghost use Rattle.dep_store.specs.Shut.{LeavesNoMore, FailsToTell};
 

@@ -16,8 +16,8 @@ use Rattle.dep_bag.specs.Numbered.{file_number}
 use Rattle.dep_bag.specs.Parts.{row_path}
 use Rattle.dep_bag.proofs.Numbered.{HasStorable, files_storable, found_by_number, none_by_number, numbered, stands_at}
 use Rattle.dep_decisions.specs.Rules.{has_bag_path}
-use Rattle.dep_rulings.specs.Views.{has_path, touched_object}
-use Rattle.dep_rulings.specs.declared.view.Touched.{Touched}
+use Rattle.dep_operations.specs.Views.{has_path, touched_object}
+use Rattle.dep_operations.specs.declared.view.Touched.{Touched}
 use Rattle.dep_views.specs.declared.touched.PathSeen.{PathSeen}
 use Rattle.dep_views.specs.Seen.{file_at_path, path_seen, touched_payload}
 

@@ -12,11 +12,11 @@ use Rattle.dep_types.specs.Sound.{IsSound}
 use Rattle.dep_types.specs.Uploads.{segment_length, sizes_agree}
 use Rattle.dep_decisions.specs.Rules.{repeats}
 use Rattle.dep_row_maps.specs.TablesAre.{segments_at}
-use Rattle.dep_rulings.specs.Views.{live_upload, upload_state, upload_view}
-use Rattle.dep_rulings.specs.declared.view.LiveUpload.{LiveUpload}
-use Rattle.dep_rulings.specs.declared.view.UploadState.{UploadState}
-use Rattle.dep_rulings.specs.declared.view.UploadState.TheVariants.{Live, TimedOut, Unknown}
-use Rattle.dep_rulings.specs.declared.view.UploadView.{UploadView}
+use Rattle.dep_operations.specs.Views.{live_upload, upload_state, upload_view}
+use Rattle.dep_operations.specs.declared.view.LiveUpload.{LiveUpload}
+use Rattle.dep_operations.specs.declared.view.UploadState.{UploadState}
+use Rattle.dep_operations.specs.declared.view.UploadState.TheVariants.{Live, TimedOut, Unknown}
+use Rattle.dep_operations.specs.declared.view.UploadView.{UploadView}
 use Rattle.dep_staging.specs.Comparing.{IsNoEmptySegment}
 
 module _ (uploads : Numbered Staged) (u k : ℕ) where

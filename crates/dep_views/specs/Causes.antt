@@ -6,8 +6,8 @@ use Rattle.dep_types.specs.State.{State, Upload as Staged}
 use Rattle.dep_answers.specs.declared.subject.Subject.{Subject}
 use Rattle.dep_answers.specs.declared.subject.Subject.TheVariants.{Nothing, Object, ObjectRow, Metadata, File, Upload}
 use Rattle.dep_row_maps.specs.TablesAre.{metadata_at}
-use Rattle.dep_rulings.specs.declared.view.SegmentId.{SegmentId}
-use Rattle.dep_rulings.specs.declared.view.Touched.{Touched}
+use Rattle.dep_operations.specs.declared.view.SegmentId.{SegmentId}
+use Rattle.dep_operations.specs.declared.view.Touched.{Touched}
 
 -- each number that is touched is one that a table can hold
 pub record AreStorable (t : Touched) : Type 0 where

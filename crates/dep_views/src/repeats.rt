@@ -4,7 +4,7 @@ ghost use Rattle.std.specs.Prelude.{◌≡◌, ◌≤◌, ℕ, Bool, false, List
 ghost use Rattle.std.specs.FinMap as finmap;
 ghost use Rattle.dep_types.specs.State.{State, Upload};
 ghost use Rattle.dep_types.specs.Sound.{IsSound};
-ghost use Rattle.dep_rulings.specs.Views.{touched_repeat, upload_state, upload_view};
+ghost use Rattle.dep_operations.specs.Views.{touched_repeat, upload_state, upload_view};
 ghost use Rattle.dep_tables.specs.Clauses.{ReadsOnly, FailsReading, StaysWithin};
 ghost use Rattle.dep_row_maps.specs.TablesAre.{segments_at};
 ghost use Rattle.dep_row_maps.specs.Clauses.{FromMaps};
@@ -12,7 +12,7 @@ ghost use Rattle.dep_row_maps.specs.Causes.{FailsByStatement, FailsSince};
 ghost use Rattle.dep_views.specs.Causes.{IsStorableSegment};
 
 use dep_fixity::HashedOctets;
-use dep_rulings::{SegmentId, Touched, UploadState, UploadView};
+use dep_operations::{SegmentId, Touched, UploadState, UploadView};
 use dep_staging::compare_segment;
 use dep_tables::Statements;
 use dep_types::StoreFault;

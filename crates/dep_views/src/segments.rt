@@ -7,7 +7,7 @@ ghost use Rattle.dep_types.specs.declared.store_fault.StoreFault.TheVariants.{Me
 ghost use Rattle.dep_row_maps.specs.Laws.{HasSegmentsWithin};
 ghost use Rattle.dep_staging.specs.Found.{IsLiveAs};
 
-use dep_rulings::Numbers;
+use dep_operations::Numbers;
 use dep_staging::StagedUpload;
 use dep_tables::SegmentRow;
 use dep_types::StoreFault;

@@ -2,7 +2,7 @@
 
 use crate::hub::{arrives, connected};
 use crate::script::Request;
-use dep_server::{Archive, Arrived, Hub};
+use dep_hub::{Archive, Arrived, Hub};
 use example_text::{Cut, Page, Pieces, Reply, Trouble, differing};
 use std::alloc::Global;
 

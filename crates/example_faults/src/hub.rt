@@ -1,7 +1,7 @@
 //! A hub, as the examples need it.
 
+use dep_hub::{Archive, Arrived, ConnId, ConnectFault, Hub, HubFault};
 use dep_moment::Moment;
-use dep_server::{Archive, Arrived, ConnId, ConnectFault, Hub, HubFault};
 use dep_types::Through;
 use example_text::{Page, Pieces, Settings, Trouble};
 use std::alloc::{AllocError, Global};

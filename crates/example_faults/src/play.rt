@@ -3,7 +3,7 @@
 use crate::asking::{asked, is_answered, looked, replied};
 use crate::hub::hub_over;
 use crate::script::Script;
-use dep_server::{Archive, Hub, HubFault};
+use dep_hub::{Archive, Hub, HubFault};
 use example_text::{Cut, Reply, Settings, Trouble, differing};
 use std::alloc::Global;
 use std::mem;

@@ -2,7 +2,7 @@
 
 use crate::fate::Fate;
 use dep_host::{Bytes, Closing, HostLog, Refusal};
-use dep_server::{AccessLog, ConnId, Next};
+use dep_hub::{AccessLog, ConnId, Next};
 use std::alloc::{AllocError, Global};
 use std::cell::RefCell;
 use std::net::IpAddr;

@@ -3,7 +3,7 @@
 use crate::socket::Shared;
 use crate::spool::MemorySpool;
 use dep_host::{Host, Limits};
-use dep_server::{Hub, HubFault};
+use dep_hub::{Hub, HubFault};
 use dep_types::Config;
 use example_player::ExampleArchive;
 use example_text::{Settings, Trouble, first_word, number};

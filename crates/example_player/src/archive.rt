@@ -1,6 +1,6 @@
 //! An archive, as an example needs it.
 
-use dep_server::Archive;
+use dep_hub::Archive;
 use example_faults::FaultyFiles;
 use example_text::{ArchiveCall, Page, Trouble};
 use std::alloc::Global;

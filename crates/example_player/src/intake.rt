@@ -1,7 +1,7 @@
 //! An intake by itself, whose steps are told as lines.
 
+use dep_hub::Arrived;
 use dep_message::{Intake, Message, Step, closes, is_without_body};
-use dep_server::Arrived;
 use example_faults::word_of;
 use example_text::{Exchange, Page, Trouble};
 use std::alloc::{AllocError, Global};

@@ -1,7 +1,7 @@
 //! A hub and its connections.
 
+use dep_hub::{Archive, ConnId, ConnectFault, Hub, HubFault, Served, serve_connection};
 use dep_moment::Moment;
-use dep_server::{Archive, ConnId, ConnectFault, Hub, HubFault, Served, serve_connection};
 use dep_types::{ReaderInlet, Through};
 use example_faults::{arrives, connected, hub_over, word_of};
 use example_text::{Exchange, Page, Settings, Source, Trouble};

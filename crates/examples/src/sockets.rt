@@ -1,9 +1,9 @@
 //! One connection over a socket of 127.0.0.1, with its client in the same process.
 
 use crate::archive::MemoryArchive;
+use dep_hub::{Hub, HubFault};
 use dep_moment::Moment;
 use dep_program::{Outcome, address, serve_on};
-use dep_server::{Hub, HubFault};
 use example_player::{ExampleArchive, Verdict};
 use example_text::{Cut, Exchange, Settings, Trouble, Words};
 use std::alloc::Global;

@@ -18,11 +18,11 @@ use Rattle.dep_upgrading.specs.Migrating.{Keeps, OpenLeaves}
 use Rattle.dep_store.specs.Starting.{OpeningLeaves}
 use Rattle.dep_store.specs.declared.starting.StartFault.{StartFault}
 use Rattle.dep_store.specs.declared.starting.StartFault.TheVariants as fault
-use Rattle.dep_server.specs.Records.{World, Record, Run, begins, stops, stopped, first_world}
-use Rattle.dep_server.specs.Standing.{StandsAfter, IsClean, IsHonest}
-use Rattle.dep_server.specs.declared.faults.HubFault.{HubFault}
-use Rattle.dep_server.specs.declared.faults.HubFault.TheVariants as refused
-use Rattle.dep_server.specs.declared.hub.Hub.{Hub}
+use Rattle.dep_hub.specs.Records.{World, Record, Run, begins, stops, stopped, first_world}
+use Rattle.dep_hub.specs.Standing.{StandsAfter, IsClean, IsHonest}
+use Rattle.dep_hub.specs.declared.faults.HubFault.{HubFault}
+use Rattle.dep_hub.specs.declared.faults.HubFault.TheVariants as refused
+use Rattle.dep_hub.specs.declared.hub.Hub.{Hub}
 use Rattle.dep_program.specs.Serves.{all_records_of, ServesAt}
 use Rattle.dep_program.specs.declared.outcome.Outcome.{Outcome}
 use Rattle.swordd.specs.Databases.{IsKept, IsRefused, LedTo, GoesOn, ServesDatabase, serves, not_bound, unchecked, not_begun, not_opened, outcome_of_start}

@@ -9,14 +9,14 @@ use Rattle.dep_schema.specs.Standing.{HoldsNone}
 use Rattle.dep_types.specs.Conditions.{Condition}
 use Rattle.dep_types.specs.State.{State, empty_state}
 use Rattle.dep_types.specs.declared.config.Config.{Config}
-use Rattle.dep_server.specs.Records.{World, Record, Arrive, stopped, first_world, Run, begins, goes_on, stops, breaks}
-use Rattle.dep_server.specs.Standing.{StandsAt, StandsAfter, IsHonest}
-use Rattle.dep_server.specs.Turns.{Turn, with_opened, Exchanges}
-use Rattle.dep_server.specs.Conversation.{Wire, Session, Rests, Converses, ConversesOver}
-use Rattle.dep_server.proofs.HubLemmas.{keeps_same}
-use Rattle.dep_server.proofs.TalkLemmas.{conversation_run}
-use Rattle.dep_server.specs.declared.connection.Served.{Served}
-use Rattle.dep_server.specs.declared.connection.Served.TheVariants.{Ended, Closed, Unserved, ReadFault, WriteFault, Bound}
+use Rattle.dep_hub.specs.Records.{World, Record, Arrive, stopped, first_world, Run, begins, goes_on, stops, breaks}
+use Rattle.dep_hub.specs.Standing.{StandsAt, StandsAfter, IsHonest}
+use Rattle.dep_hub.specs.Turns.{Turn, with_opened, Exchanges}
+use Rattle.dep_hub.specs.Conversation.{Wire, Session, Rests, Converses, ConversesOver}
+use Rattle.dep_hub.proofs.HubLemmas.{keeps_same}
+use Rattle.dep_hub.proofs.TalkLemmas.{conversation_run}
+use Rattle.dep_hub.specs.declared.connection.Served.{Served}
+use Rattle.dep_hub.specs.declared.connection.Served.TheVariants.{Ended, Closed, Unserved, ReadFault, WriteFault, Bound}
 use Rattle.dep_program.specs.Setup.{program_config}
 use Rattle.swordd.specs.Replays.{IsReplayed, Replays, replayed, not_begun, outcome_of, outcome_sent}
 use Rattle.dep_program.specs.declared.outcome.Outcome.{Outcome}

@@ -9,9 +9,9 @@ use Rattle.dep_schema.specs.States.{StandsFor, IsLeftAs, Leaves}
 use Rattle.dep_upgrading.specs.Migrating.{Keeps, OpenLeaves}
 use Rattle.dep_store.specs.declared.starting.StartFault.{StartFault}
 use Rattle.dep_store.specs.declared.starting.StartFault.TheVariants as fault
-use Rattle.dep_server.specs.declared.faults.HubFault.TheVariants as refused
-use Rattle.dep_server.specs.Records.{World, Record, Run, first_world, stopped}
-use Rattle.dep_server.specs.Turns.{ArePieces}
+use Rattle.dep_hub.specs.declared.faults.HubFault.TheVariants as refused
+use Rattle.dep_hub.specs.Records.{World, Record, Run, first_world, stopped}
+use Rattle.dep_hub.specs.Turns.{ArePieces}
 use Rattle.dep_program.specs.Serves.{Conversation, all_records_of, AreServed}
 use Rattle.dep_program.specs.declared.outcome.Outcome.{Outcome}
 use Rattle.dep_program.specs.declared.outcome.Outcome.TheVariants.{Usage, StoreFault, TransferFault}

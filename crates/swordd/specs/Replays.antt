@@ -2,11 +2,11 @@
 use Rattle.std.specs.Prelude.{◌≡◌, ◌≤◌, ◌+◌, ℕ, Bool, true, List, All}
 use Rattle.dep_types.specs.State.{empty_state}
 use Rattle.dep_types.specs.Config.{IsChecked}
-use Rattle.dep_server.specs.Records.{World, first_world, Run}
-use Rattle.dep_server.specs.Turns.{Turn, pieces_of, replies_of, records_of, ArePieces, with_opened, with_closed, Exchanges, EndsAs, most_reads, reads_made, reads_after, HasLastRead}
-use Rattle.dep_server.specs.Conversation.{Wire, Transfers, Rests}
-use Rattle.dep_server.specs.declared.connection.Served.{Served}
-use Rattle.dep_server.specs.declared.connection.Served.TheVariants.{Ended, Closed, Unserved, ReadFault, WriteFault, Bound}
+use Rattle.dep_hub.specs.Records.{World, first_world, Run}
+use Rattle.dep_hub.specs.Turns.{Turn, pieces_of, replies_of, records_of, ArePieces, with_opened, with_closed, Exchanges, EndsAs, most_reads, reads_made, reads_after, HasLastRead}
+use Rattle.dep_hub.specs.Conversation.{Wire, Transfers, Rests}
+use Rattle.dep_hub.specs.declared.connection.Served.{Served}
+use Rattle.dep_hub.specs.declared.connection.Served.TheVariants.{Ended, Closed, Unserved, ReadFault, WriteFault, Bound}
 use Rattle.dep_program.specs.Setup.{program_config}
 use Rattle.dep_program.specs.declared.outcome.Outcome.{Outcome}
 use Rattle.dep_program.specs.declared.outcome.Outcome.TheVariants.{Done, Usage, StoreFault, TransferFault}

@@ -5,15 +5,15 @@ ghost use Rattle.sqlite.specs.Held.{state};
 ghost use Rattle.sqlite.specs.Steps.{over_memory};
 ghost use Rattle.dep_types.specs.State.{empty_state};
 ghost use Rattle.dep_schema.specs.States.{StandsFor};
-ghost use Rattle.dep_server.specs.Conversation.{wire};
-ghost use Rattle.dep_server.specs.Flushing.{IsFlushed};
+ghost use Rattle.dep_hub.specs.Conversation.{wire};
+ghost use Rattle.dep_hub.specs.Flushing.{IsFlushed};
 ghost use Rattle.dep_program.specs.Gathering.{told, held_in, given};
 ghost use Rattle.swordd.specs.Replays.{Replays, outcome_of, outcome_sent};
 
+use dep_hub::{Flush, Hub, HubFault, Served, serve_connection};
 use dep_moment::Moment;
 use dep_program::{Gathered, Outcome, configuration};
 use dep_schema::OpenFault;
-use dep_server::{Flush, Hub, HubFault, Served, serve_connection};
 use dep_store::{Store, Unwatched};
 use dep_types::Inlet;
 use sqlite::{Connection, MemStore};

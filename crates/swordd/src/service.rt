@@ -5,8 +5,8 @@ ghost use Rattle.sqlite.specs.State.{HasCleanDisk};
 ghost use Rattle.dep_program.specs.Setup.{program_config, base_at};
 ghost use Rattle.swordd.specs.Databases.{ServesDatabase, outcome_of_start};
 
+use dep_hub::HubFault;
 use dep_program::{Door, Outcome, configuration_at, serve_at};
-use dep_server::HubFault;
 use dep_store::{StartFault, Watch, open_hub};
 use sqlite::{Alter, Connection};
 use std::alloc::Global;

@@ -18,13 +18,13 @@ use Rattle.dep_store.specs.Archive.{condition_of}
 use Rattle.dep_store.specs.Starting.{OpeningLeaves, outcome_of_start}
 use Rattle.dep_store.specs.declared.starting.StartFault.{StartFault}
 use Rattle.dep_store.specs.declared.starting.StartFault.TheVariants as fault
-use Rattle.dep_server.specs.declared.faults.HubFault.{HubFault}
-use Rattle.dep_server.specs.declared.faults.HubFault.TheVariants as refused_by
-use Rattle.dep_server.specs.Records.{World, Record, Run, stops, stopped, first_world}
-use Rattle.dep_server.specs.Records as records_of
-use Rattle.dep_server.specs.Standing.{StandsAt, StandsAfter, IsClean, IsHonest}
-use Rattle.dep_server.specs.Holding.{StandsHolding, StandsHoldingAfter}
-use Rattle.dep_server.specs.declared.hub.Hub.{Hub}
+use Rattle.dep_hub.specs.declared.faults.HubFault.{HubFault}
+use Rattle.dep_hub.specs.declared.faults.HubFault.TheVariants as refused_by
+use Rattle.dep_hub.specs.Records.{World, Record, Run, stops, stopped, first_world}
+use Rattle.dep_hub.specs.Records as records_of
+use Rattle.dep_hub.specs.Standing.{StandsAt, StandsAfter, IsClean, IsHonest}
+use Rattle.dep_hub.specs.Holding.{StandsHolding, StandsHoldingAfter}
+use Rattle.dep_hub.specs.declared.hub.Hub.{Hub}
 use Rattle.dep_host.specs.declared.serving.Ended.{Ended}
 use Rattle.dep_host.specs.declared.serving.Ended.TheVariants as ended
 use Rattle.dep_host.specs.Hosting.{Position, Deed, Step, refused, asks, comes, rests, offers, refuses, answers, leaves, Steps, begins, goes_on}

@@ -12,8 +12,8 @@ use Rattle.dep_schema.specs.States.{StandsFor, IsLeftAs, Leaves}
 use Rattle.dep_upgrading.specs.Migrating.{Keeps}
 use Rattle.dep_store.specs.Archive.{condition_of}
 use Rattle.dep_store.specs.Starting.{OpeningLeaves}
-use Rattle.dep_server.specs.Records.{World, Record, Run, first_world, stopped}
-use Rattle.dep_server.specs.declared.hub.Hub.{Hub}
+use Rattle.dep_hub.specs.Records.{World, Record, Run, first_world, stopped}
+use Rattle.dep_hub.specs.declared.hub.Hub.{Hub}
 use Rattle.dep_host.specs.Hosting.{Deed, Position, Steps, slot}
 use Rattle.dep_host.specs.Runs.{Follows}
 use Rattle.dep_program.specs.declared.outcome.Outcome.{Outcome}

@@ -6,8 +6,8 @@ use dep_configuration::{
     refusal_of_front, status_of_front,
 };
 use dep_host::{Bytes, Closing, HostLog, Refusal};
+use dep_hub::{AccessLog, ConnId, Next};
 use dep_program::moment_of;
-use dep_server::{AccessLog, ConnId, Next};
 use std::alloc::AllocError;
 use std::io::Write;
 use std::net::IpAddr;

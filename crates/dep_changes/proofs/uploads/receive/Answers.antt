@@ -4,7 +4,7 @@ use Rattle.dep_tables.specs.Rows.{IsStorableUpload, columns_of_upload}
 use Rattle.dep_row_maps.specs.Causes.{FailsByStatement}
 use Rattle.dep_row_maps.specs.Causes.FailsByStatement.{upload_written}
 use Rattle.dep_row_maps.proofs.Causes.{fails_first, if_err_then}
-use Rattle.dep_rulings.specs.declared.view.LiveUpload.{LiveUpload}
+use Rattle.dep_operations.specs.declared.view.LiveUpload.{LiveUpload}
 use Rattle.dep_changes.proofs.uploads.receive.Goals as goal
 
 pub returns-in_err-live-clause-cause : goal.returns-in_err-live-clause-cause

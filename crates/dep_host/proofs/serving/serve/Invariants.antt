@@ -1,6 +1,6 @@
 use Rattle.std.proofs.Common.{◌≤◌, length}
 use Rattle.std.specs.Prelude.{IfSome}
-use Rattle.dep_server.specs.Turns.{most_read}
+use Rattle.dep_hub.specs.Turns.{most_read}
 use Rattle.dep_host.specs.Hosting.{GoesOn, IsVacant, position}
 use Rattle.dep_host.specs.Rounds.{EndsInTime}
 use Rattle.dep_host.specs.declared.serving.Ended.TheVariants.{Spent}

@@ -1,5 +1,5 @@
 use Rattle.std.proofs.Common.{◌≡◌}
-use Rattle.dep_server.specs.Standing.{IsClean, IsHonest}
+use Rattle.dep_hub.specs.Standing.{IsClean, IsHonest}
 use Rattle.dep_program.proofs.ServeLemmas.{Progress}
 use Rattle.dep_program.proofs.serve.serve_on.Given as goal
 

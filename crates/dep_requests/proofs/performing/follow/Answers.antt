@@ -1,7 +1,7 @@
 use Rattle.std.proofs.Common.{ap, subst}
-use Rattle.dep_rulings.specs.Rulings.{IsRuling}
-use Rattle.dep_rulings.specs.declared.ruling.Ruling.{Ruling}
-use Rattle.dep_rulings.specs.declared.view.View.{View}
+use Rattle.dep_operations.specs.Rulings.{IsRuling}
+use Rattle.dep_operations.specs.declared.ruling.Ruling.{Ruling}
+use Rattle.dep_operations.specs.declared.view.View.{View}
 use Rattle.dep_tables.proofs.Chains.{stays_err, stays_ok}
 use Rattle.dep_tables.proofs.Results.{if_ok}
 use Rattle.dep_row_maps.specs.Clauses.{SeesState}

@@ -1,7 +1,7 @@
 use Rattle.std.proofs.Common.{◌≡◌, sym, subst, refl}
 use Rattle.dep_types.specs.State.{State}
-use Rattle.dep_rulings.specs.Rulings.{IsRuling}
-use Rattle.dep_rulings.specs.declared.ruling.Ruling.{Ruling}
+use Rattle.dep_operations.specs.Rulings.{IsRuling}
+use Rattle.dep_operations.specs.declared.ruling.Ruling.{Ruling}
 use Rattle.dep_answers.specs.Subjects.{shown_at, subject_of}
 use Rattle.dep_decisions.proofs.ReadAlone.{reads_keep}
 use Rattle.dep_answers.specs.declared.subject.Shown.TheVariants as shown

@@ -1,5 +1,5 @@
 use Rattle.std.proofs.Common.{◌≡◌, ◌∙◌}
-use Rattle.dep_rulings.specs.Views.{true_view}
+use Rattle.dep_operations.specs.Views.{true_view}
 use Rattle.dep_store.proofs.Remembered.{service_seen}
 use Rattle.dep_store.proofs.showing.rule_service.Goals as goal
 

@@ -4,7 +4,7 @@ use Rattle.sqlite.specs.State.{HasCleanDisk}
 use Rattle.dep_types.specs.State.{empty_state}
 use Rattle.dep_upgrading.specs.Migrating.{OpenLeaves}
 use Rattle.dep_schema.specs.States.{StandsFor}
-use Rattle.dep_server.specs.Records.{first_world}
+use Rattle.dep_hub.specs.Records.{first_world}
 use Rattle.dep_store.proofs.StartingLemmas.{opening_leaves}
 use Rattle.dep_store.proofs.starting.open_hub.Goals as goal
 

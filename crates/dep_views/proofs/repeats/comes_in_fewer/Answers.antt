@@ -1,6 +1,6 @@
 use Rattle.std.proofs.Common.{◌<◌, ◌≤◌, arith, sym, subst, ◌∙◌}
 use Rattle.std.proofs.lemmas.Bool.Decides.{nat_tests}
-use Rattle.dep_rulings.specs.declared.view.UploadState.TheVariants.{TimedOut, Unknown}
+use Rattle.dep_operations.specs.declared.view.UploadState.TheVariants.{TimedOut, Unknown}
 use Rattle.dep_views.proofs.Sent.{lacks_all, lacks_beyond, told_there}
 use Rattle.dep_views.proofs.repeats.comes_in_fewer.Goals as goal
 

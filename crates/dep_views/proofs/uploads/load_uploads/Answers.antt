@@ -5,8 +5,8 @@ use Rattle.dep_types.specs.declared.store_fault.StoreFault.TheVariants.{Memory}
 use Rattle.sqlite.proofs.Callers.{unchanged_then}
 use Rattle.dep_objects.proofs.Named.{pushed}
 use Rattle.dep_files.proofs.Results.{still_ours}
-use Rattle.dep_rulings.specs.Views.{upload_view}
-use Rattle.dep_rulings.specs.declared.view.UploadView.{UploadView}
+use Rattle.dep_operations.specs.Views.{upload_view}
+use Rattle.dep_operations.specs.declared.view.UploadView.{UploadView}
 use Rattle.dep_staging.proofs.Chains.{failed_since}
 use Rattle.dep_tables.proofs.Results.{if_failed}
 use Rattle.dep_tables.proofs.Chains.{clean_before, stays_then, stays_ok, stays_err}

@@ -5,7 +5,7 @@ use Rattle.dep_types.specs.Sound.{IsSound}
 use Rattle.dep_tables.specs.Tables.{tables_of, IsOurs}
 use Rattle.dep_tables.proofs.Chains.{Stays}
 use Rattle.dep_row_maps.specs.TablesAre.{TablesAre}
-use Rattle.dep_rulings.specs.Views.{upload_view}
+use Rattle.dep_operations.specs.Views.{upload_view}
 use Rattle.dep_views.specs.Referred.{AreKnown}
 use Rattle.dep_views.proofs.uploads.load_uploads.Given as goal
 

@@ -2,7 +2,7 @@ use Rattle.std.proofs.Common.{◌≡◌, ◌∙◌, refl, sym, subst, of_calls}
 use Rattle.dep_types.specs.Config.{IsChecked}
 use Rattle.dep_types.specs.declared.config.Config.{Config}
 use Rattle.sqlite.proofs.Callers.{memory_is_clean}
-use Rattle.dep_server.specs.Conversation.{wire, session}
+use Rattle.dep_hub.specs.Conversation.{wire, session}
 use Rattle.swordd.specs.Replays.{Replays, refused, not_begun}
 use Rattle.dep_program.specs.declared.outcome.Outcome.{Outcome}
 use Rattle.swordd.proofs.ReplayLemmas.{comes_to, rests_same}

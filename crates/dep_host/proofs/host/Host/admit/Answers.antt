@@ -1,8 +1,8 @@
 use Rattle.std.proofs.Common.{◌≡◌, None, Some, IsSomeAnd, refl, sym, subst, [], ◌∙◌}
 use Rattle.std.proofs.lemmas.List.{get_or-set_same}
 use Rattle.std.specs.Io.KnownBytes.{IsAtEnd}
-use Rattle.dep_server.specs.Records.{Live}
-use Rattle.dep_server.specs.Holding.{MovesLine}
+use Rattle.dep_hub.specs.Records.{Live}
+use Rattle.dep_hub.specs.Holding.{MovesLine}
 use Rattle.dep_outbox.specs.Wires.{told}
 use Rattle.dep_host.specs.Hosting.{refused, comes}
 use Rattle.dep_host.proofs.HostLemmas.{one_step, no_step}

@@ -1,7 +1,7 @@
 use Rattle.std.proofs.Common.{[], None, refl, sym, ap, subst, set, ◌∙◌}
 use Rattle.std.proofs.lemmas.List.{get_or-set_same, get_or-set_other}
-use Rattle.dep_server.specs.Records.{Absent}
-use Rattle.dep_server.specs.Holding.{MovesLine, with_held}
+use Rattle.dep_hub.specs.Records.{Absent}
+use Rattle.dep_hub.specs.Holding.{MovesLine, with_held}
 use Rattle.dep_host.specs.Hosting.{MayGo, position}
 use Rattle.dep_host.proofs.HostLemmas.{slot_read, closing, closing_none}
 use Rattle.dep_host.proofs.host.Host.close.Goals as goal

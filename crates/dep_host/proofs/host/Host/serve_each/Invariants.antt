@@ -1,5 +1,5 @@
 use Rattle.std.proofs.Common.{◌≡◌, ◌≤◌, ◌<◌, ℕ, length}
-use Rattle.dep_server.specs.Turns.{most_read}
+use Rattle.dep_hub.specs.Turns.{most_read}
 use Rattle.dep_host.specs.Hosting.{HasTime, position, slot}
 use Rattle.dep_host.proofs.HostLemmas.{RoundSoFar}
 use Rattle.dep_host.proofs.host.Host.serve_each.Given as goal

@@ -1,5 +1,5 @@
 use Rattle.std.proofs.Common.{arith, ◌≤◌, length}
-use Rattle.dep_server.specs.Turns.{most_read}
+use Rattle.dep_hub.specs.Turns.{most_read}
 use Rattle.dep_host.proofs.SeatLemmas.{received}
 use Rattle.dep_host.proofs.seat.Seat.read.Goals as goal
 

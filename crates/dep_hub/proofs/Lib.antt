@@ -1,0 +1,14 @@
+pub mod Leaving
+mod StepLemmas
+mod ServingLemmas
+mod SendingLemmas
+mod ConnectionLemmas
+pub mod HubLemmas
+pub mod TalkLemmas
+mod TurnLemmas
+mod ShutLemmas
+mod Endings
+mod NextLemmas
+mod HeldLemmas
+mod PartLemmas
+mod HoldingLemmas

@@ -1,0 +1,117 @@
+-- One turn of a connection.
+use Rattle.std.proofs.Common.{◌≡◌, ◌≤◌, ◌<◌, ℕ, zero, suc, Ok, List, ◌++◌, length, take, drop, sym, ap, subst, ◌∙◌, arith, Option, Some, None, refl, take_at}
+use Rattle.std.proofs.KnownBytes.{Appends-kept}
+use Rattle.std.specs.Io.KnownBytes.{Consumes, Keeps}
+use Rattle.dep_types.specs.Conditions.{Condition}
+use Rattle.dep_types.specs.Writing.{next_count}
+use Rattle.dep_types.specs.Reading.{end_of_read}
+use Rattle.dep_types.specs.declared.inlet.ReadFailed.{ReadFailed}
+use Rattle.dep_types.specs.declared.inlet.LastRead.TheVariants.{Bytes, Nothing}
+use Rattle.dep_hub.specs.Turns.{most_read}
+use Rattle.dep_hub.specs.Standing.{ArrivesOver, IsArrival}
+use Rattle.dep_hub.specs.Conversation.{Session, OneTurn, NoTurn}
+use Rattle.dep_hub.specs.declared.hub.Hub.{Hub}
+use Rattle.dep_hub.specs.declared.arrived.Arrived.{Arrived}
+
+-- the whole buffer, as the slice of it that was read into
+read_whole : (len : ℕ) (buffer rest given whole : List ℕ) → whole ≡ take len (buffer ++ rest)
+    → length buffer ≡ length given → length given ≡ len → whole ≡ buffer
+read_whole len buffer rest given whole e b s =
+    e ∙ take_at buffer rest len (b ∙ s)
+
+-- what is read is some bytes, and no more than the buffer has
+some_read : (n : ℕ) (buffer : List ℕ) → n ≡ length (take n buffer) → (n ≡ 0 → ⊥) → 0 < length (take n buffer)
+some_read n buffer e not_none = omega arith
+
+small_read : (n : ℕ) (buffer given items : List ℕ) → n ≤ length buffer → n ≡ length (take n buffer)
+    → length buffer ≡ length given → given ≡ items → length items ≡ most_read → length (take n buffer) ≤ most_read
+small_read n buffer given items fits e b same room =
+    let known : length given ≡ most_read = ap (λ (xs : List ℕ). length xs) same ∙ room in
+    omega arith
+
+-- the buffer has room
+pub has_room : (buffer given items : List ℕ) → length buffer ≡ length given → given ≡ items → length items ≡ most_read → 0 < length buffer
+has_room buffer given items b same room =
+    let known : length buffer ≡ most_read = b ∙ (ap (λ (xs : List ℕ). length xs) same ∙ room) in
+    omega arith
+
+-- the buffer that was read into is as long as it was
+pub kept_room : (len : ℕ) (buffer given items : List ℕ) → length buffer ≡ length given → given ≡ items → length given ≡ len → length items ≡ most_read
+    → length (take len (buffer ++ drop (length buffer) items)) ≡ most_read
+kept_room len buffer given items b same s room =
+    ap (λ (xs : List ℕ). length xs) (take_at buffer (drop (length buffer) items) len (b ∙ s)) ∙ (b ∙ (ap (λ (xs : List ℕ). length xs) same ∙ room))
+
+-- where no byte was read, the reader keeps what it had
+pub none_read : (n : ℕ) (buffer : List ℕ) (unread left : Option (List ℕ)) → n ≡ 0
+    → Consumes unread left (take n buffer) → Keeps unread left
+none_read n buffer None left none c = tt
+none_read n buffer (Some xs) None none c = absurd c
+none_read n buffer (Some xs) (Some ys) none c = sym (c ∙ ap (λ k. take k buffer ++ ys) none)
+
+-- how such a read ended
+pub gives_bytes : (n : ℕ) → (n ≡ 0 → ⊥) → end_of_read {E = ReadFailed} (Ok n) ≡ Bytes
+gives_bytes zero some = absurd (some refl)
+gives_bytes (suc n) some = refl
+
+pub gives_none : (n : ℕ) → n ≡ 0 → end_of_read {E = ReadFailed} (Ok n) ≡ Nothing
+gives_none n none = ap (λ k. end_of_read {E = ReadFailed} (Ok k)) none
+
+keeps_itself : (o : Option (List ℕ)) → Keeps o o
+keeps_itself None = tt
+keeps_itself (Some xs) = refl
+
+module _ {A : Type 0} (condition : A → Condition) where
+  -- an arrival, and then the outlet was flushed
+  pub arrives_flushed : (held sends holds : Option (List ℕ)) (failures fails failed : ℕ) (old new : Hub A) (number : ℕ) (piece : List ℕ) (moment : ℕ) (answer : Arrived)
+      → Keeps sends holds → failed ≡ fails → ArrivesOver condition held sends failures fails old new number piece moment answer
+      → ArrivesOver condition held holds failures failed old new number piece moment answer
+  arrives_flushed held sends holds failures fails failed old new number piece moment answer kept same a = record {
+    sent = a.sent;
+    appends = Appends-kept held sends holds a.sent a.appends kept;
+    arrival = subst (λ (n : ℕ). IsArrival condition old new number piece moment a.sent failures n answer) (sym same) a.arrival;
+  }
+
+  -- a piece was read, and it arrived
+  pub one_turn : {C : Type 0} (ticks : C → ℕ → C → Type 0) (number : ℕ) (before after : Session condition C) (answer : Arrived)
+      (n len moment : ℕ) (buffer rest given items whole : List ℕ)
+      → whole ≡ take len (buffer ++ rest) → length buffer ≡ length given → length given ≡ len
+      → given ≡ items → length items ≡ most_read
+      → n ≤ length buffer → n ≡ length (take n buffer) → (n ≡ 0 → ⊥)
+      → Consumes before.wire.unread after.wire.unread (take n buffer)
+      → after.wire.reads ≡ next_count before.wire.reads → after.wire.last ≡ Bytes
+      → ticks before.clock moment after.clock
+      → ArrivesOver condition before.wire.taken after.wire.taken before.wire.failures after.wire.failures
+      before.hub after.hub number (take n whole) moment answer
+      → OneTurn condition ticks number before after answer
+  one_turn ticks number before after answer n len moment buffer rest given items whole e b s same room fits long not_none read count last ticked arrival =
+      let is_whole : whole ≡ buffer = read_whole len buffer rest given whole e b s in
+      let came : ArrivesOver condition before.wire.taken after.wire.taken before.wire.failures after.wire.failures
+      before.hub after.hub number (take n buffer) moment answer = subst (λ (xs : List ℕ). ArrivesOver condition before.wire.taken after.wire.taken before.wire.failures after.wire.failures
+      before.hub after.hub number (take n xs) moment answer) is_whole arrival in
+      record {
+        piece = take n buffer;
+        moment = moment;
+        sent = came.sent;
+        arrives = came.arrival;
+        reads = count;
+        last = last;
+        some = some_read n buffer long not_none;
+        small = small_read n buffer given items fits long b same room;
+        transfers = record { pieces = read; replies = came.appends };
+        ticked = ticked;
+      }
+
+  -- nothing was read
+  pub no_turn : {C : Type 0} (before after : Session condition C)
+      → after.hub ≡ before.hub → after.clock ≡ before.clock → after.wire.taken ≡ before.wire.taken → after.wire.failures ≡ before.wire.failures
+      → Keeps before.wire.unread after.wire.unread → after.wire.reads ≡ next_count before.wire.reads → NoTurn condition before after
+  no_turn before after hub clock taken failures kept count = record {
+    same_hub = hub;
+    nothing = record {
+      pieces = kept;
+      reads = count;
+      replies = subst (λ (o : Option (List ℕ)). Keeps before.wire.taken o) (sym taken) (keeps_itself before.wire.taken);
+      failures = failures;
+    };
+    same_clock = clock;
+  }

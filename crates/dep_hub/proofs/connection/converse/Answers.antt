@@ -1,0 +1,44 @@
+use Rattle.std.proofs.Common.{ℕ, Some, None, refl, sym, ap, subst, inl, inr, ◌∙◌, arith}
+use Rattle.dep_types.specs.Writing.{next_count}
+use Rattle.std.specs.Prelude.{IsSome}
+use Rattle.dep_hub.specs.Standing.{intake_of}
+use Rattle.dep_hub.proofs.TalkLemmas.{talk_none, talk_more, talk_last, talk_bound, turn_at, reads_more}
+use Rattle.dep_hub.proofs.connection.converse.Goals as goal
+
+pub loop-count-init : goal.loop-count-init
+loop-count-init g c = record { call = c.requires.call; room = c.requires.room; same = refl; there = c.requires.there; config = refl; next = refl; reads = refl; last = inl refl; flushed = λ h. h; talk = talk_none g.A.Archive.condition _ _ _ }
+
+pub loop-count-preserved : goal.loop-count-preserved
+loop-count-preserved g c = record {
+  call = c.turn.ensures.call;
+  room = c.turn.ensures.room;
+  same = c.turn.ensures.same ∙ c.loop-count.invariant.same;
+  there = subst (λ (n : ℕ). IsSome (intake_of c.turn.new.hub.connections.items n)) c.loop-count.invariant.same c.turn.ensures.there;
+  config = c.turn.ensures.config ∙ c.loop-count.invariant.config;
+  next = c.turn.ensures.next ∙ c.loop-count.invariant.next;
+  reads = c.in_default.ensures.turn.reads ∙ (ap next_count c.loop-count.invariant.reads ∙ sym (reads_more _ c.loop-count.count));
+  last = inr c.in_default.ensures.turn.last;
+  flushed = λ h. c.turn.ensures.flushed (c.loop-count.invariant.flushed h);
+  talk = talk_more g.A.Archive.condition _ _ _ _ _ _ _ c.loop-count.invariant.config c.loop-count.invariant.talk
+      (turn_at g.A.Archive.condition _ _ _ _ _ None c.loop-count.invariant.same c.in_default.ensures.turn);
+}
+
+pub returns-in-Some-clause-talks : goal.returns-in-Some-clause-talks
+returns-in-Some-clause-talks g c = talk_last g.A.Archive.condition _ _ _ _ _ c.in-Some.end _ (omega (arith, c.loop-count-test.true))
+    c.loop-count.invariant.config c.loop-count.invariant.reads c.loop-count.invariant.talk
+    (turn_at g.A.Archive.condition _ _ _ _ _ (Some c.in-Some.end) c.loop-count.invariant.same c.in-Some.ensures.turn)
+
+pub returns-clause-talks : goal.returns-clause-talks
+returns-clause-talks g c = talk_bound g.A.Archive.condition _ _ _ _ _ (omega arith) c.loop-count.invariant.reads c.loop-count.invariant.last c.loop-count.invariant.talk
+
+pub returns-in-Some-clause-config : goal.returns-in-Some-clause-config
+returns-in-Some-clause-config g c = c.turn.ensures.config ∙ c.loop-count.invariant.config
+
+pub returns-in-Some-clause-next : goal.returns-in-Some-clause-next
+returns-in-Some-clause-next g c = c.turn.ensures.next ∙ c.loop-count.invariant.next
+
+pub returns-clause-config : goal.returns-clause-config
+returns-clause-config g c = c.loop-count.invariant.config
+
+pub returns-clause-next : goal.returns-clause-next
+returns-clause-next g c = c.loop-count.invariant.next

@@ -1,0 +1,79 @@
+use Rattle.std.proofs.Common.{refl, sym, ap, ◌∙◌}
+use Rattle.dep_message.specs.Places.{shut_reading, place_with}
+use Rattle.dep_hub.specs.Numbers.{index_of}
+use Rattle.dep_hub.proofs.ConnectionLemmas.{index_none, ascends_set}
+use Rattle.dep_hub.proofs.HubLemmas.{stays_there, none_there, keeps_same, not_absent, same_hub}
+use Rattle.dep_hub.proofs.HoldingLemmas.{held_fed, refuses}
+use Rattle.dep_hub.proofs.NextLemmas.{open_there, runs_out}
+use Rattle.dep_hub.proofs.hub.Hub.offer.Goals as goal
+
+pub returns-in_default-clause-offers : goal.returns-in_default-clause-offers
+returns-in_default-clause-offers g c = record {
+  absent = index_none c.args.connection c.args.self.now.connections.items ((λ i. index_of (sym c.number.ensures i) (sym c.as_slice.ensures.value i)) ∙ (sym c.index_among.ensures.value ∙ c.in_default.is));
+  same = same_hub c.args.self.now _;
+  sends_nothing = keeps_same (g.O.Outlet.taken c.args.out.now);
+}
+
+pub returns-in_default-clause-there : goal.returns-in_default-clause-there
+returns-in_default-clause-there g c = λ there.
+    absurd (none_there _ (index_none c.args.connection c.args.self.now.connections.items ((λ i. index_of (sym c.number.ensures i) (sym c.as_slice.ensures.value i)) ∙ (sym c.index_among.ensures.value ∙ c.in_default.is))) there)
+
+pub returns-in-Ok-clause-offers : goal.returns-in-Ok-clause-offers
+returns-in-Ok-clause-offers g c = record {
+  holds = held_fed c.args.self.now.config.max_upload c.args.connection c.in-Some.i c.args.self.now.connections.items c.index_mut-kept.result.now c.feed.new.self
+      ((λ i. index_of (sym c.number.ensures i) (sym c.as_slice.ensures.value i)) ∙ sym c.in-Some.ensures.value)
+      c.index_mut-kept.ensures.value c.args.piece.now c.in-Ok.ensures.ok;
+  sends_nothing = keeps_same (g.O.Outlet.taken c.args.out.now);
+  same_failures = refl;
+}
+
+pub returns-in-Ok-clause-there : goal.returns-in-Ok-clause-there
+returns-in-Ok-clause-there g c = λ there. (
+  open_there,
+  stays_there c.args.connection c.in-Some.i c.args.self.now.connections.items c.index_mut-kept.result.now
+      ((λ i. index_of (sym c.number.ensures i) (sym c.as_slice.ensures.value i)) ∙ sym c.in-Some.ensures.value)
+      c.index_mut-kept.ensures.value c.feed.new.self,
+)
+
+pub returns-in-Ok-clause-absent : goal.returns-in-Ok-clause-absent
+returns-in-Ok-clause-absent g c = λ none.
+    absurd (not_absent c.args.connection c.in-Some.i c.args.self.now.connections.items c.index_mut-kept.result.now
+    ((λ i. index_of (sym c.number.ensures i) (sym c.as_slice.ensures.value i)) ∙ sym c.in-Some.ensures.value)
+    c.index_mut-kept.ensures.value none)
+
+pub returns-in-Err-clause-offers : goal.returns-in-Err-clause-offers
+returns-in-Err-clause-offers g c =
+    let e = c.in-Err.ensures.err in
+    refuses g.A.Archive.condition c.args.self.now _ c.args.connection c.in-Some.i c.index_mut-kept.result.now c.give_up.new.intake
+    ((λ i. index_of (sym c.number.ensures i) (sym c.as_slice.ensures.value i)) ∙ sym c.in-Some.ensures.value)
+    c.index_mut-kept.ensures.value refl refl (g.met.A.Archive.settled c.args.self.now.store)
+    (g.O.Outlet.taken c.args.out.now) (g.O.Outlet.taken c.give_up.new.out) (g.O.Outlet.failures c.args.out.now) (g.O.Outlet.failures c.give_up.new.out) c.args.piece.now c.give_up.result
+    (runs_out (place_with c.index_mut-kept.result.now.intake.place c.args.piece.now) (g.O.Outlet.taken c.args.out.now) (g.O.Outlet.taken c.give_up.new.out)
+    (g.O.Outlet.failures c.args.out.now) (g.O.Outlet.failures c.give_up.new.out) (g.A.Archive.condition c.args.self.now.store) c.give_up.result e.1 c.give_up.ensures.sent c.give_up.ensures.cause)
+    c.give_up.ensures.there (c.give_up.ensures.shut ∙ ap shut_reading e.0)
+
+pub returns-in-Err-clause-there : goal.returns-in-Err-clause-there
+returns-in-Err-clause-there g c = λ there. (
+  c.give_up.ensures.there,
+  stays_there c.args.connection c.in-Some.i c.args.self.now.connections.items c.index_mut-kept.result.now
+      ((λ i. index_of (sym c.number.ensures i) (sym c.as_slice.ensures.value i)) ∙ sym c.in-Some.ensures.value)
+      c.index_mut-kept.ensures.value c.give_up.new.intake,
+)
+
+pub returns-in-Err-clause-absent : goal.returns-in-Err-clause-absent
+returns-in-Err-clause-absent g c = λ none.
+    absurd (not_absent c.args.connection c.in-Some.i c.args.self.now.connections.items c.index_mut-kept.result.now
+    ((λ i. index_of (sym c.number.ensures i) (sym c.as_slice.ensures.value i)) ∙ sym c.in-Some.ensures.value)
+    c.index_mut-kept.ensures.value none)
+
+pub invariant_of-self : goal.invariant_of-self
+invariant_of-self g c = record {
+  ascends = ascends_set 0 c.args.self.now.next c.in-Some.i c.args.self.now.connections.items c.index_mut-kept.result.now
+      (record { number = c.index_mut-kept.result.now.number; intake = c.feed.new.self }) c.index_mut-kept.ensures.value refl c.args.self.now.ascends;
+}
+
+pub invariant_of-self-in-Err : goal.invariant_of-self-in-Err
+invariant_of-self-in-Err g c = record {
+  ascends = ascends_set 0 c.args.self.now.next c.in-Some.i c.args.self.now.connections.items c.index_mut-kept.result.now
+      (record { number = c.index_mut-kept.result.now.number; intake = c.give_up.new.intake }) c.index_mut-kept.ensures.value refl c.args.self.now.ascends;
+}

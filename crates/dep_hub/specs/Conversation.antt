@@ -1,0 +1,227 @@
+-- One connection over a reader and an outlet, from its opening to its close.
+use Rattle.std.specs.Prelude.{◌<◌, ◌≤◌, ◌+◌, length, ◌≡◌, ℕ, List, [], ◌∷◌, ◌++◌, Option, Some, None, map}
+use Rattle.std.specs.List.{FoldsTo}
+use Rattle.std.specs.Io.KnownBytes.{Appends, Consumes, Keeps, IsAtEnd}
+use Rattle.dep_types.specs.State.{State}
+use Rattle.dep_types.specs.Conditions.{Condition, Leaves}
+use Rattle.dep_types.specs.Writing.{next_count}
+use Rattle.dep_types.specs.declared.inlet.LastRead.{LastRead}
+use Rattle.dep_types.specs.declared.inlet.LastRead.TheVariants as read
+use Rattle.dep_hub.specs.Records.{World, Connect, Close, Record, stopped, Run, first_world}
+use Rattle.dep_hub.specs.Standing.{StandsAt, StandsAfter, IsClean, IsHonest, Moves, IsArrival, intake_of, store_of}
+use Rattle.dep_hub.specs.Turns.{Turn, pieces_of, replies_of, record_of, records_of, most_read, most_reads, reads_made, reads_after, HasLastRead, ArePieces, last_answer, with_opened, with_closed, Exchanges, LeftByExchanges, EndsAs}
+use Rattle.dep_hub.specs.Shut.{LeavesNoMore, IfShut, SendsFixed}
+use Rattle.dep_hub.specs.declared.hub.Hub.{Hub}
+use Rattle.dep_hub.specs.declared.arrived.Arrived.{Arrived}
+use Rattle.dep_hub.specs.declared.arrived.Arrived.TheVariants.{Open as StaysOpen, Closed as HasClosed, Cut}
+use Rattle.dep_hub.specs.declared.connection.Served.{Served}
+use Rattle.dep_hub.specs.declared.connection.Served.TheVariants.{Ended, Closed, Unserved, ReadFault, WriteFault, Bound}
+
+-- the bytes that an inlet has left, how many reads it made and how the last one ended; the bytes that
+-- an outlet took, and how often it has failed
+pub record Wire : Type 0 where
+  pub unread : Option (List ℕ)
+  pub reads : ℕ
+  pub last : LastRead
+  pub taken : Option (List ℕ)
+  pub failures : ℕ
+
+abbrev pub wire : (unread : Option (List ℕ)) (reads : ℕ) (last : LastRead)
+    (taken : Option (List ℕ)) (failures : ℕ) → Wire
+wire unread reads last taken failures =
+    record { unread = unread; reads = reads; last = last; taken = taken; failures = failures }
+
+-- what was read is these bytes, and these were sent
+pub record Transfers (before after : Wire) (read sent : List ℕ) : Type 0 where
+  pub pieces : Consumes before.unread after.unread read
+  pub replies : Appends before.taken after.taken sent
+
+-- nothing is read or sent
+pub record Rests (before after : Wire) : Type 0 where
+  pub pieces : Keeps before.unread after.unread
+  pub reads : after.reads ≡ before.reads
+  pub last : after.last ≡ before.last
+  pub replies : Keeps before.taken after.taken
+  pub failures : after.failures ≡ before.failures
+
+-- one read gave no byte, and nothing is sent
+pub record GivesNothing (before after : Wire) : Type 0 where
+  pub pieces : Keeps before.unread after.unread
+  pub reads : after.reads ≡ next_count before.reads
+  pub replies : Keeps before.taken after.taken
+  pub failures : after.failures ≡ before.failures
+
+-- each turn came at the clock's answer
+abbrev pub Clocks : {C : Type 0} → (C → ℕ → C → Type 0) → C → List Turn → C → Type 0
+Clocks ticks clock turns now =
+    FoldsTo (λ before t after. ticks before t.moment after) clock turns now
+
+-- a connection that is served takes one number, and another takes none
+abbrev pub next_after : ℕ → Served → ℕ
+next_after next Unserved = next
+next_after next Ended = next + 1
+next_after next Closed = next + 1
+next_after next ReadFault = next + 1
+next_after next WriteFault = next + 1
+next_after next Bound = next + 1
+
+-- in each turn the client was sent a fixed reply at most, behind what tells it to go on
+abbrev pub AreFixed : List Turn → Type 0
+AreFixed [] = Unit {0}
+AreFixed (t ∷ turns) = SendsFixed t.sent t.answer × AreFixed turns
+
+module _ {A : Type 0} (condition : A → Condition) where
+  -- where the serving of a connection stands
+  pub record Session (C : Type 0) : Type 0 where
+    pub hub : Hub A
+    pub wire : Wire
+    pub clock : C
+
+  abbrev pub session : {C : Type 0} → Hub A → Wire → C → Session C
+  session hub ends clock = record { hub = hub; wire = ends; clock = clock }
+
+  -- for all records that it stood for, the hub stands for them with these after them, if its store
+  -- is open
+  abbrev pub AddsAll : Hub A → Hub A → List Record → Type 0
+  AddsAll old new more = IsClean condition new → (first : State) (records : List Record)
+      → StandsAfter condition old first records
+      → StandsAfter condition new first (records ++ more)
+
+  -- what a stop now leaves stands for all records that the hub stood for, with these after them and
+  -- a stop
+  abbrev pub StopsAll : Hub A → Hub A → List Record → Type 0
+  StopsAll old new more = IsHonest condition new → (first : State) (records : List Record)
+      → StandsAfter condition old first records
+      → Leaves (store_of condition new)
+      (λ found. Run old.config first ((records ++ more) ++ stopped ∷ []) (first_world found))
+
+  -- the turns leave the connection open, one after another, each with the outlet's failures that
+  -- the one before left
+  pub data Talks (number : ℕ)
+      : Hub A → (failures : ℕ) → List Turn → Hub A → (failures_after : ℕ) → Type 0 where
+    silent : {hub : Hub A} {failures : ℕ} → Talks number hub failures [] hub failures
+    turn : {hub mid new : Hub A} {failures before after : ℕ} {turns : List Turn} (t : Turn)
+        → Talks number hub failures turns mid before
+        → last_answer turns ≡ StaysOpen → mid.config ≡ hub.config
+        → IsArrival condition mid new number t.piece t.moment t.sent before after t.answer
+        → Talks number hub failures (turns ++ t ∷ []) new after
+
+  -- turns so far: what they add, read, write, and when
+  pub record Talk {C : Type 0} (ticks : C → ℕ → C → Type 0) (number : ℕ) (before after : Session C)
+      (count : ℕ) (answer : Arrived) : Type 0 where
+    pub turns : List Turn
+    pub counted : length turns ≡ count
+    pub sizes : ArePieces turns
+    pub talks : Talks number before.hub before.wire.failures turns after.hub after.wire.failures
+    pub transfers : Transfers before.wire after.wire (pieces_of turns) (replies_of turns)
+    pub moments : Clocks ticks before.clock turns after.clock
+    pub answered : last_answer turns ≡ answer
+
+  -- one turn
+  pub record OneTurn {C : Type 0} (ticks : C → ℕ → C → Type 0)
+      (number : ℕ) (before after : Session C)
+      (answer : Arrived) : Type 0 where
+    pub piece : List ℕ
+    pub moment : ℕ
+    pub sent : List ℕ
+    pub arrives : IsArrival condition before.hub after.hub number piece moment sent
+        before.wire.failures after.wire.failures answer
+    pub reads : after.wire.reads ≡ next_count before.wire.reads
+    pub last : after.wire.last ≡ read.Bytes
+    pub some : 0 < length piece
+    pub small : length piece ≤ most_read
+    pub transfers : Transfers before.wire after.wire piece sent
+    pub ticked : ticks before.clock moment after.clock
+
+  -- nothing was read
+  pub record NoTurn {C : Type 0} (before after : Session C) : Type 0 where
+    pub same_hub : after.hub ≡ before.hub
+    pub nothing : GivesNothing before.wire after.wire
+    pub same_clock : after.clock ≡ before.clock
+
+  abbrev pub TurnsTo : {C : Type 0} → (C → ℕ → C → Type 0) → ℕ → (before after : Session C)
+      → Option Served
+      → Type 0
+  TurnsTo ticks number before after None = OneTurn ticks number before after StaysOpen
+  TurnsTo ticks number before after (Some Closed) = OneTurn ticks number before after HasClosed
+  TurnsTo ticks number before after (Some WriteFault) = OneTurn ticks number before after Cut
+  TurnsTo ticks number before after (Some Ended) =
+      NoTurn before after × IsAtEnd after.wire.unread × (after.wire.last ≡ read.Nothing)
+  TurnsTo ticks number before after (Some ReadFault) =
+      NoTurn before after × (after.wire.last ≡ read.Failed)
+  TurnsTo ticks number before after (Some Unserved) = ⊥
+  TurnsTo ticks number before after (Some Bound) = ⊥
+
+  -- the turns up to the end
+  pub record TalksUntil {C : Type 0} (ticks : C → ℕ → C → Type 0)
+      (number : ℕ) (before after : Session C)
+      (served : Served) : Type 0 where
+    pub count : ℕ
+    pub answer : Arrived
+    pub talk : Talk ticks number before after count answer
+    pub ends : EndsAs after.wire.unread talk.turns served
+    pub reads : after.wire.reads ≡ reads_after before.wire.reads (reads_made talk.turns served)
+    pub last : HasLastRead after.wire.last served
+
+  -- what the machine makes of the turns, from whatever machine the hub kept: it answers them as
+  -- they were answered, and the hub keeps what it comes to, if its store is open; a stop then
+  -- leaves just that, and where the store is shut what it may leave after the last turn
+  pub record IsAnswered (old new : Hub A) (number : ℕ) (turns : List Turn)
+      (w : World) : Type 0 where
+    pub talked : World
+    pub exchanges : Exchanges old.config number (with_opened number w) turns talked
+    pub at : IsClean condition new → StandsAt condition new (with_closed number talked)
+    pub rests : IsClean condition new
+        → Leaves (store_of condition new) (λ found. found ≡ talked.state)
+    pub stop : Leaves (store_of condition new) (LeftByExchanges exchanges)
+
+  -- one connection: what was read are its pieces, what was written is what was sent, each at the
+  -- clock's answer
+  pub record Converses {C : Type 0} (ticks : C → ℕ → C → Type 0) (before after : Session C)
+      (served : Served) : Type 0 where
+    pub number : ℕ
+    pub turns : List Turn
+    pub is_next : number ≡ before.hub.next
+    pub fresh : intake_of before.hub.connections.items number ≡ None
+    pub opened : Hub A
+    pub opens : Moves condition before.hub opened (Connect number) []
+    pub talked : Hub A
+    pub talks : Talks number opened before.wire.failures turns talked after.wire.failures
+    pub closes : Moves condition talked after.hub (Close number) []
+    pub gone : intake_of after.hub.connections.items number ≡ None
+    pub answers : IsHonest condition after.hub → (w : World) → StandsAt condition before.hub w
+        → IsAnswered before.hub after.hub number turns w
+    pub adds : AddsAll before.hub after.hub (records_of number turns)
+    pub stops : StopsAll before.hub after.hub
+        (record { event = Connect number; sent = [] } ∷ map (record_of number) turns)
+    pub transfers : Transfers before.wire after.wire (pieces_of turns) (replies_of turns)
+    pub moments : Clocks ticks before.clock turns after.clock
+    pub ends : EndsAs after.wire.unread turns served
+    pub sizes : ArePieces turns
+    -- each turn took one read, and there were no more reads than there may be
+    pub reads : after.wire.reads ≡ reads_after before.wire.reads (reads_made turns served)
+    pub few_reads : after.wire.reads ≤ before.wire.reads + most_reads
+    pub last : HasLastRead after.wire.last served
+    -- over a hub whose store was shut
+    pub shut : IfShut (store_of condition before.hub) (store_of condition after.hub)
+        (AreFixed turns
+        × LeavesNoMore (store_of condition before.hub) (store_of condition after.hub))
+
+  -- nothing is read or written, and the hub stands for what it did
+  pub record IsUnserved {C : Type 0} (before after : Session C) : Type 0 where
+    pub same : (w : World) → StandsAt condition before.hub w → StandsAt condition after.hub w
+    pub same_store : after.hub.store ≡ before.hub.store
+    pub stays : (w : World) → StandsAt condition before.hub w
+        → Leaves (store_of condition after.hub) (λ found. found ≡ w.state)
+    pub adds : AddsAll before.hub after.hub []
+    pub rests : Rests before.wire after.wire
+    pub same_clock : after.clock ≡ before.clock
+
+  abbrev pub ConversesOver : {C : Type 0} → (C → ℕ → C → Type 0) → (before after : Session C)
+      → Served → Type 0
+  ConversesOver ticks before after Unserved = IsUnserved before after
+  ConversesOver ticks before after Ended = Converses ticks before after Ended
+  ConversesOver ticks before after Closed = Converses ticks before after Closed
+  ConversesOver ticks before after ReadFault = Converses ticks before after ReadFault
+  ConversesOver ticks before after WriteFault = Converses ticks before after WriteFault
+  ConversesOver ticks before after Bound = Converses ticks before after Bound

@@ -1,0 +1,16 @@
+pub mod Machine
+pub mod Stops
+pub mod Records
+pub mod Causes
+pub mod Sending
+pub mod Serving
+pub mod Nexts
+pub mod Standing
+pub mod Holding
+pub mod Turns
+pub mod Conversation
+pub mod Numbers
+pub mod Performing
+pub mod Faults
+pub mod Shut
+pub mod Flushing

@@ -1,0 +1,92 @@
+-- The next item of an intake, answered.
+use Rattle.std.specs.Prelude.{◌≡◌, ◌⊎◌, ℕ, false, List, []}
+use Rattle.dep_types.specs.State.{State}
+use Rattle.dep_types.specs.Writing.{HasRisen}
+use Rattle.dep_types.specs.declared.config.Config.{Config}
+use Rattle.dep_types.specs.Conditions.{StandsFor}
+use Rattle.dep_message.specs.Places.{Place, Shut, Reading, IsOpen, HasBytes}
+use Rattle.dep_message.specs.Stream.{Item, FirstAt, Waits}
+use Rattle.dep_hub.specs.Machine.{SendsUpTo, want_of_memory}
+use Rattle.dep_hub.specs.Sending.{Outside, Passes}
+use Rattle.dep_hub.specs.Shut.{LeavesNoMore}
+use Rattle.dep_hub.specs.Serving.{Answers, answer_after}
+use Rattle.dep_hub.specs.declared.arrived.Arrived.{Arrived}
+use Rattle.dep_hub.specs.declared.arrived.Arrived.TheVariants as came
+use Rattle.dep_hub.specs.declared.next.Next.{Next}
+use Rattle.dep_hub.specs.declared.next.Next.TheVariants.{More, Waiting, Closed, Cut, NoSuch}
+use Rattle.dep_hub.specs.declared.sending.Answered.{Answered}
+use Rattle.dep_hub.specs.declared.sending.Answered.TheVariants.{Sent}
+
+-- these bytes were sent, and nothing was asked of the store
+pub record Stays (old new : Outside) (sent : List ℕ) : Type 0 where
+  pub passes : Passes old new sent
+  pub state : (s : State) → StandsFor old.store s → StandsFor new.store s
+  pub leaves : LeavesNoMore old.store new.store
+
+-- nothing was sent
+pub record Rests (old new : Outside) : Type 0 where
+  pub stays : Stays old new []
+  pub failures : new.failures ≡ old.failures
+
+-- memory ran out over these bytes
+pub record RunsOut (place : Place) (old new : Outside) (answer : Arrived) : Type 0 where
+  pub sent : List ℕ
+  pub some : HasBytes place
+  pub stays : Stays old new sent
+  pub sends : SendsUpTo want_of_memory sent answer
+  pub cause : answer ≡ came.Cut → HasRisen old.failures new.failures
+
+-- an item was answered, and it was the last
+pub record IsLast (config : Config) (reading : Reading) (moment : ℕ) (old new : Outside)
+    (answer : Arrived) : Type 0 where
+  pub item : Item
+  pub next : Place
+  pub how : Answered
+  pub first : FirstAt reading.limit reading.place item next
+  pub closes : how ≡ Sent → next ≡ Shut
+  pub answers : Answers config old new item moment how
+  pub answer_is : answer ≡ answer_after how
+
+-- nothing was read any more
+pub record IsDead (reading : Reading) (old new : Outside) (answer : Arrived) : Type 0 where
+  pub shut : reading.place ≡ Shut
+  pub rests : Rests old new
+  pub answer_is : answer ≡ came.Closed
+
+-- the connection ends
+abbrev pub Ends : Config → Reading → (moment : ℕ) → (old new : Outside) → Place → Arrived → Type 0
+Ends config reading moment old new at answer =
+    (at ≡ Shut)
+    × (IsLast config reading moment old new answer
+    ⊎ (RunsOut reading.place old new answer ⊎ IsDead reading old new answer))
+
+-- an item was answered, and the connection goes on
+pub record GoesOn (config : Config) (reading : Reading) (moment : ℕ) (old new : Outside)
+    (at : Place) : Type 0 where
+  pub item : Item
+  pub first : FirstAt reading.limit reading.place item at
+  pub is_open : IsOpen at
+  pub answers : Answers config old new item moment Sent
+
+-- no item is complete
+pub record IsWaiting (reading : Reading) (old new : Outside) (at : Place) : Type 0 where
+  pub same : at ≡ reading.place
+  pub waits : Waits reading.limit reading.place
+  pub lives : reading.is_dead ≡ false
+  pub rests : Rests old new
+
+abbrev pub AnswersNext : Config → Reading → (moment : ℕ) → (old new : Outside) → Place → Next
+    → Type 0
+AnswersNext config reading moment old new at More = GoesOn config reading moment old new at
+AnswersNext config reading moment old new at Waiting = IsWaiting reading old new at
+AnswersNext config reading moment old new at Closed =
+    Ends config reading moment old new at came.Closed
+AnswersNext config reading moment old new at Cut = Ends config reading moment old new at came.Cut
+AnswersNext config reading moment old new at NoSuch = ⊥
+
+-- what the end of a connection comes to
+abbrev pub ended_as : Arrived → Next
+ended_as came.Cut = Cut
+ended_as came.Open = Closed
+ended_as came.Closed = Closed
+ended_as came.NoSuch = Closed

@@ -1,0 +1,28 @@
+-- Where a connection stands in the list, how the numbers follow one another, and how far
+-- connections go.
+use Rattle.std.specs.Prelude.{◌==◌, ◌+◌, ◌≤◌, ℕ, List, [], ◌∷◌, Option, position}
+use Rattle.std.specs.Coded.{×_prop, le_prop}
+use Rattle.dep_hub.specs.declared.connections.Connection.{Connection}
+
+-- the first place at which the number stands
+abbrev pub index_of : ℕ → List Connection → Option ℕ
+index_of number connections = position (λ c. c.number == number) connections
+
+-- the numbers ascend, from one and below the other
+abbrev pub Ascends : ℕ → List Connection → ℕ → Type 0
+Ascends low [] high = low ≤ high
+Ascends low (c ∷ connections) high = (low ≤ c.number) × Ascends (c.number + 1) connections high
+
+pub Ascends-prop : (low : ℕ) (connections : List Connection) (high : ℕ)
+    → IsProp (Ascends low connections high)
+Ascends-prop low [] high = le_prop
+Ascends-prop low (c ∷ connections) high =
+    ×_prop le_prop (Ascends-prop (c.number + 1) connections high)
+
+-- how many connections a hub has at most
+abbrev pub most_connections : ℕ
+most_connections = 1024
+
+-- the number that no connection gets, nor one above it
+abbrev pub last_number : ℕ
+last_number = 4000000000000000000

@@ -1,0 +1,157 @@
+//! One connection over an inlet and an outlet.
+ghost use Rattle.std.specs.Prelude.{◌≡◌, ◌<◌, IsSome, length};
+ghost use Rattle.dep_hub.specs.Standing.{intake_of, IsClean, IsHonest};
+ghost use Rattle.dep_hub.specs.Turns.{most_read};
+ghost use Rattle.dep_hub.specs.Conversation.{session, wire, ConversesOver, TalksUntil, TurnsTo, next_after};
+ghost use Rattle.dep_hub.specs.Flushing.{IsFlushed};
+
+use crate::archive::Archive;
+use crate::arrived::Arrived;
+use crate::connections::ConnId;
+use crate::flush::Flush;
+use crate::hub::Hub;
+use dep_moment::Moment;
+use dep_types::{Inlet, ReadFailed};
+use std::alloc::Global;
+
+/// Why a connection was served no longer.
+#[derive(Clone, Copy, Debug, PartialEq, Eq)]
+pub enum Served {
+    /// The last read gave nothing.
+    Ended,
+    /// The connection was closed after a reply.
+    Closed,
+    /// It could not be opened.
+    Unserved,
+    /// The last read failed.
+    ReadFault,
+    /// The outlet failed.
+    WriteFault,
+    /// It came to the greatest number of reads.
+    Bound,
+}
+
+const MOST_READS: u32 = 1_048_576;
+
+const MOST_READ: usize = 65_536;
+
+/// The connection that is served, and room for one piece of its stream.
+#[derive(Drop)]
+struct Incoming {
+    connection: ConnId,
+    buffer: Vec<u8>,
+}
+
+/// Serves one fresh connection, from its opening to its close. It makes at most 1,048,576 reads, of at most
+/// 65,536 bytes each, and asks the clock once for each piece.
+pub fn serve_connection<A: Archive, R: Inlet, W: Flush, C: FnMut() -> Moment>(
+    alloc: Global,
+    reader: &mut R,
+    writer: &mut W,
+    hub: &mut Hub<A>,
+    clock: &mut C,
+) -> Served
+    requires { C.IsAlwaysCallable clock.old }
+    ensures call { C.IsAlwaysCallable clock.new }
+    ensures config { hub.new.config ≡ hub.old.config }
+    ensures converses { ConversesOver A.condition C.step
+        (session A.condition hub.old
+        (wire (R.unread reader.old) (R.reads reader.old) (R.last reader.old)
+        (W.taken writer.old) (W.failures writer.old)) clock.old)
+        (session A.condition hub.new
+        (wire (R.unread reader.new) (R.reads reader.new) (R.last reader.new)
+        (W.taken writer.new) (W.failures writer.new)) clock.new) result }
+    ensures clean { IsClean A.condition hub.new → IsClean A.condition hub.old }
+    ensures honest { IsHonest A.condition hub.new → IsHonest A.condition hub.old }
+    ensures next { hub.new.next ≡ next_after hub.old.next result }
+    // All was sent, or the outlet has given up.
+    ensures flushed { IsFlushed (W.held writer.old) (W.has_failed writer.old)
+        → IsFlushed (W.held writer.new) (W.has_failed writer.new) }
+{
+    let Ok(buffer) = vec![in alloc; 0u8; MOST_READ] else {
+        return Served::Unserved;
+    };
+    let Ok(connection) = hub.connect() else {
+        return Served::Unserved;
+    };
+    let mut incoming = Incoming { connection, buffer };
+    let served = converse(reader, writer, hub, clock, &mut incoming);
+    hub.close(connection);
+    served
+}
+
+/// Serves a connection until it ends.
+fn converse<A: Archive, R: Inlet, W: Flush, C: FnMut() -> Moment>(
+    reader: &mut R,
+    writer: &mut W,
+    hub: &mut Hub<A>,
+    clock: &mut C,
+    incoming: &mut Incoming,
+) -> Served
+    requires call { C.IsAlwaysCallable clock.old }
+    requires there { IsSome (intake_of hub.old.connections.items incoming.old.connection) }
+    requires room { length incoming.old.buffer.items ≡ most_read }
+    ensures call { C.IsAlwaysCallable clock.new }
+    ensures config { hub.new.config ≡ hub.old.config }
+    ensures next { hub.new.next ≡ hub.old.next }
+    ensures talks { TalksUntil A.condition C.step incoming.old.connection
+        (session A.condition hub.old
+        (wire (R.unread reader.old) (R.reads reader.old) (R.last reader.old)
+        (W.taken writer.old) (W.failures writer.old)) clock.old)
+        (session A.condition hub.new
+        (wire (R.unread reader.new) (R.reads reader.new) (R.last reader.new)
+        (W.taken writer.new) (W.failures writer.new)) clock.new) result }
+    ensures flushed { IsFlushed (W.held writer.old) (W.has_failed writer.old)
+        → IsFlushed (W.held writer.new) (W.has_failed writer.new) }
+{
+    for count in 0..MOST_READS {
+        if let Some(end) = turn(reader, writer, hub, clock, incoming) {
+            return end;
+        }
+    }
+    Served::Bound
+}
+
+/// Reads a piece, and has it served.
+fn turn<A: Archive, R: Inlet, W: Flush, C: FnMut() -> Moment>(
+    reader: &mut R,
+    writer: &mut W,
+    hub: &mut Hub<A>,
+    clock: &mut C,
+    incoming: &mut Incoming,
+) -> Option<Served>
+    requires call { C.IsAlwaysCallable clock.old }
+    requires there { IsSome (intake_of hub.old.connections.items incoming.old.connection) }
+    requires room { length incoming.old.buffer.items ≡ most_read }
+    ensures call { C.IsAlwaysCallable clock.new }
+    ensures there { IsSome (intake_of hub.new.connections.items incoming.old.connection) }
+    ensures room { length incoming.new.buffer.items ≡ most_read }
+    ensures same { incoming.new.connection ≡ incoming.old.connection }
+    ensures config { hub.new.config ≡ hub.old.config }
+    ensures next { hub.new.next ≡ hub.old.next }
+    ensures turn { TurnsTo A.condition C.step incoming.old.connection
+        (session A.condition hub.old
+        (wire (R.unread reader.old) (R.reads reader.old) (R.last reader.old)
+        (W.taken writer.old) (W.failures writer.old)) clock.old)
+        (session A.condition hub.new
+        (wire (R.unread reader.new) (R.reads reader.new) (R.last reader.new)
+        (W.taken writer.new) (W.failures writer.new)) clock.new) result }
+    ensures flushed { IsFlushed (W.held writer.old) (W.has_failed writer.old)
+        → IsFlushed (W.held writer.new) (W.has_failed writer.new) }
+{
+    match reader.read(incoming.buffer.as_mut_slice()) {
+        Err(ReadFailed) => Some(Served::ReadFault),
+        Ok(0) => Some(Served::Ended),
+        Ok(n) => {
+            let moment = clock();
+            let arrived = hub.arrive(incoming.connection, &incoming.buffer[..n], moment, writer);
+            writer.flush();
+            match arrived {
+                Arrived::Open => None,
+                Arrived::Closed => Some(Served::Closed),
+                Arrived::Cut => Some(Served::WriteFault),
+                Arrived::NoSuch => unreachable!(),
+            }
+        }
+    }
+}

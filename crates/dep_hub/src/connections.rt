@@ -1,0 +1,55 @@
+//! The connections of a hub, by their numbers.
+ghost use Rattle.std.specs.Prelude.{◌≡◌, ◌<◌, length, IfSome};
+ghost use Rattle.dep_hub.specs.Numbers.{index_of};
+
+use dep_message::Intake;
+use std::marker::Model;
+
+/// The number of a connection. A hub gives none twice.
+#[derive(Clone, Copy, Debug, PartialEq, Eq)]
+pub struct ConnId {
+    number: u64,
+}
+
+impl Model for ConnId {
+    ghost use Rattle.std.specs.Prelude.{ℕ};
+
+    ghost Value = { ℕ };
+
+    ghost view = { λ c. c.number };
+
+    ghost inverse = { λ number. record { number = number } };
+}
+
+impl ConnId {
+    /// The connection of this number.
+    pub(crate) fn new(number: u64) -> ConnId
+        ensures { result ≡ number }
+    {
+        ConnId { number }
+    }
+
+    /// Its number, which a hub gives from 0 on.
+    pub fn number(self) -> u64
+        ensures { result ≡ self }
+    {
+        self.number
+    }
+}
+
+/// A connection, and what its stream has left.
+#[derive(Drop)]
+pub(crate) struct Connection {
+    pub number: u64,
+    pub intake: Intake,
+}
+
+/// Where a connection stands in the list.
+pub(crate) fn index_among(connections: &[Connection], number: u64) -> Option<usize>
+    ensures value { result ≡ index_of number connections.now }
+    ensures within { IfSome result (λ i. i < length connections.now) }
+{
+    connections
+        .iter()
+        .position(|connection| connection.number == number)
+}

@@ -1,0 +1,292 @@
+//! All connections, and the one store that they share.
+ghost use Rattle.std.specs.Prelude.{◌+◌, ◌≡◌, ◌<◌, ◌≤◌, ℕ, [], ◌∷◌, ◌++◌, List, length, MatchResult, IfOk, IfErr, OnErr, IfSome, None, IsErrOf, IsSome, ◌⊎◌, ◌≢◌};
+ghost use Rattle.dep_types.specs.State.{State};
+ghost use Rattle.dep_types.specs.Config.{IsChecked};
+ghost use Rattle.dep_types.specs.Conditions.{StandsFor, Leaves};
+ghost use Rattle.dep_hub.specs.Records.{Connect, Close, Record, Line, World, Run, Absent, Live, stopped, first_world};
+ghost use Rattle.dep_hub.specs.Numbers.{Ascends, Ascends-prop, most_connections, last_number};
+
+use crate::access_log::{AccessLog, NoLog};
+use crate::archive::Archive;
+use crate::arrived::Arrived;
+use crate::connections::{ConnId, Connection, index_among};
+use crate::faults::{ConnectFault, HubFault};
+use crate::next::Next;
+use crate::serving::{Piece, answer_next, give_up, serve};
+use crate::site::{Context, Site};
+use dep_message::Intake;
+use dep_moment::Moment;
+use dep_types::{Config, ConfigFault, Outlet, StoreFault};
+use std::alloc::{AllocError, Global};
+
+/// All connections, and the one store that they share.
+#[derive(Drop)]
+pub struct Hub<A> {
+    config: Site,
+    store: A,
+    connections: Vec<Connection>,
+    next: u64,
+    // No number is there twice, and the next one is above them.
+    ghost ascends: { Ascends 0 connections.items next } by { Ascends-prop 0 connections.items next },
+}
+
+const MOST_CONNECTIONS: usize = 1_024;
+
+const LAST_NUMBER: u64 = 4_000_000_000_000_000_000;
+
+impl<A: Archive> Hub<A> {
+    ghost use Rattle.dep_hub.specs.Standing.{StandsAfter, StandsAt, IsClean, IsHonest, store_of, Adds, Moves, ComesTo, intake_of};
+    ghost use Rattle.dep_hub.specs.Holding.{KeepsHolding, StandsHoldingAfter, MovesLine, OffersTo, ComesToNext, with_held};
+    ghost use Rattle.dep_hub.specs.Shut.{LeavesNoMore, TellsOpen};
+
+    /// A hub over the store, without connections. A refusal hands the store back.
+    pub fn new(alloc: Global, config: Config, store: A) -> Result<Hub<A>, (HubFault, A)>
+        ensures stands { IfOk result (λ hub. (first : State) → StandsFor (A.condition store) first
+            → StandsAfter A.condition hub first []) }
+        // Also after a stop.
+        ensures again { IfOk result (λ hub. (first : State) (records : List Record) (w : World)
+            → Run config first records w → ((n : ℕ) → w.line n ≡ Absent)
+            → StandsFor (A.condition store) w.state → StandsAfter A.condition hub first records) }
+        ensures config { IfOk result (λ hub. hub.config ≡ config) }
+        ensures kept { IfOk result (λ hub. hub.store ≡ store) }
+        ensures checked { IfOk result (λ _. IsChecked config) }
+        ensures refused { IfErr result (λ fault. fault.0 ≡ HubFault.Config → ¬ IsChecked config) }
+        ensures next { IfOk result (λ hub. hub.next ≡ 0) }
+        ensures store { IfErr result (λ fault. fault.1 ≡ store) }
+    {
+        match config.check(alloc) {
+            Ok(()) => {}
+            Err(ConfigFault::Memory) => {
+                drop(config);
+                return Err((HubFault::Memory, store));
+            }
+            Err(ConfigFault::Base | ConfigFault::Limit) => {
+                drop(config);
+                return Err((HubFault::Config, store));
+            }
+        }
+        let Ok(config) = Site::new(alloc, config) else {
+            return Err((HubFault::Memory, store));
+        };
+        Ok(Hub {
+            config,
+            store,
+            connections: Vec::new(alloc),
+            next: 0,
+        })
+    }
+
+    /// Opens a connection.
+    pub fn connect(&mut self) -> Result<ConnId, ConnectFault>
+        ensures adds { IfOk result
+            (λ number. Adds A.condition self.old self.new (Connect number) []) }
+        ensures moves { IfOk result
+            (λ number. Moves A.condition self.old self.new (Connect number) []) }
+        ensures same { OnErr result ((w : World) → StandsAt A.condition self.old w
+            → StandsAt A.condition self.new w) }
+        // What the others hold stays.
+        ensures holding { MatchResult result
+            (λ number. MovesLine A.condition self.old self.new number (Live []) (λ held. held))
+            (λ _. (lines : ℕ → Line) (held : ℕ → List ℕ)
+            → KeepsHolding A.condition self.old lines held
+            → KeepsHolding A.condition self.new lines held) }
+        ensures config { self.new.config ≡ self.old.config }
+        ensures store { self.new.store ≡ self.old.store }
+        ensures next { IfOk result (λ number.
+            (number ≡ self.old.next) × (self.new.next ≡ self.old.next + 1)) }
+        // It refuses for a reason.
+        ensures full { IsErrOf result ConnectFault.Full
+            → (most_connections ≤ length self.old.connections.items)
+            ⊎ (last_number ≤ self.old.next) }
+        // It takes no connection more than there may be, and a refusal takes no number.
+        ensures room { IfOk result (λ _.
+            (length self.old.connections.items < most_connections)
+            × (self.old.next < last_number)) }
+        ensures kept { OnErr result (self.new.next ≡ self.old.next) }
+        ensures fresh { IfOk result (λ number. intake_of self.old.connections.items number ≡ None) }
+        ensures there { IfOk result
+            (λ number. IsSome (intake_of self.new.connections.items number)) }
+        // What a stop now leaves.
+        ensures rests { (w : World) → StandsAt A.condition self.old w
+            → Leaves (store_of A.condition self.new) (λ found. found ≡ w.state) }
+    {
+        if self.connections.len() >= MOST_CONNECTIONS || self.next >= LAST_NUMBER {
+            return Err(ConnectFault::Full);
+        }
+        let number = self.next;
+        let connection = Connection {
+            number,
+            intake: Intake::new(self.config.alloc(), self.config.config().max_upload),
+        };
+        if let Err(refused) = self.connections.push(connection) {
+            drop(refused);
+            return Err(ConnectFault::Memory);
+        }
+        self.next += 1;
+        Ok(ConnId::new(number))
+    }
+
+    /// Takes a piece of a connection's stream, and sends what it calls for.
+    pub fn arrive<O: Outlet>(
+        &mut self,
+        connection: ConnId,
+        piece: &[u8],
+        moment: Moment,
+        out: &mut O,
+    ) -> Arrived
+        ensures config { self.new.config ≡ self.old.config }
+        ensures next { self.new.next ≡ self.old.next }
+        ensures absent { intake_of self.old.connections.items connection ≡ None
+            → result ≡ Arrived.NoSuch }
+        // The store is open after it only where it was before, and the disk honest.
+        ensures clean { IsClean A.condition self.new → IsClean A.condition self.old }
+        ensures honest { IsHonest A.condition self.new → IsHonest A.condition self.old }
+        // A connection that was there is there.
+        ensures there { IsSome (intake_of self.old.connections.items connection)
+            → (result ≢ Arrived.NoSuch) × IsSome (intake_of self.new.connections.items connection) }
+        ensures arrival { ComesTo A.condition (O.taken out.old) (O.taken out.new)
+            (O.failures out.old) (O.failures out.new)
+            self.old self.new connection piece.now moment result }
+    {
+        let Some(i) = index_among(self.connections.as_slice(), connection.number()) else {
+            return Arrived::NoSuch;
+        };
+        let kept = &mut self.connections[i];
+        let piece = Piece {
+            bytes: piece,
+            moment,
+        };
+        serve(&self.config, &mut self.store, &mut kept.intake, &piece, out)
+    }
+
+    /// Takes a piece of a connection's stream, and answers nothing of it: `answer` does, one item at
+    /// a time. Where memory runs out the fixed reply for it is sent, and the connection is `Closed`,
+    /// or `Cut`. Otherwise it is `Open`, also where it has ended, which the next `answer` tells.
+    /// Nothing bounds what is held: offer no more before an `answer` was `Waiting`.
+    pub fn offer<O: Outlet>(&mut self, connection: ConnId, piece: &[u8], out: &mut O) -> Arrived
+        ensures config { self.new.config ≡ self.old.config }
+        ensures next { self.new.next ≡ self.old.next }
+        ensures store { self.new.store ≡ self.old.store }
+        ensures absent { intake_of self.old.connections.items connection ≡ None
+            → result ≡ Arrived.NoSuch }
+        // A connection that was there is there.
+        ensures there { IsSome (intake_of self.old.connections.items connection)
+            → (result ≢ Arrived.NoSuch) × IsSome (intake_of self.new.connections.items connection) }
+        ensures offers { OffersTo A.condition (O.taken out.old) (O.taken out.new)
+            (O.failures out.old) (O.failures out.new)
+            self.old self.new connection piece.now result }
+    {
+        let Some(i) = index_among(self.connections.as_slice(), connection.number()) else {
+            return Arrived::NoSuch;
+        };
+        let kept = &mut self.connections[i];
+        match kept.intake.feed(piece) {
+            Ok(()) => Arrived::Open,
+            Err(AllocError) => give_up(&mut kept.intake, out, &mut NoLog),
+        }
+    }
+
+    /// Answers the next item of a connection, where one is complete in what was offered. It sends one
+    /// reply at most, and the log is told of the request and the reply.
+    pub fn answer<O: Outlet, L: AccessLog>(
+        &mut self,
+        connection: ConnId,
+        moment: Moment,
+        out: &mut O,
+        log: &mut L,
+    ) -> Next
+        ensures config { self.new.config ≡ self.old.config }
+        ensures next { self.new.next ≡ self.old.next }
+        ensures absent { intake_of self.old.connections.items connection ≡ None
+            → result ≡ Next.NoSuch }
+        // The store is open after it only where it was before, and the disk honest.
+        ensures clean { IsClean A.condition self.new → IsClean A.condition self.old }
+        ensures honest { IsHonest A.condition self.new → IsHonest A.condition self.old }
+        // A connection that was there is there.
+        ensures there { IsSome (intake_of self.old.connections.items connection)
+            → (result ≢ Next.NoSuch) × IsSome (intake_of self.new.connections.items connection) }
+        ensures answers { ComesToNext A.condition (O.taken out.old) (O.taken out.new)
+            (O.failures out.old) (O.failures out.new) self.old self.new connection moment result }
+    {
+        let Some(i) = index_among(self.connections.as_slice(), connection.number()) else {
+            return Next::NoSuch;
+        };
+        let kept = &mut self.connections[i];
+        let context = Context {
+            site: &self.config,
+            moment,
+        };
+        answer_next(&context, &mut self.store, &mut kept.intake, out, log)
+    }
+
+    /// Whether the store is open, as far as it can be told (`Archive::is_open`). No connection has a
+    /// part in it, so it is no event of a run.
+    pub fn is_open(&mut self) -> Result<bool, StoreFault>
+        ensures told { IfOk result (TellsOpen (store_of A.condition self.new)) }
+        // The hub stands for the same records, and so does what a stop now leaves.
+        ensures stands { IsClean A.condition self.new
+            → (first : State) (records : List Record) (held : ℕ → List ℕ)
+            → StandsHoldingAfter A.condition self.old first records held
+            → StandsHoldingAfter A.condition self.new first records held }
+        ensures stops { IsHonest A.condition self.new
+            → (first : State) (records : List Record) (held : ℕ → List ℕ)
+            → StandsHoldingAfter A.condition self.old first records held
+            → Leaves (store_of A.condition self.new)
+            (λ found. Run self.old.config first (records ++ stopped ∷ []) (first_world found)) }
+        ensures kept { IsClean A.condition self.new → (s : State)
+            → StandsFor (store_of A.condition self.old) s
+            → StandsFor (store_of A.condition self.new) s }
+        ensures left { IsHonest A.condition self.new
+            → LeavesNoMore (store_of A.condition self.old) (store_of A.condition self.new) }
+        // The store is open after it only where it was before, and the disk honest.
+        ensures clean { IsClean A.condition self.new → IsClean A.condition self.old }
+        ensures honest { IsHonest A.condition self.new → IsHonest A.condition self.old }
+        ensures config { self.new.config ≡ self.old.config }
+        ensures connections { self.new.connections ≡ self.old.connections }
+        ensures next { self.new.next ≡ self.old.next }
+    {
+        self.store.is_open()
+    }
+
+    /// Forgets a connection.
+    pub fn close(&mut self, connection: ConnId)
+        ensures adds { Adds A.condition self.old self.new (Close connection) [] }
+        ensures moves { Moves A.condition self.old self.new (Close connection) [] }
+        // What it held never arrives, and what the others hold stays.
+        ensures holding { MovesLine A.condition self.old self.new connection Absent
+            (with_held connection []) }
+        ensures gone { intake_of self.new.connections.items connection ≡ None }
+        // What a stop now leaves.
+        ensures rests { (w : World) → StandsAt A.condition self.old w
+            → Leaves (store_of A.condition self.new) (λ found. found ≡ w.state) }
+        ensures config { self.new.config ≡ self.old.config }
+        ensures store { self.new.store ≡ self.old.store }
+        ensures next { self.new.next ≡ self.old.next }
+    {
+        if let Some(i) = index_among(self.connections.as_slice(), connection.number()) {
+            drop(self.connections.remove(i));
+        }
+    }
+
+    /// Hands back the store.
+    pub fn into_store(self) -> A
+        ensures same { result ≡ self.store }
+        ensures stands { (w : World) → StandsAt A.condition self w
+            → StandsFor (A.condition result) w.state }
+        // What a stop now leaves is what the machine keeps, and stands for the records with a stop.
+        ensures rests { (w : World) → StandsAt A.condition self w
+            → Leaves (A.condition result) (λ found. found ≡ w.state) }
+        ensures stop { (first : State) (records : List Record)
+            → StandsAfter A.condition self first records
+            → Leaves (A.condition result)
+            (λ found. Run self.config first (records ++ stopped ∷ []) (first_world found)) }
+    {
+        let Hub {
+            config: _,
+            store,
+            connections: _,
+            next: _,
+        } = self;
+        store
+    }
+}

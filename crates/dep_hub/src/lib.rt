@@ -1,0 +1,27 @@
+//! All connections over one store, from the bytes of requests to the bytes of replies.
+#![tactic(auto)]
+
+mod access_log;
+mod archive;
+mod arrived;
+mod connection;
+mod connections;
+mod faults;
+mod flush;
+mod hub;
+pub mod laws;
+mod next;
+mod sending;
+mod serving;
+mod site;
+mod step;
+
+pub use access_log::{AccessLog, NoLog};
+pub use archive::Archive;
+pub use arrived::Arrived;
+pub use connection::{Served, serve_connection};
+pub use connections::ConnId;
+pub use faults::{ConnectFault, HubFault};
+pub use flush::Flush;
+pub use hub::Hub;
+pub use next::Next;

@@ -1,0 +1,146 @@
+//! One arrival: the items that are complete now are answered in order.
+ghost use Rattle.std.specs.Prelude.{◌≡◌, ◌≢◌, ◌<◌, ℕ, List};
+ghost use Rattle.std.specs.Io.KnownBytes.{Appends};
+ghost use Rattle.dep_types.specs.Writing.{HasRisen};
+ghost use Rattle.dep_hub.specs.Machine.{SendsUpTo, want_of_memory};
+ghost use Rattle.dep_message.specs.Places.{Reading, shut_reading, left_to_read};
+ghost use Rattle.dep_hub.specs.Sending.{outside};
+ghost use Rattle.dep_hub.specs.Serving.{ServesOver, IsDeadIfShut, arrival_of, answer_after};
+ghost use Rattle.dep_hub.specs.Nexts.{AnswersNext, ended_as};
+
+use crate::access_log::{AccessLog, NoLog};
+use crate::archive::Archive;
+use crate::arrived::Arrived;
+use crate::next::Next;
+use crate::sending::{Answered, send_want_of_memory};
+use crate::site::{Context, Site};
+use crate::step::{StreamRefusal, answer_continue, answer_fault, answer_message};
+use dep_message::{Intake, Step, closes};
+use dep_moment::Moment;
+use dep_types::Outlet;
+use std::alloc::AllocError;
+
+/// A piece of a connection's stream, and when it came.
+#[derive(Clone, Copy)]
+pub(crate) struct Piece<'a> {
+    pub bytes: &'a [u8],
+    pub moment: Moment,
+}
+
+/// Takes the piece, and answers each item that is complete with it.
+pub(crate) fn serve<A: Archive, O: Outlet>(
+    site: &Site,
+    store: &mut A,
+    intake: &mut Intake,
+    piece: &Piece<'_>,
+    out: &mut O,
+) -> Arrived
+    ensures served { ServesOver site.now
+        (arrival_of intake.old piece.now.bytes.now piece.now.moment)
+        (outside (O.taken out.old) (O.failures out.old) (A.condition store.old))
+        (outside (O.taken out.new) (O.failures out.new)
+        (A.condition store.new)) intake.new.place result }
+    ensures limit { intake.new.limit ≡ intake.old.limit }
+    ensures dead { IsDeadIfShut intake.old → IsDeadIfShut intake.new }
+    ensures there { result ≢ Arrived.NoSuch }
+{
+    if let Err(AllocError) = intake.feed(piece.bytes) {
+        return give_up(intake, out, &mut NoLog);
+    }
+    let context = Context {
+        site,
+        moment: piece.moment,
+    };
+    loop {
+        match answer_next(&context, store, intake, out, &mut NoLog) {
+            Next::More => {}
+            Next::Waiting => return Arrived::Open,
+            Next::Closed => return Arrived::Closed,
+            Next::Cut => return Arrived::Cut,
+            Next::NoSuch => unreachable!(),
+        }
+    }
+}
+
+/// Answers the next item, where one is complete. It is never `NoSuch`.
+pub(crate) fn answer_next<A: Archive, O: Outlet, L: AccessLog>(
+    context: &Context<'_>,
+    store: &mut A,
+    intake: &mut Intake,
+    out: &mut O,
+    log: &mut L,
+) -> Next
+    ensures answers { AnswersNext context.now.site.now intake.old context.now.moment
+        (outside (O.taken out.old) (O.failures out.old) (A.condition store.old))
+        (outside (O.taken out.new) (O.failures out.new) (A.condition store.new))
+        intake.new.place result }
+    ensures limit { intake.new.limit ≡ intake.old.limit }
+    ensures dead { IsDeadIfShut intake.old → IsDeadIfShut intake.new }
+    ensures less { result ≡ Next.More
+        → left_to_read intake.new.place < left_to_read intake.old.place }
+{
+    match intake.next() {
+        Err(AllocError) => last(give_up(intake, out, log)),
+        Ok(Step::NeedMore) => Next::Waiting,
+        Ok(Step::Dead) => Next::Closed,
+        Ok(Step::Refused(refusal, is_bare)) => {
+            let fault = StreamRefusal { refusal, is_bare };
+            let answer = answer_fault(context, store, fault, out, log);
+            last(end(intake, answer))
+        }
+        Ok(Step::Continue100) => match answer_continue(store, out, log) {
+            Answered::Sent => Next::More,
+            answer => last(end(intake, answer)),
+        },
+        Ok(Step::Message(message)) => {
+            let is_last = closes(&message.head);
+            match answer_message(context, store, message, out, log) {
+                Answered::Sent => {
+                    if is_last {
+                        last(end(intake, Answered::Sent))
+                    } else {
+                        Next::More
+                    }
+                }
+                answer => last(end(intake, answer)),
+            }
+        }
+    }
+}
+
+// What the end of a connection comes to.
+fn last(ended: Arrived) -> Next
+    ensures { result ≡ ended_as ended }
+{
+    match ended {
+        Arrived::Cut => Next::Cut,
+        _ => Next::Closed,
+    }
+}
+
+/// Ends a connection for want of memory: the fixed reply for it is sent, and nothing is read any more.
+pub(crate) fn give_up<O: Outlet, L: AccessLog>(
+    intake: &mut Intake,
+    out: &mut O,
+    log: &mut L,
+) -> Arrived
+    ensures sent { (sent : List ℕ) × Appends (O.taken out.old) (O.taken out.new) sent
+        × SendsUpTo want_of_memory sent result }
+    ensures shut { intake.new ≡ shut_reading intake.old }
+    ensures cause { result ≡ Arrived.Cut → HasRisen (O.failures out.old) (O.failures out.new) }
+    ensures there { result ≢ Arrived.NoSuch }
+{
+    let answer = send_want_of_memory(out, log);
+    end(intake, answer)
+}
+
+fn end(intake: &mut Intake, answer: Answered) -> Arrived
+    ensures answer { result ≡ answer_after answer }
+    ensures shut { intake.new ≡ shut_reading intake.old }
+{
+    intake.shut();
+    match answer {
+        Answered::CutShort => Arrived::Cut,
+        _ => Arrived::Closed,
+    }
+}

@@ -1,0 +1,28 @@
+-- What a ruling says of a request in a state.
+use Rattle.std.specs.Prelude.{◌≡◌, Some, None, IsTrue}
+use Rattle.dep_types.specs.State.{State}
+use Rattle.dep_types.specs.Numbers.{room_for}
+use Rattle.dep_types.specs.declared.config.Config.{Config}
+use Rattle.dep_types.specs.declared.counters.Counters.{Counters}
+use Rattle.dep_decisions.specs.Decisions.{decision, numbers_for}
+use Rattle.dep_decisions.specs.Rules.{refusal}
+use Rattle.dep_decisions.specs.declared.operation.Operation.{Operation}
+use Rattle.dep_operations.specs.Views.{true_view}
+use Rattle.dep_operations.specs.declared.ruling.Ruling.{Ruling}
+use Rattle.dep_operations.specs.declared.ruling.Ruling.TheVariants.{Do, Refuse}
+use Rattle.dep_operations.specs.declared.view.View.{View}
+
+-- refused for the first rule that applies, or done as the request asks where none does
+abbrev pub IsRuling : Config → State → Operation → Ruling → Type 0
+IsRuling config s op (Refuse r) = refusal config s op ≡ Some r
+IsRuling config s op (Do d) = (refusal config s op ≡ None) × (d ≡ decision config op)
+
+-- it is the ruling in each state of which the view tells truly
+abbrev pub RulesBy : Config → View → Operation → Ruling → Type 0
+RulesBy config view op ruling =
+    (s : State) → view ≡ true_view config s op → IsRuling config s op ruling
+
+-- what is let through can be given its numbers
+abbrev pub HasRoomFor : Counters → Ruling → Type 0
+HasRoomFor next (Do d) = IsTrue (room_for next (numbers_for d))
+HasRoomFor next (Refuse r) = Unit {0}

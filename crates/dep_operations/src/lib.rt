@@ -1,0 +1,18 @@
+//! Rulings on requests: what a request touches of the archive, and from a view of that whether it is
+//! refused, or what it asks for.
+#![tactic(auto)]
+
+mod order;
+mod references;
+mod rules;
+mod ruling;
+mod touched;
+mod view;
+
+pub use dep_decisions::{Decision, Operation};
+pub use order::decide;
+pub use ruling::Ruling;
+pub use touched::touches;
+pub use view::{
+    LiveUpload, Numbers, SegmentId, Touched, UploadState, UploadView, UploadViews, View,
+};

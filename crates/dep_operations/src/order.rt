@@ -1,0 +1,213 @@
+//! The ruling on a request, from a view of the archive.
+ghost use Rattle.std.specs.Prelude.{◌≡◌, IfOk, OnErr, IsTrue, Some, is_some};
+ghost use Rattle.dep_decisions.specs.Asked.{IsRead};
+ghost use Rattle.dep_decisions.specs.declared.purpose.Purpose.TheVariants as of;
+ghost use Rattle.dep_docs_in.specs.Documents.{metadata_read};
+ghost use Rattle.dep_decisions.specs.Memory.{MakesFiles};
+ghost use Rattle.dep_operations.specs.Checks.{HoldsContent, IsChecked, IsCheckedBy, IsRoomRuling};
+ghost use Rattle.dep_operations.specs.Memory.{RulingTakesMemory, is_held};
+ghost use Rattle.dep_operations.specs.Rules.{access_refusal, document_by, has_content, reads_alone};
+ghost use Rattle.dep_operations.specs.Rulings.{HasRoomFor, RulesBy};
+
+use crate::references::references_rule;
+use crate::rules::{behalf_rule, presence_rule, seen_tag, size_rule, tag_rule};
+use crate::ruling::Ruling;
+use crate::view::View;
+use dep_decisions::{
+    Operation, Purpose, ReadContent, content_purpose, decision_on, digest_rule,
+    digests_if_promised, fields_rule, numbers_for,
+};
+use dep_docs_in::{DocFault, read_metadata};
+use dep_types::{Config, Metadata, Method, Refusal, Resource, Target};
+use std::alloc::{AllocError, Global};
+
+/// The ruling on a request, where the archive is seen so at the numbers that it touches: the first rule
+/// that applies, from rule 5 of the order of refusals in docs/PROFILE.md on, or what the request asks for. An
+/// `Err` is want of memory, which is asked for only where the content is held and no rule before it refuses.
+pub fn decide(
+    alloc: Global,
+    config: &Config,
+    view: &View,
+    operation: &Operation<'_>,
+) -> Result<Ruling, AllocError>
+    ensures ruling { IfOk result (RulesBy config.now view.now operation.now) }
+    // What is let through can be given its numbers.
+    ensures room { IfOk result (HasRoomFor view.now.next) }
+    ensures err { OnErr result (RulingTakesMemory config.now view.now operation.now) }
+{
+    if let Some(refusal) = access_rule(config, view, operation) {
+        return Ok(Ruling::Refuse(refusal));
+    }
+    match check_content(alloc, config, view, operation)? {
+        Checked::Refused(refusal) => Ok(Ruling::Refuse(refusal)),
+        Checked::Passed(read) => rule_by_room(alloc, view, operation, read),
+    }
+}
+
+/// What the rules on a content come to.
+#[derive(Drop)]
+pub(crate) enum Checked {
+    Refused(Refusal),
+    /// None applies, and this was read of the content.
+    Passed(ReadContent),
+}
+
+// Rules 5 to 7: who asks, for what, and of which state of it.
+#[tactic(auto, unfolding(crate::specs::Rules::access_refusal))]
+fn access_rule(config: &Config, view: &View, operation: &Operation<'_>) -> Option<Refusal>
+    ensures { result ≡ access_refusal config.now view.now operation.now }
+{
+    if let Some(refusal) = behalf_rule(config, operation) {
+        return Some(refusal);
+    }
+    if let Some(refusal) = presence_rule(view, &operation.target.resource) {
+        return Some(refusal);
+    }
+    if reads_alone(&operation.target) {
+        return None;
+    }
+    let tag = seen_tag(view, &operation.target.resource);
+    tag_rule(config, &operation.if_match, tag)
+}
+
+fn reads_alone(target: &Target) -> bool
+    ensures { result ≡ reads_alone target.now.resource target.now.method }
+{
+    match (&target.resource, target.method) {
+        (_, Method::Get) => true,
+        (_, Method::Head) => true,
+        (Resource::Upload(_), Method::Delete) => true,
+        _ => false,
+    }
+}
+
+// Rules 8 to 14, for the methods that have a content.
+fn check_content(
+    alloc: Global,
+    config: &Config,
+    view: &View,
+    operation: &Operation<'_>,
+) -> Result<Checked, AllocError>
+    ensures ok { IfOk result (IsChecked config.now view.now operation.now) }
+    ensures err { OnErr result (HoldsContent view.now operation.now) }
+{
+    if has_content(operation.target.method) {
+        check_rules(alloc, config, view, operation)
+    } else {
+        Ok(Checked::Passed(ReadContent {
+            metadata: None,
+            digests: None,
+        }))
+    }
+}
+
+// Rules 8 to 14. Nothing is hashed or read before the rules that don't need it have passed.
+#[tactic(auto, unfolding(crate::specs::Rules::content_by))]
+fn check_rules(
+    alloc: Global,
+    config: &Config,
+    view: &View,
+    operation: &Operation<'_>,
+) -> Result<Checked, AllocError>
+    ensures ok { IfOk result (IsCheckedBy config.now view.now operation.now) }
+    ensures err { OnErr result (HoldsContent view.now operation.now) }
+{
+    let purpose = content_purpose(operation);
+    if let Some(refusal) = fields_rule(operation) {
+        return Ok(Checked::Refused(refusal));
+    }
+    let digests = digests_if_promised(operation);
+    let mismatch = digest_rule(operation, digests);
+    if let Some(refusal) = mismatch {
+        return Ok(Checked::Refused(refusal));
+    }
+    let metadata = metadata_of(alloc, operation, purpose)?;
+    if let Some(refusal) = document_rule(alloc, view, operation, purpose, metadata.is_some())? {
+        drop(metadata);
+        return Ok(Checked::Refused(refusal));
+    }
+    if let Some(refusal) = size_rule(config, view, operation, purpose) {
+        drop(metadata);
+        return Ok(Checked::Refused(refusal));
+    }
+    Ok(Checked::Passed(ReadContent { metadata, digests }))
+}
+
+fn has_content(method: Method) -> bool
+    ensures { result ≡ has_content method }
+{
+    match method {
+        Method::Post | Method::Put => true,
+        Method::Get | Method::Head | Method::Delete => false,
+    }
+}
+
+// The metadata that the content is, read for this purpose alone.
+fn metadata_of(
+    alloc: Global,
+    operation: &Operation<'_>,
+    purpose: Option<Purpose>,
+) -> Result<Option<Metadata>, AllocError>
+    ensures ok { IfOk result (λ metadata. purpose ≡ Some of.Metadata
+        → metadata ≡ metadata_read operation.now.content) }
+    ensures err { OnErr result (purpose ≡ Some of.Metadata) }
+{
+    match purpose {
+        Some(Purpose::Metadata) => read(alloc, operation.content.as_slice()),
+        _ => Ok(None),
+    }
+}
+
+fn read(alloc: Global, content: &[u8]) -> Result<Option<Metadata>, AllocError>
+    ensures { IfOk result (λ metadata. metadata ≡ metadata_read content.now) }
+{
+    match read_metadata(alloc, content) {
+        Ok(metadata) => Ok(Some(metadata)),
+        Err(DocFault::Malformed) => Ok(None),
+        Err(DocFault::Memory) => Err(AllocError),
+    }
+}
+
+// Rule 13: the document, where it is known whether metadata can be read.
+#[tactic(auto, unfolding(crate::specs::Rules::document_by))]
+fn document_rule(
+    alloc: Global,
+    view: &View,
+    _operation: &Operation<'_>,
+    purpose: Option<Purpose>,
+    is_readable: bool,
+) -> Result<Option<Refusal>, AllocError>
+    requires { purpose ≡ Some of.Metadata
+        → is_readable ≡ is_some (metadata_read _operation.now.content) }
+    ensures ok { IfOk result (λ refusal. refusal ≡ document_by view.now _operation.now purpose) }
+    ensures err { OnErr result (IsTrue (is_held view.now.references purpose)) }
+{
+    match purpose {
+        Some(Purpose::Metadata) if is_readable => Ok(None),
+        Some(Purpose::Metadata) => Ok(Some(Refusal::ContentMalformed)),
+        Some(Purpose::References) => {
+            references_rule(alloc, view.uploads.as_slice(), view.references.as_ref())
+        }
+        _ => Ok(None),
+    }
+}
+
+// Rule 15: whether the numbers that are asked for can be given.
+fn rule_by_room(
+    alloc: Global,
+    view: &View,
+    operation: &Operation<'_>,
+    read: ReadContent,
+) -> Result<Ruling, AllocError>
+    requires { IsRead operation.now read }
+    ensures ok { IfOk result (IsRoomRuling view.now operation.now) }
+    ensures err { OnErr result (MakesFiles view.now.references operation.now) }
+{
+    let decision = decision_on(alloc, operation, view.references.as_ref(), read)?;
+    if view.next.has_room(&numbers_for(&decision)) {
+        Ok(Ruling::Do(decision))
+    } else {
+        drop(decision);
+        Ok(Ruling::Refuse(Refusal::StoreFull))
+    }
+}

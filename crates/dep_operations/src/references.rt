@@ -1,0 +1,256 @@
+//! The rules on references (SWORD 3.0, by-reference deposit), one after another, each over all entries.
+ghost use Rattle.std.specs.Prelude.{◌≡◌, IfOk, OnErr, IsTrue, Some, map};
+ghost use Rattle.std.specs.List.{list_any};
+ghost use Rattle.std.specs.Option.{option_copied};
+ghost use Rattle.dep_decisions.specs.Rules.{stands_twice};
+ghost use Rattle.dep_decisions.specs.declared.purpose.Purpose.TheVariants as of;
+ghost use Rattle.dep_operations.specs.Memory.{are_taken, is_held};
+ghost use Rattle.dep_operations.specs.Seen.{state_refusal};
+ghost use Rattle.dep_operations.specs.Walks.{upload_digest_rule, entries_seen, is_other_packaging, upload_length_rule, packaging_refusal, points_elsewhere, promised_in, references_seen, twice_refusal, rule_of, target_refusal, walk, whole_upload_rule};
+
+use crate::view::{UploadState, UploadView};
+use dep_decisions::is_binary;
+use dep_docs_in::{Pointed, Reference, References};
+use dep_fixity::{DigestList, check};
+use dep_types::{Refusal, UploadRow};
+use std::alloc::{AllocError, Global};
+use std::collections::BTreeSet;
+
+/// A rule on an entry and the upload that it points at.
+#[derive(Clone, Copy)]
+pub(crate) enum UploadRule {
+    IsThere,
+    /// No segment is missing.
+    IsWhole,
+    /// It has the length that the entry tells.
+    HasLength,
+    /// It has the digests that were promised at its opening, and those that the entry promises.
+    HasDigests,
+}
+
+/// The first rule on references that is broken. There is a view for each entry that points at an upload, in
+/// their order.
+pub(crate) fn references_rule(
+    alloc: Global,
+    views: &[UploadView],
+    references: Option<&References>,
+) -> Result<Option<Refusal>, AllocError>
+    ensures ok { IfOk result
+        (λ refusal. refusal ≡ references_seen views.now (option_copied references.entry)) }
+    ensures err { OnErr result
+        (IsTrue (is_held (option_copied references.entry) (Some of.References))) }
+{
+    match references {
+        Some(references) => entries_rule(alloc, views, references.as_slice()),
+        None => Ok(Some(Refusal::ContentMalformed)),
+    }
+}
+
+#[tactic(auto, unfolding(crate::specs::Walks::entries_seen))]
+fn entries_rule(
+    alloc: Global,
+    views: &[UploadView],
+    references: &[Reference],
+) -> Result<Option<Refusal>, AllocError>
+    ensures ok { IfOk result (λ refusal. refusal ≡ entries_seen views.now references.now) }
+    ensures err { OnErr result (IsTrue (are_taken references.now)) }
+{
+    if let Some(refusal) = target_rule(references) {
+        return Ok(Some(refusal));
+    }
+    if let Some(refusal) = packaging_rule(references) {
+        return Ok(Some(refusal));
+    }
+    if let Some(refusal) = twice_rule(alloc, views)? {
+        return Ok(Some(refusal));
+    }
+    if let Some(refusal) = first_refused(UploadRule::IsThere, references, views) {
+        return Ok(Some(refusal));
+    }
+    if let Some(refusal) = first_refused(UploadRule::IsWhole, references, views) {
+        return Ok(Some(refusal));
+    }
+    if let Some(refusal) = first_refused(UploadRule::HasLength, references, views) {
+        return Ok(Some(refusal));
+    }
+    Ok(first_refused(UploadRule::HasDigests, references, views))
+}
+
+#[tactic(auto, unfolding(crate::specs::Walks::target_refusal))]
+fn target_rule(references: &[Reference]) -> Option<Refusal>
+    ensures { result ≡ target_refusal references.now }
+{
+    if some_points_elsewhere(references) {
+        Some(Refusal::ByReferenceNotAllowed)
+    } else {
+        None
+    }
+}
+
+fn some_points_elsewhere(references: &[Reference]) -> bool
+    ensures { result ≡ list_any points_elsewhere references.now }
+{
+    references
+        .iter()
+        .any(|reference| points_elsewhere(reference))
+}
+
+fn points_elsewhere(reference: &Reference) -> bool
+    ensures { result ≡ points_elsewhere reference.now }
+{
+    match reference.target {
+        Pointed::Upload(_) => false,
+        Pointed::Elsewhere => true,
+    }
+}
+
+#[tactic(auto, unfolding(crate::specs::Walks::packaging_refusal))]
+fn packaging_rule(references: &[Reference]) -> Option<Refusal>
+    ensures { result ≡ packaging_refusal references.now }
+{
+    if some_is_other_packaging(references) {
+        Some(Refusal::PackagingFormatNotAcceptable)
+    } else {
+        None
+    }
+}
+
+fn some_is_other_packaging(references: &[Reference]) -> bool
+    ensures { result ≡ list_any is_other_packaging references.now }
+{
+    references
+        .iter()
+        .any(|reference| is_other_packaging(reference))
+}
+
+fn is_other_packaging(reference: &Reference) -> bool
+    ensures { result ≡ is_other_packaging reference.now }
+{
+    match &reference.packaging {
+        Some(packaging) => !is_binary(packaging.as_str().as_bytes()),
+        None => false,
+    }
+}
+
+#[tactic(auto, unfolding(crate::specs::Walks::twice_refusal))]
+fn twice_rule(alloc: Global, views: &[UploadView]) -> Result<Option<Refusal>, AllocError>
+    ensures { IfOk result (λ refusal. refusal ≡ twice_refusal views.now) }
+{
+    if stands_twice(alloc, views)? {
+        Ok(Some(Refusal::BadRequest))
+    } else {
+        Ok(None)
+    }
+}
+
+// Whether an upload is named twice.
+fn stands_twice(alloc: Global, views: &[UploadView]) -> Result<bool, AllocError>
+    ensures { IfOk result (λ twice. twice ≡ stands_twice (map (λ v. v.upload) views.now)) }
+{
+    let mut named: BTreeSet<u64> = BTreeSet::new(alloc);
+    let mut rest = views;
+    while let Some((view, behind)) = rest.split_first() {
+        if !named.insert(view.upload)? {
+            return Ok(true);
+        }
+        rest = behind;
+    }
+    Ok(false)
+}
+
+// What the first entry is refused for that breaks the rule.
+#[tactic(auto, unfolding(crate::specs::Walks::walk))]
+fn first_refused(
+    rule: UploadRule,
+    references: &[Reference],
+    views: &[UploadView],
+) -> Option<Refusal>
+    ensures { result ≡ walk (rule_of rule) references.now views.now }
+{
+    let mut rest = references;
+    let mut left = views;
+    while let Some((reference, behind)) = rest.split_first() {
+        rest = behind;
+        if let Pointed::Upload(_) = reference.target {
+            if let Some((view, others)) = left.split_first() {
+                if let Some(refusal) = upload_rule(rule, reference, &view.state) {
+                    return Some(refusal);
+                }
+                left = others;
+            }
+        }
+    }
+    None
+}
+
+#[tactic(auto, unfolding(crate::specs::Walks::rule_of))]
+fn upload_rule(rule: UploadRule, reference: &Reference, state: &UploadState) -> Option<Refusal>
+    ensures { result ≡ rule_of rule reference.now state.now }
+{
+    match rule {
+        UploadRule::IsThere => state_rule(state),
+        UploadRule::IsWhole => whole_rule(state),
+        UploadRule::HasLength => length_rule(reference, state),
+        UploadRule::HasDigests => digest_rule(reference, state),
+    }
+}
+
+/// An upload that isn't there, or that timed out.
+pub(crate) fn state_rule(state: &UploadState) -> Option<Refusal>
+    ensures { result ≡ state_refusal state.now }
+{
+    match state {
+        UploadState::Unknown => Some(Refusal::NotFound),
+        UploadState::TimedOut => Some(Refusal::SegmentedUploadTimedOut),
+        UploadState::Live(_) => None,
+    }
+}
+
+fn whole_rule(state: &UploadState) -> Option<Refusal>
+    ensures { result ≡ whole_upload_rule state.now }
+{
+    match state {
+        UploadState::Live(upload) if upload.digests.is_none() => Some(Refusal::BadRequest),
+        _ => None,
+    }
+}
+
+fn length_rule(reference: &Reference, state: &UploadState) -> Option<Refusal>
+    ensures { result ≡ upload_length_rule reference.now state.now }
+{
+    let UploadState::Live(upload) = state else {
+        return None;
+    };
+    match reference.length {
+        Some(length) if length != upload.row.size => Some(Refusal::BadRequest),
+        _ => None,
+    }
+}
+
+fn digest_rule(reference: &Reference, state: &UploadState) -> Option<Refusal>
+    ensures { result ≡ upload_digest_rule reference.now state.now }
+{
+    let UploadState::Live(upload) = state else {
+        return None;
+    };
+    match upload.digests {
+        None => None,
+        Some(digests) => {
+            if check(&promised_in(&upload.row), &digests) && check(&reference.digest, &digests) {
+                None
+            } else {
+                Some(Refusal::DigestMismatch)
+            }
+        }
+    }
+}
+
+// What was promised at the opening.
+fn promised_in(row: &UploadRow) -> DigestList
+    ensures { result ≡ promised_in row.now }
+{
+    DigestList {
+        sha256: row.sha256,
+        sha512: row.sha512,
+    }
+}

@@ -1,0 +1,195 @@
+//! The rules that look at a view, one function each. None takes memory.
+ghost use Rattle.std.specs.Prelude.{◌≡◌};
+ghost use Rattle.dep_types.specs.Uploads.{sizes_agree};
+ghost use Rattle.dep_types.specs.declared.refusal.Refusal.TheVariants as why;
+ghost use Rattle.dep_decisions.specs.Rules.{behalf_rule, opening_refusal, repeat_refusal, tag_refusal, unless};
+ghost use Rattle.dep_operations.specs.Rules.{size_by};
+ghost use Rattle.dep_operations.specs.Seen.{live_refusal, presence_seen, row_length, segment_seen, tag_seen, views_refusal};
+
+use crate::references::state_rule;
+use crate::view::{UploadState, UploadViews, View};
+use dep_decisions::{Operation, Purpose};
+use dep_fields::{Field, Opening};
+use dep_fixity::HashedOctets;
+use dep_tags::IfMatch;
+use dep_types::{Config, Refusal, Resource, UploadRow};
+
+/// Rule 5: On-Behalf-Of.
+#[tactic(auto, unfolding(dep_decisions::specs::Rules::behalf_rule))]
+pub(crate) fn behalf_rule(config: &Config, operation: &Operation<'_>) -> Option<Refusal>
+    ensures { result ≡ behalf_rule config.now operation.now }
+{
+    match &operation.fields.on_behalf_of {
+        Field::Absent => None,
+        _ if !config.on_behalf_of => Some(Refusal::OnBehalfOfNotAllowed),
+        Field::Bad => Some(Refusal::BadRequest),
+        Field::Value(_) => None,
+    }
+}
+
+/// Rule 6: whether the resource is there.
+pub(crate) fn presence_rule(view: &View, resource: &Resource) -> Option<Refusal>
+    ensures { result ≡ presence_seen view.now resource.now }
+{
+    match *resource {
+        Resource::Service | Resource::Staging => None,
+        Resource::Object(_) | Resource::Metadata(_) | Resource::FileSet(_) | Resource::BagList(_) =>
+            not_found_unless(view.object.is_some()),
+        Resource::File(_, _) => not_found_unless(view.file.is_some()),
+        Resource::Upload(_) => upload_rule(&view.uploads),
+        Resource::BagFile(_, _) => not_found_unless(view.has_path),
+    }
+}
+
+fn not_found_unless(is_there: bool) -> Option<Refusal>
+    ensures { result ≡ unless is_there why.NotFound }
+{
+    if is_there {
+        None
+    } else {
+        Some(Refusal::NotFound)
+    }
+}
+
+// Of the one upload that a Temporary-URL names.
+fn upload_rule(views: &UploadViews) -> Option<Refusal>
+    ensures { result ≡ views_refusal views.now }
+{
+    match views.as_slice() {
+        [view] => state_rule(&view.state),
+        _ => Some(Refusal::NotFound),
+    }
+}
+
+/// Rule 7: If-Match against a tag.
+pub(crate) fn tag_rule(
+    config: &Config,
+    if_match: &Option<IfMatch<'_>>,
+    tag: Option<u64>,
+) -> Option<Refusal>
+    ensures { result ≡ tag_refusal config.now.require_if_match if_match.now tag }
+{
+    let tag = tag?;
+    match if_match {
+        None if config.require_if_match => Some(Refusal::ETagRequired),
+        None => None,
+        Some(members) if members.holds(tag) => None,
+        Some(_) => Some(Refusal::ETagNotMatched),
+    }
+}
+
+/// The tag that If-Match is held against, where the resource has one.
+pub(crate) fn seen_tag(view: &View, resource: &Resource) -> Option<u64>
+    ensures { result ≡ tag_seen view.now resource.now }
+{
+    match *resource {
+        Resource::Object(_) => Some(view.object?.object_tag),
+        Resource::Metadata(_) => Some(view.object?.metadata_tag),
+        Resource::FileSet(_) => Some(view.object?.files_tag),
+        Resource::File(_, _) => match &view.file {
+            Some(file) => Some(file.tag),
+            None => None,
+        },
+        _ => None,
+    }
+}
+
+/// Rule 14: sizes and segments.
+#[tactic(auto, unfolding(crate::specs::Rules::size_by))]
+pub(crate) fn size_rule(
+    config: &Config,
+    view: &View,
+    operation: &Operation<'_>,
+    purpose: Option<Purpose>,
+) -> Option<Refusal>
+    ensures { result ≡ size_by config.now view.now operation.now purpose }
+{
+    match purpose {
+        Some(Purpose::Opening(opening)) => opening_rule(config, opening),
+        Some(Purpose::Segment(segment)) => match operation.target.resource {
+            Resource::Upload(_) => segment_rule(view, segment, &operation.content),
+            _ => None,
+        },
+        _ => None,
+    }
+}
+
+fn opening_rule(config: &Config, opening: Opening) -> Option<Refusal>
+    ensures { result ≡ opening_refusal config.now opening }
+{
+    if opening.size > config.max_assembled {
+        return Some(Refusal::MaxAssembledSizeExceeded);
+    }
+    if opening.count > config.max_segments {
+        return Some(Refusal::SegmentLimitExceeded);
+    }
+    if opening.segment_size > config.max_upload
+        || !sizes_agree(opening.size, opening.count, opening.segment_size)
+    {
+        return Some(Refusal::InvalidSegmentSize);
+    }
+    None
+}
+
+// Whether so many segments of this size hold just so many bytes. Nothing wraps in 128 bits.
+fn sizes_agree(size: u64, count: u64, segment_size: u64) -> bool
+    ensures { result ≡ sizes_agree size count segment_size }
+{
+    let before_last = u128::from(count.saturating_sub(1)) * u128::from(segment_size);
+    let most = u128::from(count) * u128::from(segment_size);
+    before_last < u128::from(size) && u128::from(size) <= most
+}
+
+// Whether a segment is expected, and has its length or repeats what was received.
+fn segment_rule(view: &View, segment: u64, content: &HashedOctets) -> Option<Refusal>
+    ensures { result ≡ segment_seen view.now.uploads view.now.repeats segment content.now }
+{
+    match view.uploads.as_slice() {
+        [upload] => match &upload.state {
+            UploadState::Live(live) => live_rule(live.row, view.repeats, segment, content),
+            _ => None,
+        },
+        _ => None,
+    }
+}
+
+#[tactic(auto, unfolding(crate::specs::Seen::live_refusal))]
+fn live_rule(
+    row: UploadRow,
+    repeats: Option<bool>,
+    segment: u64,
+    content: &HashedOctets,
+) -> Option<Refusal>
+    ensures { result ≡ live_refusal row repeats segment content.now }
+{
+    if segment < 1 || segment > row.count {
+        return Some(Refusal::UnexpectedSegment);
+    }
+    let length = content.as_slice().len() as u64;
+    repeat_rule(length == row_length(row, segment), repeats)
+}
+
+// A segment that was received before has to be the same, whatever its length; another one has to fit.
+fn repeat_rule(fits: bool, repeats: Option<bool>) -> Option<Refusal>
+    ensures { result ≡ repeat_refusal fits repeats }
+{
+    match repeats {
+        Some(true) => None,
+        Some(false) => Some(Refusal::UnexpectedSegment),
+        None if fits => None,
+        None => Some(Refusal::InvalidSegmentSize),
+    }
+}
+
+// The length of a segment: the last one has the rest. A product past 64 bits is above the size, so
+// that nothing is left.
+fn row_length(row: UploadRow, segment: u64) -> u64
+    ensures { result ≡ row_length row segment }
+{
+    if segment == row.count {
+        let before_last = row.count.saturating_sub(1).saturating_mul(row.segment_size);
+        row.size.saturating_sub(before_last)
+    } else {
+        row.segment_size
+    }
+}

@@ -1,0 +1,162 @@
+//! What a request touches of the archive.
+ghost use Rattle.std.specs.Prelude.{◌≡◌, ◌∷◌, [], false, IfOk, OnErr, IsTrue, Some, None, is_some};
+ghost use Rattle.std.specs.Option.{option_copied};
+ghost use Rattle.dep_docs_in.specs.Documents.{references_read};
+ghost use Rattle.dep_decisions.specs.ContentRules.{purpose_in};
+ghost use Rattle.dep_decisions.specs.Decisions.{references_in};
+ghost use Rattle.dep_decisions.specs.declared.purpose.Purpose.TheVariants as of;
+ghost use Rattle.dep_operations.specs.Memory.{TouchTakesMemory, is_noted};
+ghost use Rattle.dep_operations.specs.Rules.{references_for};
+ghost use Rattle.dep_operations.specs.Views.{file_in, object_in, path_in, segment_in, touched_by, uploads_in, uploads_named};
+
+use crate::view::{Numbers, SegmentId, Touched};
+use dep_decisions::{Operation, Purpose, content_purpose};
+use dep_docs_in::{DocFault, Pointed, Reference, References, read_references};
+use dep_types::{Config, Octets, Resource};
+use std::alloc::{AllocError, Global};
+
+/// The numbers at which a request looks at the archive. A document of references is read here, and only
+/// here. An `Err` is want of memory.
+pub fn touches(
+    alloc: Global,
+    config: &Config,
+    operation: &Operation<'_>,
+) -> Result<Touched, AllocError>
+    ensures ok { IfOk result (λ touched. touched ≡ touched_by config.now operation.now) }
+    ensures err { OnErr result (TouchTakesMemory operation.now) }
+{
+    let resource = &operation.target.resource;
+    let references = references_in(alloc, config, operation)?;
+    let uploads = uploads_in(alloc, resource, references.as_ref())?;
+    Ok(Touched {
+        object: object_in(resource),
+        file: file_in(resource),
+        path: path_in(alloc, resource)?,
+        uploads,
+        segment: segment_in(resource, content_purpose(operation)),
+        references,
+    })
+}
+
+// What the content refers to, where it is a document of references that can be read.
+fn references_in(
+    alloc: Global,
+    config: &Config,
+    operation: &Operation<'_>,
+) -> Result<Option<References>, AllocError>
+    ensures ok { IfOk result (λ references. references ≡ references_in config.now operation.now) }
+    ensures err { OnErr result (purpose_in operation.now ≡ Some of.References) }
+{
+    read_for(alloc, config, operation, content_purpose(operation))
+}
+
+#[tactic(auto, unfolding(crate::specs::Rules::references_for))]
+fn read_for(
+    alloc: Global,
+    config: &Config,
+    operation: &Operation<'_>,
+    purpose: Option<Purpose>,
+) -> Result<Option<References>, AllocError>
+    ensures ok { IfOk result (λ references. references ≡ references_for config.now operation.now purpose) }
+    ensures err { OnErr result (purpose ≡ Some of.References) }
+{
+    match purpose {
+        Some(Purpose::References) => read(alloc, config, operation.content.as_slice()),
+        _ => Ok(None),
+    }
+}
+
+fn read(alloc: Global, config: &Config, content: &[u8]) -> Result<Option<References>, AllocError>
+    ensures { IfOk result (λ references. references ≡ references_read config.now content.now) }
+{
+    match read_references(alloc, config, content) {
+        Ok(references) => Ok(Some(references)),
+        Err(DocFault::Malformed) => Ok(None),
+        Err(DocFault::Memory) => Err(AllocError),
+    }
+}
+
+fn object_in(resource: &Resource) -> Option<u64>
+    ensures { result ≡ object_in resource.now }
+{
+    match *resource {
+        Resource::Object(object)
+        | Resource::Metadata(object)
+        | Resource::FileSet(object)
+        | Resource::File(object, _)
+        | Resource::BagList(object)
+        | Resource::BagFile(object, _) => Some(object),
+        Resource::Service | Resource::Staging | Resource::Upload(_) => None,
+    }
+}
+
+fn file_in(resource: &Resource) -> Option<u64>
+    ensures { result ≡ file_in resource.now }
+{
+    match *resource {
+        Resource::File(_, file) => Some(file),
+        _ => None,
+    }
+}
+
+fn path_in(alloc: Global, resource: &Resource) -> Result<Option<Octets>, AllocError>
+    ensures ok { IfOk result (λ path. path ≡ path_in resource.now) }
+    ensures err { OnErr result (IsTrue (is_noted resource.now None)) }
+{
+    match resource {
+        Resource::BagFile(_, path) => Ok(Some(Octets::copied(alloc, path.as_slice())?)),
+        _ => Ok(None),
+    }
+}
+
+// The segment of a Temporary-URL's upload that a content of this purpose is sent as.
+fn segment_in(resource: &Resource, purpose: Option<Purpose>) -> Option<SegmentId>
+    ensures { result ≡ segment_in resource.now purpose }
+{
+    match (resource, purpose) {
+        (Resource::Upload(upload), Some(Purpose::Segment(number))) => Some(SegmentId {
+            upload: *upload,
+            number,
+        }),
+        _ => None,
+    }
+}
+
+// The upload of a Temporary-URL, or those that the entries point at.
+fn uploads_in(
+    alloc: Global,
+    resource: &Resource,
+    references: Option<&References>,
+) -> Result<Numbers, AllocError>
+    ensures ok { IfOk result
+        (λ uploads. uploads ≡ uploads_in resource.now (option_copied references.entry)) }
+    ensures err { OnErr result (is_some (option_copied references.entry) ≡ false
+        → IsTrue (is_noted resource.now None)) }
+{
+    match (resource, references) {
+        (Resource::Upload(upload), _) => one(alloc, *upload),
+        (_, Some(references)) => uploads_named(alloc, references.as_slice()),
+        (_, None) => Ok(Numbers::from_vec(Vec::new(alloc))),
+    }
+}
+
+fn one(alloc: Global, number: u64) -> Result<Numbers, AllocError>
+    ensures { IfOk result (λ numbers. numbers ≡ number ∷ []) }
+{
+    let mut numbers = Vec::new(alloc);
+    numbers.push(number)?;
+    Ok(Numbers::from_vec(numbers))
+}
+
+// The uploads that the entries point at, in their order.
+fn uploads_named(alloc: Global, references: &[Reference]) -> Result<Numbers, AllocError>
+    ensures { IfOk result (λ uploads. uploads ≡ uploads_named references.now) }
+{
+    let mut uploads = Vec::new(alloc);
+    for reference in references {
+        if let Pointed::Upload(upload) = reference.target {
+            uploads.push(upload)?;
+        }
+    }
+    Ok(Numbers::from_vec(uploads))
+}

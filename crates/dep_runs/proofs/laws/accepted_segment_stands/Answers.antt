@@ -1,5 +1,0 @@
-use Rattle.dep_runs.proofs.SegmentsStay.{received_stands}
-use Rattle.dep_runs.proofs.laws.accepted_segment_stands.Goals as goal
-
-pub returns : goal.returns
-returns c = received_stands

@@ -1,5 +1,0 @@
-use Rattle.dep_runs.proofs.SegmentsStay.{stays}
-use Rattle.dep_runs.proofs.laws.acknowledged_stays.Goals as goal
-
-pub returns : goal.returns
-returns c = λ config first records w r through u k bytes sound t h. stays u k bytes config first records w r through sound t h

@@ -1,5 +1,0 @@
-use Rattle.dep_server.proofs.TalkLemmas.{last_tells}
-use Rattle.dep_runs.proofs.laws.last_turn_tells_the_end.Goals as goal
-
-pub returns : goal.returns
-returns c = last_tells

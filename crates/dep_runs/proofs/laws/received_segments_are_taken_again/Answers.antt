@@ -1,5 +1,0 @@
-use Rattle.dep_runs.proofs.TakenAgain.{after_step}
-use Rattle.dep_runs.proofs.laws.received_segments_are_taken_again.Goals as goal
-
-pub returns : goal.returns
-returns c = after_step

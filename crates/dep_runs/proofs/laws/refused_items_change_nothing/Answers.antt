@@ -1,5 +1,0 @@
-use Rattle.dep_runs.proofs.Refusing.{item_refused}
-use Rattle.dep_runs.proofs.laws.refused_items_change_nothing.Goals as goal
-
-pub returns : goal.returns
-returns c = item_refused

@@ -1,5 +1,0 @@
-use Rattle.dep_runs.proofs.SoundLemmas.{step_sound}
-use Rattle.dep_runs.proofs.laws.steps_keep_sound.Goals as goal
-
-pub returns : goal.returns
-returns c = step_sound

@@ -1,5 +1,0 @@
-use Rattle.dep_runs.proofs.StreamLemmas.{run_spelled}
-use Rattle.dep_runs.proofs.laws.streams_make_the_steps.Goals as goal
-
-pub returns : goal.returns
-returns c = λ config first records steps w r calm. run_spelled calm

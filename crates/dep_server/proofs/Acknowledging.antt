@@ -1,0 +1,153 @@
+-- A segment whose reply has the status 204 stands there.
+use Rattle.std.proofs.Common.{◌≡◌, ℕ, ◌||◌, Bool, true, false, List, [], ◌++◌, get_or, Option, Some, None, is_some, option_map, decimal, codes, refl, sym, ap, subst, ◌∙◌, append_assoc}
+use Rattle.std.specs.Fmt.{digits}
+use Rattle.dep_types.specs.Numbers.{quoted_tag}
+use Rattle.dep_types.specs.Refusals.{facts_of}
+use Rattle.dep_types.specs.State.{State, tick}
+use Rattle.dep_types.specs.declared.config.Config.{Config}
+use Rattle.dep_types.specs.declared.refusal.Refusal.{Refusal}
+use Rattle.dep_types.specs.declared.refusal.Refusal.TheVariants as why
+use Rattle.dep_types.specs.declared.target.Resource.TheVariants as at_resource
+use Rattle.dep_types.specs.declared.target.Method.TheVariants.{Post}
+use Rattle.dep_moment.specs.Civil.{http_text}
+use Rattle.dep_fields.specs.declared.field.Field.{Field}
+use Rattle.dep_fields.specs.declared.field.Field.TheVariants.{Absent, Bad, Value}
+use Rattle.dep_fields.specs.declared.kind.Kind.{Kind}
+use Rattle.dep_fields.specs.declared.kind.Kind.TheVariants as of
+use Rattle.dep_reply.specs.Head.{ReplyHead, status_line, field, optional, connection, line, head_text}
+use Rattle.dep_decisions.specs.Kinds.{kind_of, kind_by, is_completion}
+use Rattle.dep_decisions.specs.Rules.{refusal, rules_met, kind_rule}
+use Rattle.dep_decisions.specs.declared.operation.Operation.{Operation}
+use Rattle.dep_decisions.proofs.FoundInMaps.{all_passed, unless-none}
+use Rattle.dep_answers.specs.Answers.{Answer, document_of, head_of}
+use Rattle.dep_answers.specs.Replies.{unless_bare, front_text, stored_text, refused_answer}
+use Rattle.dep_answers.specs.Steps.{sent_by, refused_step, is_head, step_by, operation_step}
+use Rattle.dep_message.specs.Stream.{Request}
+use Rattle.dep_message.specs.declared.message.Message.{Message}
+use Rattle.dep_router.specs.Targets.{target}
+use Rattle.dep_router.specs.declared.routed.Routed.{Routed}
+use Rattle.dep_router.specs.declared.routed.Routed.TheVariants.{To}
+use Rattle.dep_hub.specs.Machine.{operation_of, routed_step, step}
+use Rattle.dep_decisions.specs.Laws.{posted_to}
+use Rattle.dep_server.specs.Acknowledged.{HasStatus, IsReceived}
+use Rattle.dep_server.proofs.SegmentsStay.{received_by}
+
+-- ---- a refusal's reply has another status
+
+-- the first digit of the status
+ninth : List ℕ → ℕ
+ninth bytes = get_or bytes 9 0
+
+apart : (a b : List ℕ) → a ≡ b → ninth a ≡ 52 → ninth b ≡ 50 → ⊥
+apart a b e four two = let same : ninth a ≡ ninth b = ap ninth e in cc
+
+apart_too : (a b : List ℕ) → a ≡ b → ninth a ≡ 53 → ninth b ≡ 50 → ⊥
+apart_too a b e five two = let same : ninth a ≡ ninth b = ap ninth e in cc
+
+other_status : (r : Refusal) (x y : List ℕ) → status_line (facts_of r).status ++ x ≡ status_line 204 ++ y → ⊥
+unfolding ninth status_line digits
+other_status why.BadRequest x y e = apart _ _ e refl refl
+other_status why.ContentMalformed x y e = apart _ _ e refl refl
+other_status why.InvalidSegmentSize x y e = apart _ _ e refl refl
+other_status why.UnexpectedSegment x y e = apart _ _ e refl refl
+other_status why.SegmentLimitExceeded x y e = apart _ _ e refl refl
+other_status why.MaxAssembledSizeExceeded x y e = apart _ _ e refl refl
+other_status why.NotFound x y e = apart _ _ e refl refl
+other_status why.MethodNotAllowed x y e = apart _ _ e refl refl
+other_status why.SegmentedUploadTimedOut x y e = apart _ _ e refl refl
+other_status why.DigestMismatch x y e = apart _ _ e refl refl
+other_status why.ETagNotMatched x y e = apart _ _ e refl refl
+other_status why.ETagRequired x y e = apart _ _ e refl refl
+other_status why.OnBehalfOfNotAllowed x y e = apart _ _ e refl refl
+other_status why.ByReferenceNotAllowed x y e = apart _ _ e refl refl
+other_status why.MaxUploadSizeExceeded x y e = apart _ _ e refl refl
+other_status why.ContentTypeNotAcceptable x y e = apart _ _ e refl refl
+other_status why.MetadataFormatNotAcceptable x y e = apart _ _ e refl refl
+other_status why.PackagingFormatNotAcceptable x y e = apart _ _ e refl refl
+other_status why.StoreFull x y e = apart_too _ _ e refl refl
+
+-- what stands behind the status in a head
+pub fields_text : ReplyHead → List ℕ
+fields_text r =
+    field (codes "Date") (http_text r.date)
+    ++ optional (codes "Content-Type") r.content_type
+    ++ optional (codes "Content-Length") (option_map decimal r.content_length)
+    ++ optional (codes "ETag") (option_map quoted_tag r.tag)
+    ++ optional (codes "Location") r.location
+    ++ optional (codes "Allow") r.allow
+    ++ optional (codes "Connection") (connection r.closes)
+    ++ line []
+
+regroup : (s a b c d e f g h document : List ℕ) → ((((((((s ++ a) ++ b) ++ c) ++ d) ++ e) ++ f) ++ g) ++ h) ++ document
+    ≡ s ++ ((((((((a ++ b) ++ c) ++ d) ++ e) ++ f) ++ g) ++ h) ++ document)
+regroup s a b c d e f g h document = simp append_assoc
+
+pub front_begins : (a : Answer) (clock : ℕ) (bare ends : Bool)
+    → front_text a clock bare ends ≡ status_line a.status ++ (fields_text (head_of a clock ends) ++ unless_bare bare (document_of a.content))
+unfolding front_text head_text fields_text
+front_begins a clock bare ends =
+    let r = head_of a clock ends in
+    regroup (status_line a.status) (field (codes "Date") (http_text r.date)) (optional (codes "Content-Type") r.content_type)
+    (optional (codes "Content-Length") (option_map decimal r.content_length)) (optional (codes "ETag") (option_map quoted_tag r.tag))
+    (optional (codes "Location") r.location) (optional (codes "Allow") r.allow) (optional (codes "Connection") (connection r.closes)) (line [])
+    (unless_bare bare (document_of a.content))
+
+not_refused : (s : State) (r : Refusal) (bare ends : Bool) → HasStatus 204 (sent_by (refused_step s r None bare ends)) → ⊥
+not_refused s r bare ends h =
+    let a = refused_answer s.clock r None in
+    let behind : List ℕ = fields_text (head_of a s.clock ends) ++ unless_bare bare (document_of a.content) in
+    other_status r (behind ++ stored_text a bare) h.0
+    (sym (append_assoc (status_line a.status) behind (stored_text a bare))
+    ∙ (ap (λ t. t ++ stored_text a bare) (sym (front_begins a s.clock bare ends)) ∙ h.1))
+
+-- ---- what is accepted names a segment
+
+one_of : (a b : Bool) → (a || b) ≡ true → b ≡ false → a ≡ true
+one_of true b e f = refl
+one_of false b e f = cc
+
+some_of : (o : Option Kind) → is_some o ≡ true → (kind : Kind) × (o ≡ Some kind)
+some_of None e = cc
+some_of (Some kind) e = (kind, refl)
+
+-- an upload takes segments alone
+taken : (m : Message) (u : ℕ) (f : Field Kind) (kind : Kind) → kind_by (operation_of m (posted_to u)) f ≡ Some kind → (k : ℕ) × (kind ≡ of.Segment k)
+taken m u Absent kind e = cc
+taken m u Bad kind e = cc
+taken m u (Value (of.Segment k)) kind e = (k, let same : of.Segment k ≡ kind = cc in sym same)
+taken m u (Value (of.File name)) kind e = cc
+taken m u (Value of.Metadata) kind e = cc
+taken m u (Value of.References) kind e = cc
+taken m u (Value (of.Opening o)) kind e = cc
+
+module _ (config : Config) (s : State) (m : Message) (u : ℕ) where
+  named_kind : refusal config s (operation_of m (posted_to u)) ≡ None → is_some (kind_of (operation_of m (posted_to u))) ≡ true
+  unfolding refusal kind_rule is_completion
+  named_kind accepted =
+      let op : Operation = operation_of m (posted_to u) in
+      let rows = all_passed (rules_met config s op (at_resource.Upload u) Post) accepted in
+      one_of (is_some (kind_of op)) (is_completion op) (unless-none (is_some (kind_of op) || is_completion op) why.BadRequest rows.1.1.1.1.0) refl
+
+  pub named_segment : refusal config s (operation_of m (posted_to u)) ≡ None → (k : ℕ) × (kind_of (operation_of m (posted_to u)) ≡ Some (of.Segment k))
+  unfolding kind_of
+  named_segment accepted =
+      let op : Operation = operation_of m (posted_to u) in
+      let kind = some_of (kind_of op) (named_kind accepted) in
+      let segment = taken m u op.fields.disposition kind.0 kind.1 in
+      (segment.0, kind.1 ∙ ap (λ (k : Kind). Some k) segment.1)
+
+  by_refusal : (o : Option Refusal) → refusal config s (operation_of m (posted_to u)) ≡ o → HasStatus 204 (sent_by (step_by config s (operation_of m (posted_to u)) o))
+      → IsReceived (step_by config s (operation_of m (posted_to u)) o).state m u
+  by_refusal None accepted h =
+      let k = named_segment accepted in
+      record { segment = k.0; named = k.1; stands = received_by config s (operation_of m (posted_to u)) u k.0 refl k.1 accepted }
+  by_refusal (Some r) refused h = absurd (not_refused s r (is_head Post) (operation_of m (posted_to u)).closes h)
+
+-- what is answered with 204 stands in the state that the step leaves
+pub replied_stands : (config : Config) (s : State) (m : Message) (moment u : ℕ) → target m.head.method m.head.path ≡ To (posted_to u)
+    → HasStatus 204 (sent_by (step config s (Request m) moment)) → IsReceived (step config s (Request m) moment).state m u
+unfolding step operation_step
+replied_stands config s m moment u named h =
+    let t = tick config s moment in
+    subst (λ (r : Routed). HasStatus 204 (sent_by (routed_step config t m r)) → IsReceived (routed_step config t m r).state m u) (sym named)
+    (by_refusal config t m u (refusal config t (operation_of m (posted_to u))) refl) h

@@ -1,0 +1,5 @@
+use Rattle.dep_server.proofs.Refusing.{item_refused}
+use Rattle.dep_server.proofs.laws.refused_items_change_nothing.Goals as goal
+
+pub returns : goal.returns
+returns c = item_refused

@@ -1,0 +1,5 @@
+use Rattle.dep_server.proofs.SoundLemmas.{step_sound}
+use Rattle.dep_server.proofs.laws.steps_keep_sound.Goals as goal
+
+pub returns : goal.returns
+returns c = step_sound

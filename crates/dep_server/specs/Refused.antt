@@ -1,0 +1,37 @@
+-- Items that are refused.
+use Rattle.std.specs.Prelude.{◌≡◌, ℕ, Bool, List, [], Option, Some, None}
+use Rattle.dep_types.specs.State.{State}
+use Rattle.dep_types.specs.declared.config.Config.{Config}
+use Rattle.dep_types.specs.declared.refusal.Refusal.{Refusal}
+use Rattle.dep_types.specs.declared.refusal.Refusal.TheVariants as why
+use Rattle.dep_router.specs.Targets.{target}
+use Rattle.dep_router.specs.declared.routed.Routed.{Routed}
+use Rattle.dep_router.specs.declared.routed.Routed.TheVariants.{To, NotFound, NotAllowed}
+use Rattle.dep_message.specs.declared.message.Message.{Message}
+use Rattle.dep_message.specs.Stream.{Item, Fault, Continue, Request}
+use Rattle.dep_decisions.specs.Rules.{refusal}
+use Rattle.dep_answers.specs.Replies.{front_text, refused_answer}
+use Rattle.dep_answers.specs.Steps.{Stepped}
+use Rattle.dep_hub.specs.Machine.{operation_of}
+
+abbrev pub routed_refusal : Config → State → Message → Routed → Option Refusal
+routed_refusal config s m NotFound = Some why.NotFound
+routed_refusal config s m (NotAllowed methods) = Some why.MethodNotAllowed
+routed_refusal config s m (To t) = refusal config s (operation_of m t)
+
+-- why an item is refused, if it is, in the state that its tick leaves
+abbrev pub item_refusal : Config → State → Item → Option Refusal
+item_refusal config s (Fault r bare) = Some r
+item_refusal config s Continue = None
+item_refusal config s (Request m) =
+    routed_refusal config s m (target m.head.method m.head.path)
+
+-- the step leaves this state, and what is sent for it is the reply to the refusal, or its head, and
+-- nothing behind it
+pub record IsRefused (s : State) (r : Refusal) (stepped : Stepped) : Type 0 where
+  pub state : stepped.state ≡ s
+  pub allow : Option (List ℕ)
+  pub is_bare : Bool
+  pub reply :
+      stepped.front ≡ front_text (refused_answer s.clock r allow) s.clock is_bare stepped.closes
+  pub alone : stepped.stored ≡ []
