@@ -22,8 +22,9 @@ use crate::change::Change;
 use crate::deposits::blank_row;
 use crate::new_files::{Extent, FileNumbers, new_row, whole_upload};
 use dep_decisions::{NewFile, Source};
+use dep_fixity::HashedOctets;
 use dep_operations::View;
-use dep_types::{FileRow, FileRows, Metadata, ObjectView, Octets, StoreFault};
+use dep_types::{FileRow, FileRows, Metadata, ObjectView, StoreFault};
 use std::alloc::Global;
 
 // How many bytes a new file has, and their digests.
@@ -101,7 +102,7 @@ pub fn created_view(
     alloc: Global,
     view: &View,
     files: &[NewFile],
-    content: &Octets,
+    content: &HashedOctets,
     ingests: bool,
 ) -> Result<ObjectView, StoreFault>
     requires { IsTrue (has_room view.now.next.file (length files.now)) }
