@@ -1,8 +1,14 @@
-use Rattle.std.proofs.Common.{[], ap, ◌∙◌}
+use Rattle.std.proofs.Common.{[], ap, ◌∙◌, Option, None, Some}
+use Rattle.std.specs.Prelude.{IsNone, IsSome}
 use Rattle.dep_host.specs.Hosting.{position}
 use Rattle.swordd_host.specs.Hosted.{not_begun, not_let_in}
 use Rattle.swordd_host.proofs.HostedLemmas.{ends_at}
 use Rattle.swordd_host.proofs.service.serve_hub.Goals as goal
+
+-- nothing was told
+untold : {T : Type 0} (o : Option T) → IsNone o → IsSome o → ⊥
+untold None none some = cc some
+untold (Some x) none some = cc none
 
 pub returns-in-Err : goal.returns-in-Err
 returns-in-Err g c = record { ends = ([], not_begun (c.into_store.ensures.same ∙ ap (λ h. h.store) c.in-Err.ensures.kept)) }
@@ -29,6 +35,6 @@ returns g c =
               steps = run.1;
               left = c.into_store-2.ensures.same ∙ ap (λ h. h.store) c.into_hub-2.ensures;
             })
-            c.serve-ended.ensures.end c.serve-ended.ensures.shut c.was_cut.result c.was_cut.ensures c.outcome_at-outcome.result c.outcome_at-outcome.ensures,
+            c.serve-ended.ensures.end (λ is. c.serve-ended.ensures.shut is (λ some clean. untold c.in-Ok.host.shut_since c.in-Ok.ensures.untold some)) c.was_cut.result c.was_cut.ensures c.outcome_at-outcome.result c.outcome_at-outcome.ensures,
       );
     }
