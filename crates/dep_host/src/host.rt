@@ -1,5 +1,5 @@
 //! All connections, over one hub.
-ghost use Rattle.std.specs.Prelude.{◌≡◌, ◌⊎◌, ◌<◌, ◌≤◌, ℕ, List, [], None, Some, Option, length, nat_lt, IfOk, IfErr, IfSome, IsSomeAnd, MatchOption, is_some, IsSome, IsNone, ◌∷◌, true, false};
+ghost use Rattle.std.specs.Prelude.{◌≡◌, ◌⊎◌, ◌<◌, ◌≤◌, ℕ, List, [], None, Some, Option, length, nat_lt, IfOk, IfErr, IfSome, IsSomeAnd, MatchOption, is_some, IsSome, IsNone, if◌then◌else◌, ◌∷◌, true, false};
 ghost use Rattle.std.specs.Io.KnownBytes.{IsAtEnd};
 ghost use Rattle.dep_hub.specs.Turns.{most_read};
 ghost use Rattle.dep_outbox.specs.Wires.{told};
@@ -118,6 +118,16 @@ impl<A: Archive, R: Source + Drop, K: Sink + Drop, S: Spool + Drop> Host<A, R, K
             }
         }
         None
+    }
+
+    /// Why a client is turned away that comes where there is no vacancy.
+    pub fn refusal(&self) -> Refusal
+        ensures { result ≡ (if is_some self.now.shut_since then Refusal.Shut else Refusal.Full) }
+    {
+        match self.shut_since {
+            Some(_) => Refusal::Shut,
+            None => Refusal::Full,
+        }
     }
 
     /// Whether nobody sits there.

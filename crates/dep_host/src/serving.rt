@@ -11,7 +11,7 @@ ghost use Rattle.dep_host.specs.Runs.{Promises};
 use crate::events::{Client, Event, Events};
 use crate::host::Host;
 use crate::laws::hosts_keep_the_archive_promise;
-use crate::log::{HostLog, Refusal};
+use crate::log::HostLog;
 use dep_hub::Archive;
 use dep_outbox::{Sink, Source, Spool};
 
@@ -170,7 +170,7 @@ fn let_in<A: Archive, R: Source + Drop, K: Sink + Drop, S: Spool + Drop, L: Host
             let _told = host.admit(at, client, log);
         }
         None => {
-            log.refused(client.address, Refusal::Full);
+            log.refused(client.address, host.refusal());
             drop(client);
         }
     }

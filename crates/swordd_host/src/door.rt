@@ -36,6 +36,7 @@ pub struct SocketDoor<'a, R: Files> {
 }
 
 impl<'a, R: Files + Net + Clock> SocketDoor<'a, R> {
+    /// A door at an address that lets in so many clients at most. It listens once it is opened.
     pub fn new(
         alloc: Global,
         rt: &'a R,

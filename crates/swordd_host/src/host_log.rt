@@ -39,6 +39,7 @@ struct Item {
 }
 
 impl<'a> StandardErrorLog<'a> {
+    /// A log that has no item under way.
     pub fn new(rt: &'a HostRuntime) -> StandardErrorLog<'a> {
         StandardErrorLog {
             rt,
