@@ -15,7 +15,7 @@ use Rattle.dep_schema.proofs.Transacting.{IsSettled, leaves_as_was}
 use Rattle.dep_schema.specs.declared.opening.OpenFault.{OpenFault}
 use Rattle.dep_store.specs.Archive.{condition_of}
 use Rattle.dep_upgrading.specs.Migrating.{Keeps, OpenLeaves}
-use Rattle.dep_store.specs.Starting.{OpeningLeaves}
+use Rattle.dep_store.specs.Starting.{OpeningLeaves, outcome_of_start}
 use Rattle.dep_store.specs.declared.starting.StartFault.{StartFault}
 use Rattle.dep_store.specs.declared.starting.StartFault.TheVariants as fault
 use Rattle.dep_hub.specs.Records.{World, Record, Run, begins, stops, stopped, first_world}
@@ -25,7 +25,7 @@ use Rattle.dep_hub.specs.declared.faults.HubFault.TheVariants as refused
 use Rattle.dep_hub.specs.declared.hub.Hub.{Hub}
 use Rattle.dep_program.specs.Serves.{all_records_of, ServesAt}
 use Rattle.dep_program.specs.declared.outcome.Outcome.{Outcome}
-use Rattle.swordd.specs.Databases.{IsKept, IsRefused, LedTo, GoesOn, ServesDatabase, serves, not_bound, unchecked, not_begun, not_opened, outcome_of_start}
+use Rattle.swordd.specs.Databases.{IsKept, IsRefused, LedTo, GoesOn, ServesDatabase, serves, not_bound, unchecked, not_begun, not_opened}
 use Rattle.swordd.proofs.ReplayLemmas.{world_at_first}
 
 -- a stop leaves of an opening for a hub what it leaves of an opening

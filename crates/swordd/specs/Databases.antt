@@ -7,9 +7,6 @@ use Rattle.dep_types.specs.declared.config.Config.{Config}
 use Rattle.dep_schema.specs.Standing.{HoldsNone, IsBack}
 use Rattle.dep_schema.specs.States.{StandsFor, IsLeftAs, Leaves}
 use Rattle.dep_upgrading.specs.Migrating.{Keeps, OpenLeaves}
-use Rattle.dep_store.specs.declared.starting.StartFault.{StartFault}
-use Rattle.dep_store.specs.declared.starting.StartFault.TheVariants as fault
-use Rattle.dep_hub.specs.declared.faults.HubFault.TheVariants as refused
 use Rattle.dep_hub.specs.Records.{World, Record, Run, first_world, stopped}
 use Rattle.dep_hub.specs.Turns.{ArePieces}
 use Rattle.dep_program.specs.Serves.{Conversation, all_records_of, AreServed}
@@ -43,12 +40,6 @@ pub record GoesOn (config : Config) (old new : db.State) (more : List Record) : 
   pub again : IsTrue new.is_open → (found : State) → IsLeftAs old.now.trees found
       → (first : State) (records : List Record) → Run config first records (first_world found)
       → LedTo config new first (records ++ more)
-
--- what it comes to where no hub is made
-abbrev pub outcome_of_start : StartFault → Outcome
-outcome_of_start (fault.Hub refused.Config) = Usage
-outcome_of_start (fault.Hub refused.Memory) = StoreFault
-outcome_of_start (fault.Open its) = StoreFault
 
 -- what serving so many connections comes to
 pub data ServesDatabase (config : Config) (count : ℕ) (old new : db.State) : Outcome → Type 0 where

@@ -3,11 +3,10 @@ ghost use Rattle.std.specs.Prelude.{◌≡◌, false, IsTrue};
 ghost use Rattle.sqlite.specs.Held.{state};
 ghost use Rattle.sqlite.specs.State.{HasCleanDisk};
 ghost use Rattle.dep_program.specs.Setup.{program_config, base_at};
-ghost use Rattle.swordd.specs.Databases.{ServesDatabase, outcome_of_start};
+ghost use Rattle.swordd.specs.Databases.{ServesDatabase};
 
-use dep_hub::HubFault;
 use dep_program::{Door, Outcome, configuration_at, serve_at};
-use dep_store::{StartFault, Watch, open_hub};
+use dep_store::{Watch, open_hub};
 use sqlite::{Alter, Connection};
 use std::alloc::Global;
 use std::net::{Net, TcpListener, TcpStream};
@@ -43,16 +42,6 @@ pub fn serve_database<
             let outcome = serve_at(rt, alloc, door, &mut hub);
             (outcome, hub.into_store().close())
         }
-        Err((fault, connection)) => (outcome_of(fault), connection),
-    }
-}
-
-// What it comes to where no hub is made.
-fn outcome_of(fault: StartFault) -> Outcome
-    ensures { result ≡ outcome_of_start fault }
-{
-    match fault {
-        StartFault::Hub(HubFault::Config) => Outcome::Usage,
-        StartFault::Hub(HubFault::Memory) | StartFault::Open(_) => Outcome::StoreFault,
+        Err((fault, connection)) => (fault.outcome(), connection),
     }
 }

@@ -28,8 +28,8 @@ returns-in-Err-clause-serves g c =
     let it = c.in-Err in
     let port : c.from.result ≡ c.args.door.port = omega arith in
     let same : c.in-Ok.config ≡ program_config (base_at c.args.door.port) = c.in-Ok.ensures ∙ ap (λ (n : ℕ). program_config (base_at n)) port in
-    subst (λ (x : Config). ServesDatabase x c.args.door.count (state g.S.Store c.args.connection) (state g.S.Store it.connection) c.outcome_of.result) same
-    (subst (λ (o : Outcome). ServesDatabase c.in-Ok.config c.args.door.count (state g.S.Store c.args.connection) (state g.S.Store it.connection) o) (sym c.outcome_of.ensures)
+    subst (λ (x : Config). ServesDatabase x c.args.door.count (state g.S.Store c.args.connection) (state g.S.Store it.connection) c.outcome.result) same
+    (subst (λ (o : Outcome). ServesDatabase c.in-Ok.config c.args.door.count (state g.S.Store c.args.connection) (state g.S.Store it.connection) o) (sym c.outcome.ensures)
     (fails (state g.S.Store c.args.connection) (state g.S.Store it.connection)
     (λ is_open. clean_if_open (g.S.Store.view it.connection.store) (g.met.S.Store.shut_if_dirty it.connection.store) is_open)
     (opening_left _ _ it.ensures.stop) c.in-Ok.config c.args.door.count it.fault it.ensures.left it.ensures.kept it.ensures.refused))
