@@ -3,16 +3,15 @@
 //! is given to a sink, and the files of all objects are checked.
 #![tactic(auto)]
 
-mod archive;
 mod audit_fault;
 mod auditing;
 mod exporting;
+mod hashing;
 mod lines;
 mod reading;
 mod remembering;
 mod showing;
 mod source;
-mod starting;
 mod store;
 mod tally;
 mod telling;
@@ -20,6 +19,5 @@ mod ticking;
 
 pub use dep_streams::{Unwatched, Watch};
 pub use exporting::export_object;
-pub use starting::{StartFault, open_hub};
 pub use store::Store;
 pub use telling::audit_all;
