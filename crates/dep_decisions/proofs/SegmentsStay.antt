@@ -1,5 +1,5 @@
 -- A segment that was received stays while its upload is there, and an upload's number is never given again.
-use Rattle.std.proofs.Common.{◌≡◌, ◌∙◌, ◌⊎◌, inl, inr, ℕ, ◌<◌, List, [], Option, Some, None, refl, sym, ap, subst, arith, le_refl, le_trans, lt_of_lt_of_le, le-add_right}
+use Rattle.std.proofs.Common.{◌≡◌, ◌∙◌, ◌⊎◌, inl, inr, ℕ, ◌<◌, List, Option, Some, None, refl, sym, ap, subst, arith, le_refl, le_trans, lt_of_lt_of_le, le-add_right}
 use Rattle.std.specs.FinMap as map
 use Rattle.dep_types.specs.Maps.{Numbered}
 use Rattle.dep_types.specs.State.{State, Upload, tick, clock_at}
