@@ -4,7 +4,7 @@ use Rattle.sqlite.specs.State as db
 use Rattle.dep_types.specs.State.{State}
 use Rattle.dep_types.specs.declared.config.Config.{Config}
 use Rattle.dep_upgrading.specs.Migrating.{OpenLeaves}
-use Rattle.dep_store.specs.Starting.{OpeningLeaves}
+use Rattle.dep_archive.specs.Starting.{OpeningLeaves}
 use Rattle.dep_hub.specs.Records.{Run, stops, stopped, first_world}
 
 pub opening_leaves : (config : Config) (old new : db.State) → OpenLeaves old new → OpeningLeaves config old new

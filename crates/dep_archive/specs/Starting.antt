@@ -11,8 +11,8 @@ use Rattle.dep_hub.specs.Records.{Record, Run, first_world, stopped}
 use Rattle.dep_hub.specs.declared.faults.HubFault.TheVariants as refused
 use Rattle.dep_program.specs.declared.outcome.Outcome.{Outcome}
 use Rattle.dep_program.specs.declared.outcome.Outcome.TheVariants.{Usage, StoreFault}
-use Rattle.dep_store.specs.declared.starting.StartFault.{StartFault}
-use Rattle.dep_store.specs.declared.starting.StartFault.TheVariants as fault
+use Rattle.dep_archive.specs.declared.starting.StartFault.{StartFault}
+use Rattle.dep_archive.specs.declared.starting.StartFault.TheVariants as fault
 
 -- A database with no table is left so, or as a new store. One that a stop left for some state is
 -- left for that state and no other; so whatever records led there, they lead there with one more

@@ -7,16 +7,16 @@ ghost use Rattle.dep_types.specs.Config.{IsChecked};
 ghost use Rattle.dep_schema.specs.Standing.{HoldsNone, IsOpenable};
 ghost use Rattle.dep_schema.specs.States.{IsLeftAs, StandsFor};
 ghost use Rattle.dep_upgrading.specs.Migrating.{Keeps};
-ghost use Rattle.dep_store.specs.Starting.{OpeningLeaves, outcome_of_start};
+ghost use Rattle.dep_archive.specs.Starting.{OpeningLeaves, outcome_of_start};
 ghost use Rattle.dep_hub.specs.Records.{Record, Run, first_world};
 ghost use Rattle.dep_hub.specs.Standing.{StandsAfter, IsClean, IsHonest};
-ghost use Rattle.dep_store.specs.Archive.{condition_of};
+ghost use Rattle.dep_archive.specs.Archive.{condition_of};
 
-use crate::store::Store;
+use crate::archive::HashingStore;
 use dep_hub::{Hub, HubFault};
 use dep_program::Outcome;
 use dep_schema::OpenFault;
-use dep_streams::Watch;
+use dep_store::{Store, Watch};
 use dep_types::Config;
 use sqlite::{Alter, Connection};
 use std::alloc::Global;
@@ -62,7 +62,7 @@ pub fn open_hub<S: Alter, W: Watch>(
     config: Config,
     connection: Connection<S>,
     watch: &mut W,
-) -> Result<Hub<Store<S>>, (StartFault, Connection<S>)>
+) -> Result<Hub<HashingStore<S>>, (StartFault, Connection<S>)>
     requires settled { (state S.Store connection).in_transaction ≡ false }
     ensures fresh { IfOk result (λ hub. IsHonest (condition_of S.Store) hub
         → HoldsNone (state S.Store connection).now.trees
@@ -102,13 +102,13 @@ pub fn open_hub<S: Alter, W: Watch>(
         (λ e. IsTrue (state S.Store e.1).is_open → IsTrue (state S.Store connection).is_open) }
     // What a stop now leaves, whether a hub was made or not.
     ensures stop { MatchResult result
-        (λ hub. OpeningLeaves config (state S.Store connection) (state S.Store hub.store))
+        (λ hub. OpeningLeaves config (state S.Store connection) (state S.Store hub.store.store))
         (λ e. OpeningLeaves config (state S.Store connection) (state S.Store e.1)) }
 {
     match Store::open(alloc, connection, watch) {
-        Ok(store) => match Hub::new(alloc, config, store) {
+        Ok(store) => match Hub::new(alloc, config, HashingStore::new(alloc, store)) {
             Ok(hub) => Ok(hub),
-            Err((fault, store)) => Err((StartFault::Hub(fault), store.close())),
+            Err((fault, archive)) => Err((StartFault::Hub(fault), archive.into_store().close())),
         },
         Err((fault, connection)) => {
             drop(config);

@@ -11,12 +11,13 @@ use crate::start::{microseconds_since, write_start};
 use dep_configuration::{Configuration, Limits};
 use dep_host::laws::hosts_make_a_run;
 use dep_host::{Ended, Events, Host, serve};
+use dep_archive::{HashingStore, open_hub};
 use dep_hub::laws::nothing_held;
 use dep_hub::{Archive, Hub};
 use dep_outbox::{Sink, Source, Spool};
 use dep_program::Outcome;
 use dep_sockets::Spools;
-use dep_store::{Store, Unwatched, open_hub};
+use dep_store::Unwatched;
 use dep_types::Config;
 use sqlite::{Alter, Connection};
 use std::net::SocketAddr;
@@ -112,12 +113,12 @@ fn serve_database<
     ensures hosts { HostsDatabase S.Store R.unread K.taken P.held (E.is_over door.new) (E.is_cut door.new)
         config connection result.1 result.0 }
 {
-    nothing_held::<Store<S>>();
-    hosts_make_a_run::<Store<S>, R, K, P>();
+    nothing_held::<HashingStore<S>>();
+    hosts_make_a_run::<HashingStore<S>, R, K, P>();
     match open_hub(rt.alloc(), config, connection, &mut Unwatched) {
         Ok(hub) => {
-            let (outcome, store) = serve_hub(rt, place, hub, door);
-            (outcome, store.close())
+            let (outcome, archive) = serve_hub(rt, place, hub, door);
+            (outcome, archive.into_store().close())
         }
         Err((fault, connection)) => {
             let _ = eprintln!(rt; "swordd_host: {fault}");

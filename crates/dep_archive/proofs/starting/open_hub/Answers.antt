@@ -5,8 +5,8 @@ use Rattle.dep_types.specs.State.{empty_state}
 use Rattle.dep_upgrading.specs.Migrating.{OpenLeaves}
 use Rattle.dep_schema.specs.States.{StandsFor}
 use Rattle.dep_hub.specs.Records.{first_world}
-use Rattle.dep_store.proofs.StartingLemmas.{opening_leaves}
-use Rattle.dep_store.proofs.starting.open_hub.Goals as goal
+use Rattle.dep_archive.proofs.StartingLemmas.{opening_leaves}
+use Rattle.dep_archive.proofs.starting.open_hub.Goals as goal
 
 pub returns-in-Ok-new-clause-fresh : goal.returns-in-Ok-new-clause-fresh
 returns-in-Ok-new-clause-fresh g c honest none =
