@@ -1,5 +1,5 @@
 -- Words of the laws.
-use Rattle.std.specs.Prelude.{◌≡◌, ◌⊎◌, ℕ, ◌==◌, ◌<◌, ◌≤◌, ◌&&◌, Bool, true, false, length, Some, None, IsTrue}
+use Rattle.std.specs.Prelude.{◌≡◌, ◌⊎◌, ℕ, ◌==◌, ◌<◌, ◌≤◌, ◌&&◌, Bool, true, false, List, length, Some, None, IsTrue}
 use Rattle.std.specs.FinMap as map
 use Rattle.dep_types.specs.State.{State, Object, File, Upload, file_at}
 use Rattle.dep_types.specs.Uploads.{assembled}
@@ -78,6 +78,18 @@ pub record SendsSegment (s : State) (op : Operation) (number segment : ℕ) (upl
   pub target : op.target ≡ posted_to number
   pub kind : kind_of op ≡ Some (Segment segment)
   pub there : map.get s.uploads number ≡ Some upload
+
+-- each segment that was received stands there with the same bytes
+abbrev pub HoldsSegments : (before after : Upload) → Type 0
+HoldsSegments before after =
+    (k : ℕ) (bytes : List ℕ) → map.get before.segments k ≡ Some bytes
+    → map.get after.segments k ≡ Some bytes
+
+-- an upload whose number was given before was there before, and holds each segment that it had then
+pub record KeepsSegments (s t : State) : Type 0 where
+  pub next : s.next.upload ≤ t.next.upload
+  pub segments : (n : ℕ) (after : Upload) → map.get t.uploads n ≡ Some after → n < s.next.upload
+      → (before : Upload) × (map.get s.uploads n ≡ Some before) × HoldsSegments before after
 
 -- ---- deposits by reference
 
