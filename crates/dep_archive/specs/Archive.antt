@@ -13,7 +13,7 @@ use Rattle.dep_archive.specs.declared.archive.HashingStore.{HashingStore}
 -- the database stands for the state, and what was hashed is what was received there
 pub record Keeps (d : db.State) (running : RunningHashes) (s : State) : Type 0 where
   pub stands : StandsFor d s
-  pub running : AreRunning s running
+  pub hashed : AreRunning s running
 
 -- what its database shows, beside what was hashed
 abbrev pub shown_by : db.State → RunningHashes → Condition

@@ -57,9 +57,10 @@ impl<S: Alter> HashingStore<S> {
             → AreRunning s self.new.running }
         ensures store { self.new.store ≡ self.old.store }
     {
-        if let (Method::Post, Resource::Upload(upload)) =
-            (operation.target.method, &operation.target.resource)
-        {
+        if let (Method::Post, Resource::Upload(upload)) = (
+            operation.target.method,
+            &operation.target.resource,
+        ) {
             self.running.note(*upload);
             self.is_due = true;
         }
