@@ -170,7 +170,8 @@ module _ {A R K S : Type 0} (condition : A → Condition) (unread : R → Option
     pub same_limits : q.limits ≡ p.limits
     pub same_shut : q.shut ≡ p.shut
 
-  -- the hub is asked whether its store is open, and may tell for the first time that it isn't
+  -- the hub is asked whether its store is open, and may tell for the first time that it isn't; or the
+  -- store works ahead
   pub record Asks (p q : Position A R K S) : Type 0 where
     pub sits : q.seats ≡ p.seats
     pub next : q.hub.next ≡ p.hub.next
