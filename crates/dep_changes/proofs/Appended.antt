@@ -58,4 +58,4 @@ module _ {T : Type 0} (state : T → db.State) (old new : T) (r : Result (Unit {
       let have : o.metadata ≡ metadata_at s.objects n = texts_of s n o storable.2.1 in
       let fits = ingested_fits found row ingests (found_fits change.view.now object found seen) is in
       caused_among state (FailsHolding (CopiesBeside o.metadata d)) (FailsHolding (CopiesBeside (metadata_at s.objects n) d)) (holding_more (λ some. subst (λ (m : Texts). CopiesBeside m d) have some)) r old new
-      (why (ingested_by ingests o) clean inside ours s are (storable.1, rewrites s o storable.2, object.numbers, fits, storable.4))
+      (why (ingested_by ingests o) clean inside ours s are (storable.1, rewrites s o storable.2, (object.numbers, fits, storable.4)))

@@ -83,6 +83,11 @@ abbrev pub IsStorableAt : Change → (object : ℕ) → Deposit → Type 0
 IsStorableAt change object d =
     HasStorableNumbers change.view.now × IsStorable object × IsStorableDeposit change map.empty d
 
+-- a deposit that is added to these texts of the object of this row
+abbrev pub IsStorableBeside : Change → ObjectRow → (have : Texts) → Deposit → Type 0
+IsStorableBeside change row have d =
+    HasStorableNumbers change.view.now × IsStorableObject row × IsStorableDeposit change have d
+
 -- ---- of a decision
 
 -- sizes that an upload is opened with
@@ -156,6 +161,7 @@ abbrev pub CopiesBeside : (have : Texts) → Deposit → Type 0
 CopiesBeside have (Files new) = new ≢ []
 CopiesBeside have (Metadata texts) = (have ≢ map.empty) ⊎ (texts ≢ map.empty)
 
+-- memory is taken for a copy
 abbrev pub TakesMemory : State → Decision → Type 0
 TakesMemory s (Create d ingests) = HasCopies d
 TakesMemory s (Append n d ingests) = CopiesBeside (metadata_at s.objects n) d

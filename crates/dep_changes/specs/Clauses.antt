@@ -5,7 +5,6 @@ use Rattle.sqlite.specs.State as db
 use Rattle.dep_types.specs.State.{State, Object}
 use Rattle.dep_types.specs.declared.rows.ObjectRow.{ObjectRow}
 use Rattle.dep_types.specs.declared.store_fault.StoreFault.{StoreFault}
-use Rattle.dep_tables.specs.Rows.{IsStorableObject}
 use Rattle.dep_row_maps.specs.Clauses.{FromMaps, SeesState}
 use Rattle.dep_row_maps.specs.Causes.{FailsByOne, FailsHolding, FailsSince}
 use Rattle.dep_decisions.specs.Effects.{appended, bytes_from}
@@ -17,7 +16,7 @@ use Rattle.dep_changes.specs.declared.change.Change.{Change}
 use Rattle.dep_changes.specs.declared.new_files.FileNumbers.{FileNumbers}
 use Rattle.dep_changes.specs.Told.{Rewrites, TellsDecision, TellsDeposit, TellsNewFile, TellsNumbers}
 use Rattle.dep_changes.specs.Changed.{made_file, put_in, with_deposit, with_maps, with_new_file}
-use Rattle.dep_changes.specs.Causes.{CopiesBeside, HasStorableNumbers, IsStorableDecision, IsStorableDeposit, TakesMemory}
+use Rattle.dep_changes.specs.Causes.{CopiesBeside, IsStorableBeside, IsStorableDecision, TakesMemory}
 
 module _ {T A : Type 0} (state : T → db.State) (old new : T) (result : Result A StoreFault) where
   -- inside a transaction over a state's tables, where this is told of it, an Ok makes this state of it
@@ -25,7 +24,7 @@ module _ {T A : Type 0} (state : T → db.State) (old new : T) (result : Result 
   Makes told after = FromMaps (state old) (state new)
       (λ s. told s → OnOk result (SeesState (state new) (after s)))
 
-  -- there a failure is that of a statement, or memory is wanting where some is held
+  -- there a failure is that of a statement, or memory is wanting where something is held
   abbrev pub FailsFromMaps : (told : State → Type 0) → (held : State → Type 0) → Type 0
   FailsFromMaps told held = FromMaps (state old) (state new)
       (λ s. told s → IfErr result (FailsSince state (FailsHolding (held s)) old new))
@@ -65,8 +64,7 @@ module _ {T A : Type 0} (state : T → db.State) (old new : T) (result : Result 
   abbrev pub FailsAppending : Change → ObjectRow → Deposit → Type 0
   FailsAppending change row d = (o : Object)
       → FailsFromMaps (λ s. TellsNumbers change.view.now s × Rewrites s row o
-      × HasStorableNumbers change.view.now × IsStorableObject row
-      × IsStorableDeposit change o.metadata d) (λ _. CopiesBeside o.metadata d)
+      × IsStorableBeside change row o.metadata d) (λ _. CopiesBeside o.metadata d)
 
   -- an Ok has put a file with the bytes of this source in its object, and an upload is gone with them
   abbrev pub PutsFile : Change → FileNumbers → NewFile → (place : ℕ) → Source → Type 0

@@ -6,13 +6,12 @@ ghost use Rattle.dep_types.specs.Limits.{IsStorable};
 ghost use Rattle.dep_types.specs.State.{Object};
 ghost use Rattle.dep_types.specs.Numbers.{has_room};
 ghost use Rattle.dep_tables.specs.Clauses.{StaysWithin};
-ghost use Rattle.dep_tables.specs.Rows.{IsStorableObject};
 ghost use Rattle.dep_row_maps.specs.TablesAre.{with_metadata, with_object};
 ghost use Rattle.dep_row_maps.specs.Clauses.{KeepsOurs};
 ghost use Rattle.dep_row_maps.specs.Causes.{FailsByOne, FailsByStatement, FailsHolding};
 ghost use Rattle.dep_decisions.specs.Decisions.{count_of};
 ghost use Rattle.dep_decisions.specs.declared.decision.Decision.TheVariants.{Append, Create, Replace};
-ghost use Rattle.dep_changes.specs.Causes.{AreStorableSources, HasCopies, HasStorableNumbers, IsStorableAt};
+ghost use Rattle.dep_changes.specs.Causes.{HasCopies, IsStorableAt, IsStorableBeside};
 ghost use Rattle.dep_changes.specs.Changed.{blank_row};
 ghost use Rattle.dep_changes.specs.Clauses.{Appends, CarriesOut, FailsAppending, FailsCarrying, FailsCarryingMaps, Makes, PutsIn};
 
@@ -138,8 +137,8 @@ fn append_files<T: Statements>(
     ensures map { Appends T.state tx.old tx.new result change.now row (Deposit.Files files.now) }
     ensures ours { KeepsOurs (T.state tx.old) (T.state tx.new) result }
     ensures cause { FailsByOne T.state tx.old tx.new result
-        (HasStorableNumbers change.now.view.now × IsStorableObject row
-        × AreStorableSources change.now files.now) (FailsHolding (files.now ≢ [])) }
+        (IsStorableBeside change.now row map.empty (Deposit.Files files.now))
+        (FailsHolding (files.now ≢ [])) }
     ensures stays { StaysWithin T.lenders T.state tx.old tx.new result }
 {
     write_row(tx, &files_changed(change.view, row))?;

@@ -23,7 +23,7 @@ pub returns-in-Files-clause-cause : goal.returns-in-Files-clause-cause
 returns-in-Files-clause-cause g c n =
     append_fails g.T.Statements.state c.args.tx.now c.append_files.new.tx c.append_files.result c.args.change.now c.args.deposit.now c.args.ingests c.in_ok-touched.field-0 c.ingested_by-row.result c.in_ok-touched.ensures.told c.ingested_by-row.ensures n
     (subst (FailsAppending g.T.Statements.state c.args.tx.now c.append_files.new.tx c.append_files.result c.args.change.now c.ingested_by-row.result) (ap (λ (new : List NewFile). Files new) c.as_slice.ensures ∙ sym c.in-Files.is)
-    (λ o clean inside ours s are storable. c.append_files.ensures.cause (storable.2, storable.3, storable.4) clean inside))
+    (λ o clean inside ours s are storable. c.append_files.ensures.cause storable.2 clean inside))
 
 pub returns-in-Metadata-clause-cause : goal.returns-in-Metadata-clause-cause
 returns-in-Metadata-clause-cause g c n =

@@ -50,7 +50,7 @@ pub returns-in_err-write_row-clause-cause : goal.returns-in_err-write_row-clause
 returns-in_err-write_row-clause-cause g c it clean inside ours s are storable =
     let view = c.args.change.now.view.now in
     let held = (it.metadata ≢ finmap.empty) ⊎ (c.args.metadata.now ≢ finmap.empty) in
-    let fits = texts_fit view storable.2 c.args.row c.texts_changed.result storable.3 c.texts_changed.ensures in
+    let fits = texts_fit view storable.2.0 c.args.row c.texts_changed.result storable.2.1 c.texts_changed.ensures in
     if_err_is _ c.from_residual.result c.in_err-write_row.field-0.0 c.from_residual.ensures.1
     (fails_first g.T.Statements.state c.args.tx.now c.write_row.new.tx (FailsHolding held) _ (statement (object_written _ (c.in_err-write_row.ensures.cause fits clean inside))))
 
@@ -74,5 +74,5 @@ returns-clause-cause g c it clean inside ours s are storable =
     let held = (it.metadata ≢ finmap.empty) ⊎ (more ≢ finmap.empty) in
     let among : few → held = λ some. subst (λ (m : Texts). (m ≢ finmap.empty) ⊎ (more ≢ finmap.empty)) (sym have) some in
     caused_later g.T.Statements.state (FailsHolding few) (FailsHolding held) (holding_more among) c.append_metadata.result c.args.tx.now c.write_row.new.tx c.append_metadata.new.tx c.in_ok-write_row.ensures.stays.survives
-    (c.append_metadata.ensures.cause clean (c.in_ok-write_row.ensures.stays.inside before inside) (c.in_ok-write_row.ensures.ours before inside ours) one put storable.3.object
-    (subst (λ (m : Texts). HavePlaces m (finmap.entries more)) have storable.4))
+    (c.append_metadata.ensures.cause clean (c.in_ok-write_row.ensures.stays.inside before inside) (c.in_ok-write_row.ensures.ours before inside ours) one put storable.2.1.object
+    (subst (λ (m : Texts). HavePlaces m (finmap.entries more)) have storable.2.2))
