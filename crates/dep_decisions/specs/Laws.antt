@@ -38,6 +38,7 @@ pub record AreGivenOnce (s t : State) : Type 0 where
 
 -- ---- requests that read alone
 
+-- GET and HEAD, which are safe (RFC 9110, section 9.2.1)
 abbrev pub is_read : Method → Bool
 is_read Get = true
 is_read Head = true

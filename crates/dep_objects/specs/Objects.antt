@@ -6,6 +6,7 @@ use Rattle.dep_types.specs.Rows.{object_row}
 use Rattle.dep_types.specs.declared.rows.ObjectRow.{ObjectRow}
 use Rattle.dep_objects.specs.declared.objects.DescribedObject.{DescribedObject}
 
+-- what a row tells of an object, with these metadata and these files
 abbrev pub object_of : ObjectRow → Texts → Numbered File → Object
 object_of row texts files = record {
   ingested = row.ingested;
