@@ -86,7 +86,7 @@ module _ {S : Type 0} (g : Ghosts S) (clean : (h : Held S) → IsTrue (state g h
 
     -- the hub that was opened stands for the state that was found
     stands_first : (first : State) → StandsAfter (condition_of g) opened first [] → StandsFor (state g opened.store.store) first
-    stands_first first it = subst (λ (w : World). StandsFor (state g opened.store.store) w.state) (world_at_first it.run refl) it.at.state
+    stands_first first it = subst (λ (w : World). StandsFor (state g opened.store.store) w.state) (world_at_first it.run refl) it.at.state.stands
 
     pub kept_by_hub : OpenLeaves (state g given) (state g opened.store.store) → IsKept (state g given) (state g opened.store.store)
     kept_by_hub stop = record {

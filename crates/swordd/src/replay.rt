@@ -1,15 +1,16 @@
 //! One connection over a store in memory.
 ghost use Rattle.std.specs.Prelude.{◌≡◌, IfOk};
 ghost use Rattle.std.specs.Io.KnownBytes.{Keeps};
-ghost use Rattle.sqlite.specs.Held.{state};
 ghost use Rattle.sqlite.specs.Steps.{over_memory};
 ghost use Rattle.dep_types.specs.State.{empty_state};
-ghost use Rattle.dep_schema.specs.States.{StandsFor};
+ghost use Rattle.dep_types.specs.Conditions.{StandsFor};
+ghost use Rattle.dep_archive.specs.Archive.{condition_of};
 ghost use Rattle.dep_hub.specs.Conversation.{wire};
 ghost use Rattle.dep_hub.specs.Flushing.{IsFlushed};
 ghost use Rattle.dep_program.specs.Gathering.{told, held_in, given};
 ghost use Rattle.swordd.specs.Replays.{Replays, outcome_of, outcome_sent};
 
+use dep_archive::HashingStore;
 use dep_hub::{Flush, Hub, HubFault, Served, serve_connection};
 use dep_moment::Moment;
 use dep_program::{Gathered, Outcome, configuration};
@@ -40,10 +41,10 @@ pub fn replay<R: Inlet, W: Flush>(
     let Ok(config) = configuration(alloc, base) else {
         return Outcome::StoreFault;
     };
-    let Ok(store) = new_store(alloc) else {
+    let Ok(archive) = new_archive(alloc) else {
         return Outcome::StoreFault;
     };
-    let mut hub = match Hub::new(alloc, config, store) {
+    let mut hub = match Hub::new(alloc, config, archive) {
         Ok(hub) => hub,
         Err((HubFault::Config, _)) => return Outcome::Usage,
         Err((HubFault::Memory, _)) => return Outcome::StoreFault,
@@ -78,14 +79,14 @@ pub fn replay_gathered<R: Inlet, W: Write + Drop>(
 }
 
 /// A new store in memory.
-fn new_store(alloc: Global) -> Result<Store<MemStore>, OpenFault>
-    ensures { IfOk result (λ store. StandsFor (state over_memory store) empty_state) }
+fn new_archive(alloc: Global) -> Result<HashingStore<MemStore>, OpenFault>
+    ensures { IfOk result (λ archive. StandsFor (condition_of over_memory archive) empty_state) }
 {
     let Ok(connection) = Connection::open_in_memory(alloc) else {
         return Err(OpenFault::Memory);
     };
     match Store::open(alloc, connection, &mut Unwatched) {
-        Ok(store) => Ok(store),
+        Ok(store) => Ok(HashingStore::new(alloc, store)),
         Err((fault, _)) => Err(fault),
     }
 }

@@ -11,8 +11,8 @@ use Rattle.swordd.proofs.replay.replay.Goals as goal
 pub returns-in_default-clause-replays : goal.returns-in_default-clause-replays
 returns-in_default-clause-replays g c = not_begun (rests_same (wire (g.R.Inlet.unread c.args.reader.now) (g.R.Inlet.reads c.args.reader.now) (g.R.Inlet.last c.args.reader.now) (g.W.Outlet.taken c.args.writer.now) (g.W.Outlet.failures c.args.writer.now)))
 
-pub returns-in_default-new_store-clause-replays : goal.returns-in_default-new_store-clause-replays
-returns-in_default-new_store-clause-replays g c = not_begun (rests_same (wire (g.R.Inlet.unread c.args.reader.now) (g.R.Inlet.reads c.args.reader.now) (g.R.Inlet.last c.args.reader.now) (g.W.Outlet.taken c.args.writer.now) (g.W.Outlet.failures c.args.writer.now)))
+pub returns-in_default-new_archive-clause-replays : goal.returns-in_default-new_archive-clause-replays
+returns-in_default-new_archive-clause-replays g c = not_begun (rests_same (wire (g.R.Inlet.unread c.args.reader.now) (g.R.Inlet.reads c.args.reader.now) (g.R.Inlet.last c.args.reader.now) (g.W.Outlet.taken c.args.writer.now) (g.W.Outlet.failures c.args.writer.now)))
 
 pub returns-in-Err-Memory-default-clause-replays : goal.returns-in-Err-Memory-default-clause-replays
 returns-in-Err-Memory-default-clause-replays g c = not_begun (rests_same (wire (g.R.Inlet.unread c.args.reader.now) (g.R.Inlet.reads c.args.reader.now) (g.R.Inlet.last c.args.reader.now) (g.W.Outlet.taken c.args.writer.now) (g.W.Outlet.failures c.args.writer.now)))
@@ -29,5 +29,5 @@ returns-clause-replays g c =
     subst (λ (o : Outcome). Replays c.args.base.now c.args.moment before after o) (sym c.outcome_of.ensures)
     (comes_to _ _ c.args.moment (λ f. f.0 ≡ c.args.moment) (λ before after m p e. ((search of_calls), (search of_calls)))
     c.args.base.now (session _ c.in-Ok-new.hub before _) (session _ c.serve_connection.new.hub after _)
-    (c.in-Ok-new.ensures.stands _ c.in-Ok-new_store.ensures) (memory_is_clean c.serve_connection.new.hub.store) (c.in-Ok-new.ensures.config ∙ c.in-Ok.ensures) refl
+    (c.in-Ok-new.ensures.stands _ c.in-Ok-new_archive.ensures) (memory_is_clean c.serve_connection.new.hub.store.store) (c.in-Ok-new.ensures.config ∙ c.in-Ok.ensures) refl
     c.serve_connection.result c.serve_connection.ensures.converses)
