@@ -118,8 +118,8 @@ fn meet<A: Archive, R: Source + Drop, K: Sink + Drop, S: Spool + Drop, L: HostLo
     }
 }
 
-/// Goes on after a round, with a part of the work that later requests would wait for: once the store
-/// is shut until all connections are closed, or an idle time has passed.
+/// Goes on after a round, behind which an open store works ahead. Once the store is shut it goes on
+/// until all connections are closed, or an idle time has passed.
 fn go_on<A: Archive, R: Source + Drop, K: Sink + Drop, S: Spool + Drop>(
     host: &mut Host<A, R, K, S>,
     is_busy: bool,
