@@ -105,7 +105,6 @@ pub record IsStorableState (r : StateRow) : Type 0 where
   pub upload : r.next.upload < 2 ^ 63
   pub change : r.next.change < 2 ^ 63
 
--- the clock and four next numbers
 abbrev pub state_kinds : List ColumnKind
 state_kinds = kind.Number ∷ kind.Number ∷ kind.Number ∷ kind.Number ∷ kind.Number ∷ []
 
@@ -155,7 +154,6 @@ IsObjectRow = HasKinds object_kinds
 abbrev pub metadata_values : MetadataRow → Row
 metadata_values r = Int (pos r.object) ∷ Text r.name ∷ Int (pos r.place) ∷ Text r.value ∷ []
 
--- what a query shows of a stored row
 abbrev pub shown_metadata : Row → Row
 shown_metadata = columns_from 1 4
 
@@ -304,7 +302,6 @@ left_values l = Int (pos l.upload) ∷ Int (pos l.last) ∷ []
 abbrev pub shown_left : Row → Row
 shown_left stored = column stored 0 ∷ column stored 6 ∷ []
 
--- the number of an upload and a moment
 abbrev pub left_kinds : List ColumnKind
 left_kinds = kind.Number ∷ kind.Number ∷ []
 
@@ -323,7 +320,6 @@ by_last_and_upload a b =
 abbrev pub segment_values : SegmentRow → Row
 segment_values r = Int (pos r.upload) ∷ Int (pos r.number) ∷ Int (pos r.size) ∷ []
 
--- what a query shows of a stored row
 abbrev pub shown_segment : Row → Row
 shown_segment = columns_from 1 3
 
@@ -341,7 +337,6 @@ pub record IsStorableSegment (r : SegmentRow) : Type 0 where
   pub number : r.number < 2 ^ 63
   pub size : r.size < 2 ^ 63
 
--- the upload, the number and the size
 abbrev pub segment_kinds : List ColumnKind
 segment_kinds = kind.Number ∷ kind.Number ∷ kind.Number ∷ []
 
@@ -370,7 +365,6 @@ abbrev pub kind_of : BlockOwner → ℕ
 kind_of (File n) = 0
 kind_of (Upload n) = 1
 
--- the number of the file or of the upload
 abbrev pub number_of : BlockOwner → ℕ
 number_of (File n) = n
 number_of (Upload n) = n
@@ -403,7 +397,6 @@ move_run_values k to =
     Int (pos (kind_of k.owner)) ∷ Int (pos (number_of k.owner)) ∷ Int (pos k.at.part)
     ∷ Int (pos k.at.place) ∷ Int (pos (kind_of to)) ∷ Int (pos (number_of to)) ∷ []
 
--- the part and the place
 abbrev pub place_values : BlockPlace → Row
 place_values p = Int (pos p.part) ∷ Int (pos p.place) ∷ []
 
@@ -419,7 +412,6 @@ shown_place = columns_from 3 2
 abbrev pub bytes_in : Row → Value
 bytes_in stored = column stored 5
 
--- a part and a place
 abbrev pub place_kinds : List ColumnKind
 place_kinds = kind.Number ∷ kind.Number ∷ []
 
