@@ -1,5 +1,5 @@
 -- Rows that are read one at a time, by a query that only shows, whose bytes are sent.
-use Rattle.std.proofs.Common.{◌≡◌, ◌≢◌, ◌⊎◌, ◌++◌, ◌+◌, ◌-◌, ◌^◌, ◌<◌, ◌≤◌, ℕ, List, [], ◌∷◌, length, Option, Some, None, Result, Ok, Err, IfErr, OnOk, OnErr, false, inl, inr, refl, sym, subst, ap, length-append, ◌∙◌, arith}
+use Rattle.std.proofs.Common.{◌≡◌, ◌≢◌, ◌⊎◌, ◌++◌, ◌+◌, ◌-◌, ◌^◌, ◌<◌, ◌≤◌, ℕ, List, [], ◌∷◌, length, Option, Some, None, Result, Ok, Err, IfErr, OnErr, false, inl, inr, refl, sym, subst, ap, length-append, ◌∙◌, arith}
 use Rattle.std.specs.Borrow.{Bor}
 use Rattle.std.specs.Io.KnownBytes.{Appends}
 use Rattle.std.proofs.KnownBytes.{Appends-nil, Appends-trans}
@@ -21,7 +21,7 @@ use Rattle.dep_tables.specs.Faults.{fault_for}
 use Rattle.dep_tables.specs.Rows.{IsBytesValue}
 use Rattle.dep_streams.specs.Causes.{FailsToGive, FailsToSend}
 use Rattle.dep_streams.specs.Causes.FailsToGive.{query_failed, too_few, unread, uncounted}
-use Rattle.dep_streams.specs.Faults.{stopped_by, IsStoppedBy}
+use Rattle.dep_streams.specs.Faults.{BlamesOutlet, stopped_by, IsStoppedBy}
 use Rattle.dep_streams.specs.Sent.{blob_of, joined, GivesRow, GivesSized, StopsBetween, SendsSized}
 use Rattle.dep_streams.specs.declared.fault.BlockFault.{BlockFault}
 use Rattle.dep_streams.specs.declared.fault.BlockFault.TheVariants.{Writer, Store, Memory}
@@ -38,9 +38,7 @@ pub record EndsSending {S : Type 0} (g : Ghosts S) (sql : List ℕ) (params : Ro
   pub why : FailsOver (OnlyShows sql) g first new result (FailsToSend sql params size)
   pub ok : ReadsOver (OnlyShows sql) g first new result
   pub stays : StaysOver (OnlyShows sql) g first new
-  pub kept : OnOk result (are ≡ were)
-  pub cause : result ≡ Err Writer → HasRisen were are
-  pub others : result ≢ Err Writer → are ≡ were
+  pub outlet : BlamesOutlet Writer were are result
 
 -- the rows so far were sent, and there is more to send
 pub record HasSent {S : Type 0} (g : Ghosts S) (sql : List ℕ) (params : Row) (first now : Held S) (size left count : ℕ) (start taken : Option (List ℕ)) (were are : ℕ) : Type 0 where
@@ -79,9 +77,7 @@ stopped g sql params first new size start taken were are sent fault low appended
   why = λ late plain. stopped_for (FailsToGive sql params (Some size) (state g first) (state g new)) fault (why late plain);
   ok = λ late plain. tt;
   stays = stays;
-  kept = tt;
-  cause = λ is. absurd (not_writer fault (fault_is (Unit {0}) (stopped_by fault) Writer is));
-  others = λ _. same;
+  outlet = record { kept = tt; cause = λ is. absurd (not_writer fault (fault_is (Unit {0}) (stopped_by fault) Writer is)); others = λ _. same };
 }
 
 -- the error that is told of a query
@@ -203,9 +199,9 @@ module _ {S : Type 0} {g : Ghosts S} {sql : List ℕ} {params : Row} {first : He
       -- it was not sent, or in part
       pub ends_cut : (fault : BlockFault) → GivesRow taken next (blob_of it.now) (Err fault)
           → (fails ℕ fault ≡ fails ℕ Store → (¬ (IsBytesValue (column it.now 2))) ⊎ (left < length (blob_of it.now)))
-          → (fails ℕ fault ≡ fails ℕ Writer → HasRisen are later) → (fails ℕ fault ≢ fails ℕ Writer → later ≡ are)
+          → BlamesOutlet Writer are later (fails ℕ fault)
           → EndsSending g sql params first new.conn.now size start next were later (Err fault)
-      ends_cut fault gave refused cause others = record {
+      ends_cut fault gave refused blames = record {
         streams = cut_sized sql params (state g first) size start taken next was.sent it.now (HasCleanDisk (state g new.conn.now)) (OnlyShows sql (state g first)) fault was.appended gave (low was)
             (λ late plain. let x = more it is late plain in (x.0, begun g sql params first old.conn.now x.0 x.1 x.2, begun g sql params first new.conn.now (x.0 ++ it.now ∷ []) x.4 x.5, x.3));
         why = λ late plain.
@@ -213,9 +209,11 @@ module _ {S : Type 0} {g : Ghosts S} {sql : List ℕ} {params : Row} {first : He
             cut_why sql params (state g first) (state g new.conn.now) size left was.sent x.0 it.now fault _ _ gave refused was.counted x.3 (begun g sql params first new.conn.now (x.0 ++ it.now ∷ []) x.4 x.5);
         ok = λ late plain. tt;
         stays = stays;
-        kept = tt;
-        cause = λ e. subst (λ (n : ℕ). HasRisen n later) was.same (cause (ap (fails ℕ) (fault_is (Unit {0}) fault Writer e)));
-        others = λ not. others (λ e. not (ap (fails (Unit {0})) (fault_is ℕ fault Writer e))) ∙ was.same;
+        outlet = record {
+          kept = tt;
+          cause = λ e. subst (λ (n : ℕ). HasRisen n later) was.same (blames.cause (ap (fails ℕ) (fault_is (Unit {0}) fault Writer e)));
+          others = λ not. blames.others (λ e. not (ap (fails (Unit {0})) (fault_is ℕ fault Writer e))) ∙ was.same;
+        };
       }
 
       module _ (n : ℕ) (gave : GivesSized taken next (blob_of it.now) (Ok n)) (fits : n ≤ left) (kept : later ≡ are) where
@@ -233,9 +231,7 @@ module _ {S : Type 0} {g : Ghosts S} {sql : List ℕ} {params : Row} {first : He
           why = λ late plain. tt;
           ok = λ late plain. (more it is late plain).5;
           stays = stays;
-          kept = kept ∙ was.same;
-          cause = λ e. absurd (no_fault (Unit {0}) tt Writer e);
-          others = λ _. kept ∙ was.same;
+          outlet = record { kept = kept ∙ was.same; cause = λ e. absurd (no_fault (Unit {0}) tt Writer e); others = λ _. kept ∙ was.same };
         }
 
         -- it was sent, and is not the last

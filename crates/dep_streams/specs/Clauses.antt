@@ -21,11 +21,13 @@ module _ {S : Type 0} (are_ours : State → Type 0) (g : Ghosts S) (old new : He
     pub was_open : HasCleanDisk (state g new) → IsTrue (state g new).is_open
         → IsTrue (state g old).is_open
     pub mode : (state g old).in_transaction ≡ false → (state g new).in_transaction ≡ false
-    -- where they are ours, all is as it was, and a crash leaves nothing that it did not leave before
+    -- Where they are ours, nothing is changed, but that a failure may end a transaction as it began; and a crash leaves
+    -- nothing that it did not leave before.
     pub kept : HasCleanDisk (state g new) → are_ours (state g old) → IsKept (state g old) (state g new)
     pub survives : Survives (state g old) (state g new) (λ _. are_ours (state g old) → ⊥)
 
-module _ {S A E : Type 0} (are_ours : State → Type 0) (g : Ghosts S) (old new : Held S) (result : Result A E) where
+module _ {S A E : Type 0} (are_ours : State → Type 0) (g : Ghosts S) (old new : Held S)
+    (result : Result A E) where
   -- where the tables are ours, an Ok tells this of what the connection sees
   abbrev pub TellsSeen : (State → A → Type 0) → Type 0
   TellsSeen told = HasCleanDisk (state g new) → are_ours (state g old)

@@ -1,9 +1,8 @@
 //! The blocks of an owner, sent one at a time.
 
-ghost use Rattle.std.specs.Prelude.{◌≡◌, ◌≢◌, OnOk, Err};
-ghost use Rattle.dep_types.specs.Writing.{HasRisen};
 ghost use Rattle.dep_tables.specs.Tables.{IsOurs};
 ghost use Rattle.dep_streams.specs.Clauses.{StaysOver, LeavesOver, FailsOver, GivesOver};
+ghost use Rattle.dep_streams.specs.Faults.{BlamesOutlet};
 ghost use Rattle.dep_streams.specs.Sent.{SendsBlocksOf};
 ghost use Rattle.dep_streams.specs.Causes.{FailsToSendBlocks};
 
@@ -28,10 +27,7 @@ pub fn stream_blocks<S: Alter, O: Outlet>(
         (FailsToSendBlocks owner size) }
     ensures ok { LeavesOver IsOurs S.Store connection.old connection.new result }
     ensures stays { StaysOver IsOurs S.Store connection.old connection.new }
-    ensures kept { OnOk result (O.failures out.new ≡ O.failures out.old) }
-    ensures cause { result ≡ Err BlockFault.Writer
-        → HasRisen (O.failures out.old) (O.failures out.new) }
-    ensures others { result ≢ Err BlockFault.Writer → O.failures out.new ≡ O.failures out.old }
+    ensures outlet { BlamesOutlet BlockFault.Writer (O.failures out.old) (O.failures out.new) result }
 {
     if size == 0 {
         return Ok(());

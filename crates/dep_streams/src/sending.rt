@@ -1,12 +1,12 @@
 //! The rows of a query of blocks, sent one at a time.
 
-ghost use Rattle.std.specs.Prelude.{◌≡◌, ◌≢◌, ◌⊎◌, ◌≤◌, ◌<◌, OnOk, IfOk, Err, length};
-ghost use Rattle.dep_types.specs.Writing.{HasRisen};
+ghost use Rattle.std.specs.Prelude.{◌≡◌, ◌⊎◌, ◌≤◌, ◌<◌, IfOk, Err, length};
 ghost use Rattle.sqlite.specs.Values.{bound};
 ghost use Rattle.sqlite.specs.Order.{column};
 ghost use Rattle.dep_tables.specs.Rows.{IsBytesValue};
 ghost use Rattle.dep_streams.specs.Clauses.{OnlyShows, StaysOver, ReadsOver, FailsOver, GivesOver};
 ghost use Rattle.dep_streams.specs.Causes.{FailsToSend};
+ghost use Rattle.dep_streams.specs.Faults.{BlamesOutlet};
 ghost use Rattle.dep_streams.specs.Sent.{blob_of, GivesSized, SendsSized};
 
 use crate::fault::{BlockFault, block_fault_of};
@@ -20,10 +20,7 @@ fn give_sized<O: Outlet>(row: &Row, most: u64, out: &mut O) -> Result<u64, Block
     ensures fits { IfOk result (λ n. n ≤ most) }
     ensures refused { result ≡ Err BlockFault.Store
         → (¬ (IsBytesValue (column row.now 2))) ⊎ (most < length (blob_of row.now)) }
-    ensures kept { OnOk result (O.failures out.new ≡ O.failures out.old) }
-    ensures cause { result ≡ Err BlockFault.Writer
-        → HasRisen (O.failures out.old) (O.failures out.new) }
-    ensures others { result ≢ Err BlockFault.Writer → O.failures out.new ≡ O.failures out.old }
+    ensures outlet { BlamesOutlet BlockFault.Writer (O.failures out.old) (O.failures out.new) result }
 {
     match row.get_ref(2) {
         Ok(ValueRef::Blob(bytes)) => {
@@ -56,10 +53,7 @@ pub(crate) fn stream_sized<S: Alter, O: Outlet>(
         (FailsToSend sql.now (bound params.now) size) }
     ensures ok { ReadsOver (OnlyShows sql.now) S.Store connection.old connection.new result }
     ensures stays { StaysOver (OnlyShows sql.now) S.Store connection.old connection.new }
-    ensures kept { OnOk result (O.failures out.new ≡ O.failures out.old) }
-    ensures cause { result ≡ Err BlockFault.Writer
-        → HasRisen (O.failures out.old) (O.failures out.new) }
-    ensures others { result ≢ Err BlockFault.Writer → O.failures out.new ≡ O.failures out.old }
+    ensures outlet { BlamesOutlet BlockFault.Writer (O.failures out.old) (O.failures out.new) result }
 {
     let mut left = size;
     let mut rows = match connection.query(sql, params) {

@@ -1,10 +1,9 @@
 //! The content of a file, sent one block at a time, outside a transaction.
 
-ghost use Rattle.std.specs.Prelude.{◌≡◌, ◌≢◌, OnOk, Err};
-ghost use Rattle.dep_types.specs.Writing.{HasRisen};
+ghost use Rattle.std.specs.Prelude.{◌≡◌};
 ghost use Rattle.dep_tables.specs.Tables.{IsOurs};
 ghost use Rattle.dep_streams.specs.Clauses.{StaysOver, ReadsOver, FailsOver, GivesOver};
-ghost use Rattle.dep_streams.specs.Faults.{fault_of_store, fault_of_blocks};
+ghost use Rattle.dep_streams.specs.Faults.{BlamesOutlet, fault_of_store, fault_of_blocks};
 ghost use Rattle.dep_streams.specs.Sent.{SendsFile};
 ghost use Rattle.dep_streams.specs.Causes.{FailsToSendFile};
 
@@ -47,10 +46,7 @@ pub fn stream_content<S: Alter, O: Outlet>(
         (FailsToSendFile file) }
     ensures ok { ReadsOver IsOurs S.Store connection.old connection.new result }
     ensures stays { StaysOver IsOurs S.Store connection.old connection.new }
-    ensures kept { OnOk result (O.failures out.new ≡ O.failures out.old) }
-    ensures cause { result ≡ Err StreamFault.Writer
-        → HasRisen (O.failures out.old) (O.failures out.new) }
-    ensures others { result ≢ Err StreamFault.Writer → O.failures out.new ≡ O.failures out.old }
+    ensures outlet { BlamesOutlet StreamFault.Writer (O.failures out.old) (O.failures out.new) result }
 {
     let found = match find_size(connection, file) {
         Ok(found) => found,

@@ -32,9 +32,7 @@ returns g c =
           (λ fault. stopped_more (FailsToGive blocks_of_text (owner_values c.args.owner) (Some c.args.size) old new) (FailsToGiveBlocks c.args.owner (Some c.args.size) old new) fault (λ of it. not_given it));
       ok = λ clean ours. ok_then c.stream_sized.result (sent.ok clean (shows old ours)) (λ same. inr same);
       stays = stays_of (shows old) sent.stays;
-      kept = sent.kept;
-      cause = sent.cause;
-      others = sent.others;
+      outlet = sent.outlet;
     }
 
 pub returns-then-size-eq0 : goal.returns-then-size-eq0
@@ -43,9 +41,7 @@ returns-then-size-eq0 g c = record {
   why = λ clean ours. tt;
   ok = λ clean ours. inl refl;
   stays = stays_itself c.args.connection.now;
-  kept = refl;
-  cause = λ e. absurd (none_stopped tt Writer e);
-  others = λ _. refl;
+  outlet = record { kept = refl; cause = λ e. absurd (none_stopped tt Writer e); others = λ _. refl };
 }
 
 pub returns-then-not-is_storable_owner : goal.returns-then-not-is_storable_owner
@@ -54,7 +50,5 @@ returns-then-not-is_storable_owner g c = record {
   why = λ clean ours. no_owner (λ storable. not_storable c.is_storable_owner.result c.if-not-is_storable_owner.true c.is_storable_owner.ensures.1 storable) refl;
   ok = λ clean ours. tt;
   stays = stays_itself c.args.connection.now;
-  kept = tt;
-  cause = λ e. absurd (store_stopped e);
-  others = λ _. refl;
+  outlet = record { kept = tt; cause = λ e. absurd (store_stopped e); others = λ _. refl };
 }

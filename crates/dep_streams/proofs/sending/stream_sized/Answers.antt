@@ -10,7 +10,7 @@ returns-in-Err g c =
     let it = not_begun g.S.Store c.args.sql.now (bound c.args.params.now) c.args.connection.now c.query.follows.lender-at-none c.args.size
     (g.O.Outlet.taken c.args.out.now) (g.O.Outlet.failures c.args.out.now) c.query.result c.in-Err.error c.block_fault_of.result
     c.requires c.block_fault_of.ensures c.query.follows.holds-at-none c.in-Err.is in
-    record { streams = it.streams; why = it.why; ok = it.ok; stays = it.stays; kept = it.kept; cause = it.cause; others = it.others }
+    record { streams = it.streams; why = it.why; ok = it.ok; stays = it.stays; outlet = it.outlet }
 
 pub rows-init : goal.rows-init
 rows-init g c = (
@@ -27,7 +27,7 @@ rows-preserved g c =
       one_more c.rows.rows c.next.follows.lender-at-none c.next.result moved c.rows.invariant.1
           c.in-Some.row (answered c.next.result c.in-Ok-next.next (Some c.in-Some.row) c.in-Ok-next.is c.in-Some.is)
           (g.O.Outlet.taken c.give_sized.new.out) (g.O.Outlet.failures c.give_sized.new.out)
-          c.in-Ok-give_sized.n gave.gives gave.fits gave.kept (search rules),
+          c.in-Ok-give_sized.n gave.gives gave.fits gave.outlet.kept (search rules),
     )
 
 pub returns-in-Err-next : goal.returns-in-Err-next
@@ -42,7 +42,7 @@ returns-in-Err-next g c =
     (Err c.block_fault_of-in-Err-next.result))
     back
     (ends_failed c.rows.rows now c.next.result moved c.rows.invariant.1 c.in-Err-next.error c.in-Err-next.is c.block_fault_of-in-Err-next.result c.block_fault_of-in-Err-next.ensures) in
-    record { streams = it.streams; why = it.why; ok = it.ok; stays = it.stays; kept = it.kept; cause = it.cause; others = it.others }
+    record { streams = it.streams; why = it.why; ok = it.ok; stays = it.stays; outlet = it.outlet }
 
 pub returns-in_default : goal.returns-in_default
 returns-in_default g c =
@@ -56,7 +56,7 @@ returns-in_default g c =
     (Err Store))
     back
     (ends_short c.rows.rows now c.next.result moved c.rows.invariant.1 (answered c.next.result c.in-Ok-next.next None c.in-Ok-next.is c.in_default.is)) in
-    record { streams = it.streams; why = it.why; ok = it.ok; stays = it.stays; kept = it.kept; cause = it.cause; others = it.others }
+    record { streams = it.streams; why = it.why; ok = it.ok; stays = it.stays; outlet = it.outlet }
 
 pub returns-in-Err-give_sized : goal.returns-in-Err-give_sized
 returns-in-Err-give_sized g c =
@@ -73,8 +73,8 @@ returns-in-Err-give_sized g c =
     (ends_cut c.rows.rows now c.next.result moved c.rows.invariant.1
     c.in-Some.row (answered c.next.result c.in-Ok-next.next (Some c.in-Some.row) c.in-Ok-next.is c.in-Some.is)
     (g.O.Outlet.taken c.give_sized.new.out) (g.O.Outlet.failures c.give_sized.new.out)
-    c.in-Err-give_sized.fault gave.gives gave.refused gave.cause gave.others) in
-    record { streams = it.streams; why = it.why; ok = it.ok; stays = it.stays; kept = it.kept; cause = it.cause; others = it.others }
+    c.in-Err-give_sized.fault gave.gives gave.refused gave.outlet) in
+    record { streams = it.streams; why = it.why; ok = it.ok; stays = it.stays; outlet = it.outlet }
 
 pub returns-then-left-eq0 : goal.returns-then-left-eq0
 returns-then-left-eq0 g c =
@@ -91,8 +91,8 @@ returns-then-left-eq0 g c =
     (ends_whole c.rows.rows now c.next.result moved c.rows.invariant.1
     c.in-Some.row (answered c.next.result c.in-Ok-next.next (Some c.in-Some.row) c.in-Ok-next.is c.in-Some.is)
     (g.O.Outlet.taken c.give_sized.new.out) (g.O.Outlet.failures c.give_sized.new.out)
-    c.in-Ok-give_sized.n gave.gives gave.fits gave.kept c.if-left-eq0.true) in
-    record { streams = it.streams; why = it.why; ok = it.ok; stays = it.stays; kept = it.kept; cause = it.cause; others = it.others }
+    c.in-Ok-give_sized.n gave.gives gave.fits gave.outlet.kept c.if-left-eq0.true) in
+    record { streams = it.streams; why = it.why; ok = it.ok; stays = it.stays; outlet = it.outlet }
 
 -- no more rows can be counted
 pub returns : goal.returns
@@ -104,4 +104,4 @@ returns g c =
     (g.O.Outlet.taken c.args.out.now) (g.O.Outlet.taken c.rows.out) (g.O.Outlet.failures c.args.out.now) (g.O.Outlet.failures c.rows.out)
     (Err Store))
     back (ends_uncounted c.rows.rows.conn.now c.rows.invariant.1 c.rows-test.false) in
-    record { streams = it.streams; why = it.why; ok = it.ok; stays = it.stays; kept = it.kept; cause = it.cause; others = it.others }
+    record { streams = it.streams; why = it.why; ok = it.ok; stays = it.stays; outlet = it.outlet }

@@ -28,9 +28,7 @@ returns-in-Err g c =
       why = λ clean ours. subst (IsStreamStoppedBy (FailsToStream c.args.file _ _)) (sym told) (told_for (FailsToStream c.args.file _ _) c.in-Err.fault (no_size (c.in-Err.ensures.cause clean)));
       ok = λ clean ours. tt;
       stays = c.find_size.ensures.stays;
-      kept = tt;
-      cause = λ e. absurd (asked_failed c.in-Err.fault c.fault_of_store.result told e);
-      others = λ _. refl;
+      outlet = record { kept = tt; cause = λ e. absurd (asked_failed c.in-Err.fault c.fault_of_store.result told e); others = λ _. refl };
     }
 
 pub returns-in_default : goal.returns-in_default
@@ -41,9 +39,7 @@ returns-in_default g c =
       why = λ clean ours. tt;
       ok = λ clean ours. tt;
       stays = c.find_size.ensures.stays;
-      kept = tt;
-      cause = λ e. absurd (no_file_failed e);
-      others = λ _. refl;
+      outlet = record { kept = tt; cause = λ e. absurd (no_file_failed e); others = λ _. refl };
     }
 
 pub returns-in-Ok-stream_blocks : goal.returns-in-Ok-stream_blocks
@@ -69,9 +65,7 @@ returns-in-Ok-stream_blocks g c =
           let same = sized.same (before clean) ours in
           unchanged_then old mid new same ((still_left g.S.Store c.find_size.new.connection c.stream_blocks.new.connection (sent.ok clean (still_ours old mid same ours))).unchanged same.0.is_open);
       stays = stays_then sized.stays (λ clean ours. still_same old mid (sized.same clean ours)) (ours_still old mid) sent.stays;
-      kept = sent.kept;
-      cause = λ e. absurd (none_failed tt Writer e);
-      others = λ _. sent.kept;
+      outlet = record { kept = sent.outlet.kept; cause = λ e. absurd (none_failed tt Writer e); others = λ _. sent.outlet.kept };
     }
 
 pub returns-in-Err-stream_blocks : goal.returns-in-Err-stream_blocks
@@ -101,7 +95,9 @@ returns-in-Err-stream_blocks g c =
           (stopped_then (FailsToGiveBlocks (owner.File c.args.file) (Some c.in-Some.found.size) mid new) (FailsToStream c.args.file old new) fault (λ of it. no_blocks c.in-Some.found row (blocks_from (owner.File c.args.file) (Some c.in-Some.found.size) old mid new of (plain_here old blocks_of_text ours owner_is.plain) same (commits_none sized.stays ours) it)) (sent.why clean (still_ours old mid same ours)));
       ok = λ clean ours. tt;
       stays = stays_then sized.stays (λ clean ours. still_same old mid (sized.same clean ours)) (ours_still old mid) sent.stays;
-      kept = tt;
-      cause = λ e. sent.cause (writer_before fault c.fault_of_blocks.result is e);
-      others = λ not. sent.others (λ e. not (writer_after fault c.fault_of_blocks.result is e));
+      outlet = record {
+        kept = tt;
+        cause = λ e. sent.outlet.cause (writer_before fault c.fault_of_blocks.result is e);
+        others = λ not. sent.outlet.others (λ e. not (writer_after fault c.fault_of_blocks.result is e));
+      };
     }
