@@ -28,5 +28,6 @@ shown_by d running = record {
   sound_if_kept = λ s keeps. keeps.stands.means.sound;
 }
 
+-- how the store stands, with what was hashed
 abbrev pub condition_of : {S : Type 0} → (g : Ghosts S) → HashingStore S → Condition
 condition_of g archive = shown_by (state g archive.store) archive.running

@@ -26,6 +26,7 @@ pub record Wire : Type 0 where
   pub taken : Option (List ℕ)
   pub failures : ℕ
 
+-- how both ends of a connection stand
 abbrev pub wire : (unread : Option (List ℕ)) (reads : ℕ) (last : LastRead)
     (taken : Option (List ℕ)) (failures : ℕ) → Wire
 wire unread reads last taken failures =
@@ -77,6 +78,7 @@ module _ {A : Type 0} (condition : A → Condition) where
     pub wire : Wire
     pub clock : C
 
+  -- a hub, both ends of its connection, and the clock
   abbrev pub session : {C : Type 0} → Hub A → Wire → C → Session C
   session hub ends clock = record { hub = hub; wire = ends; clock = clock }
 
@@ -240,6 +242,7 @@ module _ {A : Type 0} (condition : A → Condition) where
     pub rests : Rests before.wire after.wire
     pub same_clock : after.clock ≡ before.clock
 
+  -- what serving a connection comes to, by its answer
   abbrev pub ConversesOver : {C : Type 0} → (C → ℕ → C → Type 0) → (before after : Session C)
       → Served → Type 0
   ConversesOver ticks before after Unserved = IsUnserved before after

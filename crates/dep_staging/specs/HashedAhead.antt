@@ -46,5 +46,6 @@ pub record IsBegun (s : State) (run : RunningHash) : Type 0 where
 abbrev pub IsRunning : State → RunningHash → Type 0
 IsRunning s run = IsFresh run ⊎ IsBegun s run
 
+-- so it is of each of them
 abbrev pub AreRunning : State → RunningHashes → Type 0
 AreRunning s runs = All (IsRunning s) runs.uploads.items
