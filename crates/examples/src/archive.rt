@@ -6,8 +6,8 @@ ghost use Rattle.dep_archive.specs.Archive.{condition_of};
 
 use crate::calls::answered;
 use crate::files::MemoryFiles;
-use dep_archive::HashingStore;
 use dep_answers::{Performed, Service};
+use dep_archive::HashingStore;
 use dep_decisions::Operation;
 use dep_hub::Archive;
 use dep_moment::Moment;
