@@ -67,6 +67,10 @@ RunsThrough (stops run) through = RunsThrough run through
 RunsThrough (breaks found run a shut leaves) through =
     RunsThrough run through ⊎ (ArrivesThrough a through ⊎ (through ≡ found))
 
+-- a run was at this state
+abbrev pub WasAt : AnyRun → State → Type 0
+WasAt r s = RunsThrough r.run s
+
 -- the upload has these bytes as this segment
 pub record HasSegment (s : State) (number segment : ℕ) (bytes : List ℕ) : Type 0 where
   pub upload : Upload

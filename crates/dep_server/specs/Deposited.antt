@@ -48,7 +48,8 @@ FileStaysFrom {r} p n f file =
     StaysUntilTaken r.config (state_at p) p.behind r.last.state n f file
 
 -- it is accepted as a deposit by reference, and its document tells this entry at this place
-pub record IsDeposit (q : AnyRequest) (t : Target) (place : ℕ) (reference : Reference) : Type 0 where
+pub record IsDeposit (q : AnyRequest) (t : Target) (place : ℕ) (reference : Reference)
+    : Type 0 where
   pub references : List Reference
   pub accepted : IsAcceptedFor q t
   pub read : references_in q.config (operation_of q.message t) ≡ Some references

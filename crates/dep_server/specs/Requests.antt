@@ -58,11 +58,15 @@ pub record IsAccepted (config : Config) (s : State) (m : Message) (t : Target) :
 abbrev pub IsAcceptedFor : AnyRequest → Target → Type 0
 IsAcceptedFor q t = IsAccepted q.config (ticked (step_of q)) q.message t
 
--- it is a POST to this upload
+-- it is accepted as a POST to this upload
+abbrev pub IsPostAccepted : AnyRequest → (upload : ℕ) → Type 0
+IsPostAccepted q u = IsAcceptedFor q (posted_to u)
+
+-- a request is a POST to this upload
 abbrev pub IsPostedTo : Message → (upload : ℕ) → Type 0
 IsPostedTo m u = target m.head.method m.head.path ≡ To (posted_to u)
 
 -- it is accepted as this segment of this upload
 pub record IsAcceptedSegment (q : AnyRequest) (upload segment : ℕ) : Type 0 where
-  pub accepted : IsAcceptedFor q (posted_to upload)
+  pub accepted : IsPostAccepted q upload
   pub named : kind_of (operation_of q.message (posted_to upload)) ≡ Some (Segment segment)

@@ -21,7 +21,8 @@ pub record AnyRun : Type 0 where
 abbrev pub GoesOn : AnyRun → List Record → World → Type 0
 GoesOn r more w = Run r.config r.first (r.records ++ more) w
 
--- the machine answers these turns of a connection that is opened at its end, and is in this world then
+-- the machine answers these turns of a connection that is opened at its end, and is in this world
+-- then
 abbrev pub TalksThen : AnyRun → (number : ℕ) → List Turn → World → Type 0
 TalksThen r number turns talked = Exchanges r.config number (with_opened number r.last) turns talked
 

@@ -2,8 +2,6 @@
 use Rattle.std.specs.Prelude.{◌≡◌, ◌==◌, ℕ, List, [], ◌∷◌, ◌++◌, Option, Some, None, map, if◌then◌else◌}
 use Rattle.std.specs.List.{flat_map, fold}
 use Rattle.std.specs.Option.{option_map, option_map_or}
-use Rattle.dep_types.specs.State.{State}
-use Rattle.dep_types.specs.declared.config.Config.{Config}
 use Rattle.dep_message.specs.Places.{Place}
 use Rattle.dep_message.specs.Stream.{Item, Spells}
 use Rattle.dep_hub.specs.Records.{Event, Connect, Arrive, Close, Stop, Record}
@@ -59,15 +57,14 @@ occasions_of steps = map (λ t. record { number = t.number; moment = t.moment })
 
 -- ---- what two runs have in common
 
-module _ {config : Config} {first : State} where
-  -- the same streams came, to each number its own
-  abbrev pub HaveSameStreams : (a b : AnyCalmRun config first) → Type 0
-  HaveSameStreams a b = (n : ℕ) → streams_of n a.records ≡ streams_of n b.records
+-- the same streams came, to each number its own
+abbrev pub HaveSameStreams : (a b : AnyCalmRun) → Type 0
+HaveSameStreams a b = (n : ℕ) → streams_of n a.run.records ≡ streams_of n b.run.records
 
-  -- they made the same items of each connection
-  abbrev pub HaveSameItems : (a b : AnyCalmRun config first) → Type 0
-  HaveSameItems a b = (n : ℕ) → items_of n a.steps ≡ items_of n b.steps
+-- they made the same items of each connection
+abbrev pub HaveSameItems : (a b : AnyCalmRun) → Type 0
+HaveSameItems a b = (n : ℕ) → items_of n a.steps ≡ items_of n b.steps
 
-  -- these came on the same occasions
-  abbrev pub HaveSameOccasions : (a b : AnyCalmRun config first) → Type 0
-  HaveSameOccasions a b = occasions_of a.steps ≡ occasions_of b.steps
+-- these came on the same occasions
+abbrev pub HaveSameOccasions : (a b : AnyCalmRun) → Type 0
+HaveSameOccasions a b = occasions_of a.steps ≡ occasions_of b.steps

@@ -6,12 +6,11 @@ use Rattle.dep_types.specs.declared.config.Config.{Config}
 use Rattle.dep_message.specs.Places.{Place}
 use Rattle.dep_message.specs.Stream.{Item, Request}
 use Rattle.dep_message.specs.declared.message.Message.{Message}
-use Rattle.dep_decisions.specs.Laws.{posted_to}
 use Rattle.dep_hub.specs.Machine.{state_after, Serves, serves_all, step_fails, gives_up}
 use Rattle.dep_hub.specs.Records.{Event, Record, Line, World, Arrives, at_live, at_shut_line, Happens, connects, closes, arrives, unknown, Run, begins, goes_on, stops, breaks}
 use Rattle.dep_hub.specs.declared.arrived.Arrived.{Arrived}
-use Rattle.dep_server.specs.Acknowledged.{RunsThrough, HasStatus}
-use Rattle.dep_server.specs.Requests.{AnyRequest, reply_to, IsAcceptedFor, IsAcceptedSegment}
+use Rattle.dep_server.specs.Acknowledged.{WasAt, HasStatus}
+use Rattle.dep_server.specs.Requests.{AnyRequest, reply_to, IsPostAccepted, IsAcceptedSegment}
 use Rattle.dep_server.specs.Runs.{AnyRun, request_at}
 
 -- the step of this item was begun in this state, and failed
@@ -64,12 +63,12 @@ as_begun {r} q = request_at r q.began q.message q.moment
 pub record CouldTake (r : AnyRun) (m : Message) (upload segment : ℕ) : Type 0 where
   pub through : State
   pub moment : ℕ
-  pub went : RunsThrough r.run through
+  pub was_at : WasAt r through
   pub accepts : IsAcceptedSegment (request_at r through m moment) upload segment
 
 -- it is accepted as a POST to this upload, and answered 204
 pub record IsAcknowledged (q : AnyRequest) (number : ℕ) : Type 0 where
-  pub accepted : IsAcceptedFor q (posted_to number)
+  pub accepted : IsPostAccepted q number
   pub replied : HasStatus 204 (reply_to q)
 
 -- at the end of a run that is so at each moment at which the upload is there

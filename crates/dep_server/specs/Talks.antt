@@ -5,8 +5,8 @@ use Rattle.dep_hub.specs.Records.{World}
 use Rattle.dep_hub.specs.Turns.{Turn, Exchanges, EndsAs}
 use Rattle.dep_hub.specs.declared.connection.Served.{Served}
 
--- the turns of a connection, which the machine answered from the first world to the last, and why it
--- was served no longer, where this was unread
+-- the turns of a connection, which the machine answered from the first world to the last, and why
+-- it was served no longer, where this was unread
 pub record EndedTalk : Type 0 where
   pub config : Config
   pub number : ℕ

@@ -4,6 +4,6 @@ use Rattle.dep_server.proofs.laws.cuts_move_occasions.Goals as goal
 
 pub returns : goal.returns
 returns c = record {
-  items = λ config first a b streams. same_items a b streams;
-  end = λ config first a b streams occasions. alike a b (same_steps a.steps b.steps (same_items a b streams) occasions);
+  items = same_items;
+  end = λ a b begin streams occasions. alike a b begin (same_steps a.steps b.steps (same_items a b begin streams) occasions);
 }
