@@ -3,10 +3,9 @@ use Rattle.std.specs.Prelude.{◌≡◌, ◌⊎◌, ◌<◌, ◌≤◌, ◌+◌,
 use Rattle.std.specs.List.{flat_map}
 use Rattle.std.specs.Io.KnownBytes.{IsAtEnd}
 use Rattle.dep_types.specs.Conditions.{Condition}
-use Rattle.dep_types.specs.State.{State}
-use Rattle.dep_hub.specs.Records.{Record, Line, Live, Absent}
+use Rattle.dep_hub.specs.Records.{Line, Live, Absent}
 use Rattle.dep_hub.specs.Standing.{IsClean, IsHonest}
-use Rattle.dep_hub.specs.Holding.{KeepsHolding, MovesLine, StandsHoldingAfter, with_held}
+use Rattle.dep_hub.specs.Holding.{KeepsHolding, MovesLine, StandsOn, with_held}
 use Rattle.dep_hub.specs.declared.hub.Hub.{Hub}
 use Rattle.dep_outbox.specs.Wires.{told}
 use Rattle.dep_host.specs.declared.course.Phase.TheVariants.{Open}
@@ -182,9 +181,7 @@ module _ {A R K S : Type 0} (condition : A → Condition) (unread : R → Option
     pub same_config : q.hub.config ≡ p.hub.config
     pub clean : IsClean condition q.hub → IsClean condition p.hub
     pub honest : IsHonest condition q.hub → IsHonest condition p.hub
-    pub stands : IsClean condition q.hub → (first : State) → (records : List Record)
-        → (kept : ℕ → List ℕ) → StandsHoldingAfter condition p.hub first records kept
-        → StandsHoldingAfter condition q.hub first records kept
+    pub stands : StandsOn condition p.hub q.hub
     pub same_limits : q.limits ≡ p.limits
     pub told : (q.shut ≡ p.shut) ⊎ (IsNone p.shut × (IsClean condition q.hub → ⊥))
 
