@@ -6,3 +6,4 @@ pub mod Exports
 pub mod Audits
 pub mod Telling
 pub mod Starting
+pub mod Working
