@@ -16,8 +16,10 @@ mod store;
 mod tally;
 mod telling;
 mod ticking;
+mod working;
 
 pub use dep_streams::{Unwatched, Watch};
 pub use exporting::export_object;
 pub use store::Store;
 pub use telling::audit_all;
+pub use working::{Work, work_on_file};
