@@ -17,6 +17,10 @@ use dep_types::{Config, Method, Outlet, Resource, StoreFault, StreamFault};
 use sqlite::Alter;
 use std::alloc::Global;
 
+/// An upload is hashed ahead once a segment of so many octets has come: the digests of smaller ones take little, and
+/// to read each for itself takes more.
+const LEAST_SEGMENT: usize = 4_096;
+
 /// A store, with how far the uploads were hashed to which segments came last.
 #[derive(Drop)]
 pub struct HashingStore<S: Alter> {
@@ -51,12 +55,15 @@ impl<S: Alter> HashingStore<S> {
         self.store
     }
 
-    /// Notes the upload to which the request sent a segment, if it sent one.
+    /// Notes the upload to which the request sent a segment, if it sent one that is large enough.
     fn note(&mut self, operation: &Operation<'_>)
         ensures running { (s : State) → AreRunning s self.old.running
             → AreRunning s self.new.running }
         ensures store { self.new.store ≡ self.old.store }
     {
+        if operation.content.as_slice().len() < LEAST_SEGMENT {
+            return;
+        }
         if let (Method::Post, Resource::Upload(upload)) = (
             operation.target.method,
             &operation.target.resource,
