@@ -35,7 +35,7 @@ pub struct Exchange<'a> {
 }
 
 /// Why a connection was closed before its client ended it, or a client was turned away.
-#[derive(Clone, Copy, Debug, PartialEq, Eq)]
+#[derive(Clone, Copy)]
 pub enum Reason {
     /// It was silent for the idle time.
     Idle,
@@ -102,88 +102,113 @@ pub struct Start<'a> {
 
 /// The line of a request that was answered.
 pub fn exchange_line(alloc: Global, exchange: &Exchange<'_>) -> Result<Vec<u8>, AllocError> {
-    let mut out = begun(alloc, "exchange", exchange.moment)?;
-    add_request(&mut out, exchange)?;
-    add_reply(&mut out, exchange)?;
-    ended(out)
+    let mut line = Line::new(alloc, "exchange", exchange.moment)?;
+    line.add_request(exchange);
+    line.add_reply(exchange);
+    line.end()
 }
 
 /// The line of a connection that the server closed, or of a client that it turned away.
 pub fn closing_line(alloc: Global, closing: &Closing<'_>) -> Result<Vec<u8>, AllocError> {
-    let mut out = match closing.connection {
-        Some(connection) => {
-            let mut out = begun(alloc, "closed", closing.moment)?;
-            add_number(&mut out, "connection", connection)?;
-            out
-        }
-        None => begun(alloc, "refused", closing.moment)?,
+    let event = match closing.connection {
+        Some(_) => "closed",
+        None => "refused",
     };
-    add_text(&mut out, "peer", closing.peer)?;
-    add_text(&mut out, "reason", closing.reason.name())?;
-    ended(out)
+    let mut line = Line::new(alloc, event, closing.moment)?;
+    line.add_optional_number("connection", closing.connection);
+    line.add_text("peer", closing.peer);
+    line.add_text("reason", closing.reason.name());
+    line.end()
 }
 
 /// The line of a server that starts.
 pub fn start_line(alloc: Global, start: &Start<'_>) -> Result<Vec<u8>, AllocError> {
-    let mut out = begun(alloc, "started", start.moment)?;
-    add_text(&mut out, "version", start.version)?;
-    add_text(&mut out, "address", start.address)?;
-    add_limits(&mut out, &start.limits)?;
-    add_number(&mut out, "open_microseconds", start.open_microseconds)?;
-    ended(out)
+    let mut line = Line::new(alloc, "started", start.moment)?;
+    line.add_text("version", start.version);
+    line.add_text("address", start.address);
+    line.add_limits(&start.limits);
+    line.add_number("open_microseconds", start.open_microseconds);
+    line.end()
 }
 
-fn add_request(out: &mut Writer, exchange: &Exchange<'_>) -> Result<(), AllocError> {
-    let end = exchange.path.floor_char_boundary(GREATEST_PATH);
-    add_number(out, "connection", exchange.connection)?;
-    add_text(out, "peer", exchange.peer)?;
-    add_text(out, "method", exchange.method)?;
-    add_text(out, "path", &exchange.path[..end])
+/// A line that is written: an object of JSON. Once memory ran out nothing more is added, and there is no line.
+struct Line {
+    out: Writer,
+    so_far: Result<(), AllocError>,
 }
 
-fn add_reply(out: &mut Writer, exchange: &Exchange<'_>) -> Result<(), AllocError> {
-    add_number(out, "status", u64::from(exchange.status))?;
-    if let Some(refusal) = exchange.refusal {
-        add_text(out, "refusal", refusal)?;
+impl Line {
+    // An object with its event and its moment.
+    fn new(alloc: Global, event: &str, moment: u64) -> Result<Line, AllocError> {
+        let mut out = Writer::new(Vec::with_capacity(alloc, 512)?);
+        let so_far = out.begin_object();
+        let mut line = Line { out, so_far };
+        line.add_text("event", event);
+        line.add_number("moment", moment);
+        Ok(line)
     }
-    add_number(out, "bytes_in", exchange.bytes_in)?;
-    add_number(out, "bytes_out", exchange.bytes_out)?;
-    add_number(out, "microseconds", exchange.microseconds)
-}
 
-fn add_limits(out: &mut Writer, limits: &Limits) -> Result<(), AllocError> {
-    add_number(out, "idle_seconds", limits.idle_seconds)?;
-    add_number(out, "least_rate", limits.least_rate)?;
-    if let Some(connections) = limits.connections {
-        add_number(out, "connections", connections)?;
+    fn add_request(&mut self, exchange: &Exchange<'_>) {
+        let end = exchange.path.floor_char_boundary(GREATEST_PATH);
+        self.add_number("connection", exchange.connection);
+        self.add_text("peer", exchange.peer);
+        self.add_text("method", exchange.method);
+        self.add_text("path", &exchange.path[..end]);
     }
-    add_number(out, "address_connections", limits.address_connections)?;
-    add_number(out, "spool_bytes", limits.spool_bytes)?;
-    add_number(out, "unfinished_bytes", limits.unfinished_bytes)
+
+    fn add_reply(&mut self, exchange: &Exchange<'_>) {
+        self.add_number("status", u64::from(exchange.status));
+        if let Some(refusal) = exchange.refusal {
+            self.add_text("refusal", refusal);
+        }
+        self.add_number("bytes_in", exchange.bytes_in);
+        self.add_number("bytes_out", exchange.bytes_out);
+        self.add_number("microseconds", exchange.microseconds);
+    }
+
+    fn add_limits(&mut self, limits: &Limits) {
+        self.add_number("idle_seconds", limits.idle_seconds);
+        self.add_number("least_rate", limits.least_rate);
+        self.add_optional_number("connections", limits.connections);
+        self.add_number("address_connections", limits.address_connections);
+        self.add_number("spool_bytes", limits.spool_bytes);
+        self.add_number("unfinished_bytes", limits.unfinished_bytes);
+    }
+
+    fn add_text(&mut self, name: &str, text: &str) {
+        if self.so_far.is_ok() {
+            self.so_far = put_text(&mut self.out, name, text);
+        }
+    }
+
+    fn add_optional_number(&mut self, name: &str, number: Option<u64>) {
+        if let Some(number) = number {
+            self.add_number(name, number);
+        }
+    }
+
+    fn add_number(&mut self, name: &str, number: u64) {
+        if self.so_far.is_ok() {
+            self.so_far = put_number(&mut self.out, name, number);
+        }
+    }
+
+    fn end(self) -> Result<Vec<u8>, AllocError> {
+        let Line { mut out, so_far } = self;
+        so_far?;
+        out.end_object()?;
+        let mut line = out.into_inner();
+        line.push(b'\n')?;
+        Ok(line)
+    }
 }
 
-// An object with its event and its moment.
-fn begun(alloc: Global, event: &str, moment: u64) -> Result<Writer, AllocError> {
-    let mut out = Writer::new(Vec::with_capacity(alloc, 512)?);
-    out.begin_object()?;
-    add_text(&mut out, "event", event)?;
-    add_number(&mut out, "moment", moment)?;
-    Ok(out)
-}
-
-fn add_text(out: &mut Writer, name: &str, text: &str) -> Result<(), AllocError> {
+fn put_text(out: &mut Writer, name: &str, text: &str) -> Result<(), AllocError> {
     out.key(name)?;
     out.string(text)
 }
 
-fn add_number(out: &mut Writer, name: &str, number: u64) -> Result<(), AllocError> {
+fn put_number(out: &mut Writer, name: &str, number: u64) -> Result<(), AllocError> {
     out.key(name)?;
     out.u64(number)
-}
-
-fn ended(mut out: Writer) -> Result<Vec<u8>, AllocError> {
-    out.end_object()?;
-    let mut line = out.into_inner();
-    line.push(b'\n')?;
-    Ok(line)
 }

@@ -38,7 +38,7 @@ pub struct Configuration {
 }
 
 /// What bounds the connections of a server.
-#[derive(Clone, Copy, Debug, PartialEq, Eq)]
+#[derive(Clone, Copy)]
 pub struct Limits {
     /// The seconds for which a connection may be silent.
     pub idle_seconds: u64,

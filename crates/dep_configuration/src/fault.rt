@@ -26,8 +26,8 @@ pub enum ConfigurationFault {
 impl fmt::Display for ConfigurationFault {
     fn fmt<W: fmt::Write>(&self, f: &mut fmt::Formatter<W>) -> fmt::Result {
         match self {
-            ConfigurationFault::Malformed => write!(f, "the configuration is not JSON"),
-            ConfigurationFault::NotObject => write!(f, "the configuration is not an object"),
+            ConfigurationFault::Malformed => f.write_str("the configuration is not JSON"),
+            ConfigurationFault::NotObject => f.write_str("the configuration is not an object"),
             ConfigurationFault::Unknown(name) => {
                 write!(f, "{:?}: there is no field of this name", name.as_str())
             }
@@ -40,7 +40,7 @@ impl fmt::Display for ConfigurationFault {
             ConfigurationFault::Invalid(field) => {
                 write!(f, "{}: {}", field.name(), field.wanted())
             }
-            ConfigurationFault::Memory => write!(f, "out of memory"),
+            ConfigurationFault::Memory => f.write_str("out of memory"),
         }
     }
 }

@@ -8,7 +8,7 @@ use dep_types::{
 use std::fmt;
 
 /// A field of a configuration.
-#[derive(Clone, Copy, Debug, PartialEq, Eq)]
+#[derive(Clone, Copy, Debug)]
 pub enum Field {
     /// The IP address to listen at.
     Address,
@@ -77,14 +77,14 @@ pub const FIELDS: [Field; 20] = [
 ];
 
 /// What a whole number may be.
-#[derive(Clone, Copy, Debug, PartialEq, Eq)]
+#[derive(Clone, Copy)]
 pub struct Bounds {
     pub least: u64,
     pub most: u64,
 }
 
 /// What a field has to be.
-#[derive(Clone, Copy, Debug, PartialEq, Eq)]
+#[derive(Clone, Copy)]
 pub enum Wanted {
     /// Any text.
     AnyText,
@@ -103,14 +103,13 @@ pub enum Wanted {
 impl fmt::Display for Wanted {
     fn fmt<W: fmt::Write>(&self, f: &mut fmt::Formatter<W>) -> fmt::Result {
         match self {
-            Wanted::AnyText => write!(f, "a text"),
-            Wanted::FilledText => write!(f, "a text that is not empty"),
-            Wanted::Flag => write!(f, "true or false"),
-            Wanted::Address => write!(f, "an IP address in quotes"),
-            Wanted::Base => write!(
-                f,
-                "an http URL in its normal form, without the slash at its end"
-            ),
+            Wanted::AnyText => f.write_str("a text"),
+            Wanted::FilledText => f.write_str("a text that is not empty"),
+            Wanted::Flag => f.write_str("true or false"),
+            Wanted::Address => f.write_str("an IP address in quotes"),
+            Wanted::Base => {
+                f.write_str("an http URL in its normal form, without the slash at its end")
+            }
             Wanted::WholeNumber(bounds) => {
                 write!(f, "a whole number from {} to {}", bounds.least, bounds.most)
             }

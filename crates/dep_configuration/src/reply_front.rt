@@ -29,11 +29,20 @@ pub fn refusal_of_front(front: &[u8]) -> Option<&str> {
         return None;
     }
     let reply = front.strip_prefix(CONTINUE).unwrap_or(front);
-    let near = reply.get(..1_024).unwrap_or(reply);
-    let end = near
+    name_in(content_of(reply.get(..1_024).unwrap_or(reply))?)
+}
+
+// What stands behind the head of a reply.
+fn content_of(reply: &[u8]) -> Option<&[u8]> {
+    let end = reply
         .windows(4)
         .position(|four| four == b"\r\n\r\n".as_slice())?;
-    let named = near.get(end..)?.get(4..)?.strip_prefix(BEFORE_NAME)?;
+    reply.get(end..)?.get(4..)
+}
+
+// The name of the refusal in an error document.
+fn name_in(document: &[u8]) -> Option<&str> {
+    let named = document.strip_prefix(BEFORE_NAME)?;
     let quote = named.iter().position(|byte| *byte == b'"')?;
     str::from_utf8(named.get(..quote)?).ok()
 }

@@ -1,31 +1,27 @@
 -- How a conversation goes on, and how it ends.
-use Rattle.std.proofs.Common.{arith, ◌+◌, ◌<◌, ◌≤◌, ◌⊎◌, inl, inr, zero, suc, length, ◌≡◌, ℕ, List, [], ◌∷◌, ◌++◌, Option, Some, None, map, refl, sym, ap, subst, ◌∙◌, append_assoc}
+use Rattle.std.proofs.Common.{IsTrue, arith, ◌+◌, ◌<◌, ◌≤◌, ◌⊎◌, inl, inr, zero, suc, length, ◌≡◌, ℕ, List, [], ◌∷◌, ◌++◌, Option, Some, None, map, refl, sym, ap, subst, ◌∙◌, append_assoc}
 use Rattle.std.proofs.lemmas.List.{append-nil}
 use Rattle.std.specs.List.{flat_map, FoldsTo}
 use Rattle.std.specs.Io.KnownBytes.{Appends, Consumes, Keeps}
-use Rattle.std.specs.Prelude.{IsTrue}
 use Rattle.dep_types.specs.State.{State}
 use Rattle.dep_types.specs.declared.config.Config.{Config}
 use Rattle.dep_types.specs.Conditions.{Condition, HasCleanDisk, Leaves}
 use Rattle.dep_types.specs.Writing.{next_count}
 use Rattle.dep_types.specs.declared.inlet.LastRead.TheVariants.{Bytes}
-use Rattle.dep_hub.specs.Records.{World, Line, with_line, Connect, Close, Record, stopped, first_world, Run, goes_on, stops, Arrives, LeftByArrival, Happens, connects, closes, arrives}
+use Rattle.dep_hub.specs.Records.{World, Connect, Close, Record, stopped, first_world, Run, goes_on, Happens, connects, closes}
 use Rattle.dep_hub.specs.Standing.{StandsAt, StandsAfter, IsClean, IsHonest, Moves, intake_of, store_of}
 use Rattle.dep_hub.specs.declared.hub.Hub.{Hub}
 use Rattle.dep_hub.specs.declared.arrived.Arrived.{Arrived}
 use Rattle.dep_hub.specs.declared.arrived.Arrived.TheVariants.{Open as StaysOpen, Closed as HasClosed, Cut}
-use Rattle.dep_hub.proofs.Leaving.{Settles, stays_as, leaves_wider}
+use Rattle.dep_hub.proofs.Leaving.{Settles, leaves_wider}
 use Rattle.dep_hub.proofs.SendingLemmas.{appends_none, appends_both}
-use Rattle.dep_hub.proofs.HubLemmas.{keeps_same, stopped_run}
+use Rattle.dep_hub.proofs.HubLemmas.{keeps_same}
+use Rattle.dep_hub.proofs.ExchangeLemmas.{last_more, exchanges_run, exchanged_along, talks_honest, talks_clean, talks_exchange, talks_stop}
 use Rattle.dep_hub.proofs.ShutLemmas.{conversation_shut}
 use Rattle.dep_hub.specs.Turns.{Turn, pieces_of, replies_of, record_of, records_of, EndsAs, last_answer, IsPiece, ArePieces, most_reads, reads_made, reads_after, with_opened, with_closed, Exchanges, none_yet, one_more, LeftByExchanges, IsEndedBy}
-use Rattle.dep_hub.specs.Conversation.{Wire, Session, session, Transfers, GivesNothing, Clocks, Converses, IsAnswered, IsUnserved, ConversesOver, next_after, AddsAll, StopsAll, Talk, OneTurn, NoTurn, TurnsTo, TalksUntil, Talks, silent, turn}
+use Rattle.dep_hub.specs.Conversation.{Wire, Session, session, Transfers, GivesNothing, Clocks, Converses, IsAnswered, IsUnserved, ConversesOver, next_after, AddsAll, StopsAll, Talk, OneTurn, OpenTurn, NoTurn, TurnsTo, TalksUntil, Talks, silent, turn, ahead}
 use Rattle.dep_hub.specs.declared.connection.Served.{Served}
 use Rattle.dep_hub.specs.declared.connection.Served.TheVariants.{Ended, Closed, Unserved, ReadFault, WriteFault, Bound}
-
-map_more : (n : ℕ) (turns : List Turn) (t : Turn) → map (record_of n) (turns ++ t ∷ []) ≡ map (record_of n) turns ++ record_of n t ∷ []
-map_more n [] t = refl
-map_more n (u ∷ turns) t = ap (λ l. record_of n u ∷ l) (map_more n turns t)
 
 pieces_more : (turns : List Turn) (t : Turn) → flat_map (λ (u : Turn). u.piece) (turns ++ t ∷ []) ≡ flat_map (λ (u : Turn). u.piece) turns ++ t.piece
 pieces_more [] t = append-nil t.piece
@@ -34,11 +30,6 @@ pieces_more (u ∷ turns) t = ap (λ l. u.piece ++ l) (pieces_more turns t) ∙ 
 sent_more : (turns : List Turn) (t : Turn) → flat_map (λ (u : Turn). u.sent) (turns ++ t ∷ []) ≡ flat_map (λ (u : Turn). u.sent) turns ++ t.sent
 sent_more [] t = append-nil t.sent
 sent_more (u ∷ turns) t = ap (λ l. u.sent ++ l) (sent_more turns t) ∙ sym (append_assoc u.sent (flat_map (λ (v : Turn). v.sent) turns) t.sent)
-
-last_more : (turns : List Turn) (t : Turn) → last_answer (turns ++ t ∷ []) ≡ t.answer
-last_more [] t = refl
-last_more (u ∷ []) t = refl
-last_more (u ∷ v ∷ turns) t = last_more (v ∷ turns) t
 
 folds_more : {C A : Type 0} (r : C → A → C → Type 0) (a : C) (xs : List A) (b c : C) (x : A) → FoldsTo r a xs b → r b x c → FoldsTo r a (xs ++ x ∷ []) c
 folds_more r a [] b c x f s = (c, subst (λ d. r d x c) (sym f) s, refl)
@@ -143,6 +134,22 @@ module _ {A : Type 0} (condition : A → Condition) where
         answered = last_more t.turns u;
       }
 
+  -- one turn more that leaves the connection open, and then the store works ahead
+  pub talk_open : {C : Type 0} (ticks : C → ℕ → C → Type 0) (n : ℕ) (old mid new : Session condition C) (k : ℕ)
+      → mid.hub.config ≡ old.hub.config → Talk condition ticks n old mid k StaysOpen → OpenTurn condition ticks n mid new
+      → Talk condition ticks n old new (k + 1) StaysOpen
+  talk_open ticks n old mid new k same t o =
+      let u = talk_more ticks n old mid (session condition o.served new.wire new.clock) StaysOpen k same t o.turn in
+      record {
+        turns = u.turns;
+        counted = u.counted;
+        sizes = u.sizes;
+        talks = ahead u.talks u.answered o.ahead;
+        transfers = u.transfers;
+        moments = u.moments;
+        answered = u.answered;
+      }
+
   -- a turn of the same connection
   pub turn_at : {C : Type 0} (ticks : C → ℕ → C → Type 0) (n m : ℕ) (old new : Session condition C) (served : Option Served) → n ≡ m
       → TurnsTo condition ticks n old new served → TurnsTo condition ticks m old new served
@@ -208,15 +215,6 @@ module _ {A : Type 0} (condition : A → Condition) where
 
 -- ---- the machine's side
 
--- the records of the turns
-exchanges_run : (config : Config) (n : ℕ) (first : State) (records : List Record) (w v : World) (turns : List Turn)
-    → Run config first records w → Exchanges config n w turns v → Run config first (records ++ map (record_of n) turns) v
-exchanges_run config n first records w v turns r none_yet = subst (λ rs. Run config first rs w) (sym (append-nil records)) r
-exchanges_run config n first records w v turns r (one_more {turns = before} {w = mid} {left} {line} t x stays a) =
-    subst (λ rs. Run config first rs v)
-    (append_assoc records (map (record_of n) before) (record_of n t ∷ []) ∙ ap (λ l. records ++ l) (sym (map_more n before t)))
-    (goes_on (exchanges_run config n first records w mid before r x) (arrives a))
-
 -- a connection is opened, its turns are answered, and it is closed
 pub conversation_run : (config : Config) (n : ℕ) (first : State) (records : List Record) (w v : World) (turns : List Turn)
     → Run config first records w → Exchanges config n (with_opened n w) turns v
@@ -276,26 +274,6 @@ pub last_tells : (config : Config) (n : ℕ) (w v : World) (before behind : List
 last_tells config n w v before behind t unread end x ends =
     ended_at unread before t behind end (open_behind before t behind (open_before config n w v (before ++ t ∷ behind) x)) ends
 
--- the same arrival and stop under the same configuration
-left_same : {piece : List ℕ} {moment : ℕ} {line after : Line} {s left : State} {sent : List ℕ} {answer : Arrived} (given config : Config) → given ≡ config
-    → (a : Arrives given piece moment line s sent left after answer) (found : State) → LeftByArrival a found
-    → (b : Arrives config piece moment line s sent left after answer) × LeftByArrival b found
-left_same {piece} {moment} {line} {after} {s} {left} {sent} {answer} given config same a found l =
-    subst (λ (x : Config). (b : Arrives x piece moment line s sent left after answer) × LeftByArrival b found) same (a, l)
-
--- an arrival carried over to the same configuration leaves the same by a stop, and so do turns
-left_along : {piece : List ℕ} {moment : ℕ} {line after : Line} {s left : State} {sent : List ℕ} {answer : Arrived} (given config : Config) (same : given ≡ config)
-    (a : Arrives given piece moment line s sent left after answer) (found : State) → LeftByArrival a found
-    → LeftByArrival (subst (λ (x : Config). Arrives x piece moment line s sent left after answer) same a) found
-left_along {piece} {moment} {line} {after} {s} {left} {sent} {answer} given config same a found l =
-    (subst (λ (x : Config). (b : Arrives x piece moment line s sent left after answer) × LeftByArrival b found) same (a, l)).1
-
-exchanged_along : {n : ℕ} {first w : World} {turns : List Turn} (given config : Config) (same : given ≡ config)
-    (e : Exchanges given n first turns w) (found : State) → LeftByExchanges e found
-    → LeftByExchanges (subst (λ (x : Config). Exchanges x n first turns w) same e) found
-exchanged_along {n} {first} {w} {turns} given config same e found l =
-    (subst (λ (x : Config). (b : Exchanges x n first turns w) × LeftByExchanges b found) same (e, l)).1
-
 -- ---- from hubs to the machine
 
 opened_is : {config : Config} {w : World} {n : ℕ} {v : World} {sent : List ℕ} → Happens config w (Connect n) sent v → v ≡ with_opened n w
@@ -305,68 +283,6 @@ closed_is : {config : Config} {w : World} {n : ℕ} {v : World} {sent : List ℕ
 closed_is closes = refl
 
 module _ {A : Type 0} (condition : A → Condition) where
-  -- what the machine comes to by the turns: after one that leaves the connection open, or with an open store, the hub stands at it
-  record Exchanged (config : Config) (n : ℕ) (new : Hub A) (turns : List Turn) (w : World) : Type 0 where
-    pub talked : World
-    pub exchanges : Exchanges config n w turns talked
-    pub stays : last_answer turns ≡ StaysOpen → StandsAt condition new talked
-    pub at : IsClean condition new → StandsAt condition new talked
-    pub rests : IsClean condition new → Leaves (store_of condition new) (λ found. found ≡ talked.state)
-    pub stop : Leaves (store_of condition new) (LeftByExchanges exchanges)
-
-  talks_honest : (n : ℕ) (old new : Hub A) (failures failures_after : ℕ) (turns : List Turn) → Talks condition n old failures turns new failures_after → IsHonest condition new → IsHonest condition old
-  talks_honest n old new failures failures_after turns silent honest = honest
-  talks_honest n old new failures failures_after turns (turn {mid = mid} {before = between} {turns = before} t talks stays same a) honest =
-      talks_honest n old mid failures between before talks (a.honest honest)
-
-  talks_clean : (n : ℕ) (old new : Hub A) (failures failures_after : ℕ) (turns : List Turn) → Talks condition n old failures turns new failures_after → IsClean condition new → IsClean condition old
-  talks_clean n old new failures failures_after turns silent clean = clean
-  talks_clean n old new failures failures_after turns (turn {mid = mid} {before = between} {turns = before} t talks stays same a) clean =
-      talks_clean n old mid failures between before talks (a.clean clean)
-
-  -- what the hub answered is what the machine answers
-  talks_exchange : (n : ℕ) (old new : Hub A) (failures failures_after : ℕ) (turns : List Turn) → Settles (store_of condition old) → Talks condition n old failures turns new failures_after
-      → IsHonest condition new → (w : World) → StandsAt condition old w → Exchanged old.config n new turns w
-  talks_exchange n old new failures failures_after turns settles silent honest w at = record {
-    talked = w;
-    exchanges = none_yet;
-    stays = λ _. at;
-    at = λ _. at;
-    rests = λ _. stays_as (store_of condition old) w.state settles at.state;
-    stop = stays_as (store_of condition old) w.state settles at.state;
-  }
-  talks_exchange n old new failures failures_after turns settles (turn {mid = mid} {before = between} {turns = before} t talks stays same a) honest w at =
-      let h = talks_exchange n old mid failures between before settles talks (a.honest honest) w at in
-      let b = a.answers honest h.talked (h.stays stays) in
-      record {
-        talked = record { state = b.left; line = with_line n b.line h.talked.line };
-        exchanges = one_more t h.exchanges stays (subst (λ (x : Config). Arrives x t.piece t.moment (h.talked.line n) h.talked.state t.sent b.left b.line t.answer) same b.arrives);
-        stays = λ e. b.stands (b.stays_clean (sym (last_more before t) ∙ e));
-        at = b.stands;
-        rests = b.rests;
-        stop = leaves_wider (store_of condition new) _ _ (λ c l. left_along mid.config old.config same b.arrives c l) b.stop;
-      }
-
-  -- what a stop now leaves goes on from the turns
-  talks_stop : (n : ℕ) (old new : Hub A) (failures failures_after : ℕ) (turns : List Turn) → Settles (store_of condition old) → Talks condition n old failures turns new failures_after
-      → IsHonest condition new → (first : State) (records : List Record) (w : World) → Run old.config first records w → StandsAt condition old w
-      → Leaves (store_of condition new) (λ found. Run old.config first ((records ++ map (record_of n) turns) ++ stopped ∷ []) (first_world found))
-  talks_stop n old new failures failures_after turns settles silent honest first records w run at =
-      leaves_wider (store_of condition old) _ _
-      (λ c e. subst (λ rs. Run old.config first (rs ++ stopped ∷ []) (first_world c)) (sym (append-nil records))
-      (subst (λ s. Run old.config first (records ++ stopped ∷ []) (first_world s)) (sym e) (stops run)))
-      (stays_as (store_of condition old) w.state settles at.state)
-  talks_stop n old new failures failures_after turns settles (turn {mid = mid} {before = between} {turns = before} t talks stays same a) honest first records w run at =
-      let h = talks_exchange n old mid failures between before settles talks (a.honest honest) w at in
-      let b = a.answers honest h.talked (h.stays stays) in
-      let so_far : Run old.config first (records ++ map (record_of n) before) h.talked = exchanges_run old.config n first records w h.talked before run h.exchanges in
-      leaves_wider (store_of condition new) _ _
-      (λ c l. subst (λ rs. Run old.config first rs (first_world c))
-      (sym (append_assoc (records ++ map (record_of n) before) (record_of n t ∷ []) (stopped ∷ []))
-      ∙ ap (λ rs. rs ++ stopped ∷ []) (append_assoc records (map (record_of n) before) (record_of n t ∷ []) ∙ ap (λ l. records ++ l) (sym (map_more n before t))))
-      (let x = left_same mid.config old.config same b.arrives c l in stopped_run old.config so_far n x.0 c x.1))
-      b.stop
-
   module _ (n : ℕ) (old opened talked new : Hub A) (failures failures_after : ℕ) (turns : List Turn)
       (opens : Moves condition old opened (Connect n) []) (closes : Moves condition talked new (Close n) []) (settles : Settles (store_of condition opened))
       (same_opened : opened.config ≡ old.config) (same_new : new.config ≡ old.config) (same_store : new.store ≡ talked.store) (talks : Talks condition n opened failures turns talked failures_after) where
@@ -379,7 +295,7 @@ module _ {A : Type 0} (condition : A → Condition) where
     answered : IsHonest condition new → (w : World) → StandsAt condition old w → IsAnswered condition old new n turns w
     answered honest w at =
         let o = opens w at in
-        let t = talks_exchange n opened talked failures failures_after turns settles talks (to_talked HasCleanDisk honest) (with_opened n w) (subst (λ v. StandsAt condition opened v) (opened_is o.1) o.2) in
+        let t = talks_exchange condition n opened talked failures failures_after turns settles talks (to_talked HasCleanDisk honest) (with_opened n w) (subst (λ v. StandsAt condition opened v) (opened_is o.1) o.2) in
         record {
           talked = t.talked;
           exchanges = subst (λ (x : Config). Exchanges x n (with_opened n w) turns t.talked) same_opened t.exchanges;
@@ -410,7 +326,7 @@ module _ {A : Type 0} (condition : A → Condition) where
         (leaves_wider (store_of condition talked) _ _
         (λ found r. subst (λ rs. Run old.config first (rs ++ stopped ∷ []) (first_world found)) (append_assoc records (c ∷ []) (map (record_of n) turns))
         (subst (λ (x : Config). Run x first (((records ++ c ∷ []) ++ map (record_of n) turns) ++ stopped ∷ []) (first_world found)) same_opened r))
-        (talks_stop n opened talked failures failures_after turns settles talks (to_talked HasCleanDisk honest) first (records ++ c ∷ []) o.0 from o.2))
+        (talks_stop condition n opened talked failures failures_after turns settles talks (to_talked HasCleanDisk honest) first (records ++ c ∷ []) o.0 from o.2))
 
   module _ {C : Type 0} (ticks : C → ℕ → C → Type 0) (n : ℕ) (old : Session condition C) (opened talked new : Hub A) (wire : Wire) (now : C)
       (is_next : n ≡ old.hub.next) (fresh : intake_of old.hub.connections.items n ≡ None)
@@ -456,10 +372,10 @@ module _ {A : Type 0} (condition : A → Condition) where
 
   -- where the store is open, or honest, at the end of the turns, it was so before
   pub later_clean : {C : Type 0} (ticks : C → ℕ → C → Type 0) (n : ℕ) (old new : Session condition C) (served : Served) → TalksUntil condition ticks n old new served → IsClean condition new.hub → IsClean condition old.hub
-  later_clean ticks n old new came t clean = talks_clean n old.hub new.hub old.wire.failures new.wire.failures t.talk.turns t.talk.talks clean
+  later_clean ticks n old new came t clean = talks_clean condition n old.hub new.hub old.wire.failures new.wire.failures t.talk.turns t.talk.talks clean
 
   pub later_honest : {C : Type 0} (ticks : C → ℕ → C → Type 0) (n : ℕ) (old new : Session condition C) (served : Served) → TalksUntil condition ticks n old new served → IsHonest condition new.hub → IsHonest condition old.hub
-  later_honest ticks n old new came t honest = talks_honest n old.hub new.hub old.wire.failures new.wire.failures t.talk.turns t.talk.talks honest
+  later_honest ticks n old new came t honest = talks_honest condition n old.hub new.hub old.wire.failures new.wire.failures t.talk.turns t.talk.talks honest
 
   -- not opened
   pub unserved : {C : Type 0} (clock : C) (old new : Hub A) (wire : Wire) → ((w : World) → StandsAt condition old w → StandsAt condition new w) → new.store ≡ old.store

@@ -1,6 +1,6 @@
 -- A hub whose connections hold bytes that were offered and have not arrived: they arrive as the
 -- items that they complete are answered, one at a time.
-use Rattle.std.specs.Prelude.{◌≡◌, ◌==◌, ◌≤◌, ◌+◌, ℕ, List, [], ◌++◌, length, if◌then◌else◌, Option, None, Some}
+use Rattle.std.specs.Prelude.{◌≡◌, ◌==◌, ◌≤◌, ◌+◌, ℕ, List, [], ◌∷◌, ◌++◌, length, if◌then◌else◌, Option, None, Some}
 use Rattle.std.specs.Io.KnownBytes.{Appends, Keeps}
 use Rattle.dep_types.specs.State.{State}
 use Rattle.dep_types.specs.declared.config.Config.{Config}
@@ -8,7 +8,7 @@ use Rattle.dep_types.specs.Conditions.{Condition, StandsFor, Leaves}
 use Rattle.dep_message.specs.Places.{Place, Reading, place_with}
 use Rattle.dep_message.specs.Stream.{Item}
 use Rattle.dep_hub.specs.Machine.{Serves, serves_all, step_fails, gives_up, SendsUpTo, want_of_memory}
-use Rattle.dep_hub.specs.Records.{Record, Run, Line, World, with_line, Arrives, at_live, at_shut_line, LeftByArrival}
+use Rattle.dep_hub.specs.Records.{Record, stopped, Run, Line, World, first_world, with_line, Arrives, at_live, at_shut_line, LeftByArrival}
 use Rattle.dep_hub.specs.Standing.{IsKeptAs, intake_of, store_of, IsClean, IsHonest, IsNoSuch}
 use Rattle.dep_hub.specs.Causes.{HasCause}
 use Rattle.dep_hub.specs.Shut.{LeavesNoMore, IfShut, SendsFixed}
@@ -97,6 +97,19 @@ module _ {A : Type 0} (condition : A → Condition) where
     pub world : World
     pub run : Run hub.config first records world
     pub at : StandsHolding hub world held
+
+  -- the hub stands for the same records, and holds the same bytes, while its store is open
+  abbrev pub StandsOn : Hub A → Hub A → Type 0
+  StandsOn old new = IsClean condition new → (first : State) (records : List Record)
+      → (held : ℕ → List ℕ) → StandsHoldingAfter old first records held
+      → StandsHoldingAfter new first records held
+
+  -- what a stop now leaves stands for the same records and a stop
+  abbrev pub StopsOn : Hub A → Hub A → Type 0
+  StopsOn old new = IsHonest condition new → (first : State) (records : List Record)
+      → (held : ℕ → List ℕ) → StandsHoldingAfter old first records held
+      → Leaves (store_of condition new)
+      (λ found. Run old.config first (records ++ stopped ∷ []) (first_world found))
 
   -- whatever lines the hub kept, and whatever it held, this line is another now
   abbrev pub MovesLine : Hub A → Hub A → (number : ℕ) → Line → (left : (ℕ → List ℕ) → ℕ → List ℕ)

@@ -7,7 +7,7 @@ use Rattle.dep_message.specs.Stream.{Item}
 use Rattle.dep_answers.specs.Steps.{sent_by}
 use Rattle.dep_hub.specs.Machine.{step, replies, state_after, Serves}
 use Rattle.dep_hub.specs.Records.{Event, Record, stopped, Line, World, Run, Happens, Arrives}
-use Rattle.dep_server.specs.Calm.{SteppedItem, steps_of, CalmServes, all_served, CalmArrives, live, shut_line, Calm, connect, close, arrive, none, CalmRun, nothing, more, stop, is_of, sent_to, bytes_if}
+use Rattle.dep_server.specs.Calm.{SteppedItem, steps_of, CalmServes, all_served, CalmArrives, live, shut_line, Calm, connect, close, arrive, none, CalmRun, AnyCalmRun, BeginAlike, nothing, more, stop, is_of, sent_to, bytes_if, EndAlike}
 use Rattle.dep_hub.specs.declared.arrived.Arrived.{Arrived}
 
 -- the state that the steps leave
@@ -91,3 +91,13 @@ run_by {config = config} {first = first} (more {records} {event} {sent} {w} {w'}
     )
 run_by (stop {records} r c) =
     let a = run_by c in (λ n. to_more n records stopped ∙ (append-nil (sent_to n records) ∙ a.0 n), a.1)
+
+-- two that make the same steps
+pub alike : (a b : AnyCalmRun) → BeginAlike a b → a.steps ≡ b.steps → EndAlike a b
+alike a b begin same =
+    let x = run_by a.calm in
+    let y = run_by b.calm in
+    record {
+      sent = λ n. x.0 n ∙ ((λ i. to_by n (begin.config i) (begin.first i) (same i)) ∙ sym (y.0 n));
+      state = x.1 ∙ ((λ i. state_by (begin.config i) (begin.first i) (same i)) ∙ sym y.1);
+    }

@@ -14,8 +14,8 @@ use Rattle.dep_message.proofs.OneReading.{one_spelling}
 use Rattle.dep_message.proofs.Reading.{reads_more}
 use Rattle.dep_hub.specs.Machine.{Serves}
 use Rattle.dep_hub.specs.Records.{Event, Record, stopped, Line, Absent, Live, ShutLine, World, line_after, ReadsBeyond, Run, Happens, Arrives}
-use Rattle.dep_server.specs.Calm.{SteppedItem, steps_of, CalmServes, all_served, CalmArrives, live, shut_line, Calm, connect, close, arrive, none, CalmRun, nothing, more as one_more, stop as one_stop}
-use Rattle.dep_server.specs.Streams.{Streams, all_streams, with_event, streams_over, streams_of, items_of, AreSpelled, no_stream, first_stream, Occasion, occasions_of}
+use Rattle.dep_server.specs.Calm.{SteppedItem, steps_of, CalmServes, all_served, CalmArrives, live, shut_line, Calm, connect, close, arrive, none, CalmRun, AnyCalmRun, BeginAlike, nothing, more as one_more, stop as one_stop}
+use Rattle.dep_server.specs.Streams.{Streams, all_streams, with_event, streams_over, streams_of, items_of, AreSpelled, no_stream, first_stream, Occasion, occasions_of, HaveSameStreams, HaveSameItems}
 use Rattle.dep_hub.specs.declared.arrived.Arrived.{Arrived}
 
 -- ---- one list of items for one list of streams
@@ -242,6 +242,14 @@ pub run_spelled : {config : Config} {first : State} {records : List Record} {w :
     → CalmRun _ _ r steps → (n : ℕ) → AreSpelled config.max_upload (streams_of n records) (items_of n steps)
 run_spelled {config} {records = records} {w = w} {steps = steps} c n =
     accounts_all config.max_upload (w.line n) (streams_over n records) (items_of n steps) (run_accounts n c)
+
+-- the same streams, the same items
+pub same_items : (a b : AnyCalmRun) → BeginAlike a b → HaveSameStreams a b → HaveSameItems a b
+same_items a b begin streams n =
+    let limit = b.run.config.max_upload in
+    one_list limit (streams_of n b.run.records) (items_of n a.steps) (items_of n b.steps)
+    (subst (λ s. AreSpelled limit s (items_of n a.steps)) (streams n)
+    (subst (λ (c : Config). AreSpelled c.max_upload (streams_of n a.run.records) (items_of n a.steps)) begin.config (run_spelled a.calm n))) (run_spelled b.calm n)
 
 -- ---- steps on the same occasions
 

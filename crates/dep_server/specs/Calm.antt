@@ -8,6 +8,7 @@ use Rattle.dep_message.specs.Stream.{Item, Waits}
 use Rattle.dep_hub.specs.Machine.{Serves, serves_all}
 use Rattle.dep_hub.specs.Records.{Event, Connect, Arrive, Close, Stop, Record, Line, Absent, World, Run, begins, goes_on, stops, Happens, connects, closes, arrives, unknown, Arrives, at_live, at_shut_line, ReadsBeyond}
 use Rattle.dep_hub.specs.declared.arrived.Arrived.{Arrived}
+use Rattle.dep_server.specs.Runs.{AnyRun}
 
 -- a step: whose item it is, and when
 pub record SteppedItem : Type 0 where
@@ -65,6 +66,17 @@ pub data CalmRun {config : Config} {first : State}
       (r : Run config first records w)
       → CalmRun _ _ r steps → CalmRun _ _ (stops r) steps
 
+-- a run without failed steps, and the steps that it makes
+pub record AnyCalmRun : Type 0 where
+  pub run : AnyRun
+  pub steps : List SteppedItem
+  pub calm : CalmRun run.records run.last run.run steps
+
+-- two runs begin under the same configuration, from the same state
+pub record BeginAlike (a b : AnyCalmRun) : Type 0 where
+  pub config : a.run.config ≡ b.run.config
+  pub first : a.run.first ≡ b.run.first
+
 -- an event of the connection of this number
 abbrev pub is_of : ℕ → Event → Bool
 is_of n (Connect m) = m == n
@@ -78,3 +90,8 @@ bytes_if b bytes = if b then bytes else []
 -- what was sent to one connection
 abbrev pub sent_to : ℕ → List Record → List ℕ
 sent_to n records = flat_map (λ r. bytes_if (is_of n r.event) r.sent) records
+
+-- they send the same bytes, each connection its own, and end in the same state
+pub record EndAlike (a b : AnyCalmRun) : Type 0 where
+  pub sent : (n : ℕ) → sent_to n a.run.records ≡ sent_to n b.run.records
+  pub state : a.run.last.state ≡ b.run.last.state

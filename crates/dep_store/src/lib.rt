@@ -3,23 +3,23 @@
 //! is given to a sink, and the files of all objects are checked.
 #![tactic(auto)]
 
-mod archive;
 mod audit_fault;
 mod auditing;
 mod exporting;
+mod hashing;
 mod lines;
 mod reading;
 mod remembering;
 mod showing;
 mod source;
-mod starting;
 mod store;
 mod tally;
 mod telling;
 mod ticking;
+mod working;
 
 pub use dep_streams::{Unwatched, Watch};
 pub use exporting::export_object;
-pub use starting::{StartFault, open_hub};
 pub use store::Store;
 pub use telling::audit_all;
+pub use working::{Work, work_on_file};

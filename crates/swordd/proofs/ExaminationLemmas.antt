@@ -6,13 +6,12 @@ use Rattle.sqlite.specs.State.{HasCleanDisk}
 use Rattle.std.specs.declared.io.ErrorKind.{ErrorKind}
 use Rattle.std.specs.declared.io.ErrorKind.TheVariants.{OutOfMemory}
 use Rattle.dep_types.specs.State.{State, empty_state}
+use Rattle.dep_types.specs.Conditions.{Condition, Leaves as LeavesOf}
 use Rattle.dep_tables.specs.Tables.{Tables}
 use Rattle.dep_bag.specs.Source.{StandsStill}
 use Rattle.dep_tables.specs.Versions.{our_version, older_version, HasVersion}
 use Rattle.dep_schema.specs.Standing.{Holds, HoldsOlder, HoldsNone, Stands, first_tables}
 use Rattle.dep_schema.specs.States.{StandsFor, IsLeftAs, Leaves}
-use Rattle.dep_schema.proofs.Transacting.{IsSettled, leaves_as_was}
-use Rattle.dep_store.specs.Archive.{shown_by}
 use Rattle.dep_store.specs.Auditing.{IsObjectAudited}
 use Rattle.dep_store.specs.Audits.{Audited, Audits, IsBegun, object_rows}
 use Rattle.dep_schema.proofs.Version.{not_older}
@@ -41,13 +40,13 @@ pub unfilled : (s : State) (object : ℕ) (kind : ErrorKind) → ExportsInto s o
 unfilled s object OutOfMemory = inl (inl refl)
 unfilled s object _ = inr (refl, refl)
 
--- nothing was done with a store
-pub rests : (d : db.State) → (IsTrue d.is_open → IsSettled d) → StandsStill (shown_by d) (shown_by d)
-rests d settled = record {
+-- nothing was done with an archive
+pub rests : (c : Condition) → ((s : State) → c.keeps s → LeavesOf c (λ left. left ≡ s)) → StandsStill c c
+rests c settled = record {
   honest_before = λ honest. honest;
   open_before = λ is_open. is_open;
   stays = λ is_open s at. at;
-  stop = λ honest s at. leaves_as_was d s (settled at.stands.is_open) at;
+  stop = λ honest s at. settled s at;
 }
 
 -- a database that was not opened

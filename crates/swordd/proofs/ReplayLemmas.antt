@@ -1,5 +1,5 @@
 -- A replay is a run of one connection.
-use Rattle.std.proofs.Common.{◌≡◌, ℕ, Bool, true, false, zero, suc, List, [], ◌∷◌, ◌++◌, refl, subst, arith}
+use Rattle.std.proofs.Common.{◌≡◌, ℕ, Bool, true, false, zero, suc, List, [], ◌∷◌, ◌++◌, inl, inr, refl, sym, subst, arith}
 use Rattle.std.specs.Prelude.{All}
 use Rattle.std.specs.List.{FoldsTo}
 use Rattle.sqlite.specs.State as db
@@ -8,6 +8,7 @@ use Rattle.sqlite.specs.Effect.{IsDatabase}
 use Rattle.dep_schema.specs.Standing.{HoldsNone}
 use Rattle.dep_types.specs.Conditions.{Condition}
 use Rattle.dep_types.specs.State.{State, empty_state}
+use Rattle.dep_types.specs.Config.{IsChecked}
 use Rattle.dep_types.specs.declared.config.Config.{Config}
 use Rattle.dep_hub.specs.Records.{World, Record, Arrive, stopped, first_world, Run, begins, goes_on, stops, breaks}
 use Rattle.dep_hub.specs.Standing.{StandsAt, StandsAfter, IsHonest}
@@ -18,7 +19,11 @@ use Rattle.dep_hub.proofs.TalkLemmas.{conversation_run}
 use Rattle.dep_hub.specs.declared.connection.Served.{Served}
 use Rattle.dep_hub.specs.declared.connection.Served.TheVariants.{Ended, Closed, Unserved, ReadFault, WriteFault, Bound}
 use Rattle.dep_program.specs.Setup.{program_config}
-use Rattle.swordd.specs.Replays.{IsReplayed, Replays, replayed, not_begun, outcome_of, outcome_sent}
+use Rattle.dep_hub.specs.declared.faults.HubFault.TheVariants as hub
+use Rattle.dep_archive.specs.Starting.{outcome_of_start}
+use Rattle.dep_archive.specs.declared.starting.StartFault.{StartFault}
+use Rattle.dep_archive.specs.declared.starting.StartFault.TheVariants as fault
+use Rattle.swordd.specs.Replays.{IsReplayed, Replays, replayed, refused, not_begun, IsNotBegun, outcome_of, outcome_sent}
 use Rattle.dep_program.specs.declared.outcome.Outcome.{Outcome}
 use Rattle.dep_program.specs.declared.outcome.Outcome.TheVariants.{Done, Usage, NoSuchObject, StoreFault, TransferFault, Damaged}
 
@@ -96,8 +101,19 @@ module _ {A : Type 0} (condition : A → Condition) {C : Type 0} (ticks : C → 
     comes_to WriteFault v = replayed WriteFault (replays WriteFault v)
     comes_to Bound v = replayed Bound (replays Bound v)
 
-pub rests_same : (at : Wire) → Rests at at
+-- no hub was made for it
+pub begins_not : (base : List ℕ) (why : StartFault) → (why ≡ fault.Hub hub.Config → ¬ IsChecked (program_config base)) → IsNotBegun base (outcome_of_start why)
+begins_not base (fault.Hub hub.Config) refuses = inl (refl, refuses refl)
+begins_not base (fault.Hub hub.Memory) refuses = inr refl
+begins_not base (fault.Open its) refuses = inr refl
+
+rests_same : (at : Wire) → Rests at at
 rests_same at = record { pieces = keeps_same at.unread; reads = refl; last = refl; replies = keeps_same at.taken; failures = refl }
+
+-- nothing was read or written then
+pub not_replayed : (base : List ℕ) (moment : ℕ) (at : Wire) (outcome : Outcome) → IsNotBegun base outcome → Replays base moment at at outcome
+not_replayed base moment at outcome (inl (same, not)) = subst (λ (o : Outcome). Replays base moment at at o) (sym same) (refused not (rests_same at))
+not_replayed base moment at outcome (inr same) = subst (λ (o : Outcome). Replays base moment at at o) (sym same) (not_begun (rests_same at))
 
 -- a new database in memory has no table
 pub empty_holds_none : (d : db.State) → IsEmpty d → HoldsNone d.now.trees

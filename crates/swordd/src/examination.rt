@@ -5,14 +5,14 @@ ghost use Rattle.sqlite.specs.Held.{state};
 ghost use Rattle.sqlite.specs.State.{HasCleanDisk};
 ghost use Rattle.dep_types.specs.State.{State};
 ghost use Rattle.dep_types.specs.Writing.{HasRisen};
-ghost use Rattle.dep_types.specs.Conditions.{StandsFor};
+ghost use Rattle.dep_types.specs.Conditions.{StandsFor, HasCleanDisk as HasCleanArchive};
 ghost use Rattle.dep_bag.specs.Source.{StandsStill};
-ghost use Rattle.dep_store.specs.Archive.{condition_of};
 ghost use Rattle.swordd.specs.Examinations.{AuditsDatabase, ExportsInto, ExportsDatabase, without_folder};
 
 use crate::folder::Folder;
 use crate::folder_sink::FolderSink;
 use crate::progress::Progress;
+use dep_bag::BagSource;
 use dep_program::Outcome;
 use dep_store::{Store, Watch, audit_all, export_object};
 use dep_types::Outlet;
@@ -68,19 +68,14 @@ pub fn export_database<S: Alter>(
 }
 
 // The folder is made before the object is looked up.
-fn export_into<S: Alter>(
-    rt: &HostRuntime,
-    store: &mut Store<S>,
-    object: u64,
-    folder: &str,
-) -> Outcome
-    ensures gives { (given : List ℕ) × (HasCleanDisk (state S.Store store.new)
-        → (s : State) → StandsFor (condition_of S.Store store.old) s
+fn export_into<B: BagSource>(rt: &HostRuntime, source: &mut B, object: u64, folder: &str) -> Outcome
+    ensures gives { (given : List ℕ) × (HasCleanArchive (B.condition source.new)
+        → (s : State) → StandsFor (B.condition source.old) s
         → ExportsInto s object given result) }
-    ensures still { StandsStill (condition_of S.Store store.old) (condition_of S.Store store.new) }
+    ensures still { StandsStill (B.condition source.old) (B.condition source.new) }
 {
     match Folder::new(rt, folder) {
-        Ok(folder) => export_object(rt.alloc(), store, object, &mut FolderSink::new(folder)),
+        Ok(folder) => export_object(rt.alloc(), source, object, &mut FolderSink::new(folder)),
         Err(error) => without_folder(error.kind()),
     }
 }

@@ -62,7 +62,8 @@ impl<'a> Folder<'a> {
             self.make_folder(above)?;
         }
         self.turn_to(path)?;
-        self.file = Some(File::create_new(self.rt, self.inside.as_str())?);
+        let file = File::create_new(self.rt, self.inside.as_str())?;
+        drop(self.file.replace(file));
         Ok(())
     }
 

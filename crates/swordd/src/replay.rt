@@ -1,20 +1,21 @@
 //! One connection over a store in memory.
-ghost use Rattle.std.specs.Prelude.{◌≡◌, IfOk};
+ghost use Rattle.std.specs.Prelude.{◌≡◌, [], IfErr, IfOk};
 ghost use Rattle.std.specs.Io.KnownBytes.{Keeps};
-ghost use Rattle.sqlite.specs.Held.{state};
 ghost use Rattle.sqlite.specs.Steps.{over_memory};
 ghost use Rattle.dep_types.specs.State.{empty_state};
-ghost use Rattle.dep_schema.specs.States.{StandsFor};
 ghost use Rattle.dep_hub.specs.Conversation.{wire};
 ghost use Rattle.dep_hub.specs.Flushing.{IsFlushed};
+ghost use Rattle.dep_hub.specs.Standing.{StandsAfter};
 ghost use Rattle.dep_program.specs.Gathering.{told, held_in, given};
-ghost use Rattle.swordd.specs.Replays.{Replays, outcome_of, outcome_sent};
+ghost use Rattle.dep_program.specs.Setup.{program_config};
+ghost use Rattle.dep_archive.specs.Archive.{condition_of};
+ghost use Rattle.swordd.specs.Replays.{IsNotBegun, Replays, outcome_of, outcome_sent};
 
-use dep_hub::{Flush, Hub, HubFault, Served, serve_connection};
+use dep_archive::{HashingStore, open_hub};
+use dep_hub::{Flush, Hub, Served, serve_connection};
 use dep_moment::Moment;
 use dep_program::{Gathered, Outcome, configuration};
-use dep_schema::OpenFault;
-use dep_store::{Store, Unwatched};
+use dep_store::Unwatched;
 use dep_types::Inlet;
 use sqlite::{Connection, MemStore};
 use std::alloc::Global;
@@ -37,21 +38,17 @@ pub fn replay<R: Inlet, W: Flush>(
     ensures flushed { IsFlushed (W.held writer.old) (W.has_failed writer.old)
         → IsFlushed (W.held writer.new) (W.has_failed writer.new) }
 {
-    let Ok(config) = configuration(alloc, base) else {
-        return Outcome::StoreFault;
-    };
-    let Ok(store) = new_store(alloc) else {
-        return Outcome::StoreFault;
-    };
-    let mut hub = match Hub::new(alloc, config, store) {
-        Ok(hub) => hub,
-        Err((HubFault::Config, _)) => return Outcome::Usage,
-        Err((HubFault::Memory, _)) => return Outcome::StoreFault,
-    };
-    let mut clock = move || -> Moment
-        ensures { result ≡ moment }
-    { moment };
-    outcome_of(serve_connection(alloc, reader, writer, &mut hub, &mut clock))
+    match new_hub(alloc, base) {
+        Ok(mut hub) => {
+            let mut clock = move || -> Moment
+                ensures { result ≡ moment }
+            { moment };
+            let served = serve_connection(alloc, reader, writer, &mut hub, &mut clock);
+            drop(hub.into_store().into_store().close());
+            outcome_of(served)
+        }
+        Err(outcome) => outcome,
+    }
 }
 
 /// Replays a connection over an outlet that gathers. It is done only where the writer took all replies.
@@ -77,16 +74,25 @@ pub fn replay_gathered<R: Inlet, W: Write + Drop>(
     outcome_sent(outlet.has_failed(), outcome)
 }
 
-/// A new store in memory.
-fn new_store(alloc: Global) -> Result<Store<MemStore>, OpenFault>
-    ensures { IfOk result (λ store. StandsFor (state over_memory store) empty_state) }
+/// A hub over a new store in memory.
+fn new_hub(alloc: Global, base: &str) -> Result<Hub<HashingStore<MemStore>>, Outcome>
+    ensures config { IfOk result (λ hub. hub.config ≡ program_config base.now) }
+    ensures stands { IfOk result (λ hub. StandsAfter (condition_of over_memory) hub empty_state []) }
+    ensures refused { IfErr result (λ outcome. IsNotBegun base.now outcome) }
 {
-    let Ok(connection) = Connection::open_in_memory(alloc) else {
-        return Err(OpenFault::Memory);
+    let Ok(config) = configuration(alloc, base) else {
+        return Err(Outcome::StoreFault);
     };
-    match Store::open(alloc, connection, &mut Unwatched) {
-        Ok(store) => Ok(store),
-        Err((fault, _)) => Err(fault),
+    let Ok(connection) = Connection::open_in_memory(alloc) else {
+        drop(config);
+        return Err(Outcome::StoreFault);
+    };
+    match open_hub(alloc, config, connection, &mut Unwatched) {
+        Ok(hub) => Ok(hub),
+        Err((fault, connection)) => {
+            drop(connection);
+            Err(fault.outcome())
+        }
     }
 }
 

@@ -8,19 +8,29 @@ use crate::examination::{audit_database, export_database};
 use crate::progress::Progress;
 use crate::service::serve_database;
 use dep_program::Outcome;
+use dep_store::{Work, work_on_file};
 use dep_types::Through;
 use sqlite::{Alter, Connection};
+
+/// A job that is done here.
+#[derive(Drop)]
+struct JobHere<'a> {
+    rt: &'a HostRuntime,
+    job: Job<'a>,
+}
+
+impl Work for JobHere<'_> {
+    fn work<S: Alter>(self, connection: Connection<S>) -> (Outcome, Connection<S>) {
+        worked(self.rt, self.job, connection)
+    }
+}
 
 /// Opens the store in the file, which is made where it isn't there, and does the job. Then the log of the store is
 /// copied into its file.
 pub fn work_on(rt: &HostRuntime, file: &str, job: Job<'_>) -> Outcome {
-    let Ok(connection) = Connection::open(rt, file) else {
-        return Outcome::StoreFault;
-    };
-    let (outcome, connection) = worked(rt, job, connection);
-    match (connection.close(), outcome) {
-        (Err(_), Outcome::Done) => Outcome::StoreFault,
-        (_, outcome) => outcome,
+    match work_on_file(rt, file, JobHere { rt, job }) {
+        Some(outcome) => outcome,
+        None => Outcome::StoreFault,
     }
 }
 

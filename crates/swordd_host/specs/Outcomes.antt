@@ -12,8 +12,3 @@ outcome_at Events false = Done
 outcome_at Events true = TransferFault
 outcome_at Spent is_cut = TransferFault
 outcome_at Shut is_cut = StoreFault
-
--- where all was done, the database has to be closed too
-abbrev pub outcome_closed : Outcome → (is_closed : Bool) → Outcome
-outcome_closed Done false = StoreFault
-outcome_closed outcome is_closed = outcome

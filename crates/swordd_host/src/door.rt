@@ -62,7 +62,7 @@ impl<'a, R: Files + Net + Clock> Door for SocketDoor<'a, R> {
     fn open(&mut self) -> bool {
         match Sockets::listen(self.alloc, self.rt, self.spools, self.address, self.clients) {
             Ok(sockets) => {
-                self.sockets = Some(sockets);
+                drop(self.sockets.replace(sockets));
                 true
             }
             Err(_) => false,

@@ -6,7 +6,7 @@ use std::fmt;
 use std::fs::{self, Files};
 
 /// A folder that a configuration needs isn't there. It is displayed as one line, which begins with the field's name.
-#[derive(Clone, Copy, Debug, PartialEq, Eq)]
+#[derive(Clone, Copy, Debug)]
 pub enum FolderFault {
     /// That in which the database's file stands.
     OfDatabase,
@@ -16,18 +16,11 @@ pub enum FolderFault {
 
 impl fmt::Display for FolderFault {
     fn fmt<W: fmt::Write>(&self, f: &mut fmt::Formatter<W>) -> fmt::Result {
-        match self {
-            FolderFault::OfDatabase => {
-                write!(
-                    f,
-                    "{}: a file in a folder that is there",
-                    Field::Database.name()
-                )
-            }
-            FolderFault::OfSpools => {
-                write!(f, "{}: a folder that is there", Field::SpoolFolder.name())
-            }
-        }
+        let (field, wanted) = match self {
+            FolderFault::OfDatabase => (Field::Database, "a file in a folder that is there"),
+            FolderFault::OfSpools => (Field::SpoolFolder, "a folder that is there"),
+        };
+        write!(f, "{}: {wanted}", field.name())
     }
 }
 
@@ -57,8 +50,8 @@ fn is_folder<R: Files>(files: &R, path: &str) -> bool {
 /// The folder in which a file stands.
 fn folder_of(file: &str) -> &str {
     match file.rsplit_once('/') {
-        Some(("", _)) => "/",
-        Some((folder, _)) => folder,
+        Some((folder, _)) if !folder.is_empty() => folder,
+        Some(_) => "/",
         None => ".",
     }
 }

@@ -15,6 +15,7 @@ use crate::report::print_configuration;
 use crate::service::serve_store;
 use dep_configuration::{Configuration, ConfigurationFault, EXAMPLE, explain};
 use dep_program::Outcome;
+use std::fmt::Display;
 use std::process::ExitCode;
 use std::{env, fs, io};
 
@@ -57,11 +58,19 @@ fn print_example(rt: &HostRuntime) -> Outcome {
 // Prints the configuration, if it can be served.
 fn check_file(rt: &HostRuntime, file: &str) -> Outcome {
     match configuration_in(rt, file) {
-        Ok(configuration) => match print_configuration(&mut rt.stdout(), &configuration) {
-            Ok(()) => Outcome::Done,
-            Err(_) => Outcome::TransferFault,
-        },
+        Ok(configuration) => {
+            let outcome = print_checked(rt, &configuration);
+            drop(configuration);
+            outcome
+        }
         Err(outcome) => outcome,
+    }
+}
+
+fn print_checked(rt: &HostRuntime, configuration: &Configuration) -> Outcome {
+    match print_configuration(&mut rt.stdout(), configuration) {
+        Ok(()) => Outcome::Done,
+        Err(_) => Outcome::TransferFault,
     }
 }
 
@@ -76,24 +85,39 @@ fn serve_file(rt: &HostRuntime, file: &str) -> Outcome {
 // The configuration in a file, whose folders are there. A fault is told, by the field that it is of.
 fn configuration_in(rt: &HostRuntime, file: &str) -> Result<Configuration, Outcome> {
     let Ok(text) = fs::read_to_string(rt, file) else {
-        let _ = eprintln!(rt; "swordd_host: {file}: the file can't be read");
+        tell(rt, file, &"the file can't be read");
         return Err(Outcome::Usage);
     };
-    let configuration = match Configuration::read(rt.alloc(), text.as_str()) {
-        Ok(configuration) => configuration,
+    let read = Configuration::read(rt.alloc(), text.as_str());
+    drop(text);
+    match read {
+        Ok(configuration) => with_folders(rt, file, configuration),
         Err(fault) => {
-            let _ = eprintln!(rt; "swordd_host: {file}: {fault}");
-            return Err(outcome_of(&fault));
+            tell(rt, file, &fault);
+            Err(outcome_of(&fault))
         }
-    };
+    }
+}
+
+// The same configuration, whose folders are there.
+fn with_folders(
+    rt: &HostRuntime,
+    file: &str,
+    configuration: Configuration,
+) -> Result<Configuration, Outcome> {
     match check_folders(rt, &configuration) {
         Ok(()) => Ok(configuration),
         Err(fault) => {
             drop(configuration);
-            let _ = eprintln!(rt; "swordd_host: {file}: {fault}");
+            tell(rt, file, &fault);
             Err(Outcome::Usage)
         }
     }
+}
+
+// Tells what is wrong with a file.
+fn tell<F: Display>(rt: &HostRuntime, file: &str, fault: &F) {
+    let _ = eprintln!(rt; "swordd_host: {file}: {fault}");
 }
 
 // What it comes to where a configuration is refused.
@@ -106,9 +130,5 @@ fn outcome_of(fault: &ConfigurationFault) -> Outcome {
 
 // The words after the program's name.
 fn words(rt: &HostRuntime) -> io::Result<Vec<String>> {
-    let mut words = Vec::new(rt.alloc());
-    for word in env::args(rt)?.skip(1) {
-        words.push(word)?;
-    }
-    Ok(words)
+    Ok(env::args(rt)?.skip(1).collect(rt.alloc())?)
 }

@@ -1,98 +1,67 @@
 //! What a configuration asks for, field by field.
 
-use dep_configuration::{Configuration, Field, Limits};
-use dep_types::Config;
+use dep_configuration::{Configuration, FIELDS, Field};
+use std::fmt;
 use std::io::{self, Write};
+use std::net::IpAddr;
+
+/// The value of a field.
+#[derive(Clone, Copy)]
+enum Given<'a> {
+    Address(IpAddr),
+    Text(&'a str),
+    Flag(bool),
+    Number(u64),
+    /// There is no greatest number.
+    WithoutEnd,
+}
+
+impl fmt::Display for Given<'_> {
+    fn fmt<W: fmt::Write>(&self, f: &mut fmt::Formatter<W>) -> fmt::Result {
+        match self {
+            Given::Address(address) => address.fmt(f),
+            Given::Text(text) => text.fmt(f),
+            Given::Flag(flag) => flag.fmt(f),
+            Given::Number(number) => number.fmt(f),
+            Given::WithoutEnd => f.write_str("without end"),
+        }
+    }
+}
 
 /// Prints each field with its value, also where the file leaves it out.
 pub fn print_configuration<W: Write>(out: &mut W, configuration: &Configuration) -> io::Result<()> {
-    let Configuration {
-        address,
-        port,
-        database,
-        spool_folder,
-        config,
-        limits,
-    } = configuration;
-    writeln!(out, "{}: {address}", Field::Address.name())?;
-    writeln!(out, "{}: {port}", Field::Port.name())?;
-    writeln!(out, "{}: {}", Field::Database.name(), database.as_str())?;
-    writeln!(
-        out,
-        "{}: {}",
-        Field::SpoolFolder.name(),
-        spool_folder.as_str()
-    )?;
-    print_config(out, config)?;
-    print_limits(out, limits)
-}
-
-fn print_config<W: Write>(out: &mut W, config: &Config) -> io::Result<()> {
-    writeln!(out, "{}: {}", Field::Base.name(), config.base.as_str())?;
-    writeln!(out, "{}: {}", Field::Title.name(), config.title.as_str())?;
-    writeln!(
-        out,
-        "{}: {}",
-        Field::Abstract.name(),
-        config.abstract_text.as_str()
-    )?;
-    writeln!(
-        out,
-        "{}: {}",
-        Field::Depositor.name(),
-        config.depositor.as_str()
-    )?;
-    writeln!(out, "{}: {}", Field::OnBehalfOf.name(), config.on_behalf_of)?;
-    writeln!(
-        out,
-        "{}: {}",
-        Field::RequireIfMatch.name(),
-        config.require_if_match
-    )?;
-    writeln!(out, "{}: {}", Field::MaxUpload.name(), config.max_upload)?;
-    writeln!(
-        out,
-        "{}: {}",
-        Field::MaxAssembled.name(),
-        config.max_assembled
-    )?;
-    writeln!(
-        out,
-        "{}: {}",
-        Field::MaxSegments.name(),
-        config.max_segments
-    )?;
-    writeln!(
-        out,
-        "{}: {}",
-        Field::StagingMaxIdle.name(),
-        config.staging_max_idle
-    )
-}
-
-fn print_limits<W: Write>(out: &mut W, limits: &Limits) -> io::Result<()> {
-    writeln!(
-        out,
-        "{}: {}",
-        Field::IdleSeconds.name(),
-        limits.idle_seconds
-    )?;
-    writeln!(out, "{}: {}", Field::LeastRate.name(), limits.least_rate)?;
-    match limits.connections {
-        Some(connections) => writeln!(out, "{}: {connections}", Field::Connections.name())?,
-        None => writeln!(out, "{}: without end", Field::Connections.name())?,
+    for field in &FIELDS {
+        writeln!(out, "{}: {}", field.name(), value_of(configuration, *field))?;
     }
-    writeln!(
-        out,
-        "{}: {}",
-        Field::AddressConnections.name(),
-        limits.address_connections
-    )?;
-    writeln!(out, "{}: {}", Field::SpoolBytes.name(), limits.spool_bytes)?;
-    writeln!(
-        out,
-        "{}: {}",
-        Field::UnfinishedBytes.name(),
-        limits.unfinished_bytes
-    )
+    Ok(())
+}
+
+fn value_of<'a>(configuration: &'a Configuration, field: Field) -> Given<'a> {
+    let config = &configuration.config;
+    let limits = &configuration.limits;
+    match field {
+        Field::Address => Given::Address(configuration.address),
+        Field::Port => Given::Number(u64::from(configuration.port)),
+        Field::Database => Given::Text(configuration.database.as_str()),
+        Field::SpoolFolder => Given::Text(configuration.spool_folder.as_str()),
+        Field::Base => Given::Text(config.base.as_str()),
+        Field::Title => Given::Text(config.title.as_str()),
+        Field::Abstract => Given::Text(config.abstract_text.as_str()),
+        Field::Depositor => Given::Text(config.depositor.as_str()),
+        Field::OnBehalfOf => Given::Flag(config.on_behalf_of),
+        Field::RequireIfMatch => Given::Flag(config.require_if_match),
+        Field::MaxUpload => Given::Number(config.max_upload),
+        Field::MaxAssembled => Given::Number(config.max_assembled),
+        Field::MaxSegments => Given::Number(config.max_segments),
+        Field::StagingMaxIdle => Given::Number(config.staging_max_idle),
+        Field::IdleSeconds => Given::Number(limits.idle_seconds),
+        Field::LeastRate => Given::Number(limits.least_rate),
+        Field::Connections => match limits.connections {
+            Some(connections) => Given::Number(connections),
+            None => Given::WithoutEnd,
+        },
+        Field::AddressConnections => Given::Number(limits.address_connections),
+        Field::SpoolBytes => Given::Number(limits.spool_bytes),
+        Field::UnfinishedBytes => Given::Number(limits.unfinished_bytes),
+    }
 }

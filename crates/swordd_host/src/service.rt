@@ -3,11 +3,12 @@ ghost use Rattle.std.specs.Prelude.{◌≡◌, false, List};
 ghost use Rattle.sqlite.specs.Held.{state};
 ghost use Rattle.dep_host.specs.Hosting.{Deed};
 ghost use Rattle.swordd_host.specs.Hosted.{EndsHub, HostsDatabase};
-ghost use Rattle.swordd_host.specs.Outcomes.{outcome_at, outcome_closed};
+ghost use Rattle.swordd_host.specs.Outcomes.{outcome_at};
 
 use crate::door::{Door, SocketDoor};
 use crate::host_log::StandardErrorLog;
 use crate::start::{microseconds_since, write_start};
+use dep_archive::{HashingStore, open_hub};
 use dep_configuration::{Configuration, Limits};
 use dep_host::laws::hosts_make_a_run;
 use dep_host::{Ended, Events, Host, serve};
@@ -16,8 +17,8 @@ use dep_hub::{Archive, Hub};
 use dep_outbox::{Sink, Source, Spool};
 use dep_program::Outcome;
 use dep_sockets::Spools;
-use dep_store::{Store, Unwatched, open_hub};
-use dep_types::Config;
+use dep_store::{Unwatched, Work, work_on_file};
+use dep_types::{Config, Text};
 use sqlite::{Alter, Connection};
 use std::net::SocketAddr;
 use std::process;
@@ -27,13 +28,21 @@ use std::time::Instant;
 const MOST_READ: usize = 65_536;
 
 /// Where clients come from, and what bounds their connections.
-#[derive(Clone, Copy)]
-struct Place<'a> {
+#[derive(Drop)]
+struct Place {
     address: SocketAddr,
-    spool_folder: &'a str,
+    spool_folder: Text,
     limits: Limits,
     /// When the opening of the database began.
     begun: Option<Instant>,
+}
+
+/// What serves the store in a database.
+#[derive(Drop)]
+struct Service<'a> {
+    rt: &'a HostRuntime,
+    place: Place,
+    config: Config,
 }
 
 /// Opens the store of the configuration, which is made where it isn't there, and serves all its clients. Then the log
@@ -49,49 +58,31 @@ pub fn serve_store(rt: &HostRuntime, configuration: Configuration) -> Outcome {
     } = configuration;
     let place = Place {
         address: SocketAddr::new(address, port),
-        spool_folder: spool_folder.as_str(),
+        spool_folder,
         limits,
         begun: Instant::now(rt).ok(),
     };
-    let Ok(connection) = Connection::open(rt, database.as_str()) else {
-        let _ = eprintln!(rt; "swordd_host: the database can't be opened");
-        drop(config);
-        return Outcome::StoreFault;
-    };
-    let (outcome, connection) = serve_at(rt, &place, config, connection);
-    let is_closed = match connection.close() {
-        Ok(_) => true,
-        Err(_) => false,
-    };
-    outcome_closed(outcome, is_closed)
-}
-
-/// What it comes to once the database is handed back, and was closed or not.
-fn outcome_closed(outcome: Outcome, is_closed: bool) -> Outcome
-    ensures { result ≡ outcome_closed outcome is_closed }
-{
-    match outcome {
-        Outcome::Done if !is_closed => Outcome::StoreFault,
-        _ => outcome,
+    match work_on_file(rt, database.as_str(), Service { rt, place, config }) {
+        Some(outcome) => outcome,
+        None => {
+            let _ = eprintln!(rt; "swordd_host: the database can't be opened");
+            Outcome::StoreFault
+        }
     }
 }
 
-/// Serves whoever connects at the place, and hands the database back.
-fn serve_at<S: Alter>(
-    rt: &HostRuntime,
-    place: &Place<'_>,
-    config: Config,
-    connection: Connection<S>,
-) -> (Outcome, Connection<S>)
-    requires settled { (state S.Store connection).in_transaction ≡ false }
-{
-    let alloc = rt.alloc();
-    let process = process::id(rt.process());
-    let most = place.limits.spool_bytes;
-    let clients = place.limits.connections.unwrap_or(u64::MAX);
-    let spools = Spools::new(alloc, rt, place.spool_folder, process, most);
-    let mut door = SocketDoor::new(alloc, rt, &spools, place.address, clients);
-    serve_database(rt, place, config, connection, &mut door)
+impl Work for Service<'_> {
+    // Serves whoever connects at the place.
+    fn work<S: Alter>(self, connection: Connection<S>) -> (Outcome, Connection<S>) {
+        let Service { rt, place, config } = self;
+        let alloc = rt.alloc();
+        let process = process::id(rt.process());
+        let most = place.limits.spool_bytes;
+        let clients = place.limits.connections.unwrap_or(u64::MAX);
+        let spools = Spools::new(alloc, rt, place.spool_folder.as_str(), process, most);
+        let mut door = SocketDoor::new(alloc, rt, &spools, place.address, clients);
+        serve_database(rt, &place, config, connection, &mut door)
+    }
 }
 
 /// Opens the store in the database, serves whoever comes by the door, and hands the database back.
@@ -103,7 +94,7 @@ fn serve_database<
     E: Events<R, K, P> + Door,
 >(
     rt: &HostRuntime,
-    place: &Place<'_>,
+    place: &Place,
     config: Config,
     connection: Connection<S>,
     door: &mut E,
@@ -112,12 +103,12 @@ fn serve_database<
     ensures hosts { HostsDatabase S.Store R.unread K.taken P.held (E.is_over door.new) (E.is_cut door.new)
         config connection result.1 result.0 }
 {
-    nothing_held::<Store<S>>();
-    hosts_make_a_run::<Store<S>, R, K, P>();
+    nothing_held::<HashingStore<S>>();
+    hosts_make_a_run::<HashingStore<S>, R, K, P>();
     match open_hub(rt.alloc(), config, connection, &mut Unwatched) {
         Ok(hub) => {
-            let (outcome, store) = serve_hub(rt, place, hub, door);
-            (outcome, store.close())
+            let (outcome, archive) = serve_hub(rt, place, hub, door);
+            (outcome, archive.into_store().close())
         }
         Err((fault, connection)) => {
             let _ = eprintln!(rt; "swordd_host: {fault}");
@@ -133,7 +124,7 @@ fn serve_hub<
     K: Sink + Drop,
     P: Spool + Drop,
     E: Events<R, K, P> + Door,
->(rt: &HostRuntime, place: &Place<'_>, hub: Hub<A>, door: &mut E) -> (Outcome, A)
+>(rt: &HostRuntime, place: &Place, hub: Hub<A>, door: &mut E) -> (Outcome, A)
     ensures ends { (deeds : List Deed) × EndsHub A.condition R.unread K.taken P.held (E.is_over door.new)
         (E.is_cut door.new) hub result.1 deeds result.0 }
 {

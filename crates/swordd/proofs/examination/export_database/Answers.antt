@@ -10,8 +10,8 @@ returns-in-Ok-clause-exports g c =
     let run = c.export_into-outcome in
     let it = run.ensures.gives in
     subst (λ (h : Held _). ExportsDatabase (state g.S.Store c.args.connection) (state g.S.Store h) c.args.object run.result) (sym c.close.ensures)
-    (exports_into (state g.S.Store c.args.connection) (state g.S.Store c.in-Ok.store) (state g.S.Store run.new.store)
-    (λ is_open. clean_if_open (g.S.Store.view run.new.store.store) (g.met.S.Store.shut_if_dirty run.new.store.store) is_open)
+    (exports_into (state g.S.Store c.args.connection) (state g.S.Store c.in-Ok.store) (state g.S.Store run.new.source)
+    (λ is_open. clean_if_open (g.S.Store.view run.new.source.store) (g.met.S.Store.shut_if_dirty run.new.source.store) is_open)
     run.ensures.still.honest_before c.in-Ok.ensures.fresh c.in-Ok.ensures.found c.args.object it.0 run.result it.1 run.ensures.still.stays run.ensures.still.stop)
 
 pub returns-in-Err-clause-exports : goal.returns-in-Err-clause-exports

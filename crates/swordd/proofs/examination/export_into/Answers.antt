@@ -1,5 +1,4 @@
 use Rattle.std.proofs.Common.{[], inl, sym, subst}
-use Rattle.sqlite.specs.Held.{state}
 use Rattle.dep_program.specs.declared.outcome.Outcome.{Outcome}
 use Rattle.swordd.specs.Examinations.{ExportsInto}
 use Rattle.swordd.proofs.ExaminationLemmas.{unfilled, rests}
@@ -14,5 +13,4 @@ returns-in-Err-clause-gives g c =
     ([], λ clean s at. subst (λ (o : Outcome). ExportsInto s c.args.object [] o) (sym c.without_folder.ensures) (unfilled s c.args.object c.kind.result))
 
 pub returns-in-Err-clause-still : goal.returns-in-Err-clause-still
-returns-in-Err-clause-still g c =
-    rests (state g.S.Store c.args.store.now) (λ is_open trees may. g.met.S.Store.settled c.args.store.now.store trees is_open may)
+returns-in-Err-clause-still g c = rests (g.B.BagSource.condition c.args.source.now) (g.met.B.BagSource.settled c.args.source.now)
