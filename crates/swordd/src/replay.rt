@@ -79,11 +79,11 @@ fn new_hub(alloc: Global, base: &str) -> Result<Hub<Store<MemStore>>, Outcome>
     ensures stands { IfOk result (λ hub. StandsAfter (condition_of over_memory) hub empty_state []) }
     ensures refused { IfErr result (λ outcome. IsNotBegun base.now outcome) }
 {
-    let Ok(config) = configuration(alloc, base) else {
+    let Ok(connection) = Connection::open_in_memory(alloc) else {
         return Err(Outcome::StoreFault);
     };
-    let Ok(connection) = Connection::open_in_memory(alloc) else {
-        drop(config);
+    let Ok(config) = configuration(alloc, base) else {
+        drop(connection);
         return Err(Outcome::StoreFault);
     };
     match open_hub(alloc, config, connection, &mut Unwatched) {

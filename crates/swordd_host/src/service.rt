@@ -2,7 +2,7 @@
 ghost use Rattle.std.specs.Prelude.{◌≡◌, false, List};
 ghost use Rattle.sqlite.specs.Held.{state};
 ghost use Rattle.dep_host.specs.Hosting.{Deed};
-ghost use Rattle.swordd_host.specs.Hosted.{EndsHub, HostsDatabase};
+ghost use Rattle.swordd_host.specs.Hosted.{EndsHub, HostsDatabase, WentOn};
 ghost use Rattle.swordd_host.specs.Outcomes.{outcome_at};
 
 use crate::door::{Door, SocketDoor};
@@ -16,7 +16,7 @@ use dep_hub::{Archive, Hub};
 use dep_outbox::{Sink, Source, Spool};
 use dep_program::Outcome;
 use dep_sockets::Spools;
-use dep_store::{Store, Unwatched, Work, open_hub, work_on_file};
+use dep_store::{Unwatched, Work, open_hub, work_on_file};
 use dep_types::{Config, Text};
 use sqlite::{Alter, Connection};
 use std::net::SocketAddr;
@@ -102,8 +102,6 @@ fn serve_database<
     ensures hosts { HostsDatabase S.Store R.unread K.taken P.held (E.is_over door.new) (E.is_cut door.new)
         config connection result.1 result.0 }
 {
-    nothing_held::<Store<S>>();
-    hosts_make_a_run::<Store<S>, R, K, P>();
     match open_hub(rt.alloc(), config, connection, &mut Unwatched) {
         Ok(hub) => {
             let (outcome, store) = serve_hub(rt, place, hub, door);
@@ -125,8 +123,10 @@ fn serve_hub<
     E: Events<R, K, P> + Door,
 >(rt: &HostRuntime, place: &Place, hub: Hub<A>, door: &mut E) -> (Outcome, A)
     ensures ends { (deeds : List Deed) × EndsHub A.condition R.unread K.taken P.held (E.is_over door.new)
-        (E.is_cut door.new) hub result.1 deeds result.0 }
+        (E.is_cut door.new) hub result.1 deeds result.0 × WentOn A.condition hub result.1 deeds }
 {
+    nothing_held::<A>();
+    hosts_make_a_run::<A, R, K, P>();
     let opened = microseconds_since(rt, place.begun);
     let mut host = match Host::new(rt.alloc(), hub, host_limits(&place.limits)) {
         Ok(host) => host,
