@@ -10,3 +10,4 @@ pub mod WrittenOut
 pub mod Present
 pub mod Changed
 pub mod RefusedSteps
+pub mod SegmentsStay

@@ -14,6 +14,7 @@ media_of (Document bytes) = codes "application/json"
 media_of (PlainText bytes) = codes "text/plain; charset=utf-8"
 media_of (StoredContent media bytes) = media
 
+-- what is sent behind the head
 abbrev pub bytes_of : ReplyContent → List ℕ
 bytes_of (Document bytes) = bytes
 bytes_of (PlainText bytes) = bytes

@@ -20,6 +20,7 @@ pub record Stepped : Type 0 where
   pub stored : List ℕ
   pub closes : Bool
 
+-- all that is sent for a step
 abbrev pub sent_by : Stepped → List ℕ
 sent_by stepped = stepped.front ++ stepped.stored
 
@@ -57,5 +58,6 @@ abbrev pub step_by : Config → State → Operation → Option Refusal → Stepp
 step_by config s op None = accepted_step config s op (effect config s op)
 step_by config s op (Some r) = refused_step s r None (is_head op.target.method) op.closes
 
+-- a request is refused by the first rule that it breaks, and else has its effect
 unfoldable pub operation_step : Config → State → Operation → Stepped
 operation_step config s op = step_by config s op (refusal config s op)

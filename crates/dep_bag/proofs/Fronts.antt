@@ -2,7 +2,15 @@
 use Rattle.std.proofs.Common.{◌≡◌, ◌≢◌, ℕ, Bool, true, false, List, [], ◌∷◌, ◌++◌, Option, Some, None, Bor, MatchOption, refl, sym, ap, ◌∙◌, append_assoc, codes, bytes_eq, T}
 use Rattle.std.proofs.Math.Dec.{eqb_refl}
 use Rattle.std.proofs.lemmas.List.{append_cancel_left}
+use Rattle.std.specs.Option.{option_copied}
+use Rattle.dep_bag.specs.Fronts.{IsBehind}
 use Rattle.dep_bag.specs.Parts.{in_folder}
+
+-- of what is lent
+pub behind_lent : (front_with : List ℕ → List ℕ) (text : List ℕ) (r : Option (Bor (List ℕ)))
+    → MatchOption r ((rest : List ℕ) → text ≢ front_with rest) (λ rest. text ≡ front_with rest.now) → IsBehind front_with text (option_copied r)
+behind_lent front_with text None h = h
+behind_lent front_with text (Some rest) h = h
 
 regroup : (number rest : List ℕ) → (codes "data/" ++ number) ++ (codes "/" ++ rest) ≡ in_folder number rest
 regroup number rest = simp append_assoc
@@ -12,8 +20,7 @@ joined path folder behind number e g = e ∙ ap (λ l. codes "data/" ++ l) g ∙
 
 -- a folder, a number, and what stands behind the slash after it
 pub stripped : (path folder behind number : List ℕ) (r : Option (Bor (List ℕ))) → path ≡ codes "data/" ++ folder → folder ≡ number ++ behind
-    → MatchOption r ((rest : List ℕ) → behind ≢ codes "/" ++ rest) (λ rest. behind ≡ codes "/" ++ rest.now)
-    → MatchOption r ((name : List ℕ) → path ≢ in_folder number name) (λ name. path ≡ in_folder number name.now)
+    → IsBehind (λ rest. codes "/" ++ rest) behind (option_copied r) → IsBehind (in_folder number) path (option_copied r)
 stripped path folder behind number None e g h = λ name same.
     h name (append_cancel_left (codes "data/" ++ number) behind (codes "/" ++ name) (sym (joined path folder behind number e g) ∙ same ∙ sym (regroup number name)))
 stripped path folder behind number (Some rest) e g h =

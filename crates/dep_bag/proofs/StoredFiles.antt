@@ -1,17 +1,23 @@
 -- A file as a source streams it.
 use Rattle.std.proofs.Common.{◌≡◌, ◌⊎◌, inl, inr, ℕ, List, [], ◌++◌, Some, refl, sym, ap, subst, ◌∙◌}
 use Rattle.std.specs.Prelude.{Result, Err}
+use Rattle.std.specs.Result.{IsErrAnd}
+use Rattle.std.specs.Io.KnownBytes.{Appends}
 use Rattle.dep_types.specs.State.{State, File, file_at}
+use Rattle.dep_types.specs.Conditions.{Condition, StandsFor, Leaves}
 use Rattle.dep_types.specs.Sound.{IsSound}
+use Rattle.dep_types.specs.declared.rows.FileRow.{FileRow}
 use Rattle.dep_types.specs.Sinks.{IsFront, file_begun, file_ended, file_given}
 use Rattle.dep_types.specs.Streams.{HasContent, HasNoFile, IsPartOfContent, IsStreamed}
 use Rattle.dep_types.specs.declared.stream_fault.StreamFault.{StreamFault}
 use Rattle.dep_types.specs.declared.stream_fault.StreamFault.TheVariants.{Writer, Store, Memory, NoSuchFile}
 use Rattle.dep_types.specs.Writing.{HasRisen}
-use Rattle.dep_bag.specs.Giving.{IsGivenAt, IsCausedBy, unsent_fault}
+use Rattle.dep_bag.specs.Parts.{row_path}
+use Rattle.dep_bag.specs.Giving.{IsGivenAt, IsCausedBy, SinkState, IsStreamedTo, IsContentGiven, unsent_fault}
 use Rattle.dep_bag.specs.declared.export_fault.ExportFault.{ExportFault}
 use Rattle.dep_bag.specs.declared.export_fault.ExportFault.TheVariants as export
-use Rattle.dep_bag.proofs.GivenParts.{file_front, whole_front}
+use Rattle.dep_bag.proofs.GivenParts.{IsOurs, cause_passed, err_keeps, faulty, file_front, nothing_front, ours_there, whole_front}
+use Rattle.dep_bag.proofs.Still.{unchanged}
 
 same_file : (x y : File) → Some x ≡ Some y → x ≡ y
 same_file x y e = cc
@@ -73,3 +79,16 @@ unsent_there Writer is = cc
 unsent_there Store is = cc
 unsent_there Memory is = cc
 unsent_there NoSuchFile is = cc
+
+-- a fault before the source was asked
+pub none_streamed : {X : Type 0} (c : Condition) → ((s : State) → StandsFor c s → Leaves c (λ left. left ≡ s)) → (a b : SinkState) (row : FileRow) (r : Result X ExportFault)
+    (e : ExportFault) → Appends a.taken b.taken [] → IsCausedBy e a.failures b.failures → IsErrAnd r (λ x. x ≡ e) → IsOurs e → IsStreamedTo c c a b (IsContentGiven row) r
+none_streamed c settled a b row r e adds cause err ours = record {
+  given = [];
+  appends = adds;
+  is = λ clean s at bytes has. faulty r e (file_given (row_path row, bytes)) [] err ours (nothing_front (file_given (row_path row, bytes)));
+  cause = cause_passed a.failures a.failures b.failures r e refl cause err;
+  kept = λ clean s at. err_keeps r e (StandsFor c s) err;
+  still = unchanged c settled;
+  there = ours_there r e err ours;
+}

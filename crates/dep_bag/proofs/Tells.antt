@@ -7,12 +7,11 @@ use Rattle.std.specs.FinMap.Entries.{find}
 use Rattle.std.specs.FinMap as finmap
 use Rattle.std.proofs.lemmas.List.Elements.{All-cons, All-nil, All-map, All-weaker, All-contains, All-contains_itself, Contains-append_right}
 use Rattle.std.proofs.lemmas.List.Sorted.{Contains-permutation}
-use Rattle.hex.specs.Hex.{decode_sized}
 use Rattle.dep_types.specs.Sinks.{Entry}
 use Rattle.dep_manifest.specs.Manifest.{digest_by, encoded_path}
 use Rattle.dep_manifest.specs.declared.algorithm.Algorithm.{Algorithm}
 use Rattle.dep_bag.specs.Bag.{Bag}
-use Rattle.dep_bag.specs.Valid.{Line, IsValidBag, IsChecked, is_payload, payload_in}
+use Rattle.dep_bag.specs.Valid.{Line, IsValidBag, TellsFile, IsChecked, is_payload, payload_in}
 use Rattle.dep_manifest.proofs.Encoding.{encoding_injective}
 use Rattle.dep_bag.proofs.Files.{order}
 
@@ -56,7 +55,7 @@ all_from : {X Y : Type 0} (f : X → Y) (xs : List X) → All (λ y. (x : X) × 
 all_from f xs = All-map (λ y. (x : _) × Contains xs x × (f x ≡ y)) f xs (All-weaker (Contains xs) (λ z. (x : _) × Contains xs x × (f x ≡ f z)) (λ z h. (z, h, refl)) xs (All-contains_itself xs))
 
 pub tells : (b : Bag) (valid : IsValidBag b) (a : Algorithm) (path bytes : List ℕ) → is_payload path ≡ true → finmap.get b.files path ≡ Some bytes
-    → (line : Line) × Contains (valid.manifest a).lines line × (line.path ≡ encoded_path path) × (decode_sized line.digits (digest_by a).size ≡ Ok ((digest_by a).of bytes))
+    → TellsFile (digest_by a) (valid.manifest a).lines path bytes
 tells b valid a path bytes below got =
     let manifest = valid.manifest a in
     let entry : Entry = (path, bytes) in
@@ -70,4 +69,9 @@ tells b valid a path bytes below got =
     let check : IsChecked (digest_by a) b found.0 = All-contains (IsChecked (digest_by a) b) manifest.lines found.0 manifest.has.checked found.1 in
     let same : check.path ≡ path = encoding_injective check.path path (sym check.named ∙ found.2) in
     let held : Some check.bytes ≡ Some bytes = sym check.held ∙ ap (finmap.get b.files) same ∙ got in
-    (found.0, found.1, found.2, check.checksum ∙ ap (λ x. Ok ((digest_by a).of x)) (same_value check.bytes bytes held))
+    record {
+      line = found.0;
+      among = found.1;
+      named = found.2;
+      checksum = check.checksum ∙ ap (λ x. Ok ((digest_by a).of x)) (same_value check.bytes bytes held);
+    }

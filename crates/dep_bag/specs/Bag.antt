@@ -1,5 +1,5 @@
 -- The bag of an object: its folder, and its files by path (RFC 8493).
-use Rattle.std.specs.Prelude.{ℕ, List, [], ◌∷◌, ◌++◌, length, map, min, sum_by, codes, decimal, flat_map, Option, option_map}
+use Rattle.std.specs.Prelude.{◌≡◌, ℕ, List, [], ◌∷◌, ◌++◌, length, map, min, sum_by, codes, decimal, flat_map, All, Option, Some, option_map}
 use Rattle.std.specs.FinMap as finmap
 use Rattle.dep_types.specs.Maps.{Named}
 use Rattle.dep_types.specs.State.{State, Object}
@@ -17,6 +17,7 @@ pub record Bag : Type 0 where
   pub folders : List (List ℕ)
   pub files : Named (List ℕ)
 
+-- the text of `bagit.txt`
 abbrev pub bagit_text : List ℕ
 bagit_text = codes "BagIt-Version: 1.0\nTag-File-Character-Encoding: UTF-8\n"
 
@@ -24,6 +25,7 @@ bagit_text = codes "BagIt-Version: 1.0\nTag-File-Character-Encoding: UTF-8\n"
 abbrev pub oxum_text : (octets count : ℕ) → List ℕ
 oxum_text octets count = decimal octets ++ codes "." ++ decimal count
 
+-- of these files
 abbrev pub oxum : List Entry → List ℕ
 oxum files = oxum_text (sum_by (λ f. length f.1) files) (length files)
 
@@ -33,6 +35,7 @@ info_text changed payload_oxum =
     codes "Bagging-Date: " ++ day_text (min changed greatest_moment) ++ codes "\nPayload-Oxum: "
     ++ payload_oxum ++ codes "\n"
 
+-- the files of an object, by the paths of their bag
 abbrev pub payload : Object → List Entry
 payload o = map (λ e. (payload_path e.0 e.1.name, e.1.content)) (finmap.entries o.files)
 
@@ -69,8 +72,13 @@ tag_files o = listed_files o ++ tag_manifest Sha256 o ∷ tag_manifest Sha512 o 
 unfoldable pub bag_files : Object → List Entry
 bag_files o = tag_files o ++ payload o
 
+-- the folder of the payload, and the files by their paths
 abbrev pub bag_of : Object → Bag
 bag_of o = record { folders = codes "data" ∷ []; files = finmap.from_entries (bag_files o) }
+
+-- the bag holds each of these files
+abbrev pub HoldsAll : Bag → List Entry → Type 0
+HoldsAll b files = All (λ f. finmap.get b.files f.0 ≡ Some f.1) files
 
 -- the bag of the object with this number
 abbrev pub bag_at : State → ℕ → Option Bag

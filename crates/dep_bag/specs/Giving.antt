@@ -1,7 +1,8 @@
 -- How files are given to a sink, one after another.
-use Rattle.std.specs.Prelude.{◌≡◌, ℕ, List, [], ◌∷◌, ◌++◌, flat_map, codes, Option, Result, Ok, Err, ⊤}
+use Rattle.std.specs.Prelude.{◌≡◌, ◌≢◌, ℕ, List, [], ◌∷◌, ◌++◌, flat_map, codes, Option, Result, Ok, Err, ⊤}
 use Rattle.std.specs.Io.KnownBytes.{Appends}
 use Rattle.dep_types.specs.State.{State}
+use Rattle.dep_types.specs.Conditions.{Condition}
 use Rattle.dep_types.specs.Writing.{HasRisen}
 use Rattle.dep_types.specs.Sinks.{Entry, folder_made, file_given, IsFront}
 use Rattle.dep_types.specs.declared.rows.FileRow.{FileRow}
@@ -9,7 +10,8 @@ use Rattle.dep_types.specs.declared.rows.ObjectView.{ObjectView}
 use Rattle.dep_types.specs.Streams.{HasContent}
 use Rattle.dep_types.specs.declared.stream_fault.StreamFault.{StreamFault}
 use Rattle.dep_types.specs.declared.stream_fault.StreamFault.TheVariants as stream
-use Rattle.dep_bag.specs.Parts.{row_path, told_listed, told_tag_files}
+use Rattle.dep_bag.specs.Parts.{row_path, told_listed, told_tag_files, told_tag_manifests}
+use Rattle.dep_bag.specs.Source.{OfEachState, KeepsStanding, StandsStill}
 use Rattle.dep_bag.specs.declared.export_fault.ExportFault.{ExportFault}
 use Rattle.dep_bag.specs.declared.export_fault.ExportFault.TheVariants.{NoSuchObject, Sink, Store, Memory}
 
@@ -25,11 +27,6 @@ abbrev pub IsGiven : {X : Type 0} → (whole given : List ℕ) → Result X Expo
 IsGiven whole given (Ok x) = given ≡ whole
 IsGiven whole given (Err fault) = IsGivenAt fault whole given
 
-abbrev pub Gives : {X : Type 0} → Option (List ℕ) → Option (List ℕ) → (whole : List ℕ)
-    → Result X ExportFault → Type 0
-Gives before after whole result =
-    (given : List ℕ) × Appends before after given × IsGiven whole given result
-
 -- the sink's count of failures rose where the fault is the sink's, and stayed at any other
 abbrev pub IsCausedBy : ExportFault → (failures failures_after : ℕ) → Type 0
 IsCausedBy Sink failures failures_after = HasRisen failures failures_after
@@ -42,6 +39,49 @@ abbrev pub HasCause : {X : Type 0} → Result X ExportFault → (failures failur
 HasCause (Ok x) failures failures_after = failures_after ≡ failures
 HasCause (Err fault) failures failures_after = IsCausedBy fault failures failures_after
 
+-- what is told of a sink: what it took, where it tells it, and how many of its writes failed
+pub record SinkState : Type 0 where
+  pub taken : Option (List ℕ)
+  pub failures : ℕ
+
+-- all of it was given, or after a fault, which has its cause, a front of it
+pub record IsGivenTo {X : Type 0} (old new : SinkState) (whole : List ℕ)
+    (result : Result X ExportFault) : Type 0 where
+  pub given : List ℕ
+  pub appends : Appends old.taken new.taken given
+  pub is : IsGiven whole given result
+  pub cause : HasCause result old.failures new.failures
+
+-- What was given as a source streams it: it is so in each state for which the source stood, and a
+-- fault, which isn't that the object isn't there, has its cause. The source stands still.
+pub record IsStreamedTo {X : Type 0} (stood stands : Condition) (old new : SinkState)
+    (holds : State → (given : List ℕ) → Result X ExportFault → Type 0)
+    (result : Result X ExportFault) : Type 0 where
+  pub given : List ℕ
+  pub appends : Appends old.taken new.taken given
+  pub is : OfEachState stood stands (λ s. holds s given result)
+  pub cause : HasCause result old.failures new.failures
+  pub kept : KeepsStanding stood stands result
+  pub still : StandsStill stood stands
+  pub there : result ≢ Err NoSuchObject
+
+module _ {K : Type 0} (taken : K → Option (List ℕ)) (failures : K → ℕ) where
+  -- what a sink tells of itself
+  abbrev pub state_of : K → SinkState
+  state_of sink = record { taken = taken sink; failures = failures sink }
+
+  -- this was given to a sink
+  abbrev pub Gives : {X : Type 0} → (old new : K) → (whole : List ℕ) → Result X ExportFault
+      → Type 0
+  Gives old new whole result = IsGivenTo (state_of old) (state_of new) whole result
+
+  -- and this as a source streams it
+  abbrev pub Streams : {X S : Type 0} → (S → Condition) → (stood stands : S) → (old new : K)
+      → (State → (given : List ℕ) → Result X ExportFault → Type 0) → Result X ExportFault
+      → Type 0
+  Streams condition stood stands old new holds result = IsStreamedTo (condition stood)
+      (condition stands) (state_of old) (state_of new) holds result
+
 -- the folder of the payload, and the files that a tag manifest names
 abbrev pub listed_transcript : ObjectView → List ℕ
 listed_transcript view = folder_made (codes "data") ++ flat_map file_given (told_listed view)
@@ -49,6 +89,10 @@ listed_transcript view = folder_made (codes "data") ++ flat_map file_given (told
 -- the folder of the payload, and the files that are not payload
 abbrev pub tag_transcript : ObjectView → List ℕ
 tag_transcript view = folder_made (codes "data") ++ flat_map file_given (told_tag_files view)
+
+-- the tag manifests
+abbrev pub manifests_transcript : ObjectView → List ℕ
+manifests_transcript view = flat_map file_given (told_tag_manifests view)
 
 -- why an export ends where a content was not sent
 abbrev pub unsent_fault : StreamFault → ExportFault
@@ -64,3 +108,15 @@ AreFilesOf s [] (file ∷ files) = ⊥
 AreFilesOf s (row ∷ rows) [] = ⊥
 AreFilesOf s (row ∷ rows) (file ∷ files) =
     (file.0 ≡ row_path row) × HasContent s row.file file.1 × AreFilesOf s rows files
+
+-- the content of the file of a row was given
+abbrev pub IsContentGiven : {X : Type 0} → FileRow → State → (given : List ℕ)
+    → Result X ExportFault → Type 0
+IsContentGiven row s given result = (bytes : List ℕ) → HasContent s row.file bytes
+    → IsGiven (file_given (row_path row, bytes)) given result
+
+-- the files of the rows were given
+abbrev pub AreContentsGiven : {X : Type 0} → List FileRow → State → (given : List ℕ)
+    → Result X ExportFault → Type 0
+AreContentsGiven rows s given result = (files : List Entry) → AreFilesOf s rows files
+    → IsGiven (flat_map file_given files) given result

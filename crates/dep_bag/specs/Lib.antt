@@ -7,3 +7,5 @@ pub mod Source
 pub mod ExportFaults
 pub mod Giving
 pub mod Exports
+pub mod Fronts
+pub mod ExampleBags

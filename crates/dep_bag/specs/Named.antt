@@ -5,5 +5,6 @@ use Rattle.std.specs.Prelude.{ℕ, ◌==◌, List, [], ◌∷◌, flat_map, code
 abbrev pub percent_byte : ℕ → List ℕ
 percent_byte b = if b == 37 then codes "%25" else b ∷ []
 
+-- a path with its percent signs written so
 abbrev pub percent_encoded : List ℕ → List ℕ
 percent_encoded path = flat_map percent_byte path

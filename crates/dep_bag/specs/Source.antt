@@ -1,5 +1,6 @@
 -- What a source of bags tells of a state.
-use Rattle.std.specs.Prelude.{◌≡◌, ℕ, Option, option_map, Result, OnOk, IsTrue}
+use Rattle.std.specs.Prelude.{◌≡◌, ℕ, List, Option, option_map, Result, OnOk, IfOk, IsTrue}
+use Rattle.std.specs.Io.KnownBytes.{Appends}
 use Rattle.std.specs.FinMap as map
 use Rattle.dep_types.specs.State.{State}
 use Rattle.dep_types.specs.Conditions.{Condition, StandsFor, HasCleanDisk, Leaves}
@@ -10,10 +11,23 @@ use Rattle.dep_types.specs.declared.rows.ObjectView.{ObjectView}
 abbrev pub view_at : State → ℕ → Option ObjectView
 view_at s n = option_map (object_view n) (map.get s.objects n)
 
--- where the source can be relied on, an Ok leaves it at the states for which it stood
+-- an Ok tells just that
+abbrev pub TellsView : {E : Type 0} → State → ℕ → Result (Option ObjectView) E → Type 0
+TellsView s n result = IfOk result (λ view. view ≡ view_at s n)
+
+-- where the disk told no lie that was taken as true, this is so of each state for which it stood
+abbrev pub OfEachState : (old new : Condition) → (State → Type 0) → Type 0
+OfEachState old new holds = HasCleanDisk new → (s : State) → StandsFor old s → holds s
+
+-- an Ok leaves it at each of them
 abbrev pub KeepsStanding : {X E : Type 0} → (old new : Condition) → Result X E → Type 0
-KeepsStanding old new result =
-    HasCleanDisk new → (s : State) → StandsFor old s → OnOk result (StandsFor new s)
+KeepsStanding old new result = OfEachState old new (λ s. OnOk result (StandsFor new s))
+
+-- these bytes were given to an outlet, and this is so of them in each state for which it stood
+abbrev pub GivesFrom : (old new : Condition) → (taken takes : Option (List ℕ))
+    → (State → (given : List ℕ) → Type 0) → Type 0
+GivesFrom old new taken takes holds =
+    (given : List ℕ) × Appends taken takes given × OfEachState old new (λ s. holds s given)
 
 -- nothing was changed, whatever was answered
 pub record StandsStill (old new : Condition) : Type 0 where

@@ -71,6 +71,13 @@ pub record HasManifest (d : Digest) (b : Bag) (path : List ℕ) (lines : List Li
   pub read : (finmap.get b.files path >>= manifest_read) ≡ Some lines
   pub checked : All (IsChecked d b) lines
 
+-- one of these lines names the path, and has the digest of the bytes
+pub record TellsFile (d : Digest) (lines : List Line) (path bytes : List ℕ) : Type 0 where
+  pub line : Line
+  pub among : Contains lines line
+  pub named : line.path ≡ encoded_path path
+  pub checksum : decode_sized line.digits d.size ≡ Ok (d.of bytes)
+
 abbrev pub paths_of : List Line → List (List ℕ)
 paths_of lines = map (λ line. line.path) lines
 

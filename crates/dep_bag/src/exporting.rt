@@ -1,9 +1,7 @@
 //! The export of a bag.
-ghost use Rattle.std.specs.Prelude.{◌≡◌, ℕ, List, Err};
-ghost use Rattle.std.specs.Io.KnownBytes.{Appends, Keeps};
-ghost use Rattle.dep_types.specs.State.{State};
-ghost use Rattle.dep_types.specs.Conditions.{StandsFor, HasCleanDisk};
-ghost use Rattle.dep_bag.specs.Source.{KeepsStanding, StandsStill};
+ghost use Rattle.std.specs.Prelude.{◌≡◌, Err};
+ghost use Rattle.std.specs.Io.KnownBytes.{Keeps};
+ghost use Rattle.dep_bag.specs.Source.{GivesFrom, KeepsStanding, StandsStill};
 ghost use Rattle.dep_bag.specs.Giving.{HasCause};
 ghost use Rattle.dep_bag.specs.Exports.{IsExported};
 
@@ -22,10 +20,8 @@ pub fn export<S: BagSource, K: BagSink>(
     object: u64,
     sink: &mut K,
 ) -> Result<(), ExportFault>
-    ensures gives { (given : List ℕ) × Appends (K.taken sink.old) (K.taken sink.new) given
-        × (HasCleanDisk (S.condition source.new)
-        → (s : State) → StandsFor (S.condition source.old) s
-        → IsExported s object given result) }
+    ensures gives { GivesFrom (S.condition source.old) (S.condition source.new)
+        (K.taken sink.old) (K.taken sink.new) (λ s given. IsExported s object given result) }
     ensures absent { result ≡ Err ExportFault.NoSuchObject →
         Keeps (K.taken sink.old) (K.taken sink.new) }
     ensures cause { HasCause result (K.failures sink.old) (K.failures sink.new) }

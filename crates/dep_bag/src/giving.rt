@@ -1,13 +1,8 @@
 //! Files that are given to a sink, one after another.
-ghost use Rattle.std.specs.Prelude.{◌≡◌, ◌≢◌, ◌++◌, ℕ, List, IfOk, Err, flat_map};
-ghost use Rattle.std.specs.Io.KnownBytes.{Appends};
-ghost use Rattle.dep_types.specs.State.{State};
-ghost use Rattle.dep_types.specs.Sinks.{Entry, file_given};
-ghost use Rattle.dep_types.specs.Streams.{HasContent};
-ghost use Rattle.dep_types.specs.Conditions.{StandsFor, HasCleanDisk};
-ghost use Rattle.dep_bag.specs.Source.{KeepsStanding, StandsStill};
-ghost use Rattle.dep_bag.specs.Parts.{row_path, told_tag_manifests};
-ghost use Rattle.dep_bag.specs.Giving.{IsGiven, Gives, HasCause, listed_transcript, tag_transcript, unsent_fault, AreFilesOf};
+ghost use Rattle.std.specs.Prelude.{◌≡◌, ℕ, List};
+ghost use Rattle.dep_types.specs.Sinks.{file_given};
+ghost use Rattle.dep_docs_out.specs.Made.{Makes};
+ghost use Rattle.dep_bag.specs.Giving.{Gives, Streams, IsContentGiven, AreContentsGiven, listed_transcript, manifests_transcript, tag_transcript, unsent_fault};
 
 use crate::export_fault::ExportFault;
 use crate::manifest::payload_manifest;
@@ -29,8 +24,7 @@ pub(crate) fn give_tag_files<K: BagSink>(
     view: &ObjectView,
     sink: &mut K,
 ) -> Result<(), ExportFault>
-    ensures gives { Gives (K.taken sink.old) (K.taken sink.new) (tag_transcript view.now) result }
-    ensures cause { HasCause result (K.failures sink.old) (K.failures sink.new) }
+    ensures { Gives K.taken K.failures sink.old sink.new (tag_transcript view.now) result }
 {
     give_listed(alloc, view, sink)?;
     give_tag_manifests(alloc, view, sink)
@@ -42,9 +36,7 @@ fn give_listed<K: BagSink>(
     view: &ObjectView,
     sink: &mut K,
 ) -> Result<(), ExportFault>
-    ensures gives { Gives (K.taken sink.old) (K.taken sink.new)
-        (listed_transcript view.now) result }
-    ensures cause { HasCause result (K.failures sink.old) (K.failures sink.new) }
+    ensures { Gives K.taken K.failures sink.old sink.new (listed_transcript view.now) result }
 {
     sink.folder("data")?;
     give_text(sink, BAGIT, declaration(alloc))?;
@@ -68,9 +60,8 @@ fn give_tag_manifests<K: BagSink>(
     view: &ObjectView,
     sink: &mut K,
 ) -> Result<(), ExportFault>
-    ensures gives { Gives (K.taken sink.old) (K.taken sink.new)
-        (flat_map file_given (told_tag_manifests view.now)) result }
-    ensures cause { HasCause result (K.failures sink.old) (K.failures sink.new) }
+    ensures { Gives K.taken K.failures sink.old sink.new
+        (manifests_transcript view.now) result }
 {
     let TagManifests { sha256, sha512 } = tag_manifests(alloc, view)?;
     give_text(sink, TAG_MANIFEST_SHA256, Ok(sha256))?;
@@ -83,9 +74,8 @@ fn give_text<K: BagSink>(
     path: &str,
     made: Result<Vec<u8>, AllocError>,
 ) -> Result<(), ExportFault>
-    ensures gives { (bytes : List ℕ) → IfOk made (λ text. text.items ≡ bytes)
-        → Gives (K.taken sink.old) (K.taken sink.new) (file_given (path.now, bytes)) result }
-    ensures cause { HasCause result (K.failures sink.old) (K.failures sink.new) }
+    ensures { (bytes : List ℕ) → Makes made bytes
+        → Gives K.taken K.failures sink.old sink.new (file_given (path.now, bytes)) result }
 {
     let text = made?;
     sink.begin(path)?;
@@ -101,15 +91,8 @@ pub(crate) fn give_payload<S: BagSource, K: BagSink>(
     rows: &[FileRow],
     sink: &mut K,
 ) -> Result<(), ExportFault>
-    ensures gives { (given : List ℕ) × Appends (K.taken sink.old) (K.taken sink.new) given
-        × (HasCleanDisk (S.condition source.new)
-        → (s : State) → StandsFor (S.condition source.old) s
-        → (files : List Entry) → AreFilesOf s rows.now files
-        → IsGiven (flat_map file_given files) given result) }
-    ensures cause { HasCause result (K.failures sink.old) (K.failures sink.new) }
-    ensures kept { KeepsStanding (S.condition source.old) (S.condition source.new) result }
-    ensures still { StandsStill (S.condition source.old) (S.condition source.new) }
-    ensures there { result ≢ Err ExportFault.NoSuchObject }
+    ensures { Streams K.taken K.failures S.condition source.old source.new sink.old sink.new
+        (AreContentsGiven rows.now) result }
 {
     for row in rows {
         give_stored(alloc, source, row, sink)?;
@@ -124,15 +107,8 @@ fn give_stored<S: BagSource, K: BagSink>(
     row: &FileRow,
     sink: &mut K,
 ) -> Result<(), ExportFault>
-    ensures gives { (given : List ℕ) × Appends (K.taken sink.old) (K.taken sink.new) given
-        × (HasCleanDisk (S.condition source.new)
-        → (s : State) → StandsFor (S.condition source.old) s
-        → (bytes : List ℕ) → HasContent s row.now.file bytes
-        → IsGiven (file_given (row_path row.now, bytes)) given result) }
-    ensures cause { HasCause result (K.failures sink.old) (K.failures sink.new) }
-    ensures kept { KeepsStanding (S.condition source.old) (S.condition source.new) result }
-    ensures still { StandsStill (S.condition source.old) (S.condition source.new) }
-    ensures there { result ≢ Err ExportFault.NoSuchObject }
+    ensures { Streams K.taken K.failures S.condition source.old source.new sink.old sink.new
+        (IsContentGiven row.now) result }
 {
     let path = payload_path(alloc, row)?;
     sink.begin(path.as_str())?;

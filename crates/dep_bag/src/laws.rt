@@ -1,19 +1,19 @@
 //! Laws of the bag of an object, apart from any code.
-ghost use Rattle.std.specs.Prelude.{◌≡◌, ℕ, List, Some, Ok, true, All, Contains, IsTrue, [], ◌∷◌, ◌++◌, length, flat_map, codes, map as each};
+ghost use Rattle.std.specs.Prelude.{◌≡◌, ℕ, List, Some, true, IsTrue, [], ◌∷◌, ◌++◌, length, codes, map as each};
 ghost use Rattle.std.specs.FinMap as map;
-ghost use Rattle.hex.specs.Hex.{decode_sized};
 ghost use Rattle.dep_types.specs.State.{State, Object};
 ghost use Rattle.dep_types.specs.Sound.{IsSound};
 ghost use Rattle.dep_types.specs.Names.{is_good_name};
 ghost use Rattle.dep_types.specs.BagPaths.{bag_paths, payload_path, tag_paths};
 ghost use Rattle.dep_manifest.specs.Manifest.{digest_by, encoded_path};
 ghost use Rattle.dep_manifest.specs.declared.algorithm.Algorithm.{Algorithm};
-ghost use Rattle.dep_bag.specs.Bag.{Bag, oxum, list_text, bag_of, bag_at, bag_files};
-ghost use Rattle.dep_bag.specs.Valid.{IsValidBag, Line, is_payload, lines_of};
+ghost use Rattle.dep_bag.specs.Bag.{Bag, HoldsAll, oxum, list_text, bag_of, bag_at, bag_files};
+ghost use Rattle.dep_bag.specs.Valid.{IsValidBag, TellsFile, is_payload, lines_of};
 ghost use Rattle.dep_types.specs.Rows.{object_view};
 ghost use Rattle.dep_bag.specs.Parts.{told_parts, told_bytes, held_bytes};
 ghost use Rattle.dep_bag.specs.Named.{percent_encoded};
 ghost use Rattle.dep_bag.specs.Numbered.{file_number};
+ghost use Rattle.dep_bag.specs.ExampleBags.{example_payload, paths_with, tag_list};
 ghost use Rattle.dep_types.specs.Limits.{IsStorable};
 
 /// The bag of each object of a sound state is valid (RFC 8493, section 3).
@@ -24,7 +24,7 @@ pub fn bag_is_valid()
 /// The bag holds each of the files that it is made of: none stands over another.
 pub fn bag_holds_each_file()
     ensures { (s : State) (n : ℕ) (o : Object) → IsSound s → map.get s.objects n ≡ Some o
-        → All (λ f. map.get (bag_of o).files f.0 ≡ Some f.1) (bag_files o) }
+        → HoldsAll (bag_of o) (bag_files o) }
 {}
 
 /// Their paths are those that the object's bag lists.
@@ -42,9 +42,7 @@ pub fn view_tells_bag()
 pub fn valid_bag_tells_each_file()
     ensures { (b : Bag) (valid : IsValidBag b) (a : Algorithm) (path bytes : List ℕ)
         → is_payload path ≡ true → map.get b.files path ≡ Some bytes
-        → (line : Line) × Contains (valid.manifest a).lines line
-        × (line.path ≡ encoded_path path)
-        × (decode_sized line.digits (digest_by a).size ≡ Ok ((digest_by a).of bytes)) }
+        → TellsFile (digest_by a) (valid.manifest a).lines path bytes }
 {}
 
 /// Of the paths of files with good names nothing but the percent sign is written otherwise.
@@ -67,16 +65,13 @@ pub fn list_reads_back()
 
 /// Five bytes in two files.
 pub fn oxum_of_example()
-    ensures { oxum ((codes "data/1/a", codes "abc") ∷ (codes "data/2/b", codes "de") ∷ [])
-        ≡ codes "5.2" }
+    ensures { oxum example_payload ≡ codes "5.2" }
 {}
 
 /// The list of a bag without payload, and how many octets it has with `a.txt`, or with `50%.txt`, whose name isn't encoded there.
 pub fn list_of_examples()
-    ensures none { list_text tag_paths ≡
-        codes "bagit.txt\nbag-info.txt\nmanifest-sha256.txt\nmanifest-sha512.txt\n"
-        ++ codes "metadata/sword.json\ntagmanifest-sha256.txt\ntagmanifest-sha512.txt\n" }
+    ensures none { list_text tag_paths ≡ tag_list }
     ensures octets { length (list_text tag_paths) ≡ 129 }
-    ensures plain { length (list_text (tag_paths ++ payload_path 1 (codes "a.txt") ∷ [])) ≡ 142 }
-    ensures percent { length (list_text (tag_paths ++ payload_path 1 (codes "50%.txt") ∷ [])) ≡ 144 }
+    ensures plain { length (list_text (paths_with (codes "a.txt"))) ≡ 142 }
+    ensures percent { length (list_text (paths_with (codes "50%.txt"))) ≡ 144 }
 {}

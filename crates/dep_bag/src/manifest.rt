@@ -1,5 +1,6 @@
 //! The manifest of an object's files.
-ghost use Rattle.std.specs.Prelude.{◌≡◌, IfOk};
+ghost use Rattle.std.specs.Prelude.{◌≡◌};
+ghost use Rattle.dep_docs_out.specs.Made.{Makes};
 ghost use Rattle.dep_bag.specs.Parts.{row_digests, told_manifest};
 
 use crate::paths::payload_path;
@@ -14,7 +15,7 @@ pub(crate) fn payload_manifest(
     view: &ObjectView,
     algorithm: Algorithm,
 ) -> Result<Vec<u8>, AllocError>
-    ensures { IfOk result (λ text. text.items ≡ told_manifest algorithm view.now) }
+    ensures { Makes result (told_manifest algorithm view.now) }
 {
     let mut text = Vec::new(alloc);
     for row in view.files.as_slice() {

@@ -1,6 +1,6 @@
 //! What stands at a path of a bag.
-ghost use Rattle.std.specs.Prelude.{◌≡◌, IfOk, find, bytes_eq, option_map, map};
-ghost use Rattle.dep_bag.specs.Parts.{stored_part, told_part};
+ghost use Rattle.std.specs.Prelude.{◌≡◌, IfOk, map};
+ghost use Rattle.dep_bag.specs.Parts.{part_at, stored_part, told_part};
 
 use crate::manifest::payload_manifest;
 use crate::paths::{
@@ -54,8 +54,7 @@ pub fn bag_file(
 
 // The payload file at this path.
 fn stored_file(rows: &[FileRow], path: &[u8]) -> Option<BagPart>
-    ensures { result ≡ option_map (λ part. part.1)
-        (find (λ part. bytes_eq path.now part.0) (map stored_part rows.now)) }
+    ensures { result ≡ part_at path.now (map stored_part rows.now) }
 {
     for row in rows {
         if is_payload_path(path, row) {

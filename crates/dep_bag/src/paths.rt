@@ -1,8 +1,12 @@
 //! The paths of a bag.
-ghost use Rattle.std.specs.Prelude.{◌≡◌, ◌≢◌, ◌==◌, ◌++◌, ◌∷◌, [], ℕ, List, IfOk, IfSome, OnOk, MatchOption, bytes_eq, map, position};
+ghost use Rattle.std.specs.Prelude.{◌≡◌, ◌==◌, ◌++◌, ◌∷◌, [], IfOk, IfSome, OnOk, bytes_eq, map, position};
 ghost use Rattle.std.specs.List.{before_first, list_any};
+ghost use Rattle.std.specs.Option.{option_copied};
 ghost use Rattle.dep_types.specs.BagPaths.{tag_paths};
 ghost use Rattle.dep_types.specs.Limits.{IsStorable};
+ghost use Rattle.dep_docs_out.specs.Made.{Makes};
+ghost use Rattle.dep_manifest.specs.Growing.{Grows};
+ghost use Rattle.dep_bag.specs.Fronts.{IsBehind};
 ghost use Rattle.dep_bag.specs.Parts.{in_folder, row_path, told_paths};
 ghost use Rattle.dep_bag.specs.Numbered.{file_number, number_written};
 
@@ -41,7 +45,7 @@ pub fn bag_paths(alloc: Global, view: &ObjectView) -> Result<TextList, AllocErro
 }
 
 fn tag_file_paths(alloc: Global) -> Result<Vec<Text>, AllocError>
-    ensures { IfOk result (λ paths. paths.items ≡ tag_paths) }
+    ensures { Makes result tag_paths }
 {
     let mut paths = Vec::new(alloc);
     add_path(alloc, &mut paths, BAGIT)?;
@@ -55,7 +59,7 @@ fn tag_file_paths(alloc: Global) -> Result<Vec<Text>, AllocError>
 }
 
 fn add_path(alloc: Global, paths: &mut Vec<Text>, path: &str) -> Result<(), AllocError>
-    ensures { OnOk result (paths.new.items ≡ paths.old.items ++ path.now ∷ []) }
+    ensures { OnOk result (Grows paths.old paths.new (path.now ∷ [])) }
 {
     paths.push(Text::copied(alloc, path)?)?;
     Ok(())
@@ -149,8 +153,7 @@ fn first_slash(text: &[u8]) -> Option<usize>
 
 // What stands behind the folder of this number.
 fn stripped<'a>(path: &'a [u8], number: &[u8]) -> Option<&'a [u8]>
-    ensures { MatchOption result ((name : List ℕ) → path.now ≢ in_folder number.now name)
-        (λ name. path.now ≡ in_folder number.now name.now) }
+    ensures { IsBehind (in_folder number.now) path.now (option_copied result) }
 {
     let folder = after(path, b"data/")?;
     let behind = after(folder, number)?;
@@ -159,8 +162,7 @@ fn stripped<'a>(path: &'a [u8], number: &[u8]) -> Option<&'a [u8]>
 
 // What stands behind a front.
 fn after<'a>(text: &'a [u8], front: &[u8]) -> Option<&'a [u8]>
-    ensures { MatchOption result ((rest : List ℕ) → text.now ≢ front.now ++ rest)
-        (λ rest. text.now ≡ front.now ++ rest.now) }
+    ensures { IsBehind (λ rest. front.now ++ rest) text.now (option_copied result) }
 {
     text.strip_prefix(front)
 }

@@ -1,11 +1,10 @@
 //! What bags are made from.
-ghost use Rattle.std.specs.Prelude.{◌≡◌, ◌≢◌, ℕ, List, IsTrue, OnOk, IfOk, Err};
-ghost use Rattle.std.specs.Io.KnownBytes.{Appends};
+ghost use Rattle.std.specs.Prelude.{◌≡◌, ◌≢◌, OnOk, Err};
 ghost use Rattle.dep_types.specs.State.{State};
-ghost use Rattle.dep_types.specs.Conditions.{Condition, StandsFor, HasCleanDisk, Leaves};
+ghost use Rattle.dep_types.specs.Conditions.{Condition, StandsFor, Leaves};
 ghost use Rattle.dep_types.specs.Streams.{IsStreamed};
 ghost use Rattle.dep_types.specs.Writing.{HasRisen};
-ghost use Rattle.dep_bag.specs.Source.{view_at, KeepsStanding, StandsStill};
+ghost use Rattle.dep_bag.specs.Source.{OfEachState, TellsView, GivesFrom, KeepsStanding, StandsStill};
 
 use dep_types::{ObjectView, Outlet, StoreFault, StreamFault};
 
@@ -17,18 +16,15 @@ pub trait BagSource {
 
     /// What is told of the object with this number, if it is there.
     fn view(&mut self, object: u64) -> Result<Option<ObjectView>, StoreFault>
-        ensures ok { HasCleanDisk (condition self.new)
-            → (s : State) → StandsFor (condition self.old) s
-            → IfOk result (λ view. view ≡ view_at s object) }
+        ensures ok { OfEachState (condition self.old) (condition self.new)
+            (λ s. TellsView s object result) }
         ensures kept { KeepsStanding (condition self.old) (condition self.new) result }
         ensures still { StandsStill (condition self.old) (condition self.new) };
 
     /// Sends the content of the file with this number.
     fn stream<O: Outlet>(&mut self, file: u64, out: &mut O) -> Result<(), StreamFault>
-        ensures sends { (sent : List ℕ) × Appends (O.taken out.old) (O.taken out.new) sent
-            × (HasCleanDisk (condition self.new)
-            → (s : State) → StandsFor (condition self.old) s
-            → IsStreamed s file sent result) }
+        ensures sends { GivesFrom (condition self.old) (condition self.new)
+            (O.taken out.old) (O.taken out.new) (λ s sent. IsStreamed s file sent result) }
         ensures kept { KeepsStanding (condition self.old) (condition self.new) result }
         ensures still { StandsStill (condition self.old) (condition self.new) }
         ensures count { OnOk result (O.failures out.new ≡ O.failures out.old) }

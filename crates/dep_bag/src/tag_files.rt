@@ -1,6 +1,8 @@
 //! The texts of `bagit.txt` and `bag-info.txt` (RFC 8493, sections 2.1.1 and 2.2.2).
-ghost use Rattle.std.specs.Prelude.{◌≡◌, ◌++◌, OnOk, IfOk, sum_by};
-ghost use Rattle.dep_bag.specs.Bag.{bagit_text, info_text};
+ghost use Rattle.std.specs.Prelude.{◌≡◌, OnOk, sum_by};
+ghost use Rattle.dep_docs_out.specs.Made.{Makes};
+ghost use Rattle.dep_manifest.specs.Growing.{Grows};
+ghost use Rattle.dep_bag.specs.Bag.{bagit_text};
 ghost use Rattle.dep_bag.specs.Parts.{told_oxum, told_info};
 
 use dep_moment::Moment;
@@ -12,14 +14,14 @@ const DECLARATION: &[u8] = b"BagIt-Version: 1.0\nTag-File-Character-Encoding: UT
 
 /// `bagit.txt`.
 pub(crate) fn declaration(alloc: Global) -> Result<Vec<u8>, AllocError>
-    ensures { IfOk result (λ text. text.items ≡ bagit_text) }
+    ensures { Makes result bagit_text }
 {
     DECLARATION.to_vec(alloc)
 }
 
 /// `bag-info.txt`: the day of the last change in UTC, and what the payload has.
 pub(crate) fn information(alloc: Global, view: &ObjectView) -> Result<Vec<u8>, AllocError>
-    ensures { IfOk result (λ text. text.items ≡ told_info view.now) }
+    ensures { Makes result (told_info view.now) }
 {
     let mut text = b"Bagging-Date: ".to_vec(alloc)?;
     text.extend_from_slice(&Moment::new(view.object.changed).civil_date())?;
@@ -31,7 +33,7 @@ pub(crate) fn information(alloc: Global, view: &ObjectView) -> Result<Vec<u8>, A
 
 // Adds how many bytes the files have, a dot, and how many they are.
 fn add_oxum(text: &mut Vec<u8>, rows: &[FileRow]) -> Result<(), AllocError>
-    ensures { OnOk result (text.new.items ≡ text.old.items ++ told_oxum rows.now) }
+    ensures { OnOk result (Grows text.old text.new (told_oxum rows.now)) }
 {
     let mut digits = Buffer::new();
     text.extend_from_slice(digits.format(octets_of(rows)).as_bytes())?;

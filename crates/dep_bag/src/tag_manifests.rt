@@ -1,7 +1,7 @@
 //! The tag manifests of a bag (RFC 8493, section 2.2.1).
-ghost use Rattle.std.specs.Prelude.{◌≡◌, IfOk};
-ghost use Rattle.dep_manifest.specs.declared.algorithm.Algorithm.{Algorithm};
-ghost use Rattle.dep_bag.specs.Parts.{text_by, told_tag_manifest};
+ghost use Rattle.std.specs.Prelude.{IfOk};
+ghost use Rattle.dep_docs_out.specs.Made.{Makes};
+ghost use Rattle.dep_bag.specs.Parts.{AreTagManifests, told_tag_manifest};
 
 use crate::manifest::payload_manifest;
 use crate::paths::{BAG_INFO, BAGIT, MANIFEST_SHA256, MANIFEST_SHA512, METADATA};
@@ -22,16 +22,14 @@ pub(crate) struct TagManifests {
 }
 
 impl TagManifests {
-    ghost use Rattle.std.specs.Prelude.{◌≡◌, ◌++◌, ℕ, List, OnOk, IfOk};
-    ghost use Rattle.dep_manifest.specs.Manifest.{checksum_of, digest_by, manifest_line};
-    ghost use Rattle.dep_manifest.specs.declared.algorithm.Algorithm.{Algorithm};
-    ghost use Rattle.dep_bag.specs.Parts.{text_by};
+    ghost use Rattle.std.specs.Prelude.{ℕ, List, OnOk};
+    ghost use Rattle.dep_docs_out.specs.Made.{Makes};
+    ghost use Rattle.dep_bag.specs.Parts.{AddsLines};
 
     // Adds the lines of a file with these bytes, where they could be made.
     fn add_file(&mut self, path: &str, made: Result<Vec<u8>, AllocError>) -> Result<(), AllocError>
-        ensures { (bytes : List ℕ) → IfOk made (λ text. text.items ≡ bytes) → (a : Algorithm)
-            → OnOk result (text_by a self.new ≡ text_by a self.old
-            ++ manifest_line (checksum_of (digest_by a) (path.now, bytes))) }
+        ensures { (bytes : List ℕ) → Makes made bytes
+            → OnOk result (AddsLines self.old self.new (path.now, bytes)) }
     {
         let bytes = made?;
         let mut hasher = Hasher::new();
@@ -45,8 +43,7 @@ impl TagManifests {
 
 /// Both tag manifests. Each file that they name is made once, hashed once for both, and dropped before the next is made.
 pub(crate) fn tag_manifests(alloc: Global, view: &ObjectView) -> Result<TagManifests, AllocError>
-    ensures { IfOk result (λ texts.
-        (a : Algorithm) → text_by a texts ≡ told_tag_manifest a view.now) }
+    ensures { IfOk result (AreTagManifests view.now) }
 {
     let mut texts = TagManifests {
         sha256: Vec::new(alloc),
@@ -72,7 +69,7 @@ pub(crate) fn tag_manifest(
     view: &ObjectView,
     algorithm: Algorithm,
 ) -> Result<Vec<u8>, AllocError>
-    ensures { IfOk result (λ text. text.items ≡ told_tag_manifest algorithm view.now) }
+    ensures { Makes result (told_tag_manifest algorithm view.now) }
 {
     let TagManifests { sha256, sha512 } = tag_manifests(alloc, view)?;
     match algorithm {

@@ -17,7 +17,7 @@ use Rattle.dep_decisions.specs.declared.decision.Source.TheVariants.{Posted, Ass
 use Rattle.dep_decisions.specs.declared.decision.NewFile.{NewFile}
 use Rattle.dep_operations.specs.declared.view.UploadView.{UploadView}
 use Rattle.dep_changes.specs.Told.{IsSource, AreSources}
-use Rattle.dep_changes.specs.Changed.{made_file, with_new_file, with_new_files}
+use Rattle.dep_changes.specs.Changed.{made_file, with_new_file}
 
 -- ---- files
 
@@ -107,6 +107,13 @@ not_before (y ∷ xs) (suc i) x u once at is = go (upload_of y.source) once (λ 
         ap (λ (b : Bool). b || is_among u (uploads_of (take i xs))) (turned u v (others v both.0)) ∙ later both.1
 
 -- ---- one file more
+
+-- the object has the new files beside its own, and their uploads are gone
+abbrev pub with_new_files : State → (content : List ℕ) → (n : ℕ) → Object → List NewFile → State
+with_new_files s content n o new = record s {
+  objects = finmap.insert s.objects n (record o { files = added s content new o.files });
+  uploads = without s.uploads (uploads_of new);
+}
 
 pub take_next : (xs : List NewFile) (i : ℕ) (x : NewFile) → slice_get xs i ≡ Some x → take (i + 1) xs ≡ take i xs ++ x ∷ []
 take_next [] i x at = cc at

@@ -1,22 +1,22 @@
 -- A file that is made of a whole upload, by its row and the upload's.
-use Rattle.std.proofs.Common.{◌≡◌, ℕ, List, length, Some, sym, ap, subst, ◌∙◌}
+use Rattle.std.proofs.Common.{◌≡◌, ℕ, List, Some, sym, ap, subst, ◌∙◌}
 use Rattle.std.specs.FinMap as finmap
 use Rattle.dep_types.specs.State.{State, Object, File, Upload}
 use Rattle.dep_types.specs.Rows.{file_row, upload_row}
-use Rattle.dep_types.specs.declared.counters.Counters.{Counters}
 use Rattle.dep_types.specs.declared.rows.FileRow.{FileRow}
 use Rattle.dep_types.specs.declared.rows.UploadRow.{UploadRow}
-use Rattle.dep_fixity.specs.Fixity.{digests_of}
-use Rattle.dep_fixity.specs.declared.hasher.Digests.{Digests}
 use Rattle.dep_decisions.specs.Effects.{is_reference}
 use Rattle.dep_decisions.specs.declared.decision.NewFile.{NewFile}
-use Rattle.dep_changes.specs.Changed.{made_file}
+use Rattle.dep_changes.specs.Told.{TellsNumbers}
+use Rattle.dep_changes.specs.Changed.{IsExtent, made_file, new_row}
+use Rattle.dep_changes.specs.declared.change.Change.{Change}
+use Rattle.dep_changes.specs.declared.new_files.Extent.{Extent}
+use Rattle.dep_changes.specs.declared.new_files.FileNumbers.{FileNumbers}
 
-pub made_row : (s : State) (n f : ℕ) (new : NewFile) (content : List ℕ) (row : FileRow) (size clock : ℕ) (next : Counters) (digests : Digests)
-    → row ≡ record { file = f; object = n; name = new.name; media = new.media; size = size; tag = next.change; deposited = clock; behalf = new.behalf; by_reference = is_reference new.source; sha256 = digests.sha256; sha512 = digests.sha512 }
-    → size ≡ length content → clock ≡ s.clock → next ≡ s.next → digests ≡ digests_of content → row ≡ file_row n f (made_file s new content)
-made_row s n f new content row size clock next digests is size_is clock_is next_is digests_is =
-    is ∙ (λ i. record { file = f; object = n; name = new.name; media = new.media; size = size_is i; tag = (next_is i).change; deposited = clock_is i; behalf = new.behalf; by_reference = is_reference new.source; sha256 = (digests_is i).sha256; sha512 = (digests_is i).sha512 })
+pub made_row : (change : Change) (s : State) (numbers : FileNumbers) (new : NewFile) (extent : Extent) (bytes : List ℕ) (row : FileRow) → row ≡ new_row change numbers new extent → TellsNumbers change.view.now s → IsExtent extent bytes
+    → row ≡ file_row numbers.object numbers.file (made_file s new bytes)
+made_row change s numbers new extent bytes row is told has =
+    is ∙ (λ i. record { file = numbers.file; object = numbers.object; name = new.name; media = new.media; size = has.0 i; tag = (told.1 i).change; deposited = told.0 i; behalf = new.behalf; by_reference = is_reference new.source; sha256 = (has.1 i).sha256; sha512 = (has.1 i).sha512 })
 
 -- what is said of the numbers that the rows have is said of those of the file and the upload
 pub done_as : (Done : (n f u : ℕ) → Type 0) (s : State) (n f u : ℕ) (o : Object) (it : Upload) (file : File) (row : FileRow) (up : UploadRow) → row ≡ file_row n f file → up ≡ upload_row u it → finmap.get s.objects n ≡ Some o → finmap.get s.uploads u ≡ Some it

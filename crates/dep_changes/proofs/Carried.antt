@@ -1,29 +1,29 @@
 -- From what a decision makes of the maps to what a request makes of the state.
-use Rattle.std.proofs.Common.{◌≡◌, ◌∙◌, ℕ, ◌+◌, ◌&&◌, true, List, None, Some, Option, IsTrue, Result, OnOk, nat_eq, sym, ap, subst, arith}
+use Rattle.std.proofs.Common.{◌≡◌, ◌∙◌, ℕ, ◌+◌, ◌&&◌, true, List, Some, Option, IsTrue, Result, OnOk, nat_eq, sym, ap, subst, arith}
 use Rattle.std.proofs.lemmas.Bool.Decides.{nat_tests}
 use Rattle.sqlite.specs.State as db
 use Rattle.std.specs.FinMap as finmap
 use Rattle.std.specs.Option.{option_map_or}
 use Rattle.dep_types.specs.State.{State, Object, Upload}
 use Rattle.dep_types.specs.Maps.{Numbered}
-use Rattle.dep_types.specs.Sound.{IsSound}
 use Rattle.dep_types.specs.Numbers.{counters_after, has_room, numbers, room_for}
 use Rattle.dep_types.specs.declared.config.Config.{Config}
 use Rattle.dep_types.specs.declared.counters.Counters.{Counters}
 use Rattle.dep_types.specs.declared.store_fault.StoreFault.{StoreFault}
 use Rattle.dep_tables.specs.Tables.{Tables}
-use Rattle.dep_row_maps.specs.TablesAre.{TablesAre}
-use Rattle.dep_row_maps.specs.Clauses.{FromMaps, SeesState}
+use Rattle.dep_row_maps.specs.TablesAre.{TablesAre, with_upload}
+use Rattle.dep_row_maps.specs.Clauses.{SeesState}
 use Rattle.dep_params.proofs.Runs.{and_both}
 use Rattle.dep_decisions.specs.Decisions.{decision, numbers_for}
 use Rattle.dep_decisions.specs.Effects.{at, effect, effect_of}
-use Rattle.dep_decisions.specs.Rules.{refusal}
 use Rattle.dep_decisions.specs.declared.operation.Operation.{Operation}
 use Rattle.dep_decisions.specs.declared.decision.Decision.{Decision}
 use Rattle.dep_operations.specs.Views.{true_view}
 use Rattle.dep_operations.specs.declared.view.View.{View}
-use Rattle.dep_changes.specs.Told.{TellsFor, TellsNumbers}
+use Rattle.dep_changes.specs.Told.{IsAccepted, TellsFor, TellsNumbers}
 use Rattle.dep_changes.specs.Changed.{with_maps}
+use Rattle.dep_changes.specs.Clauses.{CarriesOut, FailsCarrying, FailsCarryingMaps}
+use Rattle.dep_changes.specs.declared.change.Change.{Change}
 use Rattle.dep_changes.proofs.Accepted.{told_for}
 
 -- room for all numbers is room for those of files
@@ -36,23 +36,29 @@ room_of_files next d count is room =
     let one = and_both (has_room next.object taken.object) (has_room next.file taken.file) two.0 in
     subst (λ (n : ℕ). IsTrue (has_room next.file n)) is one.1
 
-module _ (config : Config) (s : State) (op : Operation) (view : View) (content : List ℕ) (d : Decision) (seen : view ≡ true_view config s op) (asked : d ≡ decision config op) (same : content ≡ op.content) where
+-- an accepted request tells all that its decision relies on
+module _ (s : State) (view : View) (content : List ℕ) (d : Decision) (it : IsAccepted s view content d) where
   pub numbers_told : TellsNumbers view s
-  numbers_told = (ap (λ (v : View). v.clock) seen, ap (λ (v : View). v.next) seen)
+  numbers_told = (ap (λ (v : View). v.clock) it.seen, ap (λ (v : View). v.next) it.seen)
 
-  pub told : IsSound s → refusal config s op ≡ None → TellsFor view s content d
-  told sound passed =
-      subst (λ (v : View). TellsFor v s content d) (sym seen)
-      (subst (λ (bytes : List ℕ). TellsFor (true_view config s op) s bytes d) (sym same)
-      (subst (TellsFor (true_view config s op) s op.content) (sym asked) (told_for config s op sound passed)))
+  pub told : TellsFor view s content d
+  told =
+      let ruling = it.ruling in
+      subst (λ (v : View). TellsFor v s content d) (sym it.seen)
+      (subst (λ (bytes : List ℕ). TellsFor (true_view it.config s it.op) s bytes d) (sym it.sent)
+      (subst (TellsFor (true_view it.config s it.op) s it.op.content) (sym ruling.1) (told_for it.config s it.op it.sound ruling.0)))
 
-  pub carried : (t : Tables) (clock : ℕ) (next : Counters) → clock ≡ s.clock → next ≡ counters_after s.next (numbers_for d) → TablesAre t (record (with_maps s content d) { clock = clock; next = next }) → TablesAre t (effect config s op)
-  unfolding effect
-  carried t clock next at_clock at_next are =
-      subst (λ (x : Decision). TablesAre t (effect_of s op.content x)) asked
-      (subst (λ (bytes : List ℕ). TablesAre t (effect_of s bytes d)) same
-      (subst (λ (n : Counters). TablesAre t (record (with_maps s content d) { clock = s.clock; next = n })) at_next
-      (subst (λ (now : ℕ). TablesAre t (record (with_maps s content d) { clock = now; next = next })) at_clock are)))
+-- with the counters the maps are the state after it
+pub carried : (s : State) (content : List ℕ) (d : Decision) (t : Tables) (clock : ℕ) (next : Counters) → clock ≡ s.clock → next ≡ counters_after s.next (numbers_for d)
+    → TablesAre t (record (with_maps s content d) { clock = clock; next = next }) → TablesAre t (effect_of s content d)
+carried s content d t clock next at_clock at_next are =
+    subst (λ (n : Counters). TablesAre t (record (with_maps s content d) { clock = s.clock; next = n })) at_next
+    (subst (λ (now : ℕ). TablesAre t (record (with_maps s content d) { clock = now; next = next })) at_clock are)
+
+-- what the decision makes of the state is what the request does
+pub request_made : (config : Config) (s : State) (op : Operation) (d : Decision) → d ≡ decision config op → effect_of s op.content d ≡ effect config s op
+unfolding effect
+request_made config s op d asked = ap (effect_of s op.content) asked
 
 -- counters that are equal number by number are the same
 pub same_counters : (a b : Counters) → (nat_eq a.object b.object && (nat_eq a.file b.file && (nat_eq a.upload b.upload && nat_eq a.change b.change))) ≡ true → a ≡ b
@@ -92,12 +98,17 @@ equal_counters a b same =
     itself : (n : ℕ) → nat_eq n n ≡ true
     itself n = grind (arith, nat_tests)
 
--- what a call makes of the maps for a decision of this form
-pub carried_as : (view : View) (content : List ℕ) (old new : db.State) (decision d : Decision) (r : Result (Unit {0}) StoreFault) → decision ≡ d
-    → FromMaps old new (λ s. TellsNumbers view s → TellsFor view s content d → OnOk r (SeesState new (with_maps s content d)))
-    → FromMaps old new (λ s. TellsNumbers view s → TellsFor view s content decision → OnOk r (SeesState new (with_maps s content decision)))
-carried_as view content old new decision d r is made =
-    subst (λ (it : Decision). FromMaps old new (λ s. TellsNumbers view s → TellsFor view s content it → OnOk r (SeesState new (with_maps s content it)))) (sym is) made
+-- what a call promises for a decision of this form
+module _ {T : Type 0} (state : T → db.State) (old new : T) (r : Result (Unit {0}) StoreFault) (change : Change) (decision d : Decision) (is : decision ≡ d) where
+  pub carried_as : CarriesOut state old new r change d → CarriesOut state old new r change decision
+  carried_as made = subst (CarriesOut state old new r change) (sym is) made
+
+  pub fails_as : FailsCarryingMaps state old new r change d → FailsCarryingMaps state old new r change decision
+  fails_as why = subst (FailsCarryingMaps state old new r change) (sym is) why
+
+  -- over any tables
+  pub fails_alike : FailsCarrying state old new r change d → FailsCarryingMaps state old new r change decision
+  fails_alike why = fails_as (λ clean inside ours s are storable. why s storable clean inside)
 
 -- what becomes of an object that is there
 pub at_object : (s : State) (uploads : Numbered Upload) (now : db.State) (r : Result (Unit {0}) StoreFault) (n : ℕ) (o : Object) (f : Object → Object) → finmap.get s.objects n ≡ Some o
@@ -105,3 +116,9 @@ pub at_object : (s : State) (uploads : Numbered Upload) (now : db.State) (r : Re
     → OnOk r (SeesState now (record s { objects = at s.objects n f; uploads = uploads }))
 at_object s uploads now r n o f there made =
     subst (λ (found : Option Object). OnOk r (SeesState now (record s { objects = option_map_or (λ x. finmap.insert s.objects n (f x)) found s.objects; uploads = uploads }))) (sym there) made
+
+-- the same of an upload
+pub at_upload : (s : State) (now : db.State) (r : Result (Unit {0}) StoreFault) (u : ℕ) (it : Upload) (f : Upload → Upload) → finmap.get s.uploads u ≡ Some it
+    → OnOk r (SeesState now (with_upload s u (f it))) → OnOk r (SeesState now (record s { uploads = at s.uploads u f }))
+at_upload s now r u it f there made =
+    subst (λ (found : Option Upload). OnOk r (SeesState now (record s { uploads = option_map_or (λ x. finmap.insert s.uploads u (f x)) found s.uploads }))) (sym there) made

@@ -1,5 +1,5 @@
 -- Why a change fails: what of it fails, and what its numbers come from.
-use Rattle.std.proofs.Common.{◌≡◌, ◌≢◌, ◌⊎◌, inl, inr, ℕ, ◌+◌, ◌<◌, ◌≤◌, ◌^◌, ◌==◌, ◌||◌, nat_le, Bool, true, false, IsTrue, List, [], length, Option, Some, None, Result, IfErr, nat_cmp, refl, sym, ap, subst, ◌∙◌, arith}
+use Rattle.std.proofs.Common.{◌≡◌, ◌⊎◌, inl, inr, ℕ, ◌+◌, ◌<◌, ◌≤◌, ◌^◌, ◌==◌, ◌||◌, nat_le, Bool, true, false, IsTrue, List, [], length, Some, None, Result, IfErr, nat_cmp, refl, sym, ap, subst, ◌∙◌, arith}
 use Rattle.std.proofs.lemmas.Bool.Decides.{nat_tests}
 use Rattle.std.proofs.lemmas.List.Elements.{All-nil, All-same}
 use Rattle.std.specs.Cmp.Lexicographic.{slice_cmp}
@@ -22,11 +22,12 @@ use Rattle.dep_row_maps.proofs.Causes.{fails_among, fails_later, if_err_then}
 use Rattle.dep_row_maps.proofs.Files.{entries-empty}
 use Rattle.dep_objects.specs.Texts.{HavePlaces}
 use Rattle.dep_decisions.specs.declared.decision.NewFile.{NewFile}
-use Rattle.dep_decisions.specs.declared.decision.Deposit.{Deposit}
-use Rattle.dep_decisions.specs.declared.decision.Deposit.TheVariants.{Files, Metadata}
 use Rattle.dep_operations.specs.declared.view.View.{View}
-use Rattle.dep_operations.specs.declared.view.UploadView.{UploadView}
-use Rattle.dep_changes.specs.Causes.{AreStorableSources, CopiesBeside, HasCopies, HasStorableNumbers, IsStorableDeposit, TellsStorableObject}
+use Rattle.dep_changes.specs.Causes.{HasStorableNumbers, TellsStorableObject}
+use Rattle.dep_changes.specs.Changed.{blank_row, new_row}
+use Rattle.dep_changes.specs.declared.change.Change.{Change}
+use Rattle.dep_changes.specs.declared.new_files.Extent.{Extent}
+use Rattle.dep_changes.specs.declared.new_files.FileNumbers.{FileNumbers}
 
 -- ---- which failures are among which
 
@@ -58,7 +59,7 @@ module _ (view : View) (numbers : HasStorableNumbers view) (row now : ObjectRow)
   completed_fits = record { object = fits.object; object_tag = numbers.change; metadata_tag = fits.metadata_tag; files_tag = fits.files_tag; changed = numbers.clock }
 
 pub blank_fits : (view : View) → HasStorableNumbers view → (now : ObjectRow) (k : ℕ) (ingested : Bool) → IsStorable k
-    → now ≡ record { object = k; ingested = ingested; object_tag = view.next.change; metadata_tag = view.next.change; files_tag = view.next.change; changed = view.clock } → IsStorableObject now
+    → now ≡ blank_row view k ingested → IsStorableObject now
 blank_fits view numbers now k ingested fits is = subst IsStorableObject (sym is) (record { object = fits; object_tag = numbers.change; metadata_tag = numbers.change; files_tag = numbers.change; changed = numbers.clock })
 
 pub ingested_fits : (row now : ObjectRow) (ingests : Bool) → IsStorableObject row → now ≡ record row { ingested = row.ingested || ingests } → IsStorableObject now
@@ -72,9 +73,9 @@ pub never_absent : {P : Type 0} (view : View) → TellsStorableObject view → v
 never_absent view told none = absurd (let is = told.told in cc)
 
 -- the row of a new file
-pub new_row_fits : (view : View) → HasStorableNumbers view → (row : FileRow) {file object size : ℕ} {name media sha256 sha512 : List ℕ} {behalf : Option (List ℕ)} {by_reference : Bool} → IsStorable object → IsStorable file → IsStorable size
-    → row ≡ record { file = file; object = object; name = name; media = media; size = size; tag = view.next.change; deposited = view.clock; behalf = behalf; by_reference = by_reference; sha256 = sha256; sha512 = sha512 } → IsStorableFile row
-new_row_fits view numbers row object file size is = subst IsStorableFile (sym is) (record { file = file; object = object; size = size; tag = numbers.change; deposited = numbers.clock })
+pub new_row_fits : (change : Change) → HasStorableNumbers change.view.now → (numbers : FileNumbers) (new : NewFile) (extent : Extent) (row : FileRow) → IsStorable numbers.object → IsStorable numbers.file → IsStorable extent.size
+    → row ≡ new_row change numbers new extent → IsStorableFile row
+new_row_fits change given numbers new extent row object file size is = subst IsStorableFile (sym is) (record { file = file; object = object; size = size; tag = given.change; deposited = given.clock })
 
 pub whole_fits : (row : UploadRow) (u : ℕ) (it : Upload) → IsStorableUpload (columns_of_upload (upload_row u it)) → row ≡ upload_row u it → IsStorableUpload (columns_of_upload row)
 whole_fits row u it fits is = subst (λ (r : UploadRow). IsStorableUpload (columns_of_upload r)) (sym is) fits
@@ -89,27 +90,6 @@ room_below next wanted i room within = elim (one_of (wanted == 0) (nat_le (next 
   | inl none ↦ grind (arith, nat_tests)
   | inr fits ↦ grind (arith, nat_tests)
 ]
-
--- ---- deposits by their kind
-
-module _ (content : List ℕ) (seen : List UploadView) (have : Texts) (d : Deposit) where
-  pub sources_fit : (files now : List NewFile) → d ≡ Files files → now ≡ files → IsStorableDeposit content seen have d → AreStorableSources content seen now
-  sources_fit files now is same fits = subst (AreStorableSources content seen) (sym same) (let has : IsStorableDeposit content seen have (Files files) = subst (IsStorableDeposit content seen have) is fits in has)
-
-  pub places_fit : (texts : Texts) → d ≡ Metadata texts → IsStorableDeposit content seen have d → HavePlaces have (finmap.entries texts)
-  places_fit texts is fits = let has : IsStorableDeposit content seen have (Metadata texts) = subst (IsStorableDeposit content seen have) is fits in has
-
-  pub files_copied : (files now : List NewFile) → d ≡ Files files → now ≡ files → now ≢ [] → HasCopies d
-  files_copied files now is same some = subst HasCopies (sym is) (subst (λ (xs : List NewFile). xs ≢ []) same some)
-
-  pub texts_copied : (texts : Texts) → d ≡ Metadata texts → texts ≢ finmap.empty → HasCopies d
-  texts_copied texts is some = subst HasCopies (sym is) some
-
-  pub files_beside : (files now : List NewFile) → d ≡ Files files → now ≡ files → now ≢ [] → CopiesBeside have d
-  files_beside files now is same some = subst (CopiesBeside have) (sym is) (subst (λ (xs : List NewFile). xs ≢ []) same some)
-
-  pub texts_beside : (texts : Texts) → d ≡ Metadata texts → (have ≢ finmap.empty) ⊎ (texts ≢ finmap.empty) → CopiesBeside have d
-  texts_beside texts is some = subst (CopiesBeside have) (sym is) some
 
 -- no text needs no place
 pub no_places : (have m : Texts) → m ≡ finmap.empty → HavePlaces have (finmap.entries m)

@@ -1,49 +1,23 @@
 -- Deposits in an object.
-use Rattle.std.proofs.Common.{◌≡◌, ℕ, ◌||◌, Bool, List, refl, sym, ap, subst, ◌∙◌}
+use Rattle.std.proofs.Common.{◌≡◌, ℕ, ◌||◌, Bool, List, refl, ap, subst, ◌∙◌}
 use Rattle.std.specs.FinMap as finmap
 use Rattle.dep_types.specs.Maps.{Numbered}
-use Rattle.dep_types.specs.State.{State, Object, File, Texts}
+use Rattle.dep_types.specs.State.{State, Object, File}
 use Rattle.dep_types.specs.Rows.{object_row}
 use Rattle.dep_types.specs.declared.counters.Counters.{Counters}
 use Rattle.dep_types.specs.declared.rows.ObjectRow.{ObjectRow}
 use Rattle.dep_tables.specs.Tables.{Tables}
 use Rattle.dep_row_maps.proofs.Lens.{insert_twice}
-use Rattle.dep_row_maps.specs.TablesAre.{TablesAre, with_object, with_metadata}
+use Rattle.dep_row_maps.specs.TablesAre.{TablesAre, with_object}
 use Rattle.dep_objects.specs.Objects.{object_of}
-use Rattle.dep_decisions.specs.Effects.{blank, filled, ingested_by, joined, uploads_in, with_files, with_texts, without}
-use Rattle.dep_decisions.specs.declared.decision.NewFile.{NewFile}
+use Rattle.dep_decisions.specs.Effects.{blank, filled, ingested_by, uploads_in, without}
 use Rattle.dep_decisions.specs.declared.decision.Deposit.{Deposit}
 use Rattle.dep_decisions.specs.declared.decision.Deposit.TheVariants.{Files, Metadata}
 use Rattle.dep_operations.specs.declared.view.UploadView.{UploadView}
-use Rattle.dep_changes.specs.Told.{AreSources, HasSources}
-use Rattle.dep_changes.specs.Changed.{with_appended, with_deposit, with_new_files}
+use Rattle.dep_changes.specs.Told.{HasSources}
+use Rattle.dep_changes.specs.Changed.{put_in, with_deposit}
 use Rattle.dep_changes.proofs.Added.{added_alike}
 use Rattle.dep_changes.proofs.Steps.{row_is_of}
-
--- ---- the deposit by its kind
-
-pub files_have : (s : State) (content : List ℕ) (seen : List UploadView) (d : Deposit) (files now : List NewFile) → d ≡ Files files → now ≡ files → HasSources s content seen d → AreSources s content seen now
-files_have s content seen d files now is same have = subst (AreSources s content seen) (sym same) (let has : HasSources s content seen (Files files) = subst (HasSources s content seen) is have in has)
-
-module _ (t : Tables) (s : State) (content : List ℕ) (n : ℕ) (d : Deposit) where
-  pub files_deposited : (ingested : Bool) (files now : List NewFile) → d ≡ Files files → now ≡ files → TablesAre t (with_new_files s content n (blank s ingested) now) → TablesAre t (with_deposit s content n d ingested)
-  files_deposited ingested files now is same are =
-      subst (λ (x : Deposit). TablesAre t (with_deposit s content n x ingested)) (sym is) (subst (λ (new : List NewFile). TablesAre t (with_new_files s content n (blank s ingested) new)) same are)
-
-  pub texts_deposited : (ingested : Bool) (texts : Texts) → d ≡ Metadata texts → TablesAre t (with_object s n (with_metadata (blank s ingested) texts)) → TablesAre t (with_deposit s content n d ingested)
-  texts_deposited ingested texts is are = subst (λ (x : Deposit). TablesAre t (with_deposit s content n x ingested)) (sym is) are
-
-  module _ (o : Object) (ingests : Bool) (k : ℕ) (number : k ≡ n) where
-    pub files_appended : (files now : List NewFile) → d ≡ Files files → now ≡ files → TablesAre t (with_new_files s content k (with_files s o.files (ingested_by ingests o)) now) → TablesAre t (with_appended s content n o d ingests)
-    files_appended files now is same are =
-        subst (λ (x : Deposit). TablesAre t (with_appended s content n o x ingests)) (sym is)
-        (subst (λ (new : List NewFile). TablesAre t (with_new_files s content n (with_files s o.files (ingested_by ingests o)) new)) same
-        (subst (λ (m : ℕ). TablesAre t (with_new_files s content m (with_files s o.files (ingested_by ingests o)) now)) number are))
-
-    pub texts_appended : (texts : Texts) → d ≡ Metadata texts → TablesAre t (with_object s k (with_texts s (joined (finmap.entries texts) o.metadata) (ingested_by ingests o))) → TablesAre t (with_appended s content n o d ingests)
-    texts_appended texts is are =
-        subst (λ (x : Deposit). TablesAre t (with_appended s content n o x ingests)) (sym is)
-        (subst (λ (m : ℕ). TablesAre t (with_object s m (with_texts s (joined (finmap.entries texts) o.metadata) (ingested_by ingests o)))) number are)
 
 -- ---- the rows
 
@@ -66,7 +40,8 @@ blank_added t s row o is texts files are = row_is_of t s row (object_of row finm
 
 -- ---- the object was written before the deposit was put in
 
-filled_alike : (m : Numbered Object) (s : State) (content : List ℕ) (d : Deposit) (ingested : Bool) → filled (record s { objects = m }) content d ingested ≡ filled s content d ingested
+-- put in an object that has nothing, the deposit is all of it
+filled_alike : (m : Numbered Object) (s : State) (content : List ℕ) (d : Deposit) (ingested : Bool) → put_in (record s { objects = m }) content d (blank s ingested) ≡ filled s content d ingested
 filled_alike m s content (Files new) ingested = ap (λ (files : Numbered File). record (blank s ingested) { files = files }) (added_alike m s.next.file s content new finmap.empty)
 filled_alike m s content (Metadata texts) ingested = refl
 
@@ -74,11 +49,13 @@ pub still_have : (m : Numbered Object) (s : State) (content : List ℕ) (seen : 
 still_have m s content seen (Files new) have = have
 still_have m s content seen (Metadata texts) have = have
 
-pub deposit_again : (t : Tables) (s : State) (content : List ℕ) (k n : ℕ) (was : Object) (d : Deposit) (ingested : Bool) → k ≡ n → TablesAre t (with_deposit (with_object s n was) content k d ingested) → TablesAre t (with_deposit s content n d ingested)
+pub deposit_again : (t : Tables) (s : State) (content : List ℕ) (k n : ℕ) (was : Object) (d : Deposit) (ingested : Bool) → k ≡ n
+    → TablesAre t (with_deposit (with_object s n was) k (put_in (with_object s n was) content d (blank s ingested)) d) → TablesAre t (with_deposit s n (filled s content d ingested) d)
 deposit_again t s content k n was d ingested same are =
     let m = finmap.insert s.objects n was in
-    let objects : finmap.insert m k (filled (with_object s n was) content d ingested) ≡ finmap.insert s.objects n (filled s content d ingested) =
-    ap (λ (q : ℕ). finmap.insert m q (filled (with_object s n was) content d ingested)) same
-    ∙ insert_twice s.objects n was (filled (with_object s n was) content d ingested)
+    let it = put_in (with_object s n was) content d (blank s ingested) in
+    let objects : finmap.insert m k it ≡ finmap.insert s.objects n (filled s content d ingested) =
+    ap (λ (q : ℕ). finmap.insert m q it) same
+    ∙ insert_twice s.objects n was it
     ∙ ap (finmap.insert s.objects n) (filled_alike m s content d ingested) in
     subst (λ (q : Numbered Object). TablesAre t (record s { objects = q; uploads = without s.uploads (uploads_in d) })) objects are

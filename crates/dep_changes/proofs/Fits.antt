@@ -1,20 +1,17 @@
 -- What a sound state tells of the numbers that a change writes.
-use Rattle.std.proofs.Common.{◌≡◌, ℕ, ◌<◌, ◌≤◌, ◌^◌, List, [], ◌∷◌, slice_get, Option, Some, Result, IfErr, true, false, sym, ap, subst, ◌∙◌, arith, if◌then◌else◌}
+use Rattle.std.proofs.Common.{◌≡◌, ℕ, ◌<◌, ◌≤◌, ◌^◌, List, [], ◌∷◌, Option, Some, true, false, sym, ap, subst, ◌∙◌, arith, if◌then◌else◌}
 use Rattle.std.specs.Option.{option_map_or}
 use Rattle.std.specs.FinMap as finmap
 use Rattle.std.specs.FinSet as finset
-use Rattle.sqlite.specs.State as db
 use Rattle.dep_types.specs.Limits.{IsStorable}
 use Rattle.dep_types.specs.Numbers.{counters_after, room_for}
 use Rattle.dep_types.specs.Rows.{object_row, upload_row}
 use Rattle.dep_types.specs.Sound.{IsSound}
 use Rattle.dep_types.specs.State.{State, Object, File, Upload, Texts}
 use Rattle.dep_types.specs.declared.counters.Counters.{Counters}
-use Rattle.dep_types.specs.declared.store_fault.StoreFault.{StoreFault}
 use Rattle.dep_tables.specs.Rows.{IsStorableObject, IsStorableState, IsStorableUpload, columns_of_upload}
 use Rattle.dep_tables.specs.declared.state.StateRow.{StateRow}
-use Rattle.dep_row_maps.specs.Clauses.{FromMaps}
-use Rattle.dep_row_maps.specs.Causes.{FailsHolding, FailsSince}
+use Rattle.dep_row_maps.specs.TablesAre.{metadata_at}
 use Rattle.dep_decisions.proofs.Bounds.{bounded_after}
 use Rattle.dep_decisions.specs.declared.decision.Source.{Source}
 use Rattle.dep_decisions.specs.declared.decision.Source.TheVariants.{Posted, Assembled}
@@ -22,12 +19,16 @@ use Rattle.dep_decisions.specs.declared.decision.NewFile.{NewFile}
 use Rattle.dep_decisions.specs.declared.decision.Deposit.{Deposit}
 use Rattle.dep_decisions.specs.declared.decision.Deposit.TheVariants.{Files, Metadata}
 use Rattle.dep_decisions.specs.declared.decision.Decision.{Decision}
+use Rattle.dep_decisions.specs.declared.decision.Decision.TheVariants.{Show, Create, Append, Replace, Complete, SetMetadata, SetFiles, SetFile, DropFile, DropObject, Open, Receive, DropUpload}
 use Rattle.dep_operations.specs.Views.{live_upload}
 use Rattle.dep_operations.specs.declared.view.View.{View}
 use Rattle.dep_operations.specs.declared.view.UploadView.{UploadView}
 use Rattle.dep_operations.specs.declared.view.UploadState.TheVariants.{TimedOut, Unknown, Live}
-use Rattle.dep_changes.specs.Told.{AreSources, HasSources, IsSource, TellsFor, TellsNumbers, TellsObject, TellsUpload}
-use Rattle.dep_changes.specs.Causes.{AreStorableSizes, AreStorableSources, HasPlaces, HasStorableNumbers, IsStorableDecision, IsStorableDeposit, IsStorableSource, TakesMemory, TellsStorableObject, TellsStorableUpload}
+use Rattle.dep_changes.specs.declared.change.Change.{Change}
+use Rattle.dep_changes.specs.Told.{AreSources, HasSources, TellsFor, TellsNumbers, TellsObject, TellsSource, TellsUpload}
+use Rattle.dep_changes.specs.Causes.{AreStorableSizes, AreStorableSources, HasPlaces, HasStorableNumbers, IsStorableDecision, IsStorableDeposit, IsStorableSource, TellsStorableObject, TellsStorableUpload}
+use Rattle.dep_changes.proofs.Opened.{BringsStorable}
+use Rattle.dep_changes.proofs.Steps.{texts_of}
 
 -- how an upload is seen that there is, or isn't
 abbrev seen_as : State → ℕ → Option Upload → List UploadView
@@ -89,17 +90,6 @@ module _ (s : State) (sound : IsSound s) where
     pub segment_fits : (u : ℕ) (it : Upload) (k : ℕ) → finmap.get s.uploads u ≡ Some it → k ≤ it.count → IsStorable k
     segment_fits u it k there within = let its = sizes.uploads u it there in omega (arith, within, its.count)
 
-    source_fits : (seen : Option UploadView) (source : Source) → IsSource s content seen source → IsStorableSource content seen source
-    source_fits seen (Posted digests) told = sizes.content
-    source_fits seen (Assembled u) told = record { upload = u; it = told.upload; told = told.seen_so; fits = upload_fits u told.upload told.there }
-
-    pub sources_all : (seen : List UploadView) (new : List NewFile) → AreSources s content seen new → AreStorableSources content seen new
-    sources_all seen new told i one at = source_fits (slice_get seen i) one.source (told.0 i one at)
-
-    pub deposit_fits : (seen : List UploadView) (have : Texts) (d : Deposit) → HasSources s content seen d → HasPlaces have d → IsStorableDeposit content seen have d
-    deposit_fits seen have (Files new) told fits = sources_all seen new told
-    deposit_fits seen have (Metadata texts) told fits = fits
-
     pub upload_told : (view : View) (u : ℕ) (it : Upload) (k : ℕ) → TellsNumbers view s → TellsUpload view s u it k content → TellsStorableUpload view
     upload_told view u it k numbers told = record {
       numbers = numbers_fit view numbers;
@@ -109,9 +99,39 @@ module _ (s : State) (sound : IsSound s) where
       fits = upload_fits u it told.1;
     }
 
--- why a call fails for a decision of this form
-pub causes_as : {T : Type 0} (state : T → db.State) (view : View) (content : List ℕ) (old new : T) (decision d : Decision) (r : Result (Unit {0}) StoreFault) → decision ≡ d
-    → FromMaps (state old) (state new) (λ s. IsSound s → TellsNumbers view s → TellsFor view s content d → AreStorableSizes s content → IsStorableDecision s d → IfErr r (FailsSince state (FailsHolding (TakesMemory s d)) old new))
-    → FromMaps (state old) (state new) (λ s. IsSound s → TellsNumbers view s → TellsFor view s content decision → AreStorableSizes s content → IsStorableDecision s decision → IfErr r (FailsSince state (FailsHolding (TakesMemory s decision)) old new))
-causes_as state view content old new decision d r is why =
-    subst (λ (it : Decision). FromMaps (state old) (state new) (λ s. IsSound s → TellsNumbers view s → TellsFor view s content it → AreStorableSizes s content → IsStorableDecision s it → IfErr r (FailsSince state (FailsHolding (TakesMemory s it)) old new))) (sym is) why
+  module _ (change : Change) (sizes : AreStorableSizes s change.content.now) where
+    abbrev view : View
+    view = change.view.now
+
+    abbrev content : List ℕ
+    content = change.content.now
+
+    source_fits : (i : ℕ) (source : Source) → TellsSource change s i source → IsStorableSource change i source
+    source_fits i (Posted digests) told = sizes.content
+    source_fits i (Assembled u) told = record { upload = u; it = told.upload; told = told.seen_so; fits = upload_fits content sizes u told.upload told.there }
+
+    sources_fit : (new : List NewFile) → AreSources s content view.uploads new → AreStorableSources change new
+    sources_fit new told i one at = source_fits i one.source (told.0 i one at)
+
+    deposit_fits : (have : Texts) (d : Deposit) → HasSources s content view.uploads d → HasPlaces have d → IsStorableDeposit change have d
+    deposit_fits have (Files new) told fits = sources_fit new told
+    deposit_fits have (Metadata texts) told fits = fits
+
+    -- what is told of a decision is storable
+    pub change_fits : (d : Decision) → TellsNumbers view s → TellsFor view s content d → BringsStorable s d → IsStorableDecision change s d
+    change_fits Show numbers told fits = tt
+    change_fits (Create d ingests) numbers told fits = (numbers_fit view numbers, deposit_fits finmap.empty d told.1 fits)
+    change_fits (Append n d ingests) numbers told fits =
+        let o = told.0 in
+        let have : o.metadata ≡ metadata_at s.objects n = texts_of s n o told.1.1 in
+        (o, numbers, told.1, object_told view n o numbers told.1, deposit_fits o.metadata d told.2 (subst (λ (m : Texts). HasPlaces m d) (sym have) fits))
+    change_fits (Replace n d ingests) numbers told fits = (sound, object_told view n told.0 numbers told.1, deposit_fits finmap.empty d told.2 fits)
+    change_fits (Complete n) numbers told fits = object_told view n told.0 numbers told.1
+    change_fits (SetMetadata n texts) numbers told fits = (object_told view n told.0 numbers told.1, fits)
+    change_fits (SetFiles n new) numbers told fits = (sound, object_told view n told.0 numbers told.1, sources_fit new told.2)
+    change_fits (SetFile n f new) numbers told fits = (object_told view n told.0 numbers told.2.0, file_fits n told.0 f told.1 told.2.0.1 told.2.1, sizes.content, told.3)
+    change_fits (DropFile n f) numbers told fits = (object_told view n told.0 numbers told.2.0, file_fits n told.0 f told.1 told.2.0.1 told.2.1)
+    change_fits (DropObject n) numbers told fits = (sound, (object_fits n told.0 told.1.1).object)
+    change_fits (Open o) numbers told fits = (numbers_fit view numbers, fits)
+    change_fits (Receive u k) numbers told fits = (upload_told content sizes view u told.0 k numbers told.1, segment_fits content sizes u told.0 k told.1.1 told.1.3, sizes.content)
+    change_fits (DropUpload u) numbers told fits = (upload_fits content sizes u told.0 told.1).upload

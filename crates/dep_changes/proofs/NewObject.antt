@@ -25,13 +25,14 @@ use Rattle.dep_decisions.specs.declared.decision.Deposit.TheVariants.{Files}
 use Rattle.dep_decisions.specs.declared.decision.NewFile.{NewFile}
 use Rattle.dep_operations.specs.declared.view.UploadView.{UploadView}
 use Rattle.dep_changes.specs.Told.{IsSource, whole_view}
+use Rattle.dep_changes.specs.Changed.{IsExtent}
 use Rattle.dep_changes.proofs.Added.{length_before, take_next}
 use Rattle.dep_changes.proofs.Filled.{blank_row_is}
 
 -- ---- how many bytes a file has
 
 abbrev pub HasExtent : State → (content : List ℕ) → Source → (size : ℕ) → Digests → Type 0
-HasExtent s content source size digests = (size ≡ length (bytes_from s content source)) × (digests ≡ digests_of (bytes_from s content source))
+HasExtent s content source size digests = IsExtent (record { size = size; digests = digests }) (bytes_from s content source)
 
 module _ (s : State) (content : List ℕ) (seen : Option UploadView) (source : Source) where
   pub posted_extent : (digests : Digests) (bytes : List ℕ) → source ≡ Posted digests → bytes ≡ content → IsSource s content seen source → HasExtent s content source (length bytes) digests

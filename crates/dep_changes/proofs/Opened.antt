@@ -25,7 +25,12 @@ use Rattle.dep_decisions.specs.declared.decision.Deposit.{Deposit}
 use Rattle.dep_decisions.specs.declared.decision.Decision.{Decision}
 use Rattle.dep_decisions.specs.declared.decision.Decision.TheVariants.{Show, Create, Append, Replace, Complete, SetMetadata, SetFiles, SetFile, DropFile, DropObject, Open, Receive, DropUpload}
 use Rattle.dep_decisions.proofs.FoundInMaps.{all_passed, unless-none}
-use Rattle.dep_changes.specs.Causes.{HasPlacesFor, HasStorableSizes, IsStorableDecision}
+use Rattle.dep_changes.specs.Causes.{HasPlacesFor, HasStorableSizes}
+
+-- each new text has a place, and an upload is opened with sizes that a table can hold
+abbrev pub BringsStorable : State → Decision → Type 0
+BringsStorable s (Open o) = HasStorableSizes o.size o.count o.segment_size
+BringsStorable s d = HasPlacesFor s d
 
 -- the sizes of an opening are ones that a table can hold
 abbrev OpensFit : Decision → Type 0
@@ -148,7 +153,7 @@ module _ (config : Config) (s : State) (op : Operation) (limits : HasLimits conf
   unfolding decision_with refusal
   fits_for e = asked op.target.resource op.target.method e
 
-  storable : (d : Decision) → OpensFit d → HasPlacesFor s d → IsStorableDecision s d
+  storable : (d : Decision) → OpensFit d → HasPlacesFor s d → BringsStorable s d
   storable (Open o) fit places = fit
   storable Show fit places = tt
   storable (Create d ingests) fit places = places
@@ -163,5 +168,5 @@ module _ (config : Config) (s : State) (op : Operation) (limits : HasLimits conf
   storable (Receive u k) fit places = tt
   storable (DropUpload u) fit places = tt
 
-  pub decision_storable : (d : Decision) → d ≡ decision config op → refusal config s op ≡ None → HasPlacesFor s d → IsStorableDecision s d
+  pub decision_storable : (d : Decision) → d ≡ decision config op → refusal config s op ≡ None → HasPlacesFor s d → BringsStorable s d
   decision_storable d asks passed places = storable d (subst OpensFit (sym asks) (fits_for passed)) places

@@ -14,6 +14,7 @@ use Rattle.dep_row_maps.specs.TablesAre.{TablesAre, metadata_at, files_at, with_
 use Rattle.dep_row_maps.proofs.Files.{same_number}
 use Rattle.dep_row_maps.proofs.Lens.{get_here, get_there, get_gone, get_left, insert_twice}
 use Rattle.dep_decisions.specs.Effects.{changed, ingested_by, with_files, with_texts}
+use Rattle.dep_changes.specs.Told.{Rewrites}
 
 -- an object is written, and then again
 pub written_again : (t : Tables) (s : State) (n : ℕ) (a b : Object) → TablesAre t (with_object (with_object s n a) n b) → TablesAre t (with_object s n b)
@@ -77,6 +78,16 @@ at_number t s k n it same are = subst (λ (m : ℕ). TablesAre t (with_object s 
 
 pub there_at : (m : Numbered Object) (k n : ℕ) (o : Object) → k ≡ n → finmap.get m n ≡ Some o → finmap.get m k ≡ Some o
 there_at m k n o same there = ap (finmap.get m) same ∙ there
+
+-- the row that is written in the place of that of an object
+pub rewritten : (s : State) (n : ℕ) (was it : Object) (row : ObjectRow) → row ≡ object_row n it → finmap.get s.objects n ≡ Some was → it.metadata ≡ was.metadata → it.files ≡ was.files → Rewrites s row it
+rewritten s n was it row is there metadata files = record {
+  was = was;
+  there = there_at s.objects row.object n was (its_number n it row is) there;
+  is_row = its_own n it row is;
+  metadata = metadata;
+  files = files;
+}
 
 -- ---- an object goes
 

@@ -1,10 +1,13 @@
 -- When a change can fail: which numbers a table can hold, and what is copied.
 use Rattle.std.specs.Prelude.{◌≡◌, ◌≢◌, ◌⊎◌, ⊤, ℕ, List, [], ◌∷◌, length, slice_get, Option, Some}
 use Rattle.std.specs.FinMap as map
+use Rattle.dep_types.specs.Config.{HasLimits}
 use Rattle.dep_types.specs.Limits.{IsStorable}
-use Rattle.dep_types.specs.State.{State, Upload, Texts}
+use Rattle.dep_types.specs.Sound.{IsSound}
+use Rattle.dep_types.specs.State.{State, Object, Upload, Texts}
 use Rattle.dep_types.specs.Rows.{upload_row}
 use Rattle.dep_types.specs.declared.rows.ObjectRow.{ObjectRow}
+use Rattle.dep_fixity.specs.Fixity.{digests_of}
 use Rattle.dep_tables.specs.Rows.{IsStorableObject, IsStorableUpload, columns_of_upload}
 use Rattle.dep_row_maps.specs.TablesAre.{metadata_at}
 use Rattle.dep_objects.specs.Texts.{HavePlaces}
@@ -14,12 +17,14 @@ use Rattle.dep_decisions.specs.declared.decision.NewFile.{NewFile}
 use Rattle.dep_decisions.specs.declared.decision.Deposit.{Deposit}
 use Rattle.dep_decisions.specs.declared.decision.Deposit.TheVariants.{Files, Metadata}
 use Rattle.dep_decisions.specs.declared.decision.Decision.{Decision}
-use Rattle.dep_decisions.specs.declared.decision.Decision.TheVariants.{Create, Append, Replace, SetMetadata, SetFiles, SetFile, Open}
+use Rattle.dep_decisions.specs.declared.decision.Decision.TheVariants.{Show, Create, Append, Replace, Complete, SetMetadata, SetFiles, SetFile, DropFile, DropObject, Open, Receive, DropUpload}
 use Rattle.dep_operations.specs.declared.view.View.{View}
 use Rattle.dep_operations.specs.declared.view.LiveUpload.{LiveUpload}
 use Rattle.dep_operations.specs.declared.view.UploadView.{UploadView}
 use Rattle.dep_operations.specs.declared.view.UploadState.TheVariants.{Live}
-use Rattle.dep_changes.specs.Told.{whole_view}
+use Rattle.dep_changes.specs.declared.change.Change.{Change}
+use Rattle.dep_changes.specs.declared.new_files.FileNumbers.{FileNumbers}
+use Rattle.dep_changes.specs.Told.{IsAccepted, TellsNumbers, TellsObject, whole_view}
 
 -- ---- numbers that a table can hold
 
@@ -52,19 +57,36 @@ pub record IsStorableWhole (seen : Option UploadView) : Type 0 where
   pub told : seen ≡ Some (whole_view upload it)
   pub fits : IsStorableUpload (columns_of_upload (upload_row upload it))
 
--- the size of a content, or those of an upload
-abbrev pub IsStorableSource : (content : List ℕ) → Option UploadView → Source → Type 0
-IsStorableSource content seen (Posted digests) = IsStorable (length content)
-IsStorableSource content seen (Assembled u) = IsStorableWhole seen
+-- where a new file's bytes come from: the size of the content, or those of the upload at its place
+abbrev pub IsStorableSource : Change → (place : ℕ) → Source → Type 0
+IsStorableSource change place (Posted digests) = IsStorable (length change.content.now)
+IsStorableSource change place (Assembled u) =
+    IsStorableWhole (slice_get change.view.now.uploads place)
 
-abbrev pub AreStorableSources : (content : List ℕ) → List UploadView → List NewFile → Type 0
-AreStorableSources content seen new = (i : ℕ) (one : NewFile) → slice_get new i ≡ Some one
-    → IsStorableSource content (slice_get seen i) one.source
+abbrev pub AreStorableSources : Change → List NewFile → Type 0
+AreStorableSources change new = (i : ℕ) (one : NewFile) → slice_get new i ≡ Some one
+    → IsStorableSource change i one.source
 
--- and the places of new texts behind those that are there
-abbrev pub IsStorableDeposit : (content : List ℕ) → List UploadView → (have : Texts) → Deposit → Type 0
-IsStorableDeposit content seen have (Files new) = AreStorableSources content seen new
-IsStorableDeposit content seen have (Metadata texts) = HavePlaces have (map.entries texts)
+-- a new file that is put in
+abbrev pub IsStorableNewFile : Change → FileNumbers → (place : ℕ) → Source → Type 0
+IsStorableNewFile change numbers place source =
+    HasStorableNumbers change.view.now × IsStorable numbers.object × IsStorable numbers.file
+    × IsStorableSource change place source
+
+-- a deposit, with the places of new texts behind those that are there
+abbrev pub IsStorableDeposit : Change → (have : Texts) → Deposit → Type 0
+IsStorableDeposit change have (Files new) = AreStorableSources change new
+IsStorableDeposit change have (Metadata texts) = HavePlaces have (map.entries texts)
+
+-- a deposit that is put in an object
+abbrev pub IsStorableAt : Change → (object : ℕ) → Deposit → Type 0
+IsStorableAt change object d =
+    HasStorableNumbers change.view.now × IsStorable object × IsStorableDeposit change map.empty d
+
+-- a deposit that is added to these texts of the object of this row
+abbrev pub IsStorableBeside : Change → ObjectRow → (have : Texts) → Deposit → Type 0
+IsStorableBeside change row have d =
+    HasStorableNumbers change.view.now × IsStorableObject row × IsStorableDeposit change have d
 
 -- ---- of a decision
 
@@ -92,10 +114,40 @@ HasPlacesFor s (Replace n d ingests) = HasPlaces map.empty d
 HasPlacesFor s (SetMetadata n texts) = HavePlaces map.empty (map.entries texts)
 HasPlacesFor s _ = ⊤
 
--- and an upload is opened with such sizes
-abbrev pub IsStorableDecision : State → Decision → Type 0
-IsStorableDecision s (Open o) = HasStorableSizes o.size o.count o.segment_size
-IsStorableDecision s d = HasPlacesFor s d
+-- an accepted request whose sizes and texts a table can hold
+pub record IsStorableRequest (s : State) (view : View) (content : List ℕ) (d : Decision)
+    : Type 0 where
+  pub accepted : IsAccepted s view content d
+  pub limits : HasLimits accepted.config
+  pub sizes : AreStorableSizes s content
+  pub places : HasPlacesFor s d
+
+-- A table can hold what a decision writes, as it is told. Where rows are read for it, the state is
+-- sound, or they are told.
+abbrev pub IsStorableDecision : Change → State → Decision → Type 0
+IsStorableDecision change s Show = ⊤
+IsStorableDecision change s (Create d ingests) =
+    HasStorableNumbers change.view.now × IsStorableDeposit change map.empty d
+IsStorableDecision change s (Append n d ingests) =
+    (o : Object) × TellsNumbers change.view.now s × TellsObject change.view.now s n o
+    × TellsStorableObject change.view.now × IsStorableDeposit change o.metadata d
+IsStorableDecision change s (Replace n d ingests) =
+    IsSound s × TellsStorableObject change.view.now × IsStorableDeposit change map.empty d
+IsStorableDecision change s (Complete n) = TellsStorableObject change.view.now
+IsStorableDecision change s (SetMetadata n texts) =
+    TellsStorableObject change.view.now × HavePlaces map.empty (map.entries texts)
+IsStorableDecision change s (SetFiles n new) =
+    IsSound s × TellsStorableObject change.view.now × AreStorableSources change new
+IsStorableDecision change s (SetFile n f new) =
+    TellsStorableObject change.view.now × IsStorable f × IsStorable (length change.content.now)
+    × (new.source ≡ Posted (digests_of change.content.now))
+IsStorableDecision change s (DropFile n f) = TellsStorableObject change.view.now × IsStorable f
+IsStorableDecision change s (DropObject n) = IsSound s × IsStorable n
+IsStorableDecision change s (Open o) =
+    HasStorableNumbers change.view.now × HasStorableSizes o.size o.count o.segment_size
+IsStorableDecision change s (Receive u k) =
+    TellsStorableUpload change.view.now × IsStorable k × IsStorable (length change.content.now)
+IsStorableDecision change s (DropUpload u) = IsStorable u
 
 -- ---- what is copied
 
@@ -109,6 +161,7 @@ abbrev pub CopiesBeside : (have : Texts) → Deposit → Type 0
 CopiesBeside have (Files new) = new ≢ []
 CopiesBeside have (Metadata texts) = (have ≢ map.empty) ⊎ (texts ≢ map.empty)
 
+-- memory is taken for a copy
 abbrev pub TakesMemory : State → Decision → Type 0
 TakesMemory s (Create d ingests) = HasCopies d
 TakesMemory s (Append n d ingests) = CopiesBeside (metadata_at s.objects n) d

@@ -1,23 +1,15 @@
 //! What a decision makes of the tables.
 
-ghost use Rattle.std.specs.Prelude.{◌≡◌, Ok, OnOk, IfErr, IsTrue};
-ghost use Rattle.dep_types.specs.Config.{HasLimits};
+ghost use Rattle.std.specs.Prelude.{◌≡◌, Ok, IsTrue};
 ghost use Rattle.dep_types.specs.Numbers.{room_for};
-ghost use Rattle.dep_types.specs.Sound.{IsSound};
-ghost use Rattle.dep_types.specs.declared.config.Config.{Config};
 ghost use Rattle.dep_tables.specs.Clauses.{StaysWithin};
-ghost use Rattle.dep_row_maps.specs.Clauses.{FromMaps, KeepsOurs, SeesState};
-ghost use Rattle.dep_row_maps.specs.Causes.{FailsHolding, FailsSince};
+ghost use Rattle.dep_row_maps.specs.Clauses.{KeepsOurs};
 ghost use Rattle.dep_decisions.specs.Decisions.{numbers_for};
-ghost use Rattle.dep_decisions.specs.Effects.{effect};
+ghost use Rattle.dep_decisions.specs.Effects.{effect_of};
 ghost use Rattle.dep_decisions.specs.declared.decision.Decision.TheVariants.{Show};
-ghost use Rattle.dep_decisions.specs.declared.operation.Operation.{Operation};
-ghost use Rattle.dep_operations.specs.Rulings.{IsRuling};
-ghost use Rattle.dep_operations.specs.Views.{true_view};
-ghost use Rattle.dep_operations.specs.declared.ruling.Ruling.TheVariants.{Do};
-ghost use Rattle.dep_changes.specs.Causes.{AreStorableSizes, HasPlacesFor, IsStorableDecision, TakesMemory};
-ghost use Rattle.dep_changes.specs.Told.{TellsNumbers, TellsFor};
-ghost use Rattle.dep_changes.specs.Changed.{with_maps};
+ghost use Rattle.dep_changes.specs.Causes.{IsStorableRequest, TakesMemory};
+ghost use Rattle.dep_changes.specs.Clauses.{CarriesOut, FailsCarryingMaps, FailsFromMaps, Makes};
+ghost use Rattle.dep_changes.specs.Told.{IsAccepted};
 
 use crate::change::Change;
 use crate::deposits::{append, create, replace};
@@ -47,18 +39,14 @@ pub fn carry_out<T: Statements>(
     content: &HashedOctets,
 ) -> Result<(), StoreFault>
     requires { IsTrue (room_for view.now.next (numbers_for decision.now)) }
-    ensures map { FromMaps (T.state tx.old) (T.state tx.new)
-        (λ s. (config : Config) (op : Operation) → IsSound s → view.now ≡ true_view config s op
-        → IsRuling config s op (Do decision.now) → content.now ≡ op.content
-        → OnOk result (SeesState (T.state tx.new) (effect config s op))) }
+    ensures map { Makes T.state tx.old tx.new result
+        (λ s. IsAccepted s view.now content.now decision.now)
+        (λ s. effect_of s content.now decision.now) }
     ensures untouched { decision.now ≡ Show → (result ≡ Ok tt) × (tx.new ≡ tx.old) }
     ensures ours { KeepsOurs (T.state tx.old) (T.state tx.new) result }
-    ensures cause { FromMaps (T.state tx.old) (T.state tx.new)
-        (λ s. (config : Config) (op : Operation) → IsSound s → view.now ≡ true_view config s op
-        → IsRuling config s op (Do decision.now) → content.now ≡ op.content
-        → HasLimits config → AreStorableSizes s content.now → HasPlacesFor s decision.now
-        → IfErr result (FailsSince T.state (FailsHolding (TakesMemory s decision.now))
-        tx.old tx.new)) }
+    ensures cause { FailsFromMaps T.state tx.old tx.new result
+        (λ s. IsStorableRequest s view.now content.now decision.now)
+        (λ s. TakesMemory s decision.now) }
     ensures stays { StaysWithin T.lenders T.state tx.old tx.new result }
 {
     let change = Change {
@@ -87,19 +75,10 @@ fn change_maps<T: Statements>(
     decision: &Decision,
 ) -> Result<(), StoreFault>
     requires { IsTrue (room_for change.now.view.now.next (numbers_for decision.now)) }
-    ensures map { FromMaps (T.state tx.old) (T.state tx.new)
-        (λ s. TellsNumbers change.now.view.now s
-        → TellsFor change.now.view.now s change.now.content.now decision.now
-        → OnOk result (SeesState (T.state tx.new)
-        (with_maps s change.now.content.now decision.now))) }
+    ensures map { CarriesOut T.state tx.old tx.new result change.now decision.now }
     ensures untouched { decision.now ≡ Show → (result ≡ Ok tt) × (tx.new ≡ tx.old) }
     ensures ours { KeepsOurs (T.state tx.old) (T.state tx.new) result }
-    ensures cause { FromMaps (T.state tx.old) (T.state tx.new)
-        (λ s. IsSound s → TellsNumbers change.now.view.now s
-        → TellsFor change.now.view.now s change.now.content.now decision.now
-        → AreStorableSizes s change.now.content.now → IsStorableDecision s decision.now
-        → IfErr result (FailsSince T.state (FailsHolding (TakesMemory s decision.now))
-        tx.old tx.new)) }
+    ensures cause { FailsCarryingMaps T.state tx.old tx.new result change.now decision.now }
     ensures stays { StaysWithin T.lenders T.state tx.old tx.new result }
 {
     match decision {
@@ -115,15 +94,13 @@ fn change_maps<T: Statements>(
             ingests,
             ..
         } => replace(tx, change, deposit, *ingests),
-        Decision::Complete { .. } => complete(tx, change.view),
-        Decision::SetMetadata { metadata, .. } => {
-            set_texts(tx, change.alloc, change.view, metadata)
-        }
+        Decision::Complete { .. } => complete(tx, change),
+        Decision::SetMetadata { metadata, .. } => set_texts(tx, change, metadata),
         Decision::SetFiles { files, .. } => set_files(tx, change, files.as_slice()),
         Decision::SetFile { file, new, .. } => set_file(tx, change, *file, new),
-        Decision::DropFile { file, .. } => drop_file(tx, change.view, *file),
+        Decision::DropFile { file, .. } => drop_file(tx, change, *file),
         Decision::DropObject { object } => drop_object(tx, change.alloc, *object),
-        Decision::Open(opening) => open(tx, change.view, opening),
+        Decision::Open(opening) => open(tx, change, opening),
         Decision::Receive { segment, .. } => receive(tx, change, *segment),
         Decision::DropUpload { upload } => drop_upload(tx, *upload),
     }

@@ -1,22 +1,15 @@
 //! What is told of a new object, which is known without a look at the tables.
 
-ghost use Rattle.std.specs.Prelude.{◌≡◌, ◌≢◌, ◌<◌, [], length, map, slice_get, IfOk, IfErr, IsOkAnd, IsTrue};
-ghost use Rattle.std.specs.FinMap as finmap;
+ghost use Rattle.std.specs.Prelude.{◌≡◌, ◌≢◌, [], length, IfOk, IfErr, IsOkAnd, IsTrue};
 ghost use Rattle.dep_types.specs.Numbers.{has_room};
 ghost use Rattle.dep_types.specs.Rows.{file_row, object_view};
-ghost use Rattle.dep_types.specs.Sound.{IsSound};
 ghost use Rattle.dep_types.specs.State.{State};
-ghost use Rattle.dep_types.specs.declared.config.Config.{Config};
 ghost use Rattle.dep_types.specs.declared.store_fault.StoreFault.TheVariants.{Memory};
-ghost use Rattle.dep_fixity.specs.Fixity.{digests_of};
-ghost use Rattle.dep_decisions.specs.Effects.{added, bytes_from, file_from, filled};
+ghost use Rattle.dep_decisions.specs.Effects.{bytes_from, file_from, filled};
 ghost use Rattle.dep_decisions.specs.declared.decision.Decision.TheVariants.{Create};
-ghost use Rattle.dep_decisions.specs.declared.decision.Deposit.TheVariants as deposit;
-ghost use Rattle.dep_decisions.specs.declared.operation.Operation.{Operation};
-ghost use Rattle.dep_operations.specs.Rulings.{IsRuling};
-ghost use Rattle.dep_operations.specs.Views.{true_view};
-ghost use Rattle.dep_operations.specs.declared.ruling.Ruling.TheVariants.{Do};
-ghost use Rattle.dep_changes.specs.Told.{TellsNumbers, AreSources, IsSource};
+ghost use Rattle.dep_decisions.specs.declared.decision.Deposit.TheVariants.{Files};
+ghost use Rattle.dep_changes.specs.Changed.{IsExtent, new_rows};
+ghost use Rattle.dep_changes.specs.Told.{AreSources, IsAccepted, TellsDeposit, TellsNewFile, TellsSource};
 
 use crate::change::Change;
 use crate::deposits::blank_row;
@@ -29,11 +22,8 @@ use std::alloc::Global;
 
 // How many bytes a new file has, and their digests.
 fn extent_of(change: &Change<'_>, source: Source, index: usize) -> Result<Extent, StoreFault>
-    ensures { (s : State)
-        → IsSource s change.now.content.now (slice_get change.now.view.now.uploads index) source
-        → IsOkAnd result (λ extent.
-        (extent.size ≡ length (bytes_from s change.now.content.now source))
-        × (extent.digests ≡ digests_of (bytes_from s change.now.content.now source))) }
+    ensures { (s : State) → TellsSource change.now s index source
+        → IsOkAnd result (λ extent. IsExtent extent (bytes_from s change.now.content.now source)) }
 {
     match source {
         Source::Posted(digests) => Ok(Extent {
@@ -57,14 +47,10 @@ fn row_of(
     new: &NewFile,
     index: usize,
 ) -> Result<FileRow, StoreFault>
-    ensures told { (s : State) → TellsNumbers change.now.view.now s
-        → IsSource s change.now.content.now (slice_get change.now.view.now.uploads index)
-        new.now.source
+    ensures told { (s : State) → TellsNewFile change.now s index new.now.source
         → IfOk result (λ row. row
         ≡ file_row numbers.object numbers.file (file_from s change.now.content.now new.now)) }
-    ensures cause { (s : State)
-        → IsSource s change.now.content.now (slice_get change.now.view.now.uploads index)
-        new.now.source
+    ensures cause { (s : State) → TellsSource change.now s index new.now.source
         → IfErr result (λ fault. fault ≡ Memory) }
 {
     let extent = extent_of(change, new.source, index)?;
@@ -74,10 +60,8 @@ fn row_of(
 // The rows of the files of a new object, under the next numbers in their order.
 fn new_rows(change: &Change<'_>, object: u64, files: &[NewFile]) -> Result<FileRows, StoreFault>
     requires { IsTrue (has_room change.now.view.now.next.file (length files.now)) }
-    ensures told { (s : State) → TellsNumbers change.now.view.now s
-        → AreSources s change.now.content.now change.now.view.now.uploads files.now
-        → IfOk result (λ rows. rows ≡ map (λ e. file_row object e.0 e.1)
-        (finmap.entries (added s change.now.content.now files.now finmap.empty))) }
+    ensures told { (s : State) → TellsDeposit change.now s (Files files.now)
+        → IfOk result (λ rows. rows ≡ new_rows s change.now.content.now object files.now) }
     ensures cause { (s : State)
         → AreSources s change.now.content.now change.now.view.now.uploads files.now
         → IfErr result (λ fault. (files.now ≢ []) × (fault ≡ Memory)) }
@@ -106,16 +90,12 @@ pub fn created_view(
     ingests: bool,
 ) -> Result<ObjectView, StoreFault>
     requires { IsTrue (has_room view.now.next.file (length files.now)) }
-    ensures told { (config : Config) (s : State) (op : Operation) → IsSound s
-        → view.now ≡ true_view config s op
-        → IsRuling config s op (Do (Create (deposit.Files files.now) ingests))
-        → content.now ≡ op.content
-        → IfOk result (λ told. told ≡ object_view s.next.object
-        (filled s content.now (deposit.Files files.now) ingests)) }
-    ensures cause { (config : Config) (s : State) (op : Operation) → IsSound s
-        → view.now ≡ true_view config s op
-        → IsRuling config s op (Do (Create (deposit.Files files.now) ingests))
-        → content.now ≡ op.content
+    ensures told { (s : State)
+        → IsAccepted s view.now content.now (Create (Files files.now) ingests)
+        → IfOk result (λ told. told
+        ≡ object_view s.next.object (filled s content.now (Files files.now) ingests)) }
+    ensures cause { (s : State)
+        → IsAccepted s view.now content.now (Create (Files files.now) ingests)
         → IfErr result (λ fault. (files.now ≢ []) × (fault ≡ Memory)) }
 {
     let change = Change {

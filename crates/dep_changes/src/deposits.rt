@@ -1,23 +1,19 @@
 //! Deposits.
 
-ghost use Rattle.std.specs.Prelude.{◌≡◌, ◌≢◌, ◌⊎◌, ◌||◌, ℕ, Bool, [], Some, None, OnOk, IfErr, IsTrue, length};
+ghost use Rattle.std.specs.Prelude.{◌≡◌, ◌≢◌, ◌||◌, ℕ, [], Some, IsTrue, length};
 ghost use Rattle.std.specs.FinMap as map;
 ghost use Rattle.dep_types.specs.Limits.{IsStorable};
-ghost use Rattle.dep_types.specs.Sound.{IsSound};
 ghost use Rattle.dep_types.specs.State.{Object};
-ghost use Rattle.dep_types.specs.Rows.{object_row};
 ghost use Rattle.dep_types.specs.Numbers.{has_room};
 ghost use Rattle.dep_tables.specs.Clauses.{StaysWithin};
-ghost use Rattle.dep_tables.specs.Rows.{IsStorableObject};
 ghost use Rattle.dep_row_maps.specs.TablesAre.{with_metadata, with_object};
-ghost use Rattle.dep_row_maps.specs.Clauses.{FromMaps, KeepsOurs, SeesState};
-ghost use Rattle.dep_row_maps.specs.Causes.{FailsByOne, FailsByStatement, FailsHolding, FailsSince};
-ghost use Rattle.dep_objects.specs.Texts.{HavePlaces};
+ghost use Rattle.dep_row_maps.specs.Clauses.{KeepsOurs};
+ghost use Rattle.dep_row_maps.specs.Causes.{FailsByOne, FailsByStatement, FailsHolding};
 ghost use Rattle.dep_decisions.specs.Decisions.{count_of};
-ghost use Rattle.dep_decisions.specs.Effects.{blank, joined, with_files, with_texts};
-ghost use Rattle.dep_changes.specs.Causes.{AreStorableSources, CopiesBeside, HasCopies, HasStorableNumbers, IsStorableDeposit, TellsStorableObject};
-ghost use Rattle.dep_changes.specs.Told.{TellsNumbers, TellsObject, AreSources, HasSources};
-ghost use Rattle.dep_changes.specs.Changed.{with_deposit, with_appended, with_new_files};
+ghost use Rattle.dep_decisions.specs.declared.decision.Decision.TheVariants.{Append, Create, Replace};
+ghost use Rattle.dep_changes.specs.Causes.{HasCopies, IsStorableAt, IsStorableBeside};
+ghost use Rattle.dep_changes.specs.Changed.{blank_row};
+ghost use Rattle.dep_changes.specs.Clauses.{Appends, CarriesOut, FailsAppending, FailsCarrying, FailsCarryingMaps, Makes, PutsIn};
 
 use crate::change::{Change, touched};
 use crate::new_files::put_new_files;
@@ -42,14 +38,7 @@ fn ingested_by(row: ObjectRow, ingests: bool) -> ObjectRow
 
 /// The row of an object that has nothing but a deposit of this change.
 pub(crate) fn blank_row(view: &View, object: u64, ingested: bool) -> ObjectRow
-    ensures { result ≡ record {
-      object = object;
-      ingested = ingested;
-      object_tag = view.now.next.change;
-      metadata_tag = view.now.next.change;
-      files_tag = view.now.next.change;
-      changed = view.now.clock;
-    } }
+    ensures { result ≡ blank_row view.now object ingested }
 {
     ObjectRow {
         object,
@@ -61,7 +50,7 @@ pub(crate) fn blank_row(view: &View, object: u64, ingested: bool) -> ObjectRow
     }
 }
 
-// Puts a deposit in an object that has nothing.
+// Puts a deposit in an object: files beside those that it has, or texts in the place of those that it has.
 fn fill<T: Statements>(
     tx: &mut T,
     change: &Change<'_>,
@@ -69,17 +58,10 @@ fn fill<T: Statements>(
     deposit: &Deposit,
 ) -> Result<(), StoreFault>
     requires { IsTrue (has_room change.now.view.now.next.file (count_of deposit.now)) }
-    ensures map { FromMaps (T.state tx.old) (T.state tx.new)
-        (λ s. (ingested : Bool) → TellsNumbers change.now.view.now s
-        → map.get s.objects object ≡ Some (blank s ingested)
-        → HasSources s change.now.content.now change.now.view.now.uploads deposit.now
-        → OnOk result (SeesState (T.state tx.new)
-        (with_deposit s change.now.content.now object deposit.now ingested))) }
+    ensures map { PutsIn T.state tx.old tx.new result change.now object deposit.now }
     ensures ours { KeepsOurs (T.state tx.old) (T.state tx.new) result }
     ensures cause { FailsByOne T.state tx.old tx.new result
-        (HasStorableNumbers change.now.view.now × IsStorable object
-        × IsStorableDeposit change.now.content.now change.now.view.now.uploads map.empty deposit.now)
-        (FailsHolding (HasCopies deposit.now)) }
+        (IsStorableAt change.now object deposit.now) (FailsHolding (HasCopies deposit.now)) }
     ensures stays { StaysWithin T.lenders T.state tx.old tx.new result }
 {
     match deposit {
@@ -96,16 +78,11 @@ pub(crate) fn create<T: Statements>(
     ingests: bool,
 ) -> Result<(), StoreFault>
     requires { IsTrue (has_room change.now.view.now.next.file (count_of deposit.now)) }
-    ensures map { FromMaps (T.state tx.old) (T.state tx.new)
-        (λ s. TellsNumbers change.now.view.now s → map.get s.objects s.next.object ≡ None
-        → HasSources s change.now.content.now change.now.view.now.uploads deposit.now
-        → OnOk result (SeesState (T.state tx.new)
-        (with_deposit s change.now.content.now s.next.object deposit.now ingests))) }
+    ensures map { CarriesOut T.state tx.old tx.new result change.now
+        (Create deposit.now ingests) }
     ensures ours { KeepsOurs (T.state tx.old) (T.state tx.new) result }
-    ensures cause { FailsByOne T.state tx.old tx.new result
-        (HasStorableNumbers change.now.view.now
-        × IsStorableDeposit change.now.content.now change.now.view.now.uploads map.empty deposit.now)
-        (FailsHolding (HasCopies deposit.now)) }
+    ensures cause { FailsCarrying T.state tx.old tx.new result change.now
+        (Create deposit.now ingests) }
     ensures stays { StaysWithin T.lenders T.state tx.old tx.new result }
 {
     let object = change.view.next.object;
@@ -115,10 +92,9 @@ pub(crate) fn create<T: Statements>(
 
 // The object has no metadata.
 fn clear_metadata<T: Statements>(tx: &mut T, alloc: Global, object: u64) -> Result<(), StoreFault>
-    ensures map { FromMaps (T.state tx.old) (T.state tx.new)
-        (λ s. (o : Object) → map.get s.objects object ≡ Some o
-        → OnOk result (SeesState (T.state tx.new)
-        (with_object s object (with_metadata o map.empty)))) }
+    ensures map { (o : Object) → Makes T.state tx.old tx.new result
+        (λ s. map.get s.objects object ≡ Some o)
+        (λ s. with_object s object (with_metadata o map.empty)) }
     ensures ours { KeepsOurs (T.state tx.old) (T.state tx.new) result }
     ensures cause { FailsByOne T.state tx.old tx.new result (IsStorable object) FailsByStatement }
     ensures stays { StaysWithin T.lenders T.state tx.old tx.new result }
@@ -137,17 +113,11 @@ pub(crate) fn replace<T: Statements>(
     ingests: bool,
 ) -> Result<(), StoreFault>
     requires { IsTrue (has_room change.now.view.now.next.file (count_of deposit.now)) }
-    ensures map { FromMaps (T.state tx.old) (T.state tx.new)
-        (λ s. (n : ℕ) (o : Object) → TellsNumbers change.now.view.now s
-        → TellsObject change.now.view.now s n o
-        → HasSources s change.now.content.now change.now.view.now.uploads deposit.now
-        → OnOk result (SeesState (T.state tx.new)
-        (with_deposit s change.now.content.now n deposit.now (o.ingested || ingests)))) }
+    ensures map { (n : ℕ) → CarriesOut T.state tx.old tx.new result change.now
+        (Replace n deposit.now ingests) }
     ensures ours { KeepsOurs (T.state tx.old) (T.state tx.new) result }
-    ensures cause { FromMaps (T.state tx.old) (T.state tx.new)
-        (λ s. IsSound s → TellsStorableObject change.now.view.now
-        → IsStorableDeposit change.now.content.now change.now.view.now.uploads map.empty deposit.now
-        → IfErr result (FailsSince T.state (FailsHolding (HasCopies deposit.now)) tx.old tx.new)) }
+    ensures cause { (n : ℕ) → FailsCarryingMaps T.state tx.old tx.new result change.now
+        (Replace n deposit.now ingests) }
     ensures stays { StaysWithin T.lenders T.state tx.old tx.new result }
 {
     let row = ingested_by(touched(change.view)?, ingests);
@@ -164,18 +134,10 @@ fn append_files<T: Statements>(
     files: &[NewFile],
 ) -> Result<(), StoreFault>
     requires { IsTrue (has_room change.now.view.now.next.file (length files.now)) }
-    ensures map { FromMaps (T.state tx.old) (T.state tx.new)
-        (λ s. (o it : Object) → TellsNumbers change.now.view.now s
-        → map.get s.objects row.object ≡ Some o → row ≡ object_row row.object it
-        → it.metadata ≡ o.metadata → it.files ≡ o.files
-        → AreSources s change.now.content.now change.now.view.now.uploads files.now
-        → OnOk result (SeesState (T.state tx.new)
-        (with_new_files s change.now.content.now row.object
-        (with_files s it.files it) files.now))) }
+    ensures map { Appends T.state tx.old tx.new result change.now row (Deposit.Files files.now) }
     ensures ours { KeepsOurs (T.state tx.old) (T.state tx.new) result }
     ensures cause { FailsByOne T.state tx.old tx.new result
-        (HasStorableNumbers change.now.view.now × IsStorableObject row
-        × AreStorableSources change.now.content.now change.now.view.now.uploads files.now)
+        (IsStorableBeside change.now row map.empty (Deposit.Files files.now))
         (FailsHolding (files.now ≢ [])) }
     ensures stays { StaysWithin T.lenders T.state tx.old tx.new result }
 {
@@ -189,23 +151,11 @@ fn append_texts<T: Statements>(
     row: ObjectRow,
     metadata: &Metadata,
 ) -> Result<(), StoreFault>
-    ensures map { FromMaps (T.state tx.old) (T.state tx.new)
-        (λ s. (o it : Object) → TellsNumbers change.now.view.now s
-        → map.get s.objects row.object ≡ Some o → row ≡ object_row row.object it
-        → it.metadata ≡ o.metadata → it.files ≡ o.files
-        → OnOk result (SeesState (T.state tx.new)
-        (with_object s row.object
-        (with_texts s (joined (map.entries metadata.now) it.metadata) it)))) }
+    ensures map { Appends T.state tx.old tx.new result change.now row
+        (Deposit.Metadata metadata.now) }
     ensures ours { KeepsOurs (T.state tx.old) (T.state tx.new) result }
-    ensures cause { FromMaps (T.state tx.old) (T.state tx.new)
-        (λ s. (o it : Object) → TellsNumbers change.now.view.now s
-        → map.get s.objects row.object ≡ Some o → row ≡ object_row row.object it
-        → it.metadata ≡ o.metadata → it.files ≡ o.files
-        → HasStorableNumbers change.now.view.now → IsStorableObject row
-        → HavePlaces it.metadata (map.entries metadata.now)
-        → IfErr result (FailsSince T.state
-        (FailsHolding ((it.metadata ≢ map.empty) ⊎ (metadata.now ≢ map.empty)))
-        tx.old tx.new)) }
+    ensures cause { FailsAppending T.state tx.old tx.new result change.now row
+        (Deposit.Metadata metadata.now) }
     ensures stays { StaysWithin T.lenders T.state tx.old tx.new result }
 {
     write_row(tx, &texts_changed(change.view, row))?;
@@ -220,19 +170,11 @@ pub(crate) fn append<T: Statements>(
     ingests: bool,
 ) -> Result<(), StoreFault>
     requires { IsTrue (has_room change.now.view.now.next.file (count_of deposit.now)) }
-    ensures map { FromMaps (T.state tx.old) (T.state tx.new)
-        (λ s. (n : ℕ) (o : Object) → TellsNumbers change.now.view.now s
-        → TellsObject change.now.view.now s n o
-        → HasSources s change.now.content.now change.now.view.now.uploads deposit.now
-        → OnOk result (SeesState (T.state tx.new)
-        (with_appended s change.now.content.now n o deposit.now ingests))) }
+    ensures map { (n : ℕ) → CarriesOut T.state tx.old tx.new result change.now
+        (Append n deposit.now ingests) }
     ensures ours { KeepsOurs (T.state tx.old) (T.state tx.new) result }
-    ensures cause { FromMaps (T.state tx.old) (T.state tx.new)
-        (λ s. (n : ℕ) (o : Object) → TellsNumbers change.now.view.now s
-        → TellsObject change.now.view.now s n o → TellsStorableObject change.now.view.now
-        → IsStorableDeposit change.now.content.now change.now.view.now.uploads o.metadata deposit.now
-        → IfErr result (FailsSince T.state (FailsHolding (CopiesBeside o.metadata deposit.now))
-        tx.old tx.new)) }
+    ensures cause { (n : ℕ) → FailsCarryingMaps T.state tx.old tx.new result change.now
+        (Append n deposit.now ingests) }
     ensures stays { StaysWithin T.lenders T.state tx.old tx.new result }
 {
     let row = ingested_by(touched(change.view)?, ingests);

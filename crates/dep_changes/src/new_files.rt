@@ -1,26 +1,23 @@
 //! New files, each under the next number, with their contents.
 
-ghost use Rattle.std.specs.Prelude.{◌≡◌, ◌≢◌, ⊤, ◌+◌, ℕ, [], length, slice_get, Some, None, IfOk, IfErr, OnOk, IsTrue};
-ghost use Rattle.std.specs.FinMap as map;
-ghost use Rattle.dep_types.specs.Limits.{IsStorable};
-ghost use Rattle.dep_types.specs.Sound.{IsSound};
-ghost use Rattle.dep_types.specs.State.{Object, File, Upload};
+ghost use Rattle.std.specs.Prelude.{◌≡◌, ◌≢◌, ⊤, ℕ, [], length, slice_get, Some, None, IfOk, IfErr, IsTrue};
+ghost use Rattle.dep_types.specs.State.{Upload};
 ghost use Rattle.dep_types.specs.declared.store_fault.StoreFault.TheVariants.{Memory};
 ghost use Rattle.dep_types.specs.Rows.{upload_row};
 ghost use Rattle.dep_types.specs.Numbers.{has_room};
 ghost use Rattle.dep_types.specs.Uploads.{assembled};
 ghost use Rattle.dep_fixity.specs.Fixity.{digests_of};
 ghost use Rattle.dep_tables.specs.Clauses.{StaysWithin};
-ghost use Rattle.dep_row_maps.specs.TablesAre.{with_object};
-ghost use Rattle.dep_row_maps.specs.Clauses.{FromMaps, KeepsOurs, SeesState};
-ghost use Rattle.dep_row_maps.specs.Causes.{FailsByOne, FailsHolding, FailsSince};
-ghost use Rattle.dep_decisions.specs.Effects.{file_from, is_reference, with_files};
-ghost use Rattle.dep_decisions.specs.declared.decision.Source.TheVariants.{Posted};
-ghost use Rattle.dep_files.specs.Edits.{with_file};
-ghost use Rattle.dep_staging.specs.Assembling.{deposited};
-ghost use Rattle.dep_changes.specs.Causes.{AreStorableSources, HasStorableNumbers, IsStorableSource, IsStorableWhole, TellsStorableObject};
-ghost use Rattle.dep_changes.specs.Told.{TellsNumbers, TellsFile, TellsObject, IsSource, AreSources, IsWhole, whole_view};
-ghost use Rattle.dep_changes.specs.Changed.{made_file, with_new_file, with_new_files};
+ghost use Rattle.dep_row_maps.specs.Clauses.{KeepsOurs};
+ghost use Rattle.dep_row_maps.specs.Causes.{FailsByOne, FailsHolding};
+ghost use Rattle.dep_decisions.specs.Effects.{is_reference};
+ghost use Rattle.dep_decisions.specs.declared.decision.Decision.TheVariants.{SetFile, SetFiles};
+ghost use Rattle.dep_decisions.specs.declared.decision.Deposit.TheVariants.{Files};
+ghost use Rattle.dep_decisions.specs.declared.decision.Source.TheVariants.{Assembled, Posted};
+ghost use Rattle.dep_changes.specs.Causes.{IsStorableAt, IsStorableNewFile};
+ghost use Rattle.dep_changes.specs.Changed.{new_row};
+ghost use Rattle.dep_changes.specs.Clauses.{CarriesOut, FailsCarrying, FailsCarryingMaps, PutsFile, PutsIn};
+ghost use Rattle.dep_changes.specs.Told.{whole_view};
 
 use crate::change::{Change, touched};
 use crate::objects::{files_changed, write_row};
@@ -83,19 +80,7 @@ pub(crate) fn new_row(
     new: &NewFile,
     extent: Extent,
 ) -> Result<FileRow, StoreFault>
-    ensures told { IfOk result (λ row. row ≡ record {
-      file = numbers.file;
-      object = numbers.object;
-      name = new.now.name;
-      media = new.now.media;
-      size = extent.size;
-      tag = change.now.view.now.next.change;
-      deposited = change.now.view.now.clock;
-      behalf = new.now.behalf;
-      by_reference = is_reference new.now.source;
-      sha256 = extent.digests.sha256;
-      sha512 = extent.digests.sha512;
-    }) }
+    ensures told { IfOk result (λ row. row ≡ new_row change.now numbers new.now extent) }
     ensures cause { IfErr result (λ fault. fault ≡ Memory) }
 {
     Ok(FileRow {
@@ -121,17 +106,11 @@ fn put_posted<T: Statements>(
     new: &NewFile,
     digests: Digests,
 ) -> Result<(), StoreFault>
-    ensures map { FromMaps (T.state tx.old) (T.state tx.new)
-        (λ s. (o : Object) → TellsNumbers change.now.view.now s
-        → map.get s.objects numbers.object ≡ Some o
-        → digests ≡ digests_of change.now.content.now
-        → OnOk result (SeesState (T.state tx.new)
-        (with_file s numbers.object o numbers.file (made_file s new.now change.now.content.now)))) }
+    ensures map { (place : ℕ) → PutsFile T.state tx.old tx.new result change.now numbers new.now
+        place (Posted digests) }
     ensures ours { KeepsOurs (T.state tx.old) (T.state tx.new) result }
-    ensures cause { FailsByOne T.state tx.old tx.new result
-        (HasStorableNumbers change.now.view.now × IsStorable numbers.object
-        × IsStorable numbers.file × IsStorable (length change.now.content.now))
-        (FailsHolding ⊤) }
+    ensures cause { (place : ℕ) → FailsByOne T.state tx.old tx.new result
+        (IsStorableNewFile change.now numbers place (Posted digests)) (FailsHolding ⊤) }
     ensures stays { StaysWithin T.lenders T.state tx.old tx.new result }
 {
     let extent = Extent {
@@ -182,18 +161,11 @@ fn put_assembled<T: Statements>(
     new: &NewFile,
     index: usize,
 ) -> Result<(), StoreFault>
-    ensures map { FromMaps (T.state tx.old) (T.state tx.new)
-        (λ s. (o : Object) (u : ℕ) (it : Upload) → TellsNumbers change.now.view.now s
-        → map.get s.objects numbers.object ≡ Some o → map.get s.uploads u ≡ Some it → IsWhole it
-        → slice_get change.now.view.now.uploads index ≡ Some (whole_view u it)
-        → OnOk result (SeesState (T.state tx.new)
-        (deposited s numbers.object o numbers.file (made_file s new.now (assembled it)) u))) }
+    ensures map { (u : ℕ) → PutsFile T.state tx.old tx.new result change.now numbers new.now
+        index (Assembled u) }
     ensures ours { KeepsOurs (T.state tx.old) (T.state tx.new) result }
-    ensures cause { FailsByOne T.state tx.old tx.new result
-        (HasStorableNumbers change.now.view.now × IsStorable numbers.object
-        × IsStorable numbers.file
-        × IsStorableWhole (slice_get change.now.view.now.uploads index))
-        (FailsHolding ⊤) }
+    ensures cause { (u : ℕ) → FailsByOne T.state tx.old tx.new result
+        (IsStorableNewFile change.now numbers index (Assembled u)) (FailsHolding ⊤) }
     ensures stays { StaysWithin T.lenders T.state tx.old tx.new result }
 {
     let upload = whole_upload(change.view, index)?;
@@ -213,20 +185,11 @@ fn put_new_file<T: Statements>(
     new: &NewFile,
     index: usize,
 ) -> Result<(), StoreFault>
-    ensures map { FromMaps (T.state tx.old) (T.state tx.new)
-        (λ s. (o : Object) → TellsNumbers change.now.view.now s
-        → map.get s.objects numbers.object ≡ Some o
-        → IsSource s change.now.content.now (slice_get change.now.view.now.uploads index) new.now.source
-        → OnOk result (SeesState (T.state tx.new)
-        (with_new_file s numbers.object o numbers.file
-        (file_from s change.now.content.now new.now) new.now.source))) }
+    ensures map { PutsFile T.state tx.old tx.new result change.now numbers new.now
+        index new.now.source }
     ensures ours { KeepsOurs (T.state tx.old) (T.state tx.new) result }
     ensures cause { FailsByOne T.state tx.old tx.new result
-        (HasStorableNumbers change.now.view.now × IsStorable numbers.object
-        × IsStorable numbers.file
-        × IsStorableSource change.now.content.now (slice_get change.now.view.now.uploads index)
-        new.now.source)
-        (FailsHolding ⊤) }
+        (IsStorableNewFile change.now numbers index new.now.source) (FailsHolding ⊤) }
     ensures stays { StaysWithin T.lenders T.state tx.old tx.new result }
 {
     match new.source {
@@ -243,16 +206,10 @@ pub(crate) fn put_new_files<T: Statements>(
     files: &[NewFile],
 ) -> Result<(), StoreFault>
     requires { IsTrue (has_room change.now.view.now.next.file (length files.now)) }
-    ensures map { FromMaps (T.state tx.old) (T.state tx.new)
-        (λ s. (o : Object) → TellsNumbers change.now.view.now s → map.get s.objects object ≡ Some o
-        → AreSources s change.now.content.now change.now.view.now.uploads files.now
-        → OnOk result (SeesState (T.state tx.new)
-        (with_new_files s change.now.content.now object o files.now))) }
+    ensures map { PutsIn T.state tx.old tx.new result change.now object (Files files.now) }
     ensures ours { KeepsOurs (T.state tx.old) (T.state tx.new) result }
     ensures cause { FailsByOne T.state tx.old tx.new result
-        (HasStorableNumbers change.now.view.now × IsStorable object
-        × AreStorableSources change.now.content.now change.now.view.now.uploads files.now)
-        (FailsHolding (files.now ≢ [])) }
+        (IsStorableAt change.now object (Files files.now)) (FailsHolding (files.now ≢ [])) }
     ensures stays { StaysWithin T.lenders T.state tx.old tx.new result }
 {
     'files: for (index, new) in files.iter().enumerate() {
@@ -272,17 +229,11 @@ pub(crate) fn set_files<T: Statements>(
     files: &[NewFile],
 ) -> Result<(), StoreFault>
     requires { IsTrue (has_room change.now.view.now.next.file (length files.now)) }
-    ensures map { FromMaps (T.state tx.old) (T.state tx.new)
-        (λ s. (n : ℕ) (o : Object) → TellsNumbers change.now.view.now s
-        → TellsObject change.now.view.now s n o
-        → AreSources s change.now.content.now change.now.view.now.uploads files.now
-        → OnOk result (SeesState (T.state tx.new)
-        (with_new_files s change.now.content.now n (with_files s map.empty o) files.now))) }
+    ensures map { (n : ℕ) → CarriesOut T.state tx.old tx.new result change.now
+        (SetFiles n files.now) }
     ensures ours { KeepsOurs (T.state tx.old) (T.state tx.new) result }
-    ensures cause { FromMaps (T.state tx.old) (T.state tx.new)
-        (λ s. IsSound s → TellsStorableObject change.now.view.now
-        → AreStorableSources change.now.content.now change.now.view.now.uploads files.now
-        → IfErr result (FailsSince T.state (FailsHolding (files.now ≢ [])) tx.old tx.new)) }
+    ensures cause { (n : ℕ) → FailsCarryingMaps T.state tx.old tx.new result change.now
+        (SetFiles n files.now) }
     ensures stays { StaysWithin T.lenders T.state tx.old tx.new result }
 {
     let row = touched(change.view)?;
@@ -298,19 +249,11 @@ pub(crate) fn set_file<T: Statements>(
     file: u64,
     new: &NewFile,
 ) -> Result<(), StoreFault>
-    ensures map { FromMaps (T.state tx.old) (T.state tx.new)
-        (λ s. (n : ℕ) (o : Object) (it : File) → TellsNumbers change.now.view.now s
-        → TellsFile change.now.view.now s n o file it
-        → new.now.source ≡ Posted (digests_of change.now.content.now)
-        → OnOk result (SeesState (T.state tx.new)
-        (with_object s n
-        (with_files s (map.insert o.files file (made_file s new.now change.now.content.now)) o)))) }
+    ensures map { (n : ℕ) → CarriesOut T.state tx.old tx.new result change.now
+        (SetFile n file new.now) }
     ensures ours { KeepsOurs (T.state tx.old) (T.state tx.new) result }
-    ensures cause { FailsByOne T.state tx.old tx.new result
-        (TellsStorableObject change.now.view.now × IsStorable file
-        × IsStorable (length change.now.content.now)
-        × (new.now.source ≡ Posted (digests_of change.now.content.now)))
-        (FailsHolding ⊤) }
+    ensures cause { (n : ℕ) → FailsCarrying T.state tx.old tx.new result change.now
+        (SetFile n file new.now) }
     ensures stays { StaysWithin T.lenders T.state tx.old tx.new result }
 {
     let Source::Posted(digests) = new.source else {

@@ -1,23 +1,20 @@
 //! Changes of one object.
 
-ghost use Rattle.std.specs.Prelude.{◌≡◌, ◌≢◌, ℕ, Some, OnOk, IfErr, true};
+ghost use Rattle.std.specs.Prelude.{◌≡◌, ℕ, Some};
 ghost use Rattle.std.specs.FinMap as map;
-ghost use Rattle.dep_types.specs.State.{Object, File};
+ghost use Rattle.dep_types.specs.State.{Object};
 ghost use Rattle.dep_types.specs.Limits.{IsStorable};
-ghost use Rattle.dep_types.specs.Rows.{object_row};
 ghost use Rattle.dep_types.specs.Sound.{IsSound};
 ghost use Rattle.dep_tables.specs.Clauses.{FailsByRunning, StaysWithin};
 ghost use Rattle.dep_tables.specs.Rows.{IsStorableObject, object_values};
 ghost use Rattle.dep_tables.specs.Texts.{write_object_text};
 ghost use Rattle.dep_row_maps.specs.TablesAre.{with_object, without_object};
-ghost use Rattle.dep_row_maps.specs.Clauses.{FromMaps, KeepsOurs, SeesState};
-ghost use Rattle.dep_row_maps.specs.Causes.{FailsByOne, FailsByStatement, FailsHolding, FailsSince};
-ghost use Rattle.dep_objects.specs.Texts.{HavePlaces};
-ghost use Rattle.dep_decisions.specs.Effects.{changed, ingested_by, with_files, with_texts};
-ghost use Rattle.dep_changes.specs.Causes.{TellsStorableObject};
-ghost use Rattle.dep_changes.specs.Told.{TellsNumbers, TellsFile, TellsObject};
+ghost use Rattle.dep_row_maps.specs.Clauses.{KeepsOurs};
+ghost use Rattle.dep_decisions.specs.declared.decision.Decision.TheVariants.{Complete, DropFile, SetMetadata};
+ghost use Rattle.dep_changes.specs.Clauses.{CarriesOut, FailsCarrying, FailsFromMaps, Makes};
+ghost use Rattle.dep_changes.specs.Told.{Rewrites};
 
-use crate::change::touched;
+use crate::change::{Change, touched};
 use dep_files::{delete_file, delete_files};
 use dep_objects::{delete_object, put_object};
 use dep_operations::View;
@@ -27,11 +24,8 @@ use std::alloc::Global;
 
 /// Writes the row of an object that is there, and keeps its metadata and files.
 pub(crate) fn write_row<T: Statements>(tx: &mut T, row: &ObjectRow) -> Result<(), StoreFault>
-    ensures map { FromMaps (T.state tx.old) (T.state tx.new)
-        (λ s. (was o : Object) → map.get s.objects row.now.object ≡ Some was
-        → row.now ≡ object_row row.now.object o
-        → o.metadata ≡ was.metadata → o.files ≡ was.files
-        → OnOk result (SeesState (T.state tx.new) (with_object s row.now.object o))) }
+    ensures map { (o : Object) → Makes T.state tx.old tx.new result
+        (λ s. Rewrites s row.now o) (λ s. with_object s row.now.object o) }
     ensures ours { KeepsOurs (T.state tx.old) (T.state tx.new) result }
     ensures cause { FailsByRunning (T.state tx.old) (T.state tx.new) result
         (IsStorableObject row.now) write_object_text (object_values row.now) }
@@ -41,16 +35,13 @@ pub(crate) fn write_row<T: Statements>(tx: &mut T, row: &ObjectRow) -> Result<()
 }
 
 /// The object becomes ingested.
-pub(crate) fn complete<T: Statements>(tx: &mut T, view: &View) -> Result<(), StoreFault>
-    ensures map { FromMaps (T.state tx.old) (T.state tx.new)
-        (λ s. (n : ℕ) (o : Object) → TellsNumbers view.now s → TellsObject view.now s n o
-        → OnOk result (SeesState (T.state tx.new)
-        (with_object s n (ingested_by true (changed s o))))) }
+pub(crate) fn complete<T: Statements>(tx: &mut T, change: &Change<'_>) -> Result<(), StoreFault>
+    ensures map { (n : ℕ) → CarriesOut T.state tx.old tx.new result change.now (Complete n) }
     ensures ours { KeepsOurs (T.state tx.old) (T.state tx.new) result }
-    ensures cause { FailsByOne T.state tx.old tx.new result
-        (TellsStorableObject view.now) FailsByStatement }
+    ensures cause { (n : ℕ) → FailsCarrying T.state tx.old tx.new result change.now (Complete n) }
     ensures stays { StaysWithin T.lenders T.state tx.old tx.new result }
 {
+    let view = change.view;
     let row = touched(view)?;
     write_row(
         tx,
@@ -82,23 +73,19 @@ pub(crate) fn texts_changed(view: &View, row: ObjectRow) -> ObjectRow
 /// The object has this metadata alone.
 pub(crate) fn set_texts<T: Statements>(
     tx: &mut T,
-    alloc: Global,
-    view: &View,
+    change: &Change<'_>,
     metadata: &Metadata,
 ) -> Result<(), StoreFault>
-    ensures map { FromMaps (T.state tx.old) (T.state tx.new)
-        (λ s. (n : ℕ) (o : Object) → TellsNumbers view.now s → TellsObject view.now s n o
-        → OnOk result (SeesState (T.state tx.new)
-        (with_object s n (with_texts s metadata.now o)))) }
+    ensures map { (n : ℕ) → CarriesOut T.state tx.old tx.new result change.now
+        (SetMetadata n metadata.now) }
     ensures ours { KeepsOurs (T.state tx.old) (T.state tx.new) result }
-    ensures cause { FailsByOne T.state tx.old tx.new result
-        (TellsStorableObject view.now × HavePlaces map.empty (map.entries metadata.now))
-        (FailsHolding (metadata.now ≢ map.empty)) }
+    ensures cause { (n : ℕ) → FailsCarrying T.state tx.old tx.new result change.now
+        (SetMetadata n metadata.now) }
     ensures stays { StaysWithin T.lenders T.state tx.old tx.new result }
 {
-    let row = touched(view)?;
-    write_row(tx, &texts_changed(view, row))?;
-    dep_objects::set_metadata(tx, alloc, row.object, metadata)
+    let row = touched(change.view)?;
+    write_row(tx, &texts_changed(change.view, row))?;
+    dep_objects::set_metadata(tx, change.alloc, row.object, metadata)
 }
 
 /// The row of an object whose files change.
@@ -118,19 +105,20 @@ pub(crate) fn files_changed(view: &View, row: ObjectRow) -> ObjectRow
 }
 
 /// The file goes from the object.
-pub(crate) fn drop_file<T: Statements>(tx: &mut T, view: &View, file: u64) -> Result<(), StoreFault>
-    ensures map { FromMaps (T.state tx.old) (T.state tx.new)
-        (λ s. (n : ℕ) (o : Object) (it : File) → TellsNumbers view.now s
-        → TellsFile view.now s n o file it
-        → OnOk result (SeesState (T.state tx.new)
-        (with_object s n (with_files s (map.remove o.files file) o)))) }
+pub(crate) fn drop_file<T: Statements>(
+    tx: &mut T,
+    change: &Change<'_>,
+    file: u64,
+) -> Result<(), StoreFault>
+    ensures map { (n : ℕ) → CarriesOut T.state tx.old tx.new result change.now
+        (DropFile n file) }
     ensures ours { KeepsOurs (T.state tx.old) (T.state tx.new) result }
-    ensures cause { FailsByOne T.state tx.old tx.new result
-        (TellsStorableObject view.now × IsStorable file) FailsByStatement }
+    ensures cause { (n : ℕ) → FailsCarrying T.state tx.old tx.new result change.now
+        (DropFile n file) }
     ensures stays { StaysWithin T.lenders T.state tx.old tx.new result }
 {
-    let row = touched(view)?;
-    write_row(tx, &files_changed(view, row))?;
+    let row = touched(change.view)?;
+    write_row(tx, &files_changed(change.view, row))?;
     delete_file(tx, file)
 }
 
@@ -140,13 +128,11 @@ pub(crate) fn drop_object<T: Statements>(
     alloc: Global,
     object: u64,
 ) -> Result<(), StoreFault>
-    ensures map { FromMaps (T.state tx.old) (T.state tx.new)
-        (λ s. (o : Object) → map.get s.objects object ≡ Some o
-        → OnOk result (SeesState (T.state tx.new) (without_object s object))) }
+    ensures map { (o : Object) → Makes T.state tx.old tx.new result
+        (λ s. map.get s.objects object ≡ Some o) (λ s. without_object s object) }
     ensures ours { KeepsOurs (T.state tx.old) (T.state tx.new) result }
-    ensures cause { FromMaps (T.state tx.old) (T.state tx.new)
-        (λ s. IsSound s → IsStorable object
-        → IfErr result (FailsSince T.state FailsByStatement tx.old tx.new)) }
+    ensures cause { FailsFromMaps T.state tx.old tx.new result
+        (λ s. IsSound s × IsStorable object) (λ _. ⊥) }
     ensures stays { StaysWithin T.lenders T.state tx.old tx.new result }
 {
     delete_files(tx, alloc, object)?;

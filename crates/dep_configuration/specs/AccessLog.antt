@@ -3,6 +3,7 @@ use Rattle.std.specs.Prelude.{ℕ, List, codes}
 use Rattle.dep_configuration.specs.declared.access_log.Reason.{Reason}
 use Rattle.dep_configuration.specs.declared.access_log.Reason.TheVariants.{Idle, Slow, AddressLimit, UnfinishedLimit, ReplyCut, StoreShut, Full, Memory}
 
+-- why a connection was ended early, as a word of the log
 abbrev pub reason_name : Reason → List ℕ
 reason_name Idle = codes "idle"
 reason_name Slow = codes "slow"

@@ -29,6 +29,7 @@ example_limits = record {
   unfinished_bytes = 1073741824;
 }
 
+-- reached from its own host alone, at port 8080; deposits may be as large as is allowed
 abbrev pub example_configuration : Configuration
 example_configuration = record {
   address = V4 record { octets = 127 ∷ 0 ∷ 0 ∷ 1 ∷ [] };

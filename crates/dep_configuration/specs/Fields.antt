@@ -6,6 +6,7 @@ use Rattle.dep_configuration.specs.declared.field.Bounds.{Bounds}
 use Rattle.dep_configuration.specs.declared.field.Wanted.{Wanted}
 use Rattle.dep_configuration.specs.declared.field.Wanted.TheVariants as Kind
 
+-- the key that a configuration file gives the value under
 unfoldable pub name_of : Field → List ℕ
 name_of Address = codes "address"
 name_of Port = codes "port"
@@ -54,6 +55,7 @@ bounds_of AddressConnections = bounds 1 1024
 bounds_of SpoolBytes = bounds 1048576 1125899906842624
 bounds_of UnfinishedBytes = bounds 33554432 1099511627776
 
+-- what a field takes; numbers are bytes, seconds, bytes per second or counts
 unfoldable pub wanted_of : Field → Wanted
 wanted_of Address = Kind.Address
 wanted_of Port = Kind.WholeNumber (bounds 1 65535)

@@ -35,6 +35,7 @@ abbrev pub references_by : Config → Operation → Option Kind → Option (List
 references_by config op (Some of.References) = references_read config op.content
 references_by config op _ = None
 
+-- the entries that the content of a request lists, where it is a document of references
 unfoldable pub references_in : Config → Operation → Option (List Reference)
 references_in config op = references_by config op (kind_of op)
 
@@ -142,6 +143,7 @@ decision_at refs op (Upload u) Post = option_and_then (received u) (kind_of op)
 decision_at refs op (Upload u) Delete = Some (DropUpload u)
 decision_at refs op _ _ = None
 
+-- what is asked for, given the references that were read; to show what is there, if nothing else
 unfoldable pub decision_with : Option (List Reference) → Operation → Decision
 decision_with refs op = unwrap_or (decision_at refs op op.target.resource op.target.method) Show
 

@@ -1,8 +1,9 @@
 -- Words of the laws.
-use Rattle.std.specs.Prelude.{◌≡◌, ◌⊎◌, ℕ, ◌==◌, ◌<◌, ◌≤◌, ◌&&◌, Bool, true, false, length, Some, None, IsTrue}
+use Rattle.std.specs.Prelude.{◌≡◌, ◌⊎◌, ℕ, ◌+◌, ◌==◌, ◌<◌, ◌≤◌, ◌&&◌, Bool, true, false, List, length, slice_get, Some, None, IsTrue}
 use Rattle.std.specs.FinMap as map
 use Rattle.dep_types.specs.State.{State, Object, File, Upload, file_at}
-use Rattle.dep_types.specs.Uploads.{assembled}
+use Rattle.dep_types.specs.Uploads.{assembled, segment_length}
+use Rattle.dep_types.specs.declared.config.Config.{Config}
 use Rattle.dep_types.specs.declared.target.Resource.{Resource}
 use Rattle.dep_types.specs.declared.target.Resource.TheVariants.{Object as AnObject, FileSet as AFileSet, File as AFile, Upload as AnUpload}
 use Rattle.dep_types.specs.declared.target.Method.{Method}
@@ -13,7 +14,9 @@ use Rattle.dep_fixity.specs.Fixity.{digests_of, keeps}
 use Rattle.dep_docs_in.specs.declared.reference.Reference.{Reference}
 use Rattle.dep_docs_in.specs.declared.reference.Pointed.TheVariants.{Upload as Pointing}
 use Rattle.dep_decisions.specs.Kinds.{kind_of}
-use Rattle.dep_decisions.specs.Rules.{has_length, promised_of}
+use Rattle.dep_decisions.specs.Decisions.{references_in}
+use Rattle.dep_decisions.specs.Rules.{has_length, promised_of, refusal}
+use Rattle.dep_decisions.specs.Effects.{effect}
 use Rattle.dep_decisions.specs.declared.operation.Operation.{Operation}
 
 -- ---- numbers
@@ -36,8 +39,16 @@ pub record AreGivenOnce (s t : State) : Type 0 where
       → (map.get s.objects n ≡ Some o)
       ⊎ ((o.tag ≡ s.next.change) × IsNew s.next.change t.next.change o.tag)
 
+-- ---- objects that are ingested
+
+-- each object that was ingested is so still, if it is there
+abbrev pub KeepsIngested : (s t : State) → Type 0
+KeepsIngested s t = (n : ℕ) (o now : Object) → map.get s.objects n ≡ Some o → o.ingested ≡ true
+    → map.get t.objects n ≡ Some now → now.ingested ≡ true
+
 -- ---- requests that read alone
 
+-- GET and HEAD, which are safe (RFC 9110, section 9.2.1)
 abbrev pub is_read : Method → Bool
 is_read Get = true
 is_read Head = true
@@ -47,6 +58,16 @@ is_read method = false
 abbrev pub reads_no_further : Resource → Method → Bool
 reads_no_further (AnUpload u) Delete = true
 reads_no_further resource method = is_read method
+
+-- the same is asked for, on the same one's behalf
+pub record AskAlike (op other : Operation) : Type 0 where
+  pub target : op.target ≡ other.target
+  pub behalf : op.fields.on_behalf_of ≡ other.fields.on_behalf_of
+
+-- both are refused alike, and make the same of the archive
+pub record EndAlike (config : Config) (s : State) (op other : Operation) : Type 0 where
+  pub refusal : refusal config s op ≡ refusal config s other
+  pub effect : effect config s op ≡ effect config s other
 
 -- ---- files that are replaced or deleted
 
@@ -79,6 +100,32 @@ pub record SendsSegment (s : State) (op : Operation) (number segment : ℕ) (upl
   pub kind : kind_of op ≡ Some (Segment segment)
   pub there : map.get s.uploads number ≡ Some upload
 
+-- this holds of each request that sends a segment of an upload that is there
+abbrev pub OfSegments : (Config → State → Operation → (u k : ℕ) → Upload → Type 0) → Type 0
+OfSegments Law = (config : Config) (s : State) (op : Operation) (u k : ℕ) (upload : Upload)
+    → SendsSegment s op u k upload → Law config s op u k upload
+
+-- the number is one of the upload's, and the bytes are as many as the segment of this number has
+abbrev pub FitsUpload : Upload → (k : ℕ) → (bytes : List ℕ) → Type 0
+FitsUpload upload k bytes =
+    (1 ≤ k) × (k ≤ upload.count) × (length bytes ≡ segment_length upload k)
+
+-- the state with an upload at this number
+abbrev pub with_upload : State → ℕ → Upload → State
+with_upload s u upload = record s { uploads = map.insert s.uploads u upload }
+
+-- each segment that was received stands there with the same bytes
+abbrev pub HoldsSegments : (before after : Upload) → Type 0
+HoldsSegments before after =
+    (k : ℕ) (bytes : List ℕ) → map.get before.segments k ≡ Some bytes
+    → map.get after.segments k ≡ Some bytes
+
+-- an upload whose number was given before was there before, and holds each segment that it had then
+pub record KeepsSegments (s t : State) : Type 0 where
+  pub next : s.next.upload ≤ t.next.upload
+  pub segments : (n : ℕ) (after : Upload) → map.get t.uploads n ≡ Some after → n < s.next.upload
+      → (before : Upload) × (map.get s.uploads n ≡ Some before) × HoldsSegments before after
+
 -- ---- deposits by reference
 
 -- the object that takes what is deposited there
@@ -104,3 +151,11 @@ pub record IsDepositedFrom (s t : State) (r : Reference) (file : File) : Type 0 
   pub media : file.media ≡ r.media
   pub by_reference : file.by_reference ≡ true
   pub gone : map.get t.uploads upload ≡ None
+
+-- of each entry that a request's document lists, its file is there, under the next numbers in order
+abbrev pub AreDeposited : Config → Operation → (s t : State) → Type 0
+AreDeposited config op s t = (refs : List Reference) → references_in config op ≡ Some refs
+    → (i : ℕ) (r : Reference) → slice_get refs i ≡ Some r
+    → (file : File)
+    × (file_at t (deposited_object s op.target.resource) (s.next.file + i) ≡ Some file)
+    × IsDepositedFrom s t r file

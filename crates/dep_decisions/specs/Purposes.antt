@@ -5,6 +5,7 @@ use Rattle.dep_fields.specs.declared.kind.Kind.TheVariants as of
 use Rattle.dep_decisions.specs.declared.purpose.Purpose.{Purpose}
 use Rattle.dep_decisions.specs.declared.purpose.Purpose.TheVariants.{File, Metadata, References, Opening, Segment}
 
+-- what a content is for, without the name of a file
 abbrev pub purpose_of : Kind → Purpose
 purpose_of (of.File name) = File
 purpose_of of.Metadata = Metadata

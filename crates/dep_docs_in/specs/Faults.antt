@@ -3,6 +3,7 @@ use Rattle.std.specs.Prelude.{◌≡◌, ℕ, Option, Some, None, Result, Ok, Er
 use Rattle.dep_docs_in.specs.declared.fault.DocFault.{DocFault}
 use Rattle.dep_docs_in.specs.declared.fault.DocFault.TheVariants.{Malformed, Memory}
 
+-- how a failure to read a document is told, as a number from 1 to 2
 abbrev pub fault_number : DocFault → ℕ
 fault_number Malformed = 1
 fault_number Memory = 2
@@ -17,5 +18,6 @@ abbrev pub GivesBy : {X Y : Type 0} → (X → Y) → Result X DocFault → Opti
 GivesBy view (Ok x) read = read ≡ Some (view x)
 GivesBy view (Err e) read = Fails e read
 
+-- the same of an answer that is seen as it is
 abbrev pub Gives : {X : Type 0} → Result X DocFault → Option X → Type 0
 Gives result read = GivesBy (λ x. x) result read

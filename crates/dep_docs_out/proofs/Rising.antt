@@ -1,5 +1,5 @@
 -- A walk over numbers that rise.
-use Rattle.std.proofs.Common.{◌≡◌, ◌∙◌, ℕ, suc, ◌+◌, length, drop, get_or, drop-cons, ◌<◌, ◌≤◌, Bool, true, false, ◌&&◌, nat_lt, List, [], ◌∷◌, sym, ap, arith}
+use Rattle.std.proofs.Common.{◌≡◌, ◌∙◌, ℕ, suc, ◌+◌, length, drop, get_or, drop-cons, ◌<◌, ◌≤◌, Bool, true, false, ◌&&◌, nat_lt, List, sym, ap, arith}
 use Rattle.std.proofs.Math.ListN.{drop_of_length-le}
 use Rattle.std.proofs.lemmas.Bool.{lt-ltb, le-ltb}
 use Rattle.dep_docs_out.specs.Segments.{rises_above}

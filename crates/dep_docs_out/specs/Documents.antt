@@ -17,6 +17,7 @@ use Rattle.dep_moment.specs.Civil.{rfc3339_text}
 use Rattle.dep_types.specs.Limits.{greatest_moment}
 use Rattle.dep_docs_out.specs.Json.{text, whole_number, list, text_list, number_list, only, document}
 
+-- what the names in a document mean (JSON-LD 1.1, section 3.1)
 abbrev pub context : List ℕ × Data
 context = (codes "@context", text (codes "https://swordapp.github.io/swordv3/swordv3.jsonld"))
 
@@ -24,18 +25,23 @@ context = (codes "@context", text (codes "https://swordapp.github.io/swordv3/swo
 abbrev pub url : Config → List ℕ → List ℕ
 url config path = config.base ++ path
 
+-- the URL of an object
 abbrev pub object_url : Config → (n : ℕ) → List ℕ
 object_url config n = url config (codes "/objects/" ++ decimal n)
 
+-- that of its metadata
 abbrev pub metadata_url : Config → (n : ℕ) → List ℕ
 metadata_url config n = object_url config n ++ codes "/metadata"
 
+-- that of its files
 abbrev pub files_url : Config → (n : ℕ) → List ℕ
 files_url config n = object_url config n ++ codes "/files"
 
+-- that of a file of it
 abbrev pub file_url : Config → (n f : ℕ) → List ℕ
 file_url config n f = object_url config n ++ codes "/files/" ++ decimal f
 
+-- the URL of an upload
 abbrev pub upload_url : Config → (n : ℕ) → List ℕ
 upload_url config n = url config (codes "/staging/" ++ decimal n)
 
@@ -77,6 +83,7 @@ service_places config root staging =
     ∷ (codes "version", text (codes "http://purl.org/net/sword/3.0"))
     ∷ []
 
+-- all that the service document tells
 abbrev pub service_members : Config → (root staging : List ℕ) → List (List ℕ × Data)
 service_members config root staging =
     service_offers root ++ service_limits config ++ service_places config root staging
@@ -90,6 +97,7 @@ service_data config =
 abbrev pub log_of : Refusal → List ℕ
 log_of refusal = codes "refusal " ++ decimal (facts_of refusal).number
 
+-- what an error document tells
 abbrev pub error_members : Refusal → (log : List ℕ) (clock : ℕ) → List (List ℕ × Data)
 error_members refusal log clock =
     context
@@ -211,7 +219,7 @@ texts_data ss = text_list ss
 abbrev pub texts_members : Texts → List (List ℕ × Data)
 texts_members texts = map (λ e. (e.0, texts_data e.1)) (finmap.entries texts)
 
--- metadata under its URL, and without one
+-- metadata under its URL
 abbrev pub placed_metadata : (place : List ℕ) → Texts → List (List ℕ × Data)
 placed_metadata place texts =
     context
@@ -219,6 +227,7 @@ placed_metadata place texts =
     ∷ (codes "@type", text (codes "Metadata"))
     ∷ texts_members texts
 
+-- and in a bag
 abbrev pub unplaced_metadata : Texts → List (List ℕ × Data)
 unplaced_metadata texts = context ∷ (codes "@type", text (codes "Metadata")) ∷ texts_members texts
 
@@ -244,6 +253,7 @@ segments_data row received = document
     ∷ (codes "size", whole_number row.size)
     ∷ [])
 
+-- where an upload stands, and its segments
 abbrev pub upload_members : (place : List ℕ) → UploadRow → (received : List ℕ)
     → List (List ℕ × Data)
 upload_members place row received =
@@ -258,20 +268,26 @@ unfoldable pub upload_data : Config → UploadRow → (received : List ℕ) → 
 upload_data config row received =
     document (upload_members (upload_url config row.upload) row received)
 
+-- the service document
 abbrev pub service_document : Config → List ℕ
 service_document config = compact_text (service_data config)
 
+-- the document of a refusal, at this second
 abbrev pub error_document : Refusal → (clock : ℕ) → List ℕ
 error_document refusal clock = compact_text (error_data refusal clock)
 
+-- the status document of an object
 abbrev pub status_document : Config → ObjectView → List ℕ
 status_document config view = compact_text (status_data config view)
 
+-- the metadata document of the object of this number
 abbrev pub metadata_document : Config → (n : ℕ) → Texts → List ℕ
 metadata_document config n texts = compact_text (metadata_data config n texts)
 
+-- the same in a bag
 unfoldable pub bag_metadata_document : Texts → List ℕ
 bag_metadata_document texts = compact_text (bag_metadata_data texts)
 
+-- the document of an upload of which these segments were received
 abbrev pub upload_document : Config → UploadRow → (received : List ℕ) → List ℕ
 upload_document config row received = compact_text (upload_data config row received)

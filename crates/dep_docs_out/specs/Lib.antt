@@ -1,3 +1,4 @@
+pub mod Made
 pub mod Json
 pub mod Documents
 pub mod Segments

@@ -6,6 +6,7 @@ use Rattle.std.specs.FinMap as finmap
 use Rattle.serde_json.specs.Data.{Data, array, Items, no_items, item}
 use Rattle.serde_json.specs.Find.{get, as_str}
 use Rattle.serde_json.specs.Read.{read}
+use Rattle.serde_json.specs.Written.{compact_text}
 use Rattle.dep_moment.specs.Civil.{rfc3339_text}
 use Rattle.dep_types.specs.Limits.{greatest_moment}
 use Rattle.dep_types.specs.State.{Texts}
@@ -20,6 +21,10 @@ use Rattle.dep_docs_out.specs.Documents.{object_url, file_url}
 pub record ReadsAs (text : List ℕ) (d : Data) : Type 0 where
   pub utf8 : IsUtf8 text
   pub value : read text ≡ Some d
+
+-- so is the document that spells this value
+abbrev pub IsReadBack : Data → Type 0
+IsReadBack d = ReadsAs (compact_text d) d
 
 -- what is told of a configuration is UTF-8
 pub record HasTexts (config : Config) : Type 0 where
@@ -42,6 +47,7 @@ pub record EntryHasTexts (e : List ℕ × List (List ℕ)) : Type 0 where
   pub name : IsUtf8 e.0
   pub texts : AllByRecursion (λ t. IsUtf8 t) e.1
 
+-- and so are all of them
 abbrev pub MetadataHasTexts : Texts → Type 0
 MetadataHasTexts texts = AllByRecursion EntryHasTexts (finmap.entries texts)
 

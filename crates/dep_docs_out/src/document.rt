@@ -4,6 +4,7 @@ ghost use Rattle.json.specs.Token.{begin_object, end_object, begin_array, end_ar
 ghost use Rattle.json.specs.Print.{print};
 ghost use Rattle.serde_json.specs.Data.{boolean};
 ghost use Rattle.dep_moment.specs.Civil.{rfc3339_text};
+ghost use Rattle.dep_docs_out.specs.Made.{Makes};
 ghost use Rattle.dep_docs_out.specs.Json as spec;
 ghost use Rattle.dep_docs_out.specs.Json.{Adds, AddsItems, AddsMember};
 
@@ -152,7 +153,7 @@ impl Document {
 
     /// The text of the document, once its object ends.
     pub fn ended(mut self) -> Result<Vec<u8>, AllocError>
-        ensures { IfOk result (λ text. text.items ≡ print (self ++ end_object ∷ [])) }
+        ensures { Makes result (print (self ++ end_object ∷ [])) }
     {
         self.end_object()?;
         Ok(self.out.into_inner())

@@ -1,6 +1,7 @@
 //! The error document.
-ghost use Rattle.std.specs.Prelude.{◌≡◌, IfOk, OnOk, string_bytes};
-ghost use Rattle.dep_docs_out.specs.Documents as spec;
+ghost use Rattle.std.specs.Prelude.{OnOk};
+ghost use Rattle.dep_docs_out.specs.Made.{Makes, MakesText};
+ghost use Rattle.dep_docs_out.specs.Documents.{error_document, error_members, log_of};
 ghost use Rattle.dep_docs_out.specs.Json.{AddsMembers};
 
 use crate::document::{CONTEXT, Document};
@@ -11,7 +12,7 @@ use std::alloc::{AllocError, Global};
 
 /// The error document of SWORD 3.0: why a request was refused, at the moment of the server's clock.
 pub fn error_doc(alloc: Global, refusal: Refusal, clock: Moment) -> Result<Vec<u8>, AllocError>
-    ensures { IfOk result (λ bytes. bytes.items ≡ spec.error_document refusal clock) }
+    ensures { Makes result (error_document refusal clock) }
 {
     let log = log_text(alloc, refusal)?;
     let mut document = Document::begun(alloc)?;
@@ -27,7 +28,7 @@ fn add_error(
     clock: Moment,
 ) -> Result<(), AllocError>
     ensures { OnOk result
-        (AddsMembers document.old document.new (spec.error_members refusal log.now clock)) }
+        (AddsMembers document.old document.new (error_members refusal log.now clock)) }
 {
     document.text("@context", CONTEXT)?;
     document.text("@type", refusal.name())?;
@@ -38,7 +39,7 @@ fn add_error(
 
 // The number of the refusal, as the log tells it.
 fn log_text(alloc: Global, refusal: Refusal) -> Result<String, AllocError>
-    ensures { IfOk result (λ text. string_bytes text ≡ spec.log_of refusal) }
+    ensures { MakesText result (log_of refusal) }
 {
     let mut text = String::from_str(alloc, "refusal ")?;
     let mut digits = Buffer::new();

@@ -1,7 +1,7 @@
 //! Whole documents, computed.
 ghost use Rattle.std.specs.Prelude.{◌≡◌, ◌≤◌, ℕ, List, ◌∷◌, [], Some};
 ghost use Rattle.dep_types.specs.Limits.{greatest_moment};
-ghost use Rattle.dep_docs_out.specs.ReadBack.{ReadsAs, HasTexts, FileHasTexts, HasKeptNames, MetadataHasTexts, HasNumbers, TellsObject};
+ghost use Rattle.dep_docs_out.specs.ReadBack.{ReadsAs, IsReadBack, HasTexts, FileHasTexts, HasKeptNames, MetadataHasTexts, HasNumbers, TellsObject};
 ghost use Rattle.serde_json.specs.Data.{Data};
 ghost use Rattle.serde_json.specs.Read.{read};
 ghost use Rattle.dep_types.specs.Config.{HasLimits};
@@ -11,95 +11,94 @@ ghost use Rattle.dep_types.specs.declared.config.Config.{Config as AConfig};
 ghost use Rattle.dep_types.specs.declared.rows.ObjectView.{ObjectView as AnObjectView};
 ghost use Rattle.dep_types.specs.declared.rows.UploadRow.{UploadRow as AnUploadRow};
 ghost use Rattle.std.specs.List.{AllByRecursion};
-ghost use Rattle.dep_docs_out.specs.Documents as spec;
+ghost use Rattle.dep_docs_out.specs.Documents.{bag_metadata_data, bag_metadata_document, error_data, error_document, metadata_data, metadata_document, service_data, service_document, status_data, status_document, upload_data, upload_document};
 ghost use Rattle.dep_docs_out.specs.ExampleDocuments.{example_config, example_empty, example_object, example_unfinished, example_title, example_titles, example_upload, bag_metadata_text, empty_text, error_text, metadata_text, service_text, status_text, unfinished_text, upload_text};
 ghost use Rattle.dep_types.specs.Rows.{object_view};
 ghost use Rattle.dep_types.specs.declared.refusal.Refusal.TheVariants.{DigestMismatch};
 
 /// The service document of the example.
 pub fn service_document_of_example()
-    ensures { spec.service_document example_config ≡ service_text }
+    ensures { service_document example_config ≡ service_text }
 {}
 
 /// The error document of a content that does not match its digest.
 pub fn error_document_of_example()
-    ensures { spec.error_document DigestMismatch 1523836800 ≡ error_text }
+    ensures { error_document DigestMismatch 1523836800 ≡ error_text }
 {}
 
 /// The status document of an object that has one file.
 pub fn status_document_of_example()
-    ensures { spec.status_document example_config (object_view 1 example_object) ≡ status_text }
+    ensures { status_document example_config (object_view 1 example_object) ≡ status_text }
 {}
 
 /// The status document of an object in progress, with a file that was posted on behalf of another and one that came
 /// by reference.
 pub fn status_document_in_progress()
-    ensures { spec.status_document example_config (object_view 7 example_unfinished)
+    ensures { status_document example_config (object_view 7 example_unfinished)
         ≡ unfinished_text }
 {}
 
 /// The status document of an object without files.
 pub fn status_document_without_files()
-    ensures { spec.status_document example_config (object_view 1 example_empty) ≡ empty_text }
+    ensures { status_document example_config (object_view 1 example_empty) ≡ empty_text }
 {}
 
 /// The metadata document of an object that has three titles.
 pub fn metadata_document_of_example()
-    ensures { spec.metadata_document example_config 1 example_titles ≡ metadata_text }
+    ensures { metadata_document example_config 1 example_titles ≡ metadata_text }
 {}
 
 /// The metadata document of an object that has one title, in its bag.
 pub fn bag_metadata_document_of_example()
-    ensures { spec.bag_metadata_document example_title ≡ bag_metadata_text }
+    ensures { bag_metadata_document example_title ≡ bag_metadata_text }
 {}
 
 /// The document of an upload whose second segment of three is still to come.
 pub fn upload_document_of_example()
-    ensures { spec.upload_document example_config example_upload (1 ∷ 3 ∷ []) ≡ upload_text }
+    ensures { upload_document example_config example_upload (1 ∷ 3 ∷ []) ≡ upload_text }
 {}
 
 /// The service document is read back as the value that it spells.
 pub fn service_document_is_read_back()
     ensures { (config : AConfig) → HasTexts config → HasLimits config
-        → ReadsAs (spec.service_document config) (spec.service_data config) }
+        → IsReadBack (service_data config) }
 {}
 
 /// The error document is read back as the value that it spells.
 pub fn error_document_is_read_back()
     ensures { (refusal : ARefusal) (clock : ℕ) → clock ≤ greatest_moment
-        → ReadsAs (spec.error_document refusal clock) (spec.error_data refusal clock) }
+        → IsReadBack (error_data refusal clock) }
 {}
 
 /// The status document is read back as the value that it spells.
 pub fn status_document_is_read_back()
     ensures { (config : AConfig) (view : AnObjectView) → HasTexts config
         → AllByRecursion FileHasTexts view.files
-        → ReadsAs (spec.status_document config view) (spec.status_data config view) }
+        → IsReadBack (status_data config view) }
 {}
 
 /// Whatever a status document is read as, each number, tag and date in it is that of its row.
 pub fn status_document_tells_its_rows()
     ensures { (config : AConfig) (view : AnObjectView) (d : Data)
-        → read (spec.status_document config view) ≡ Some d → TellsObject config view d }
+        → read (status_document config view) ≡ Some d → TellsObject config view d }
 {}
 
 /// The metadata document is read back as the value that it spells.
 pub fn metadata_document_is_read_back()
     ensures { (config : AConfig) (n : ℕ) (texts : Texts) → HasTexts config
         → HasKeptNames texts → MetadataHasTexts texts
-        → ReadsAs (spec.metadata_document config n texts) (spec.metadata_data config n texts) }
+        → IsReadBack (metadata_data config n texts) }
 {}
 
 /// The metadata document of a bag is read back as the value that it spells.
 pub fn bag_metadata_document_is_read_back()
     ensures { (texts : Texts) → HasKeptNames texts → MetadataHasTexts texts
-        → ReadsAs (spec.bag_metadata_document texts) (spec.bag_metadata_data texts) }
+        → ReadsAs (bag_metadata_document texts) (bag_metadata_data texts) }
 {}
 
 /// The document of an upload is read back as the value that it spells.
 pub fn upload_document_is_read_back()
     ensures { (config : AConfig) (row : AnUploadRow) (received : List ℕ) → HasTexts config
         → HasNumbers row received
-        → ReadsAs (spec.upload_document config row received)
-        (spec.upload_data config row received) }
+        → IsReadBack (upload_data config row received) }
 {}

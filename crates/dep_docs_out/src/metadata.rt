@@ -1,8 +1,8 @@
 //! The metadata document.
-ghost use Rattle.std.specs.Prelude.{◌≡◌, [], ◌∷◌, map, IfOk, OnOk};
-ghost use Rattle.dep_docs_out.specs.Documents as spec;
-ghost use Rattle.dep_docs_out.specs.Json as json_spec;
-ghost use Rattle.dep_docs_out.specs.Json.{AddsItems, AddsMember, AddsMembers};
+ghost use Rattle.std.specs.Prelude.{OnOk};
+ghost use Rattle.dep_docs_out.specs.Made.{Makes};
+ghost use Rattle.dep_docs_out.specs.Documents.{bag_metadata_document, metadata_document, placed_metadata, texts_data, texts_members, unplaced_metadata};
+ghost use Rattle.dep_docs_out.specs.Json.{AddsMember, AddsMembers, text_list};
 
 use crate::document::{CONTEXT, Document};
 use crate::urls::metadata_url;
@@ -17,8 +17,7 @@ pub fn metadata_doc(
     object: u64,
     metadata: &Metadata,
 ) -> Result<Vec<u8>, AllocError>
-    ensures { IfOk result (λ bytes.
-        bytes.items ≡ spec.metadata_document config.now object metadata.now) }
+    ensures { Makes result (metadata_document config.now object metadata.now) }
 {
     let place = metadata_url(alloc, config, object)?;
     let mut document = Document::begun(alloc)?;
@@ -29,7 +28,7 @@ pub fn metadata_doc(
 // The metadata of the object whose Metadata-URL this is.
 fn add_placed(document: &mut Document, place: &str, metadata: &Metadata) -> Result<(), AllocError>
     ensures { OnOk result
-        (AddsMembers document.old document.new (spec.placed_metadata place.now metadata.now)) }
+        (AddsMembers document.old document.new (placed_metadata place.now metadata.now)) }
 {
     document.text("@context", CONTEXT)?;
     document.text("@id", place)?;
@@ -39,7 +38,7 @@ fn add_placed(document: &mut Document, place: &str, metadata: &Metadata) -> Resu
 
 /// The metadata document of an object as it stands in the object's bag, where it has no URL.
 pub fn bag_metadata_doc(alloc: Global, metadata: &Metadata) -> Result<Vec<u8>, AllocError>
-    ensures { IfOk result (λ bytes. bytes.items ≡ spec.bag_metadata_document metadata.now) }
+    ensures { Makes result (bag_metadata_document metadata.now) }
 {
     let mut document = Document::begun(alloc)?;
     add_unplaced(&mut document, metadata)?;
@@ -48,7 +47,7 @@ pub fn bag_metadata_doc(alloc: Global, metadata: &Metadata) -> Result<Vec<u8>, A
 
 fn add_unplaced(document: &mut Document, metadata: &Metadata) -> Result<(), AllocError>
     ensures { OnOk result
-        (AddsMembers document.old document.new (spec.unplaced_metadata metadata.now)) }
+        (AddsMembers document.old document.new (unplaced_metadata metadata.now)) }
 {
     document.text("@context", CONTEXT)?;
     document.text("@type", "Metadata")?;
@@ -57,7 +56,7 @@ fn add_unplaced(document: &mut Document, metadata: &Metadata) -> Result<(), Allo
 
 fn add_metadata(document: &mut Document, metadata: &Metadata) -> Result<(), AllocError>
     ensures { OnOk result
-        (AddsMembers document.old document.new (spec.texts_members metadata.now)) }
+        (AddsMembers document.old document.new (texts_members metadata.now)) }
 {
     for entry in metadata.entries() {
         add_entry(document, entry)?;
@@ -67,7 +66,7 @@ fn add_metadata(document: &mut Document, metadata: &Metadata) -> Result<(), Allo
 
 fn add_entry(document: &mut Document, entry: &MetadataEntry) -> Result<(), AllocError>
     ensures { OnOk result
-        (AddsMember document.old document.new entry.now.name (spec.texts_data entry.now.texts)) }
+        (AddsMember document.old document.new entry.now.name (texts_data entry.now.texts)) }
 {
     match entry.texts.as_slice() {
         [text] => document.text(entry.name.as_str(), text.as_str()),
@@ -77,7 +76,7 @@ fn add_entry(document: &mut Document, entry: &MetadataEntry) -> Result<(), Alloc
 
 fn add_texts(document: &mut Document, name: &str, texts: &[Text]) -> Result<(), AllocError>
     ensures { OnOk result
-        (AddsMember document.old document.new name.now (json_spec.text_list texts.now)) }
+        (AddsMember document.old document.new name.now (text_list texts.now)) }
 {
     document.name(name)?;
     document.begin_list()?;

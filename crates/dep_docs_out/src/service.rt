@@ -1,6 +1,7 @@
 //! The service document.
-ghost use Rattle.std.specs.Prelude.{◌≡◌, IfOk, OnOk, codes};
-ghost use Rattle.dep_docs_out.specs.Documents as spec;
+ghost use Rattle.std.specs.Prelude.{OnOk, codes};
+ghost use Rattle.dep_docs_out.specs.Made.{Makes};
+ghost use Rattle.dep_docs_out.specs.Documents.{digests_data, service_document, service_limits, service_members, service_offers, service_places};
 ghost use Rattle.dep_docs_out.specs.Json.{AddsMember, AddsMembers};
 
 use crate::document::{CONTEXT, Document};
@@ -10,7 +11,7 @@ use std::alloc::{AllocError, Global};
 
 /// The service document of SWORD 3.0: what the server offers, and its limits.
 pub fn service_doc(alloc: Global, config: &Config) -> Result<Vec<u8>, AllocError>
-    ensures { IfOk result (λ bytes. bytes.items ≡ spec.service_document config.now) }
+    ensures { Makes result (service_document config.now) }
 {
     let root = url(alloc, config, "/service")?;
     let staging = url(alloc, config, "/staging")?;
@@ -26,7 +27,7 @@ fn add_service(
     staging: &str,
 ) -> Result<(), AllocError>
     ensures { OnOk result (AddsMembers document.old document.new
-        (spec.service_members config.now root.now staging.now)) }
+        (service_members config.now root.now staging.now)) }
 {
     add_offers(document, root)?;
     add_limits(document, config)?;
@@ -36,7 +37,7 @@ fn add_service(
 // What the server takes.
 #[tactic(auto, unfolding(crate::specs::Documents::service_offers))]
 fn add_offers(document: &mut Document, root: &str) -> Result<(), AllocError>
-    ensures { OnOk result (AddsMembers document.old document.new (spec.service_offers root.now)) }
+    ensures { OnOk result (AddsMembers document.old document.new (service_offers root.now)) }
 {
     document.text("@context", CONTEXT)?;
     document.text("@id", root)?;
@@ -50,7 +51,7 @@ fn add_offers(document: &mut Document, root: &str) -> Result<(), AllocError>
 // What it is called, and its limits.
 #[tactic(auto, unfolding(crate::specs::Documents::service_limits))]
 fn add_limits(document: &mut Document, config: &Config) -> Result<(), AllocError>
-    ensures { OnOk result (AddsMembers document.old document.new (spec.service_limits config.now)) }
+    ensures { OnOk result (AddsMembers document.old document.new (service_limits config.now)) }
 {
     document.flag("byReferenceDeposit", true)?;
     document.text("dc:title", config.title.as_str())?;
@@ -64,7 +65,7 @@ fn add_limits(document: &mut Document, config: &Config) -> Result<(), AllocError
 // The digests of a content that a request may promise, by their names in a Digest field (RFC 5843).
 fn add_digests(document: &mut Document) -> Result<(), AllocError>
     ensures { OnOk result
-        (AddsMember document.old document.new (codes "digest") spec.digests_data) }
+        (AddsMember document.old document.new (codes "digest") digests_data) }
 {
     document.name("digest")?;
     document.begin_list()?;
@@ -82,7 +83,7 @@ fn add_places(
     staging: &str,
 ) -> Result<(), AllocError>
     ensures { OnOk result (AddsMembers document.old document.new
-        (spec.service_places config.now root.now staging.now)) }
+        (service_places config.now root.now staging.now)) }
 {
     document.flag("onBehalfOf", config.on_behalf_of)?;
     document.text("root", root)?;

@@ -1,6 +1,7 @@
 //! The status document.
-ghost use Rattle.std.specs.Prelude.{◌≡◌, [], ◌∷◌, IfOk, OnOk, codes};
-ghost use Rattle.dep_docs_out.specs.Documents as spec;
+ghost use Rattle.std.specs.Prelude.{◌≡◌, [], ◌∷◌, OnOk, codes};
+ghost use Rattle.dep_docs_out.specs.Made.{Makes};
+ghost use Rattle.dep_docs_out.specs.Documents.{actions_data, behalf_members, deposit_members, deposit_relation, kept_members, link_data, links_data, object_members, part_data, relations_data, state_id, state_members, states_data, status_document};
 ghost use Rattle.dep_docs_out.specs.Json.{AddsItems, AddsMember, AddsMembers};
 
 use crate::document::{CONTEXT, Document};
@@ -12,7 +13,7 @@ use std::alloc::{AllocError, Global};
 /// The status document of SWORD 3.0: an object, and a link for each of its files in their order. A file's moment
 /// after the end of the year 9999 is told as that year's last second.
 pub fn status_doc(alloc: Global, config: &Config, view: &ObjectView) -> Result<Vec<u8>, AllocError>
-    ensures { IfOk result (λ bytes. bytes.items ≡ spec.status_document config.now view.now) }
+    ensures { Makes result (status_document config.now view.now) }
 {
     let mut document = Document::begun(alloc)?;
     add_object(&mut document, alloc, config, &view.object)?;
@@ -30,7 +31,7 @@ fn add_object(
     object: &ObjectRow,
 ) -> Result<(), AllocError>
     ensures { OnOk result
-        (AddsMembers document.old document.new (spec.object_members config.now object.now)) }
+        (AddsMembers document.old document.new (object_members config.now object.now)) }
 {
     let place = object_url(alloc, config, object.object)?;
     let files = files_url(alloc, config, object.object)?;
@@ -45,7 +46,7 @@ fn add_object(
 // What may be done with an object: everything.
 fn add_actions(document: &mut Document) -> Result<(), AllocError>
     ensures { OnOk result
-        (AddsMember document.old document.new (codes "actions") spec.actions_data) }
+        (AddsMember document.old document.new (codes "actions") actions_data) }
 {
     document.name("actions")?;
     document.begin_object()?;
@@ -64,7 +65,7 @@ fn add_actions(document: &mut Document) -> Result<(), AllocError>
 // A part of an object: where it stands, and its entity tag.
 fn add_part(document: &mut Document, name: &str, place: &str, tag: u64) -> Result<(), AllocError>
     ensures { OnOk result
-        (AddsMember document.old document.new name.now (spec.part_data place.now tag)) }
+        (AddsMember document.old document.new name.now (part_data place.now tag)) }
 {
     document.name(name)?;
     document.begin_object()?;
@@ -80,7 +81,7 @@ fn add_links(
     view: &ObjectView,
 ) -> Result<(), AllocError>
     ensures { OnOk result (AddsMember document.old document.new (codes "links")
-        (spec.links_data config.now view.now)) }
+        (links_data config.now view.now)) }
 {
     document.name("links")?;
     document.begin_list()?;
@@ -98,7 +99,7 @@ fn add_link(
     file: &FileRow,
 ) -> Result<(), AllocError>
     ensures { OnOk result
-        (AddsItems document.old document.new (spec.link_data config.now object file.now ∷ [])) }
+        (AddsItems document.old document.new (link_data config.now object file.now ∷ [])) }
 {
     let place = file_url(alloc, config, object, file.file)?;
     document.begin_object()?;
@@ -117,7 +118,7 @@ fn add_deposit(
     file: &FileRow,
 ) -> Result<(), AllocError>
     ensures { OnOk result (AddsMembers document.old document.new
-        (spec.deposit_members config.now place.now file.now)) }
+        (deposit_members config.now place.now file.now)) }
 {
     document.text("@id", place)?;
     document.text("contentType", file.media.as_str())?;
@@ -128,7 +129,7 @@ fn add_deposit(
 // On whose behalf a file was deposited, where one was told.
 fn add_behalf(document: &mut Document, file: &FileRow) -> Result<(), AllocError>
     ensures { OnOk result
-        (AddsMembers document.old document.new (spec.behalf_members file.now.behalf)) }
+        (AddsMembers document.old document.new (behalf_members file.now.behalf)) }
 {
     match &file.behalf {
         Some(behalf) => document.text("depositedOnBehalfOf", behalf.as_str()),
@@ -139,7 +140,7 @@ fn add_behalf(document: &mut Document, file: &FileRow) -> Result<(), AllocError>
 // What a file is in the file set.
 #[tactic(auto, unfolding(crate::specs::Documents::kept_members))]
 fn add_kept(document: &mut Document, file: &FileRow) -> Result<(), AllocError>
-    ensures { OnOk result (AddsMembers document.old document.new (spec.kept_members file.now)) }
+    ensures { OnOk result (AddsMembers document.old document.new (kept_members file.now)) }
 {
     document.decimal("eTag", file.tag)?;
     document.text("packaging", BINARY_PACKAGING)?;
@@ -150,7 +151,7 @@ fn add_kept(document: &mut Document, file: &FileRow) -> Result<(), AllocError>
 // How a file came, and that it belongs to the file set.
 fn add_relations(document: &mut Document, by_reference: bool) -> Result<(), AllocError>
     ensures { OnOk result
-        (AddsMember document.old document.new (codes "rel") (spec.relations_data by_reference)) }
+        (AddsMember document.old document.new (codes "rel") (relations_data by_reference)) }
 {
     document.name("rel")?;
     document.begin_list()?;
@@ -160,7 +161,7 @@ fn add_relations(document: &mut Document, by_reference: bool) -> Result<(), Allo
 }
 
 fn deposit_relation(by_reference: bool) -> &'static str
-    ensures { result.now ≡ spec.deposit_relation by_reference }
+    ensures { result.now ≡ deposit_relation by_reference }
 {
     if by_reference {
         "http://purl.org/net/sword/3.0/terms/byReferenceDeposit"
@@ -178,7 +179,7 @@ fn add_state(
     object: &ObjectRow,
 ) -> Result<(), AllocError>
     ensures { OnOk result
-        (AddsMembers document.old document.new (spec.state_members config.now object.now)) }
+        (AddsMembers document.old document.new (state_members config.now object.now)) }
 {
     let metadata = metadata_url(alloc, config, object.object)?;
     let service = url(alloc, config, "/service")?;
@@ -190,7 +191,7 @@ fn add_state(
 // Whether the deposit is complete, as a list of one state.
 fn add_states(document: &mut Document, ingested: bool) -> Result<(), AllocError>
     ensures { OnOk result
-        (AddsMember document.old document.new (codes "state") (spec.states_data ingested)) }
+        (AddsMember document.old document.new (codes "state") (states_data ingested)) }
 {
     document.name("state")?;
     document.begin_list()?;
@@ -201,7 +202,7 @@ fn add_states(document: &mut Document, ingested: bool) -> Result<(), AllocError>
 }
 
 fn state_id(ingested: bool) -> &'static str
-    ensures { result.now ≡ spec.state_id ingested }
+    ensures { result.now ≡ state_id ingested }
 {
     if ingested {
         "http://purl.org/net/sword/3.0/state/ingested"

@@ -1,9 +1,8 @@
 //! The document of an upload.
-ghost use Rattle.std.specs.Prelude.{◌≡◌, [], ◌∷◌, map, true, IfOk, OnOk, codes, option_map};
-ghost use Rattle.dep_docs_out.specs.Documents as spec;
+ghost use Rattle.std.specs.Prelude.{◌≡◌, true, IfOk, OnOk, codes, option_map};
+ghost use Rattle.dep_docs_out.specs.Documents.{expecting, segments_data, upload_members};
 ghost use Rattle.dep_docs_out.specs.Segments.{are_segments, ordered_upload_document};
-ghost use Rattle.dep_docs_out.specs.Json as json_spec;
-ghost use Rattle.dep_docs_out.specs.Json.{AddsItems, AddsMember, AddsMembers};
+ghost use Rattle.dep_docs_out.specs.Json.{AddsMember, AddsMembers, number_list};
 
 use crate::document::{CONTEXT, Document};
 use crate::urls::upload_url;
@@ -54,7 +53,7 @@ fn add_upload(
 ) -> Result<(), AllocError>
     requires { are_segments received.now ≡ true }
     ensures { OnOk result (AddsMembers document.old document.new
-        (spec.upload_members place.now upload.now received.now)) }
+        (upload_members place.now upload.now received.now)) }
 {
     document.text("@context", CONTEXT)?;
     document.text("@id", place)?;
@@ -70,7 +69,7 @@ fn add_segments(
 ) -> Result<(), AllocError>
     requires { are_segments received.now ≡ true }
     ensures { OnOk result (AddsMember document.old document.new (codes "segments")
-        (spec.segments_data upload.now received.now)) }
+        (segments_data upload.now received.now)) }
 {
     document.name("segments")?;
     document.begin_object()?;
@@ -84,7 +83,7 @@ fn add_segments(
 fn add_expecting(document: &mut Document, count: u64, received: &[u64]) -> Result<(), AllocError>
     requires { are_segments received.now ≡ true }
     ensures { OnOk result (AddsMember document.old document.new (codes "expecting")
-        (json_spec.number_list (spec.expecting count received.now))) }
+        (number_list (expecting count received.now))) }
 {
     document.name("expecting")?;
     document.begin_list()?;
@@ -101,7 +100,7 @@ fn add_expecting(document: &mut Document, count: u64, received: &[u64]) -> Resul
 
 fn add_received(document: &mut Document, received: &[u64]) -> Result<(), AllocError>
     ensures { OnOk result (AddsMember document.old document.new (codes "received")
-        (json_spec.number_list received.now)) }
+        (number_list received.now)) }
 {
     document.name("received")?;
     document.begin_list()?;

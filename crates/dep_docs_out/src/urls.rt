@@ -1,6 +1,7 @@
 //! URLs of the server.
-ghost use Rattle.std.specs.Prelude.{◌≡◌, IfOk, string_bytes};
-ghost use Rattle.dep_docs_out.specs.Documents as spec;
+ghost use Rattle.std.specs.Prelude.{};
+ghost use Rattle.dep_docs_out.specs.Made.{MakesText};
+ghost use Rattle.dep_docs_out.specs.Documents.{file_url, files_url, metadata_url, object_url, upload_url, url};
 
 use dep_types::Config;
 use itoa::Buffer;
@@ -8,7 +9,7 @@ use std::alloc::{AllocError, Global};
 
 /// The URL with this path.
 pub(crate) fn url(alloc: Global, config: &Config, path: &str) -> Result<String, AllocError>
-    ensures { IfOk result (λ text. string_bytes text ≡ spec.url config.now path.now) }
+    ensures { MakesText result (url config.now path.now) }
 {
     let mut text = String::from_str(alloc, config.base.as_str())?;
     text.push_str(path)?;
@@ -17,7 +18,7 @@ pub(crate) fn url(alloc: Global, config: &Config, path: &str) -> Result<String, 
 
 /// The Object-URL of the object with this number.
 pub fn object_url(alloc: Global, config: &Config, object: u64) -> Result<String, AllocError>
-    ensures { IfOk result (λ text. string_bytes text ≡ spec.object_url config.now object) }
+    ensures { MakesText result (object_url config.now object) }
 {
     let mut digits = Buffer::new();
     let mut text = url(alloc, config, "/objects/")?;
@@ -31,7 +32,7 @@ pub(crate) fn metadata_url(
     config: &Config,
     object: u64,
 ) -> Result<String, AllocError>
-    ensures { IfOk result (λ text. string_bytes text ≡ spec.metadata_url config.now object) }
+    ensures { MakesText result (metadata_url config.now object) }
 {
     let mut text = object_url(alloc, config, object)?;
     text.push_str("/metadata")?;
@@ -40,7 +41,7 @@ pub(crate) fn metadata_url(
 
 /// Its FileSet-URL.
 pub(crate) fn files_url(alloc: Global, config: &Config, object: u64) -> Result<String, AllocError>
-    ensures { IfOk result (λ text. string_bytes text ≡ spec.files_url config.now object) }
+    ensures { MakesText result (files_url config.now object) }
 {
     let mut text = object_url(alloc, config, object)?;
     text.push_str("/files")?;
@@ -54,7 +55,7 @@ pub(crate) fn file_url(
     object: u64,
     file: u64,
 ) -> Result<String, AllocError>
-    ensures { IfOk result (λ text. string_bytes text ≡ spec.file_url config.now object file) }
+    ensures { MakesText result (file_url config.now object file) }
 {
     let mut digits = Buffer::new();
     let mut text = object_url(alloc, config, object)?;
@@ -65,7 +66,7 @@ pub(crate) fn file_url(
 
 /// The Temporary-URL of the upload with this number.
 pub fn upload_url(alloc: Global, config: &Config, upload: u64) -> Result<String, AllocError>
-    ensures { IfOk result (λ text. string_bytes text ≡ spec.upload_url config.now upload) }
+    ensures { MakesText result (upload_url config.now upload) }
 {
     let mut digits = Buffer::new();
     let mut text = url(alloc, config, "/staging/")?;

@@ -2,20 +2,14 @@
 
 ghost use Rattle.std.specs.Prelude.{◌≡◌, ◌<◌, ◌^◌, ℕ, All, Some, None, OnOk, IfErr, map};
 ghost use Rattle.std.specs.FinMap as finmap;
-ghost use Rattle.dep_types.specs.State.{Object, File, file_at};
-ghost use Rattle.dep_types.specs.Rows.{file_row};
+ghost use Rattle.dep_types.specs.State.{Object, file_at};
 ghost use Rattle.dep_types.specs.Sound.{IsSound};
-ghost use Rattle.sqlite_trees.specs.Tree.{put_row};
-ghost use Rattle.dep_statements.specs.Rows.{put_next};
-ghost use Rattle.dep_tables.specs.Rows.{IsStorableFile, sha512_values, stored_file};
-ghost use Rattle.dep_tables.specs.Tables.{tables_of};
+ghost use Rattle.dep_tables.specs.Rows.{IsStorableFile};
 ghost use Rattle.dep_tables.specs.Clauses.{RefusesNumbers, StaysWithin};
-ghost use Rattle.dep_row_maps.specs.Stored.{blocks_of, put_blocks};
-ghost use Rattle.dep_row_maps.specs.TablesAre.{TablesAre};
-ghost use Rattle.dep_row_maps.specs.Clauses.{Becomes, FromMaps, KeepsOurs, FailsUncommitted, FailsReadingUncommitted};
+ghost use Rattle.dep_row_maps.specs.Clauses.{Becomes, FromMaps, KeepsOurs, SeesState, FailsUncommitted, FailsReadingUncommitted};
 ghost use Rattle.dep_row_maps.specs.Laws.{without_contents};
 ghost use Rattle.dep_row_maps.specs.Causes.{FailsByOne, FailsByStatement, FailsSince};
-ghost use Rattle.dep_files.specs.Edits.{only_part, with_file, without_file, without_files};
+ghost use Rattle.dep_files.specs.Edits.{without_files, with_whole_file, PutsFile, DropsFile};
 
 use crate::blocks::{delete_blocks, put_blocks};
 use crate::content::Content;
@@ -35,20 +29,9 @@ pub fn put_file<T: Statements, C: Content>(
     content: &C,
 ) -> Result<(), StoreFault>
     ensures map { FromMaps (T.state tx.old) (T.state tx.new)
-        (λ s. (o : Object) (file : File)
-        → finmap.get s.objects row.now.object ≡ Some o
-        → row.now ≡ file_row row.now.object row.now.file file
-        → C.bytes content.now ≡ file.content
-        → OnOk result (TablesAre (tables_of (T.state tx.new))
-        (with_file s row.now.object o row.now.file file))) }
+        (λ s. PutsFile (T.state tx.new) result s row.now (C.bytes content.now)) }
     ensures rows { Becomes (T.state tx.old) (T.state tx.new) result
-        (λ t. record t {
-          files = put_row (stored_file row.now) t.files;
-          blocks = put_blocks (BlockOwner.File row.now.file) only_part 0
-              (blocks_of (C.bytes content.now)) t.blocks;
-          sha512s = put_next (sha512_values (BlockOwner.File row.now.file) row.now.sha512)
-              t.sha512s;
-        }) }
+        (with_whole_file row.now (C.bytes content.now)) }
     ensures free { FromMaps (T.state tx.old) (T.state tx.new)
         (λ s. OnOk result ((n : ℕ) → file_at s n row.now.file ≡ None)) }
     ensures ours { KeepsOurs (T.state tx.old) (T.state tx.new) result }
@@ -66,12 +49,10 @@ pub fn put_file<T: Statements, C: Content>(
 /// or more is a fault of the store.
 pub fn delete_file<T: Statements>(tx: &mut T, file: u64) -> Result<(), StoreFault>
     ensures map { FromMaps (T.state tx.old) (T.state tx.new)
-        (λ s. (n : ℕ) (o : Object) (it : File)
-        → finmap.get s.objects n ≡ Some o → finmap.get o.files file ≡ Some it
-        → OnOk result (TablesAre (tables_of (T.state tx.new)) (without_file s n o file))) }
+        (λ s. DropsFile (T.state tx.new) result s file) }
     ensures absent { FromMaps (T.state tx.old) (T.state tx.new)
         (λ s. ((n : ℕ) → file_at s n file ≡ None)
-        → OnOk result (TablesAre (tables_of (T.state tx.new)) s)) }
+        → OnOk result (SeesState (T.state tx.new) s)) }
     ensures ours { KeepsOurs (T.state tx.old) (T.state tx.new) result }
     ensures numbers { RefusesNumbers (T.state tx.old) (T.state tx.new) result (file < 2 ^ 63) }
     ensures cause { FailsByOne T.state tx.old tx.new result (file < 2 ^ 63) FailsByStatement }
@@ -103,7 +84,7 @@ fn delete_contents<T: Statements>(tx: &mut T, rows: &[FileRow]) -> Result<(), St
 pub fn delete_files<T: Statements>(tx: &mut T, alloc: Global, object: u64) -> Result<(), StoreFault>
     ensures map { FromMaps (T.state tx.old) (T.state tx.new)
         (λ s. (o : Object) → finmap.get s.objects object ≡ Some o
-        → OnOk result (TablesAre (tables_of (T.state tx.new)) (without_files s object o))) }
+        → OnOk result (SeesState (T.state tx.new) (without_files s object o))) }
     ensures ours { KeepsOurs (T.state tx.old) (T.state tx.new) result }
     ensures numbers { RefusesNumbers (T.state tx.old) (T.state tx.new) result (object < 2 ^ 63) }
     ensures cause { FromMaps (T.state tx.old) (T.state tx.new)

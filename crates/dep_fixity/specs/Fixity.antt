@@ -19,13 +19,15 @@ use Rattle.dep_fixity.specs.declared.field.DigestList.{DigestList}
 abbrev pub just_so_many : ℕ → Option (List ℕ) → Option (List ℕ)
 just_so_many n octets = option_and_then (λ list. if length list == n then Some list else None) octets
 
--- the n octets that a text spells in hexadecimal digits, or in base64, or in one of the two
+-- the n octets that a text spells in hexadecimal digits
 abbrev pub octets_of_hex : ℕ → List ℕ → Option (List ℕ)
 octets_of_hex n text = result_ok (decode_sized text n)
 
+-- the n octets that a text spells in base64
 abbrev pub octets_of_base64 : ℕ → List ℕ → Option (List ℕ)
 octets_of_base64 n text = just_so_many n (decoded_of standard text)
 
+-- the n octets that a text spells in hexadecimal digits, or else in base64
 unfoldable pub octets_of : ℕ → List ℕ → Option (List ℕ)
 octets_of n text = option_or (octets_of_hex n text) (octets_of_base64 n text)
 

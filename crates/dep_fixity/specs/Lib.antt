@@ -1,3 +1,4 @@
 pub mod Fixity
 pub mod Faults
 pub mod Hashing
+pub mod Examples

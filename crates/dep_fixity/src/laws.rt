@@ -5,6 +5,7 @@ ghost use Rattle.base64.specs.Engines.{standard};
 ghost use Rattle.hex.specs.Hex.{encode_lower, encode_upper};
 ghost use Rattle.sha2.specs.Sha256.{sha256};
 ghost use Rattle.sha2.specs.Sha512.{sha512};
+ghost use Rattle.dep_fixity.specs.Examples.{abc_sha256_in_base64, abc_sha512_in_base64, abc_sha512_in_digits, long_message, long_message_sha512};
 ghost use Rattle.dep_fixity.specs.Fixity.{digest_field, none_promised, octets_of};
 
 /// The test vectors of RFC 4648, section 10, for base64.
@@ -50,11 +51,7 @@ pub fn sha512_of_examples()
     ensures abc { encode_lower (sha512 (codes "abc")) ≡
         codes "ddaf35a193617abacc417349ae20413112e6fa4e89a97ea20a9eeee64b55d39a"
         ++ codes "2192992a274fc1a836ba3c23a3feebbd454d4423643ce80e2a9ac94fa54ca49f" }
-    ensures long { encode_lower
-        (sha512 (codes "abcdefghbcdefghicdefghijdefghijkefghijklfghijklmghijklmn"
-        ++ codes "hijklmnoijklmnopjklmnopqklmnopqrlmnopqrsmnopqrstnopqrstu")) ≡
-        codes "8e959b75dae313da8cf4f72814fc143f8f7779c6eb9f7fa17299aeadb6889018"
-        ++ codes "501d289e4900f7e4331b99dec4b5433ac7d329eeb6dd26545e96e55b874be909" }
+    ensures long { encode_lower (sha512 long_message) ≡ long_message_sha512 }
 {}
 
 /// A Digest field (RFC 3230, RFC 5843) with the SHA-256 of `abc`, in base64 and in hexadecimal digits, promises it.
@@ -74,17 +71,12 @@ pub fn digest_field_of_abc()
 /// The same with the SHA-512 of `abc`, alone and beside its SHA-256. One that is neither base64 of 64 octets nor 128
 /// hexadecimal digits can't be read, as a SHA-256 in its place.
 pub fn digest_field_of_abc_by_sha512()
-    ensures base64 { digest_field
-        (codes "SHA-512=3a81oZNherrMQXNJriBBMRLm+k6JqX6iCp7u5ktV05ohkpkqJ0/BqDa6PCOj/uu9"
-        ++ codes "RU1EI2Q86A4qmslPpUyknw==") ≡
+    ensures base64 { digest_field (codes "SHA-512=" ++ abc_sha512_in_base64) ≡
         Some (record { sha256 = None; sha512 = Some (sha512 (codes "abc")) }) }
-    ensures hex { digest_field
-        (codes "MD5=x, sha-512=ddaf35a193617abacc417349ae20413112e6fa4e89a97ea20a9eeee64b55d39a"
-        ++ codes "2192992A274FC1A836BA3C23A3FEEBBD454D4423643CE80E2A9AC94FA54CA49F") ≡
+    ensures hex { digest_field (codes "MD5=x, sha-512=" ++ abc_sha512_in_digits) ≡
         Some (record { sha256 = None; sha512 = Some (sha512 (codes "abc")) }) }
     ensures both { digest_field
-        (codes "SHA-512=3a81oZNherrMQXNJriBBMRLm+k6JqX6iCp7u5ktV05ohkpkqJ0/BqDa6PCOj/uu9"
-        ++ codes "RU1EI2Q86A4qmslPpUyknw==, SHA-256=ungWv48Bz+pBQUDeXa4iI7ADYaOWF3qctBD/YfIAFa0=") ≡
+        (codes "SHA-512=" ++ abc_sha512_in_base64 ++ codes ", SHA-256=" ++ abc_sha256_in_base64) ≡
         Some (record { sha256 = Some (sha256 (codes "abc")); sha512 = Some (sha512 (codes "abc")) }) }
     ensures bad { digest_field
         (codes "SHA-256=ungWv48Bz+pBQUDeXa4iI7ADYaOWF3qctBD/YfIAFa0=, SHA-512=y") ≡ None }

@@ -36,5 +36,6 @@ abbrev pub comes_from : {R K S : Type 0} → ℕ → Option (Seat R K S) → Boo
 comes_from from None = false
 comes_from from (Some seat) = origin seat.address == from
 
+-- how many connections sit there from one address
 abbrev pub seated_from : {R K S : Type 0} → ℕ → List (Option (Seat R K S)) → ℕ
 seated_from from seats = count_by (λ s. comes_from from s) seats

@@ -46,6 +46,7 @@ closing_of Answering silent slow = if silent then Some ends.Silent else if slow 
 closing_of Last silent slow = if silent then Some ends.Silent else if slow then Some ends.Slow else None
 closing_of Draining silent slow = if silent then Some ends.Silent else if slow then Some ends.Slow else None
 
+-- why the connection is closed at a second, if it is
 abbrev pub closing : Course → (second : ℕ) → Limits → Option Closing
 closing c second limits = closing_of c.phase (is_silent c second limits) (is_slow c second limits)
 

@@ -25,6 +25,7 @@ pub record Position (A R K S : Type 0) : Type 0 where
   pub limits : Limits
   pub shut : Option ℕ
 
+-- a host, as it can be told from its parts
 abbrev pub position : {A R K S : Type 0} → Host A R K S → Position A R K S
 position host = record {
   hub = host.hub;
@@ -33,6 +34,7 @@ position host = record {
   shut = host.shut_since;
 }
 
+-- who sits at a place
 abbrev pub slot : {X : Type 0} → ℕ → List (Option X) → Option X
 slot at seats = get_or seats at None
 
@@ -57,6 +59,7 @@ sent_by number (Replies at n moment sent) = if n == number then sent else []
 sent_by number (Declines at n piece moment sent) = if n == number then sent else []
 sent_by number (Closes at n second) = []
 
+-- what all deeds sent to the connection of a number
 abbrev pub replies_to : ℕ → List Deed → List ℕ
 replies_to number deeds = flat_map (λ d. sent_by number d) deeds
 
@@ -122,6 +125,7 @@ IsOutgoing (Replies at n moment sent) = Unit {0}
 IsOutgoing (Declines at n piece moment sent) = ⊥
 IsOutgoing (Closes at n second) = Unit {0}
 
+-- so are all of them
 abbrev pub AreOutgoing : List Deed → Type 0
 AreOutgoing [] = Unit {0}
 AreOutgoing (d ∷ deeds) = IsOutgoing d × AreOutgoing deeds
@@ -170,7 +174,8 @@ module _ {A R K S : Type 0} (condition : A → Condition) (unread : R → Option
     pub same_limits : q.limits ≡ p.limits
     pub same_shut : q.shut ≡ p.shut
 
-  -- the hub is asked whether its store is open, and may tell for the first time that it isn't
+  -- the hub is asked whether its store is open, and may tell for the first time that it isn't; or the
+  -- store works ahead
   pub record Asks (p q : Position A R K S) : Type 0 where
     pub sits : q.seats ≡ p.seats
     pub next : q.hub.next ≡ p.hub.next
@@ -239,6 +244,7 @@ module _ {A R K S : Type 0} (condition : A → Condition) (unread : R → Option
     goes_on : {deeds more : List Deed} {p q : Position A R K S} → Steps first deeds p
         → Step p q more → Steps first (deeds ++ more) q
 
+  -- it goes from one position to another by some deeds
   abbrev pub GoesOn : Position A R K S → Position A R K S → Type 0
   GoesOn first last = (deeds : List Deed) × Steps first deeds last
 

@@ -53,6 +53,7 @@ read_by number (Replies at n moment sent) = []
 read_by number (Declines at n piece moment sent) = if number == n then piece else []
 read_by number (Closes at n second) = []
 
+-- what all deeds read of a connection
 abbrev pub read_of : ℕ → List Deed → List ℕ
 read_of number deeds = flat_map (λ d. read_by number d) deeds
 
@@ -82,6 +83,7 @@ arrived_by number (Arrive n piece moment) = if number == n then piece else []
 arrived_by number (Close n) = []
 arrived_by number Stop = []
 
+-- what of all records arrived at a connection
 abbrev pub arrived_of : ℕ → List Record → List ℕ
 arrived_of number records = flat_map (λ r. arrived_by number r.event) records
 
@@ -93,6 +95,7 @@ IsKept number (Replies at n moment sent) = Unit {0}
 IsKept number (Declines at n piece moment sent) = Unit {0}
 IsKept number (Closes at n second) = number ≡ n → ⊥
 
+-- none of the deeds closed it
 abbrev pub StaysOpen : ℕ → List Deed → Type 0
 StaysOpen number [] = Unit {0}
 StaysOpen number (d ∷ deeds) = IsKept number d × StaysOpen number deeds

@@ -94,6 +94,17 @@ impl<A: Archive, R: Source + Drop, K: Sink + Drop, S: Spool + Drop> Host<A, R, K
         }
     }
 
+    /// Does a part of the work that a later request would have to wait for, and tells whether more is
+    /// left (`Hub::work_ahead`). Where this shuts the store, `is_open` tells so later.
+    pub fn work_ahead(&mut self) -> bool
+        ensures goes { Steps A.condition R.unread K.taken S.held (position self.old) []
+            (position self.new) }
+        ensures limits { self.new.limits ≡ self.old.limits }
+        ensures shut { self.new.shut_since ≡ self.old.shut_since }
+    {
+        self.hub.work_ahead()
+    }
+
     /// Whether an idle time has passed since it was told that the store is shut.
     pub fn is_overdue(&self, second: u64) -> bool
         ensures { result ≡ is_overdue self.now.shut_since second self.now.limits }

@@ -118,8 +118,8 @@ fn meet<A: Archive, R: Source + Drop, K: Sink + Drop, S: Spool + Drop, L: HostLo
     }
 }
 
-/// Goes on after a round: once the store is shut until all connections are closed, or an idle time
-/// has passed.
+/// Goes on after a round, behind which an open store works ahead. Once the store is shut it goes on
+/// until all connections are closed, or an idle time has passed.
 fn go_on<A: Archive, R: Source + Drop, K: Sink + Drop, S: Spool + Drop>(
     host: &mut Host<A, R, K, S>,
     is_busy: bool,
@@ -137,9 +137,10 @@ fn go_on<A: Archive, R: Source + Drop, K: Sink + Drop, S: Spool + Drop>(
         is_overdue host.new.shut_since second host.new.limits ≡ false) }
 {
     if host.is_open(second) {
+        let is_left = host.work_ahead();
         return Ok(Now {
             vacancy: host.vacancy(),
-            is_busy,
+            is_busy: is_busy | is_left,
         });
     }
     if host.is_empty() || host.is_overdue(second) {

@@ -1,25 +1,30 @@
 -- How a conversation goes on, and how it ends.
-use Rattle.std.proofs.Common.{arith, ◌+◌, ◌<◌, ◌≤◌, ◌⊎◌, inl, inr, zero, suc, length, ◌≡◌, ℕ, List, [], ◌∷◌, ◌++◌, Option, Some, None, map, refl, sym, ap, subst, ◌∙◌, append_assoc}
+use Rattle.std.proofs.Common.{IsTrue, Vec, Global, arith, ◌+◌, ◌<◌, ◌≤◌, ◌⊎◌, inl, inr, zero, suc, length, ◌≡◌, ℕ, List, [], ◌∷◌, ◌++◌, Option, Some, None, map, refl, sym, ap, subst, ◌∙◌, append_assoc}
 use Rattle.std.proofs.lemmas.List.{append-nil}
+use Rattle.std.proofs.lemmas.Bool.{both_ways, cases_Bool}
 use Rattle.std.specs.List.{flat_map, FoldsTo}
 use Rattle.std.specs.Io.KnownBytes.{Appends, Consumes, Keeps}
-use Rattle.std.specs.Prelude.{IsTrue}
 use Rattle.dep_types.specs.State.{State}
 use Rattle.dep_types.specs.declared.config.Config.{Config}
 use Rattle.dep_types.specs.Conditions.{Condition, HasCleanDisk, Leaves}
 use Rattle.dep_types.specs.Writing.{next_count}
 use Rattle.dep_types.specs.declared.inlet.LastRead.TheVariants.{Bytes}
-use Rattle.dep_hub.specs.Records.{World, Line, with_line, Connect, Close, Record, stopped, first_world, Run, goes_on, stops, Arrives, LeftByArrival, Happens, connects, closes, arrives}
-use Rattle.dep_hub.specs.Standing.{StandsAt, StandsAfter, IsClean, IsHonest, Moves, intake_of, store_of}
+use Rattle.dep_hub.specs.Records.{World, Line, with_line, Connect, Close, Record, stopped, first_world, Run, goes_on, stops, Arrives, at_live, at_shut_line, LeftByArrival, Happens, connects, closes, arrives}
+use Rattle.dep_message.specs.Places.{Place}
+use Rattle.dep_message.specs.Stream.{Item}
+use Rattle.dep_hub.specs.Machine.{Fails, given_up, cut_short, Serves, serves_all, step_fails, gives_up}
+use Rattle.dep_hub.specs.Stops.{LeftByFailure, LeftByServing}
+use Rattle.dep_hub.specs.Standing.{IsKeptAs, IsArrival, KeepsLines, StandsAt, StandsAfter, IsClean, IsHonest, Moves, intake_of, store_of}
 use Rattle.dep_hub.specs.declared.hub.Hub.{Hub}
+use Rattle.dep_hub.specs.declared.connections.Connection.{Connection}
 use Rattle.dep_hub.specs.declared.arrived.Arrived.{Arrived}
 use Rattle.dep_hub.specs.declared.arrived.Arrived.TheVariants.{Open as StaysOpen, Closed as HasClosed, Cut}
-use Rattle.dep_hub.proofs.Leaving.{Settles, stays_as, leaves_wider}
+use Rattle.dep_hub.proofs.Leaving.{Settles, stays_as, leaves_wider, leaves_before}
 use Rattle.dep_hub.proofs.SendingLemmas.{appends_none, appends_both}
 use Rattle.dep_hub.proofs.HubLemmas.{keeps_same, stopped_run}
 use Rattle.dep_hub.proofs.ShutLemmas.{conversation_shut}
 use Rattle.dep_hub.specs.Turns.{Turn, pieces_of, replies_of, record_of, records_of, EndsAs, last_answer, IsPiece, ArePieces, most_reads, reads_made, reads_after, with_opened, with_closed, Exchanges, none_yet, one_more, LeftByExchanges, IsEndedBy}
-use Rattle.dep_hub.specs.Conversation.{Wire, Session, session, Transfers, GivesNothing, Clocks, Converses, IsAnswered, IsUnserved, ConversesOver, next_after, AddsAll, StopsAll, Talk, OneTurn, NoTurn, TurnsTo, TalksUntil, Talks, silent, turn}
+use Rattle.dep_hub.specs.Conversation.{Wire, Session, session, Transfers, GivesNothing, Clocks, Converses, IsAnswered, IsUnserved, ConversesOver, next_after, AddsAll, StopsAll, Talk, OneTurn, OpenTurn, NoTurn, TurnsTo, TalksUntil, Talks, WorksAhead, silent, turn, ahead}
 use Rattle.dep_hub.specs.declared.connection.Served.{Served}
 use Rattle.dep_hub.specs.declared.connection.Served.TheVariants.{Ended, Closed, Unserved, ReadFault, WriteFault, Bound}
 
@@ -143,6 +148,22 @@ module _ {A : Type 0} (condition : A → Condition) where
         answered = last_more t.turns u;
       }
 
+  -- one turn more that leaves the connection open, and then the store works ahead
+  pub talk_open : {C : Type 0} (ticks : C → ℕ → C → Type 0) (n : ℕ) (old mid new : Session condition C) (k : ℕ)
+      → mid.hub.config ≡ old.hub.config → Talk condition ticks n old mid k StaysOpen → OpenTurn condition ticks n mid new
+      → Talk condition ticks n old new (k + 1) StaysOpen
+  talk_open ticks n old mid new k same t o =
+      let u = talk_more ticks n old mid (session condition o.served new.wire new.clock) StaysOpen k same t o.turn in
+      record {
+        turns = u.turns;
+        counted = u.counted;
+        sizes = u.sizes;
+        talks = ahead u.talks u.answered o.ahead;
+        transfers = u.transfers;
+        moments = u.moments;
+        answered = u.answered;
+      }
+
   -- a turn of the same connection
   pub turn_at : {C : Type 0} (ticks : C → ℕ → C → Type 0) (n m : ℕ) (old new : Session condition C) (served : Option Served) → n ≡ m
       → TurnsTo condition ticks n old new served → TurnsTo condition ticks m old new served
@@ -216,6 +237,37 @@ exchanges_run config n first records w v turns r (one_more {turns = before} {w =
     subst (λ rs. Run config first rs v)
     (append_assoc records (map (record_of n) before) (record_of n t ∷ []) ∙ ap (λ l. records ++ l) (sym (map_more n before t)))
     (goes_on (exchanges_run config n first records w mid before r x) (arrives a))
+
+-- a stop that leaves what it may leave at the end of the turns
+exchanges_stop : (config : Config) (n : ℕ) (first : State) (records : List Record) (w v : World) (turns : List Turn)
+    → Run config first records w → (x : Exchanges config n w turns v) (found : State) → LeftByExchanges x found
+    → Run config first ((records ++ map (record_of n) turns) ++ stopped ∷ []) (first_world found)
+exchanges_stop config n first records w v turns r none_yet found e =
+    subst (λ rs. Run config first (rs ++ stopped ∷ []) (first_world found)) (sym (append-nil records))
+    (subst (λ (s : State). Run config first (records ++ stopped ∷ []) (first_world s)) (sym e) (stops r))
+exchanges_stop config n first records w v turns r (one_more {turns = before} {w = mid} t x stays a) found l =
+    subst (λ rs. Run config first rs (first_world found))
+    (sym (append_assoc (records ++ map (record_of n) before) (record_of n t ∷ []) (stopped ∷ []))
+    ∙ ap (λ rs. rs ++ stopped ∷ []) (append_assoc records (map (record_of n) before) (record_of n t ∷ []) ∙ ap (λ m. records ++ m) (sym (map_more n before t))))
+    (stopped_run config (exchanges_run config n first records w mid before r x) n a found l)
+
+-- what an arrival left is what a stop at its end may leave
+failure_left : {config : Config} {s : State} {item : Item} {moment : ℕ} {sent : List ℕ} {left : State} {answer : Arrived}
+    (f : Fails config s item moment sent left answer) → LeftByFailure f left
+failure_left (given_up fixed sends (inl e)) = inl e
+failure_left (given_up fixed sends (inr e)) = inr (inl e)
+failure_left (cut_short part leaves) = refl
+
+serving_left : {config : Config} {reads : List Item → Place → Type 0} {s : State} {moment : ℕ} {sent : List ℕ} {left : State} {at : Place} {answer : Arrived}
+    (v : Serves config reads s moment sent left at answer) → LeftByServing v left
+serving_left (serves_all items reads waits) = refl
+serving_left (step_fails items item at reads fails) = failure_left fails
+serving_left (gives_up items at reads some sends) = refl
+
+own_left : {config : Config} {piece : List ℕ} {moment : ℕ} {line after : Line} {s left : State} {sent : List ℕ} {answer : Arrived}
+    (a : Arrives config piece moment line s sent left after answer) → LeftByArrival a left
+own_left (at_live serves) = serving_left serves
+own_left at_shut_line = refl
 
 -- a connection is opened, its turns are answered, and it is closed
 pub conversation_run : (config : Config) (n : ℕ) (first : State) (records : List Record) (w v : World) (turns : List Turn)
@@ -305,11 +357,19 @@ closed_is : {config : Config} {w : World} {n : ℕ} {v : World} {sent : List ℕ
 closed_is closes = refl
 
 module _ {A : Type 0} (condition : A → Condition) where
-  -- what the machine comes to by the turns: after one that leaves the connection open, or with an open store, the hub stands at it
+  -- the hub keeps the lines that it kept, where its store worked ahead
+  keeps_ahead : (old new : Hub A) (lines : ℕ → Line) → WorksAhead condition old new → KeepsLines condition old lines → KeepsLines condition new lines
+  keeps_ahead old new lines a kept number =
+      subst (λ (x : Config). IsKeptAs x.max_upload (lines number) (intake_of new.connections.items number)) (sym a.same_config)
+      (subst (λ (cs : Vec Connection Global). IsKeptAs old.config.max_upload (lines number) (intake_of cs.items number)) (sym a.same_connections) (kept number))
+
+  -- What the machine comes to by the turns. While the store is open the hub stands at it; where the connection is left open, the
+  -- hub keeps its lines, and a crash leaves its state, also where the store was shut since.
   record Exchanged (config : Config) (n : ℕ) (new : Hub A) (turns : List Turn) (w : World) : Type 0 where
     pub talked : World
     pub exchanges : Exchanges config n w turns talked
-    pub stays : last_answer turns ≡ StaysOpen → StandsAt condition new talked
+    pub kept : last_answer turns ≡ StaysOpen → KeepsLines condition new talked.line
+    pub stays : last_answer turns ≡ StaysOpen → Leaves (store_of condition new) (λ found. found ≡ talked.state)
     pub at : IsClean condition new → StandsAt condition new talked
     pub rests : IsClean condition new → Leaves (store_of condition new) (λ found. found ≡ talked.state)
     pub stop : Leaves (store_of condition new) (LeftByExchanges exchanges)
@@ -318,11 +378,51 @@ module _ {A : Type 0} (condition : A → Condition) where
   talks_honest n old new failures failures_after turns silent honest = honest
   talks_honest n old new failures failures_after turns (turn {mid = mid} {before = between} {turns = before} t talks stays same a) honest =
       talks_honest n old mid failures between before talks (a.honest honest)
+  talks_honest n old new failures failures_after turns (ahead {mid = mid} talks stays a) honest =
+      talks_honest n old mid failures failures_after turns talks (a.honest honest)
 
   talks_clean : (n : ℕ) (old new : Hub A) (failures failures_after : ℕ) (turns : List Turn) → Talks condition n old failures turns new failures_after → IsClean condition new → IsClean condition old
   talks_clean n old new failures failures_after turns silent clean = clean
   talks_clean n old new failures failures_after turns (turn {mid = mid} {before = between} {turns = before} t talks stays same a) clean =
       talks_clean n old mid failures between before talks (a.clean clean)
+  talks_clean n old new failures failures_after turns (ahead {mid = mid} talks stays a) clean =
+      talks_clean n old mid failures failures_after turns talks (a.clean clean)
+
+  -- one turn more, over a store that is open
+  exchange_open : (config : Config) (n : ℕ) (mid new : Hub A) (between failures_after : ℕ) (before : List Turn) (t : Turn) (w : World) → last_answer before ≡ StaysOpen → mid.config ≡ config
+      → IsArrival condition mid new n t.piece t.moment t.sent between failures_after t.answer → IsHonest condition new → IsClean condition mid
+      → Exchanged config n mid before w → Exchanged config n new (before ++ t ∷ []) w
+  exchange_open config n mid new between failures_after before t w stays same a honest is_open h =
+      let b = a.answers honest h.talked (h.at is_open) in
+      let clean : last_answer (before ++ t ∷ []) ≡ StaysOpen → IsClean condition new = λ e. b.stays_clean (sym (last_more before t) ∙ e) in
+      record {
+        talked = record { state = b.left; line = with_line n b.line h.talked.line };
+        exchanges = one_more t h.exchanges stays (subst (λ (x : Config). Arrives x t.piece t.moment (h.talked.line n) h.talked.state t.sent b.left b.line t.answer) same b.arrives);
+        kept = λ e. (b.stands (clean e)).kept;
+        stays = λ e. b.rests (clean e);
+        at = b.stands;
+        rests = b.rests;
+        stop = leaves_wider (store_of condition new) _ _ (λ c l. left_along mid.config config same b.arrives c l) b.stop;
+      }
+
+  -- one turn more, over a store that was shut since the last one
+  exchange_shut : (config : Config) (n : ℕ) (mid new : Hub A) (between failures_after : ℕ) (before : List Turn) (t : Turn) (w : World) → last_answer before ≡ StaysOpen → mid.config ≡ config
+      → IsArrival condition mid new n t.piece t.moment t.sent between failures_after t.answer → IsHonest condition new → ¬ IsClean condition mid
+      → Exchanged config n mid before w → Exchanged config n new (before ++ t ∷ []) w
+  exchange_shut config n mid new between failures_after before t w stays same a honest shut h =
+      let s = a.shut honest shut in
+      let g = s.goes_on h.talked.line (h.kept stays) in
+      let arrival = g.1 h.talked.state in
+      let left : Leaves (store_of condition new) (λ found. found ≡ h.talked.state) = leaves_before (store_of condition mid) (store_of condition new) _ s.leaves (h.stays stays) in
+      record {
+        talked = record { state = h.talked.state; line = with_line n g.0 h.talked.line };
+        exchanges = one_more t h.exchanges stays (subst (λ (x : Config). Arrives x t.piece t.moment (h.talked.line n) h.talked.state t.sent h.talked.state g.0 t.answer) same arrival);
+        kept = λ e. g.2;
+        stays = λ e. left;
+        at = λ clean. absurd (shut (a.clean clean));
+        rests = λ clean. left;
+        stop = leaves_wider (store_of condition new) _ _ (λ c e. left_along mid.config config same arrival c (subst (λ (x : State). LeftByArrival arrival x) (sym e) (own_left arrival))) left;
+      }
 
   -- what the hub answered is what the machine answers
   talks_exchange : (n : ℕ) (old new : Hub A) (failures failures_after : ℕ) (turns : List Turn) → Settles (store_of condition old) → Talks condition n old failures turns new failures_after
@@ -330,42 +430,39 @@ module _ {A : Type 0} (condition : A → Condition) where
   talks_exchange n old new failures failures_after turns settles silent honest w at = record {
     talked = w;
     exchanges = none_yet;
-    stays = λ _. at;
+    kept = λ _. at.kept;
+    stays = λ _. stays_as (store_of condition old) w.state settles at.state;
     at = λ _. at;
     rests = λ _. stays_as (store_of condition old) w.state settles at.state;
     stop = stays_as (store_of condition old) w.state settles at.state;
   }
   talks_exchange n old new failures failures_after turns settles (turn {mid = mid} {before = between} {turns = before} t talks stays same a) honest w at =
       let h = talks_exchange n old mid failures between before settles talks (a.honest honest) w at in
-      let b = a.answers honest h.talked (h.stays stays) in
+      elim (cases_Bool (store_of condition mid).is_open) [
+        | inl is_open ↦ exchange_open old.config n mid new between failures_after before t w stays same a honest is_open h
+        | inr shut ↦ exchange_shut old.config n mid new between failures_after before t w stays same a honest (both_ways (store_of condition mid).is_open shut) h
+      ]
+  talks_exchange n old new failures failures_after turns settles (ahead {mid = mid} talks stays a) honest w at =
+      let h = talks_exchange n old mid failures failures_after turns settles talks (a.honest honest) w at in
       record {
-        talked = record { state = b.left; line = with_line n b.line h.talked.line };
-        exchanges = one_more t h.exchanges stays (subst (λ (x : Config). Arrives x t.piece t.moment (h.talked.line n) h.talked.state t.sent b.left b.line t.answer) same b.arrives);
-        stays = λ e. b.stands (b.stays_clean (sym (last_more before t) ∙ e));
-        at = b.stands;
-        rests = b.rests;
-        stop = leaves_wider (store_of condition new) _ _ (λ c l. left_along mid.config old.config same b.arrives c l) b.stop;
+        talked = h.talked;
+        exchanges = h.exchanges;
+        kept = λ e. keeps_ahead mid new h.talked.line a (h.kept e);
+        stays = λ e. leaves_before (store_of condition mid) (store_of condition new) _ (a.left honest) (h.stays e);
+        at = λ clean.
+            let stood = h.at (a.clean clean) in
+            record { state = a.kept clean h.talked.state stood.state; kept = keeps_ahead mid new h.talked.line a stood.kept };
+        rests = λ clean. leaves_before (store_of condition mid) (store_of condition new) _ (a.left honest) (h.rests (a.clean clean));
+        stop = leaves_before (store_of condition mid) (store_of condition new) _ (a.left honest) h.stop;
       }
 
   -- what a stop now leaves goes on from the turns
   talks_stop : (n : ℕ) (old new : Hub A) (failures failures_after : ℕ) (turns : List Turn) → Settles (store_of condition old) → Talks condition n old failures turns new failures_after
       → IsHonest condition new → (first : State) (records : List Record) (w : World) → Run old.config first records w → StandsAt condition old w
       → Leaves (store_of condition new) (λ found. Run old.config first ((records ++ map (record_of n) turns) ++ stopped ∷ []) (first_world found))
-  talks_stop n old new failures failures_after turns settles silent honest first records w run at =
-      leaves_wider (store_of condition old) _ _
-      (λ c e. subst (λ rs. Run old.config first (rs ++ stopped ∷ []) (first_world c)) (sym (append-nil records))
-      (subst (λ s. Run old.config first (records ++ stopped ∷ []) (first_world s)) (sym e) (stops run)))
-      (stays_as (store_of condition old) w.state settles at.state)
-  talks_stop n old new failures failures_after turns settles (turn {mid = mid} {before = between} {turns = before} t talks stays same a) honest first records w run at =
-      let h = talks_exchange n old mid failures between before settles talks (a.honest honest) w at in
-      let b = a.answers honest h.talked (h.stays stays) in
-      let so_far : Run old.config first (records ++ map (record_of n) before) h.talked = exchanges_run old.config n first records w h.talked before run h.exchanges in
-      leaves_wider (store_of condition new) _ _
-      (λ c l. subst (λ rs. Run old.config first rs (first_world c))
-      (sym (append_assoc (records ++ map (record_of n) before) (record_of n t ∷ []) (stopped ∷ []))
-      ∙ ap (λ rs. rs ++ stopped ∷ []) (append_assoc records (map (record_of n) before) (record_of n t ∷ []) ∙ ap (λ l. records ++ l) (sym (map_more n before t))))
-      (let x = left_same mid.config old.config same b.arrives c l in stopped_run old.config so_far n x.0 c x.1))
-      b.stop
+  talks_stop n old new failures failures_after turns settles talks honest first records w run at =
+      let h = talks_exchange n old new failures failures_after turns settles talks honest w at in
+      leaves_wider (store_of condition new) _ _ (λ found l. exchanges_stop old.config n first records w h.talked turns run h.exchanges found l) h.stop
 
   module _ (n : ℕ) (old opened talked new : Hub A) (failures failures_after : ℕ) (turns : List Turn)
       (opens : Moves condition old opened (Connect n) []) (closes : Moves condition talked new (Close n) []) (settles : Settles (store_of condition opened))

@@ -3,7 +3,7 @@ use Rattle.std.specs.Prelude.{◌<◌, ◌≤◌, ◌+◌, length, ◌≡◌, �
 use Rattle.std.specs.List.{FoldsTo}
 use Rattle.std.specs.Io.KnownBytes.{Appends, Consumes, Keeps, IsAtEnd}
 use Rattle.dep_types.specs.State.{State}
-use Rattle.dep_types.specs.Conditions.{Condition, Leaves}
+use Rattle.dep_types.specs.Conditions.{Condition, StandsFor, Leaves}
 use Rattle.dep_types.specs.Writing.{next_count}
 use Rattle.dep_types.specs.declared.inlet.LastRead.{LastRead}
 use Rattle.dep_types.specs.declared.inlet.LastRead.TheVariants as read
@@ -26,6 +26,7 @@ pub record Wire : Type 0 where
   pub taken : Option (List ℕ)
   pub failures : ℕ
 
+-- how both ends of a connection stand
 abbrev pub wire : (unread : Option (List ℕ)) (reads : ℕ) (last : LastRead)
     (taken : Option (List ℕ)) (failures : ℕ) → Wire
 wire unread reads last taken failures =
@@ -77,6 +78,7 @@ module _ {A : Type 0} (condition : A → Condition) where
     pub wire : Wire
     pub clock : C
 
+  -- a hub, both ends of its connection, and the clock
   abbrev pub session : {C : Type 0} → Hub A → Wire → C → Session C
   session hub ends clock = record { hub = hub; wire = ends; clock = clock }
 
@@ -95,8 +97,20 @@ module _ {A : Type 0} (condition : A → Condition) where
       → Leaves (store_of condition new)
       (λ found. Run old.config first ((records ++ more) ++ stopped ∷ []) (first_world found))
 
+  -- between two calls the store did a part of its later work: the hub stands for what it stood for,
+  -- and a crash leaves no more than before
+  pub record WorksAhead (old new : Hub A) : Type 0 where
+    pub same_config : new.config ≡ old.config
+    pub same_connections : new.connections ≡ old.connections
+    pub kept : IsClean condition new → (s : State) → StandsFor (store_of condition old) s
+        → StandsFor (store_of condition new) s
+    pub left : IsHonest condition new
+        → LeavesNoMore (store_of condition old) (store_of condition new)
+    pub clean : IsClean condition new → IsClean condition old
+    pub honest : IsHonest condition new → IsHonest condition old
+
   -- the turns leave the connection open, one after another, each with the outlet's failures that
-  -- the one before left
+  -- the one before left; behind one that leaves it open the store may work ahead
   pub data Talks (number : ℕ)
       : Hub A → (failures : ℕ) → List Turn → Hub A → (failures_after : ℕ) → Type 0 where
     silent : {hub : Hub A} {failures : ℕ} → Talks number hub failures [] hub failures
@@ -105,6 +119,10 @@ module _ {A : Type 0} (condition : A → Condition) where
         → last_answer turns ≡ StaysOpen → mid.config ≡ hub.config
         → IsArrival condition mid new number t.piece t.moment t.sent before after t.answer
         → Talks number hub failures (turns ++ t ∷ []) new after
+    ahead : {hub mid new : Hub A} {failures after : ℕ} {turns : List Turn}
+        → Talks number hub failures turns mid after
+        → last_answer turns ≡ StaysOpen → WorksAhead mid new
+        → Talks number hub failures turns new after
 
   -- turns so far: what they add, read, write, and when
   pub record Talk {C : Type 0} (ticks : C → ℕ → C → Type 0) (number : ℕ) (before after : Session C)
@@ -133,6 +151,13 @@ module _ {A : Type 0} (condition : A → Condition) where
     pub transfers : Transfers before.wire after.wire piece sent
     pub ticked : ticks before.clock moment after.clock
 
+  -- one turn that leaves the connection open, behind which the store works ahead
+  pub record OpenTurn {C : Type 0} (ticks : C → ℕ → C → Type 0)
+      (number : ℕ) (before after : Session C) : Type 0 where
+    pub served : Hub A
+    pub turn : OneTurn ticks number before (session served after.wire after.clock) StaysOpen
+    pub ahead : WorksAhead served after.hub
+
   -- nothing was read
   pub record NoTurn {C : Type 0} (before after : Session C) : Type 0 where
     pub same_hub : after.hub ≡ before.hub
@@ -142,7 +167,7 @@ module _ {A : Type 0} (condition : A → Condition) where
   abbrev pub TurnsTo : {C : Type 0} → (C → ℕ → C → Type 0) → ℕ → (before after : Session C)
       → Option Served
       → Type 0
-  TurnsTo ticks number before after None = OneTurn ticks number before after StaysOpen
+  TurnsTo ticks number before after None = OpenTurn ticks number before after
   TurnsTo ticks number before after (Some Closed) = OneTurn ticks number before after HasClosed
   TurnsTo ticks number before after (Some WriteFault) = OneTurn ticks number before after Cut
   TurnsTo ticks number before after (Some Ended) =
@@ -217,6 +242,7 @@ module _ {A : Type 0} (condition : A → Condition) where
     pub rests : Rests before.wire after.wire
     pub same_clock : after.clock ≡ before.clock
 
+  -- what serving a connection comes to, by its answer
   abbrev pub ConversesOver : {C : Type 0} → (C → ℕ → C → Type 0) → (before after : Session C)
       → Served → Type 0
   ConversesOver ticks before after Unserved = IsUnserved before after

@@ -74,6 +74,7 @@ abbrev pub want_of_memory : List ℕ
 want_of_memory =
     codes "HTTP/1.1 503 Service Unavailable\r\nContent-Length: 0\r\nConnection: close\r\n\r\n"
 
+-- the fixed reply where the store failed
 abbrev pub store_fault : List ℕ
 store_fault =
     codes "HTTP/1.1 500 Internal Server Error\r\nContent-Length: 0\r\nConnection: close\r\n\r\n"

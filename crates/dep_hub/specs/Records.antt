@@ -36,6 +36,7 @@ pub record World : Type 0 where
 abbrev pub with_line : ℕ → Line → (ℕ → Line) → ℕ → Line
 with_line number line lines n = if n == number then line else lines n
 
+-- a state, and no connection
 abbrev pub first_world : State → World
 first_world s = record { state = s; line = λ _. Absent }
 
@@ -89,6 +90,7 @@ pub data Happens (config : Config) (w : World) : Event → List ℕ → World �
   unknown : {n moment : ℕ} {piece : List ℕ} → w.line n ≡ Absent
       → Happens config w (Arrive n piece moment) [] w
 
+-- the record of a stop, by a crash or not
 abbrev pub stopped : Record
 stopped = record { event = Stop; sent = [] }
 

@@ -40,6 +40,7 @@ records_of number turns =
 abbrev pub most_reads : ℕ
 most_reads = 1048576
 
+-- so many bytes are read at once
 abbrev pub most_read : ℕ
 most_read = 65536
 
@@ -60,6 +61,7 @@ last_answer (t ∷ u ∷ turns) = last_answer (u ∷ turns)
 abbrev pub with_opened : ℕ → World → World
 with_opened number w = record w { line = with_line number (Live []) w.line }
 
+-- the world once a connection was closed
 abbrev pub with_closed : ℕ → World → World
 with_closed number w = record w { line = with_line number Absent w.line }
 

@@ -112,6 +112,18 @@ pub trait Archive {
         ensures left { HasCleanDisk (condition self.new)
             → LeavesNoMore (condition self.old) (condition self.new) };
 
+    /// Does a bounded part of the work that a later request would have to wait for, and tells whether
+    /// more is left. It changes nothing that is kept, but a fault may shut it, which `is_open` tells.
+    /// Its answer is about time alone, so no clause speaks of it.
+    fn work_ahead(&mut self) -> bool
+        ensures kept { IsTrue (condition self.new).is_open
+            → (s : State) → StandsFor (condition self.old) s → StandsFor (condition self.new) s }
+        ensures honest { HasCleanDisk (condition self.new) → HasCleanDisk (condition self.old) }
+        ensures open { IsTrue (condition self.new).is_open
+            → IsTrue (condition self.old).is_open }
+        ensures left { HasCleanDisk (condition self.new)
+            → LeavesNoMore (condition self.old) (condition self.new) };
+
     // An open archive has an honest disk.
     ghost honest_if_open: { (a : Self) → IsTrue (condition a).is_open
         → HasCleanDisk (condition a) };

@@ -43,7 +43,8 @@ struct Incoming {
 }
 
 /// Serves one fresh connection, from its opening to its close. It makes at most 1,048,576 reads, of at most
-/// 65,536 bytes each, and asks the clock once for each piece.
+/// 65,536 bytes each, and asks the clock once for each piece. Behind a piece with which the connection
+/// doesn't end, the store works ahead once.
 pub fn serve_connection<A: Archive, R: Inlet, W: Flush, C: FnMut() -> Moment>(
     alloc: Global,
     reader: &mut R,
@@ -112,7 +113,7 @@ fn converse<A: Archive, R: Inlet, W: Flush, C: FnMut() -> Moment>(
     Served::Bound
 }
 
-/// Reads a piece, and has it served.
+/// Reads a piece, and has it served. Where the connection goes on the store works ahead once.
 fn turn<A: Archive, R: Inlet, W: Flush, C: FnMut() -> Moment>(
     reader: &mut R,
     writer: &mut W,
@@ -147,7 +148,10 @@ fn turn<A: Archive, R: Inlet, W: Flush, C: FnMut() -> Moment>(
             let arrived = hub.arrive(incoming.connection, &incoming.buffer[..n], moment, writer);
             writer.flush();
             match arrived {
-                Arrived::Open => None,
+                Arrived::Open => {
+                    let _left = hub.work_ahead();
+                    None
+                }
                 Arrived::Closed => Some(Served::Closed),
                 Arrived::Cut => Some(Served::WriteFault),
                 Arrived::NoSuch => unreachable!(),

@@ -248,6 +248,34 @@ impl<A: Archive> Hub<A> {
         self.store.is_open()
     }
 
+    /// Does a part of the work that a later request would have to wait for, and tells whether more is
+    /// left (`Archive::work_ahead`). No connection has a part in it, so it is no event of a run.
+    pub fn work_ahead(&mut self) -> bool
+        // The hub stands for the same records, and so does what a stop now leaves.
+        ensures stands { IsClean A.condition self.new
+            → (first : State) (records : List Record) (held : ℕ → List ℕ)
+            → StandsHoldingAfter A.condition self.old first records held
+            → StandsHoldingAfter A.condition self.new first records held }
+        ensures stops { IsHonest A.condition self.new
+            → (first : State) (records : List Record) (held : ℕ → List ℕ)
+            → StandsHoldingAfter A.condition self.old first records held
+            → Leaves (store_of A.condition self.new)
+            (λ found. Run self.old.config first (records ++ stopped ∷ []) (first_world found)) }
+        ensures kept { IsClean A.condition self.new → (s : State)
+            → StandsFor (store_of A.condition self.old) s
+            → StandsFor (store_of A.condition self.new) s }
+        ensures left { IsHonest A.condition self.new
+            → LeavesNoMore (store_of A.condition self.old) (store_of A.condition self.new) }
+        // The store is open after it only where it was before, and the disk honest.
+        ensures clean { IsClean A.condition self.new → IsClean A.condition self.old }
+        ensures honest { IsHonest A.condition self.new → IsHonest A.condition self.old }
+        ensures config { self.new.config ≡ self.old.config }
+        ensures connections { self.new.connections ≡ self.old.connections }
+        ensures next { self.new.next ≡ self.old.next }
+    {
+        self.store.work_ahead()
+    }
+
     /// Forgets a connection.
     pub fn close(&mut self, connection: ConnId)
         ensures adds { Adds A.condition self.old self.new (Close connection) [] }

@@ -1,2 +1,4 @@
+pub mod Growing
 pub mod Damaged
 pub mod Manifest
+pub mod ExampleManifests

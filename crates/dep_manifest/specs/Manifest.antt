@@ -19,12 +19,15 @@ pub record IsDigest (d : Digest) : Type 0 where
   pub sized : (bytes : List ℕ) → length (d.of bytes) ≡ d.size
   pub bytes : (bytes : List ℕ) → IsBytes (d.of bytes)
 
+-- that of SHA-256 (FIPS 180-4)
 abbrev pub sha256_digest : Digest
 sha256_digest = record { size = 32; of = sha256 }
 
+-- that of SHA-512 (FIPS 180-4)
 abbrev pub sha512_digest : Digest
 sha512_digest = record { size = 64; of = sha512 }
 
+-- that of an algorithm
 abbrev pub digest_by : Algorithm → Digest
 digest_by Sha256 = sha256_digest
 digest_by Sha512 = sha512_digest
@@ -34,6 +37,7 @@ abbrev pub digest_in : Algorithm → Digests → List ℕ
 digest_in Sha256 digests = digests.sha256
 digest_in Sha512 digests = digests.sha512
 
+-- a byte as a manifest writes it: the percent sign, and what breaks a line, by their codes
 abbrev pub encoded_byte : ℕ → List ℕ
 encoded_byte b =
     if b == 37 then codes "%25"
@@ -50,9 +54,15 @@ pub record Checksum : Type 0 where
   pub path : List ℕ
   pub value : List ℕ
 
+-- that of a file
 abbrev pub checksum_of : Digest → Entry → Checksum
 checksum_of d file = record { path = file.0; value = d.of file.1 }
 
+-- what stands at a path whose bytes have these digests, by an algorithm
+abbrev pub checksum_in : Algorithm → (path : List ℕ) → Digests → Checksum
+checksum_in a path digests = record { path = path; value = digest_in a digests }
+
+-- its line
 abbrev pub manifest_line : Checksum → List ℕ
 manifest_line c = encode_lower c.value ++ codes "  " ++ encoded_path c.path ++ codes "\n"
 

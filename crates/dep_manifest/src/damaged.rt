@@ -1,5 +1,6 @@
 //! Files whose bytes are not those that a manifest promises (RFC 8493, section 3).
-ghost use Rattle.std.specs.Prelude.{◌≡◌, ◌≢◌, [], ◌++◌, OnOk, OnErr};
+ghost use Rattle.std.specs.Prelude.{◌≡◌, ◌≢◌, [], OnOk, OnErr};
+ghost use Rattle.dep_manifest.specs.Growing.{Grows};
 ghost use Rattle.dep_manifest.specs.Damaged.{number_unless_kept};
 
 use dep_fixity::Digests;
@@ -22,8 +23,8 @@ pub fn note_damaged(
     kept: &KeptDigests,
     digests: &Digests,
 ) -> Result<(), AllocError>
-    ensures ok { OnOk result (damaged.new.items
-        ≡ damaged.old.items ++ number_unless_kept file kept.now digests.now) }
+    ensures ok { OnOk result
+        (Grows damaged.old damaged.new (number_unless_kept file kept.now digests.now)) }
     ensures damaged { OnErr result (number_unless_kept file kept.now digests.now ≢ []) }
     ensures err { OnErr result (damaged.new.items ≡ damaged.old.items) }
 {

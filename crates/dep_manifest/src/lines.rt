@@ -1,7 +1,8 @@
 //! The line of a file.
-ghost use Rattle.std.specs.Prelude.{◌≡◌, ◌++◌, OnOk};
+ghost use Rattle.std.specs.Prelude.{OnOk};
 ghost use Rattle.hex.specs.Hex.{encode_lower};
-ghost use Rattle.dep_manifest.specs.Manifest.{encoded_path, manifest_line, digest_in};
+ghost use Rattle.dep_manifest.specs.Growing.{Grows};
+ghost use Rattle.dep_manifest.specs.Manifest.{checksum_in, encoded_path, manifest_line, digest_in};
 
 use crate::algorithm::Algorithm;
 use dep_fixity::{Digests, to_hex, to_hex512};
@@ -14,8 +15,8 @@ pub fn add_line(
     algorithm: Algorithm,
     digests: &Digests,
 ) -> Result<(), AllocError>
-    ensures { OnOk result (text.new.items ≡ text.old.items
-        ++ manifest_line (record { path = path.now; value = digest_in algorithm digests.now })) }
+    ensures { OnOk result (Grows text.old text.new
+        (manifest_line (checksum_in algorithm path.now digests.now))) }
 {
     add_digest(text, algorithm, digests)?;
     text.extend_from_slice(b"  ")?;
@@ -25,8 +26,8 @@ pub fn add_line(
 
 // Adds a digest in hexadecimal digits.
 fn add_digest(text: &mut Vec<u8>, algorithm: Algorithm, digests: &Digests) -> Result<(), AllocError>
-    ensures { OnOk result (text.new.items ≡
-        text.old.items ++ encode_lower (digest_in algorithm digests.now)) }
+    ensures { OnOk result (Grows text.old text.new
+        (encode_lower (digest_in algorithm digests.now))) }
 {
     match algorithm {
         Algorithm::Sha256 => text.extend_from_slice(&to_hex(&digests.sha256)),
@@ -36,7 +37,7 @@ fn add_digest(text: &mut Vec<u8>, algorithm: Algorithm, digests: &Digests) -> Re
 
 // Adds a path as a manifest writes it.
 fn add_encoded(text: &mut Vec<u8>, path: &[u8]) -> Result<(), AllocError>
-    ensures { OnOk result (text.new.items ≡ text.old.items ++ encoded_path path.now) }
+    ensures { OnOk result (Grows text.old text.new (encoded_path path.now)) }
 {
     for byte in path {
         match *byte {

@@ -69,6 +69,7 @@ IsKnown limit continued buffer (Chunked request) = ReadsChunks limit continued r
 abbrev pub IsFresh : Work → Type 0
 IsFresh work = work.progress ≡ Searched 0
 
+-- what the intake knows of the first request in its buffer is so
 abbrev pub IsWorking : Work → Type 0
 IsWorking work = IsKnown work.limit work.continued work.buffer work.progress
 

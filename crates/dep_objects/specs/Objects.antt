@@ -1,11 +1,13 @@
 -- An object from its row, its metadata and its files.
 use Rattle.std.specs.Prelude.{ℕ}
 use Rattle.dep_types.specs.Maps.{Numbered}
-use Rattle.dep_types.specs.State.{Object, File, Texts}
+use Rattle.dep_types.specs.State.{State, Object, File, Texts}
 use Rattle.dep_types.specs.Rows.{object_row}
 use Rattle.dep_types.specs.declared.rows.ObjectRow.{ObjectRow}
+use Rattle.dep_row_maps.specs.TablesAre.{with_object}
 use Rattle.dep_objects.specs.declared.objects.DescribedObject.{DescribedObject}
 
+-- what a row tells of an object, with these metadata and these files
 abbrev pub object_of : ObjectRow → Texts → Numbered File → Object
 object_of row texts files = record {
   ingested = row.ingested;
@@ -20,3 +22,7 @@ object_of row texts files = record {
 -- the object of this number, without its files
 abbrev pub described_object : ℕ → Object → DescribedObject
 described_object n o = record { row = object_row n o; metadata = o.metadata }
+
+-- the state with what a row tells of its object, which keeps its metadata and its files
+abbrev pub with_row : State → ObjectRow → Object → State
+with_row s row o = with_object s row.object (object_of row o.metadata o.files)

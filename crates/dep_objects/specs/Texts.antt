@@ -1,11 +1,21 @@
 -- Texts that are put in behind others, and texts that are gathered.
-use Rattle.std.specs.Prelude.{◌≡◌, ◌⊎◌, ◌+◌, ◌≤◌, ◌^◌, ℕ, All, List, length, Option, Some, None}
+use Rattle.std.specs.Prelude.{◌≡◌, ◌≢◌, ◌⊎◌, ◌+◌, ◌≤◌, ◌^◌, ℕ, pos, All, List, [], ◌∷◌, length, Option, Some, None}
 use Rattle.std.specs.List.{flat_map}
 use Rattle.std.specs.FinMap as map
+use Rattle.sqlite.specs.State as db
+use Rattle.sqlite.specs.declared.types.Value.TheVariants.{Int}
 use Rattle.sqlite_value.specs.Order.{Row}
-use Rattle.dep_types.specs.State.{Texts}
+use Rattle.dep_types.specs.State.{State, Object, Texts}
+use Rattle.dep_types.specs.declared.store_fault.StoreFault.{StoreFault}
+use Rattle.dep_types.specs.declared.store_fault.StoreFault.TheVariants.{Memory}
+use Rattle.dep_decisions.specs.Effects.{joined}
+use Rattle.dep_tables.specs.Clauses.{FailsToRead}
+use Rattle.dep_tables.specs.Rows.{IsMetadataRow}
+use Rattle.dep_tables.specs.Texts.{metadata_of_text}
+use Rattle.dep_row_maps.specs.Causes.{FailsHolding}
 use Rattle.dep_row_maps.specs.Owned.{placed}
 use Rattle.dep_row_maps.specs.Stored.{text_values, texts_in}
+use Rattle.dep_row_maps.specs.TablesAre.{metadata_at, with_metadata}
 use Rattle.dep_objects.specs.declared.gathering.NamedTexts.{NamedTexts}
 
 -- the rows of these texts, where each name's stand behind those that it has
@@ -25,3 +35,22 @@ MayFollow have (Some last) name = (last.name ≡ name) ⊎ (map.get have name �
 abbrev pub closed : Texts → Option NamedTexts → Texts
 closed kept None = kept
 closed kept (Some last) = map.insert kept last.name last.texts.items
+
+-- the query of this object's metadata fails, or memory is wanting for what there is
+abbrev pub FailsToGather : (n : ℕ) → Texts → db.State → db.State → StoreFault → Type 0
+FailsToGather n have old new fault =
+    FailsToRead (All IsMetadataRow) metadata_of_text (Int (pos n) ∷ []) old new fault
+    ⊎ ((have ≢ map.empty) × (fault ≡ Memory))
+
+-- the object with more texts behind those that it has
+abbrev pub with_more : Object → Texts → Object
+with_more o more = with_metadata o (joined (map.entries more) o.metadata)
+
+-- the places of more texts behind those of the object's are ones that a table can hold
+abbrev pub HavePlacesIn : State → (n : ℕ) → Texts → Type 0
+HavePlacesIn s n more = HavePlaces (metadata_at s.objects n) (map.entries more)
+
+-- one of the statements fails, or memory is wanting for texts that the object has or is to have
+abbrev pub FailsToAppend : State → (n : ℕ) → Texts → db.State → db.State → StoreFault → Type 0
+FailsToAppend s n more =
+    FailsHolding ((metadata_at s.objects n ≢ map.empty) ⊎ (more ≢ map.empty))

@@ -1,18 +1,15 @@
 //! The rows of an object's metadata, gathered by name.
 
-ghost use Rattle.std.specs.Prelude.{◌≡◌, ◌≢◌, ◌⊎◌, ◌<◌, ◌^◌, ◌∷◌, [], ℕ, List, All, pos, Some, None, IfOk, IfErr, map as each};
+ghost use Rattle.std.specs.Prelude.{◌≡◌, ◌≢◌, ◌<◌, ◌^◌, [], List, Some, None, IfOk, IfErr, map as each};
 ghost use Rattle.std.specs.FinMap as map;
-ghost use Rattle.sqlite.specs.declared.types.Value.TheVariants.{Int};
 ghost use Rattle.dep_types.specs.State.{Texts};
 ghost use Rattle.dep_types.specs.declared.store_fault.StoreFault.TheVariants.{Memory};
-ghost use Rattle.dep_tables.specs.Clauses.{ReadsOnly, FailsReading, FailsToRead, StaysWithin};
-ghost use Rattle.dep_tables.specs.Rows.{IsMetadataRow};
-ghost use Rattle.dep_tables.specs.Texts.{metadata_of_text};
+ghost use Rattle.dep_tables.specs.Clauses.{ReadsOnly, FailsReading, StaysWithin};
 ghost use Rattle.dep_row_maps.specs.Stored.{added, listed, grouped};
 ghost use Rattle.dep_row_maps.specs.Laws.{pair_of};
 ghost use Rattle.dep_row_maps.specs.TablesAre.{metadata_at};
 ghost use Rattle.dep_row_maps.specs.Clauses.{FromMaps, KeepsOurs};
-ghost use Rattle.dep_objects.specs.Texts.{closed, MayFollow};
+ghost use Rattle.dep_objects.specs.Texts.{closed, FailsToGather, MayFollow};
 
 use dep_tables::{MetadataRow, Statements, metadata_of};
 use dep_types::{Metadata, StoreFault, Text, TextList};
@@ -111,9 +108,8 @@ pub(crate) fn load_metadata<T: Statements>(
     ensures ours { KeepsOurs (T.state tx.old) (T.state tx.new) result }
     ensures cause { FromMaps (T.state tx.old) (T.state tx.new)
         (λ s. object < 2 ^ 63
-        → IfErr result (λ fault. FailsToRead (All IsMetadataRow) metadata_of_text
-        (Int (pos object) ∷ []) (T.state tx.old) (T.state tx.new) fault
-        ⊎ ((metadata_at s.objects object ≢ map.empty) × (fault ≡ Memory)))) }
+        → IfErr result
+        (FailsToGather object (metadata_at s.objects object) (T.state tx.old) (T.state tx.new))) }
     ensures err { FailsReading (T.state tx.old) (T.state tx.new) result }
     ensures stays { StaysWithin T.lenders T.state tx.old tx.new result }
 {

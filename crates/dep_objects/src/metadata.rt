@@ -1,18 +1,17 @@
 //! The metadata of an object.
 
-ghost use Rattle.std.specs.Prelude.{◌≡◌, ◌≢◌, ◌⊎◌, ◌+◌, ◌<◌, ◌≤◌, ◌^◌, [], All, Some, IfOk, IfErr, OnOk, length, map as each};
+ghost use Rattle.std.specs.Prelude.{◌≡◌, ◌≢◌, ◌+◌, ◌<◌, ◌≤◌, ◌^◌, [], All, Some, IfOk, IfErr, OnOk, length, map as each};
 ghost use Rattle.std.specs.FinMap as map;
 ghost use Rattle.dep_types.specs.State.{Object};
 ghost use Rattle.dep_types.specs.MetadataEntries.{name_and_texts};
 ghost use Rattle.dep_types.specs.declared.store_fault.StoreFault.TheVariants.{Memory};
-ghost use Rattle.dep_decisions.specs.Effects.{joined};
 ghost use Rattle.dep_tables.specs.Clauses.{StaysWithin};
 ghost use Rattle.dep_row_maps.specs.Owned.{placed, put_each};
 ghost use Rattle.dep_row_maps.specs.Stored.{is_of, text_row, text_values, texts_in};
-ghost use Rattle.dep_row_maps.specs.TablesAre.{metadata_at, with_object, with_metadata};
+ghost use Rattle.dep_row_maps.specs.TablesAre.{with_object, with_metadata};
 ghost use Rattle.dep_row_maps.specs.Clauses.{FromMaps, Becomes, KeepsOurs, SeesState, FailsUncommitted, FailsReadingUncommitted};
 ghost use Rattle.dep_row_maps.specs.Causes.{FailsByOne, FailsHolding, FailsSince};
-ghost use Rattle.dep_objects.specs.Texts.{rows_beside, HavePlaces};
+ghost use Rattle.dep_objects.specs.Texts.{rows_beside, with_more, HavePlaces, HavePlacesIn, FailsToAppend};
 
 use crate::gathering::load_metadata;
 use dep_tables::{LIMIT, MetadataRow, Statements, delete_metadata, insert_metadata};
@@ -141,15 +140,12 @@ pub fn append_metadata<T: Statements>(
 ) -> Result<(), StoreFault>
     ensures map { FromMaps (T.state tx.old) (T.state tx.new)
         (λ s. (o : Object) → map.get s.objects object ≡ Some o
-        → OnOk result (SeesState (T.state tx.new)
-        (with_object s object (with_metadata o (joined (map.entries more.now) o.metadata))))) }
+        → OnOk result (SeesState (T.state tx.new) (with_object s object (with_more o more.now)))) }
     ensures ours { KeepsOurs (T.state tx.old) (T.state tx.new) result }
     ensures cause { FromMaps (T.state tx.old) (T.state tx.new)
         (λ s. object < 2 ^ 63
-        → HavePlaces (metadata_at s.objects object) (map.entries more.now)
-        → IfErr result (FailsSince T.state
-        (FailsHolding ((metadata_at s.objects object ≢ map.empty) ⊎ (more.now ≢ map.empty)))
-        tx.old tx.new)) }
+        → HavePlacesIn s object more.now
+        → IfErr result (FailsSince T.state (FailsToAppend s object more.now) tx.old tx.new)) }
     ensures err { FailsReadingUncommitted (T.state tx.old) (T.state tx.new) result }
     ensures stays { StaysWithin T.lenders T.state tx.old tx.new result }
 {

@@ -13,7 +13,7 @@ ghost use Rattle.dep_row_maps.specs.Keyed.{next_entry};
 ghost use Rattle.dep_row_maps.specs.TablesAre.{metadata_at, files_at, with_object, without_object};
 ghost use Rattle.dep_row_maps.specs.Clauses.{FromMaps, KeepsOurs, SeesState, FailsUncommitted};
 ghost use Rattle.dep_row_maps.specs.Causes.{FailsByOne, FailsByStatement, FailsHolding, FailsSince};
-ghost use Rattle.dep_objects.specs.Objects.{object_of, described_object};
+ghost use Rattle.dep_objects.specs.Objects.{object_of, described_object, with_row};
 
 use crate::gathering::load_metadata;
 use dep_tables::{Statements, delete_metadata, insert_object};
@@ -111,8 +111,7 @@ pub fn add_object<T: Statements>(tx: &mut T, row: &ObjectRow) -> Result<(), Stor
 pub fn put_object<T: Statements>(tx: &mut T, row: &ObjectRow) -> Result<(), StoreFault>
     ensures map { FromMaps (T.state tx.old) (T.state tx.new)
         (λ s. (o : Object) → map.get s.objects row.now.object ≡ Some o
-        → OnOk result (SeesState (T.state tx.new)
-        (with_object s row.now.object (object_of row.now o.metadata o.files)))) }
+        → OnOk result (SeesState (T.state tx.new) (with_row s row.now o))) }
     ensures absent { FromMaps (T.state tx.old) (T.state tx.new)
         (λ s. map.get s.objects row.now.object ≡ None
         → OnOk result (SeesState (T.state tx.new) s)) }

@@ -39,6 +39,7 @@ capped most n = if nat_le n most then Some n else None
 abbrev pub is_token_octet : ℕ → Bool
 is_token_octet b = is_ascii_alphanumeric b || list_any (λ c. b == c) (codes "!#$%&'*+-.^_`|~")
 
+-- a token (RFC 9110, section 5.6.2), which has one octet at least
 abbrev pub is_token : List ℕ → Bool
 is_token text = nat_lt 0 (length text) && list_all is_token_octet text
 
@@ -46,13 +47,15 @@ is_token text = nat_lt 0 (length text) && list_all is_token_octet text
 abbrev pub is_blank : ℕ → Bool
 is_blank b = b == 32 || b == 9
 
--- the text without the blanks at its front, at its end, and at both
+-- the text without the blanks at its front
 abbrev pub trim_start : List ℕ → List ℕ
 trim_start text = drop (prefix_len is_blank text) text
 
+-- the text without the blanks at its end
 abbrev pub trim_end : List ℕ → List ℕ
 trim_end text = take (length text - suffix_len is_blank text) text
 
+-- the text without the blanks at its front and at its end
 unfoldable pub trimmed : List ℕ → List ℕ
 trimmed text = trim_end (trim_start text)
 

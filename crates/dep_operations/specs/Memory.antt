@@ -23,6 +23,7 @@ is_noted (Upload u) purpose = true
 is_noted resource (Some References) = true
 is_noted resource purpose = false
 
+-- to note what a request touches, something is copied or read
 abbrev pub TouchTakesMemory : Operation → Type 0
 TouchTakesMemory op = IsTrue (is_noted op.target.resource (purpose_in op))
 

@@ -79,6 +79,7 @@ touched_with resource purpose refs = record {
   references = refs;
 }
 
+-- what of the archive has to be looked up before a request can be ruled
 abbrev pub touched_by : Config → Operation → Touched
 touched_by config op = touched_with op.target.resource (purpose_in op) (references_in config op)
 

@@ -3,6 +3,7 @@ use Rattle.std.specs.Prelude.{ℕ, List, Option, Some, None, codes}
 use Rattle.dep_program.specs.declared.outcome.Outcome.{Outcome}
 use Rattle.dep_program.specs.declared.outcome.Outcome.TheVariants.{Done, Usage, NoSuchObject, StoreFault, TransferFault, Damaged}
 
+-- the exit status
 abbrev pub status_of : Outcome → ℕ
 status_of Done = 0
 status_of Usage = 1
@@ -11,6 +12,7 @@ status_of StoreFault = 2
 status_of TransferFault = 3
 status_of Damaged = 4
 
+-- the line on standard error, where there is one
 abbrev pub line_of : Outcome → Option (List ℕ)
 line_of Done = None
 line_of Usage = Some (codes "usage: swordd replay MOMENT BASE | serve PORT DB COUNT | export DB ID DIR | audit DB")

@@ -51,6 +51,14 @@ abbrev pub optional : (name : List ℕ) → Option (List ℕ) → List ℕ
 optional name None = []
 optional name (Some value) = field name value
 
+-- a field whose value is a number, in decimal digits
+abbrev pub number_field : (name : List ℕ) → Option ℕ → List ℕ
+number_field name value = optional name (option_map decimal value)
+
+-- the field of an entity tag
+abbrev pub tag_field : Option ℕ → List ℕ
+tag_field tag = optional (codes "ETag") (option_map quoted_tag tag)
+
 -- the head's bytes are these, with some behind them
 abbrev pub Grows : (old new more : List ℕ) → Type 0
 Grows old new more = new ≡ old ++ more
@@ -64,8 +72,8 @@ head_text r =
     status_line r.status
     ++ field (codes "Date") (http_text r.date)
     ++ optional (codes "Content-Type") r.content_type
-    ++ optional (codes "Content-Length") (option_map decimal r.content_length)
-    ++ optional (codes "ETag") (option_map quoted_tag r.tag)
+    ++ number_field (codes "Content-Length") r.content_length
+    ++ tag_field r.tag
     ++ optional (codes "Location") r.location
     ++ optional (codes "Allow") r.allow
     ++ optional (codes "Connection") (connection r.closes)

@@ -1,3 +1,4 @@
+pub mod ExampleHeads
 pub mod Head
 pub mod Lines
 pub mod Statuses

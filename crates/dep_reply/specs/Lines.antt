@@ -41,5 +41,6 @@ lines_behind front (b ∷ c ∷ text) =
     if b == 13 && c == 10 then front ∷ lines_behind [] text
     else lines_behind (front ++ b ∷ []) (c ∷ text)
 
+-- its lines
 unfoldable pub lines_of : List ℕ → List (List ℕ)
 lines_of text = lines_behind [] text

@@ -3,6 +3,7 @@ use Rattle.std.specs.Prelude.{ℕ}
 use Rattle.dep_reply.specs.declared.status.Status.{Status}
 use Rattle.dep_reply.specs.declared.status.Status.TheVariants.{Ok, Created, NoContent, BadRequest, NotFound, MethodNotAllowed, Gone, PreconditionFailed, ContentTooLarge, UnsupportedMediaType, InsufficientStorage}
 
+-- the number that the status line has
 abbrev pub status_number : Status → ℕ
 status_number Ok = 200
 status_number Created = 201

@@ -1,8 +1,7 @@
 //! The head of a reply as bytes.
-ghost use Rattle.std.specs.Prelude.{◌≡◌, ◌++◌, IfOk, OnOk, option_map, codes, decimal};
+ghost use Rattle.std.specs.Prelude.{◌≡◌, IfOk, OnOk};
 ghost use Rattle.std.specs.Option.{option_copied};
-ghost use Rattle.dep_types.specs.Numbers.{quoted_tag};
-ghost use Rattle.dep_reply.specs.Head.{Grows, head_text, field, optional, status_line};
+ghost use Rattle.dep_reply.specs.Head.{Grows, head_text, field, optional, number_field, tag_field, status_line};
 ghost use Rattle.dep_reply.specs.Statuses.{status_number};
 
 use crate::reply::Reply;
@@ -45,7 +44,7 @@ fn push_status_line(head: &mut Vec<u8>, status: Status) -> Result<(), AllocError
 }
 
 fn push_field(head: &mut Vec<u8>, name: &str, value: &[u8]) -> Result<(), AllocError>
-    ensures { OnOk result (head.new.items ≡ head.old.items ++ field name.now value.now) }
+    ensures { OnOk result (Grows head.old.items head.new.items (field name.now value.now)) }
 {
     head.extend_from_slice(name.as_bytes())?;
     head.extend_from_slice(b": ")?;
@@ -65,7 +64,7 @@ fn push_text(head: &mut Vec<u8>, name: &str, value: Option<&str>) -> Result<(), 
 
 fn push_number(head: &mut Vec<u8>, name: &str, value: Option<u64>) -> Result<(), AllocError>
     ensures { OnOk result
-        (Grows head.old.items head.new.items (optional name.now (option_map decimal value))) }
+        (Grows head.old.items head.new.items (number_field name.now value)) }
 {
     let Some(number) = value else {
         return Ok(());
@@ -75,9 +74,7 @@ fn push_number(head: &mut Vec<u8>, name: &str, value: Option<u64>) -> Result<(),
 }
 
 fn push_tag(head: &mut Vec<u8>, value: Option<u64>) -> Result<(), AllocError>
-    ensures { OnOk result
-        (Grows head.old.items head.new.items
-        (optional (codes "ETag") (option_map quoted_tag value))) }
+    ensures { OnOk result (Grows head.old.items head.new.items (tag_field value)) }
 {
     let Some(tag) = value else {
         return Ok(());

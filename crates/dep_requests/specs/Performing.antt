@@ -24,5 +24,6 @@ abbrev pub OnlyReads : Ruling → Type 0
 OnlyReads (Refuse r) = Unit {0}
 OnlyReads (Do d) = d ≡ Show
 
+-- so it is of a request that is refused, or asks for nothing but to be shown
 abbrev pub ChangesNothing : Config → State → Operation → Type 0
 ChangesNothing config s op = (refusal config s op ≢ None) ⊎ (decision config op ≡ Show)

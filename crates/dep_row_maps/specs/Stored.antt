@@ -20,25 +20,31 @@ use Rattle.dep_row_maps.specs.Owned.{placed, spread}
 
 -- ---- tables whose rowids are numbers
 
+-- the clock and the counters, as the row of `state` has them
 abbrev pub state_row : State → StateRow
 state_row s = record { clock = s.clock; next = s.next }
 
+-- the state's row in its tree
 abbrev pub state_stored : State → Row
 state_stored s = stored_state (state_row s)
 
+-- an object's row in its tree
 abbrev pub object_stored : ℕ → Object → Row
 object_stored n o = stored_object (object_row n o)
 
+-- a file's row in its tree
 abbrev pub file_stored : (n f : ℕ) → File → Row
 file_stored n f file = stored_file (file_row n f file)
 
+-- an upload's row in its tree
 abbrev pub upload_stored : ℕ → Upload → Row
 upload_stored u it = stored_upload (columns_of_upload (upload_row u it))
 
--- whose a row of `metadata` and of `segments` is; a row of `files`
+-- a row of this object in `metadata`, or of this upload in `segments`
 abbrev pub is_of : ℕ → Row → Bool
 is_of = has_number 1
 
+-- a row of this object in `files`
 abbrev pub is_file_of : ℕ → Row → Bool
 is_file_of = has_number 2
 
@@ -85,6 +91,7 @@ put_texts n m (p ∷ ps) rows =
 
 -- ---- segments
 
+-- segment k of upload u, with the number of its bytes
 abbrev pub segment_row : (u k size : ℕ) → SegmentRow
 segment_row u k size = record { upload = u; number = k; size = size }
 

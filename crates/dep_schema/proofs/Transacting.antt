@@ -234,28 +234,28 @@ err_state {A} {E} old new result Makes it is_open s stands = each result (it.err
 
 module _ {A E : Type 0} (old new : db.State) (result : Result A E) (Makes : Tables → A → Tables → Type 0)
     (told : State → A → Type 0) (next : State → State) where
-  -- where it makes that of all states
-  abbrev pub IsOverStates : Type 0
-  IsOverStates = (t : Tables) (answer : A) (after : Tables) → Makes t answer after → OverStates told next t answer after
+  -- where it makes that of this state
+  abbrev pub IsOver : State → Type 0
+  IsOver s = (t : Tables) (answer : A) (after : Tables) → Makes t answer after → TablesStandFor t s → told s answer × TablesStandFor after (next s)
 
-  pub ok_over_states : Transacts old new result Makes → IsOverStates → HasCleanDisk new → (s : State) → StandsFor old s
+  pub ok_over_states : Transacts old new result Makes → HasCleanDisk new → (s : State) → IsOver s → StandsFor old s
       → IfOk result (λ answer. told s answer × StandsFor new (next s))
-  ok_over_states it over clean s stands = each result (it.ok clean stands.tables stands.stands)
+  ok_over_states it clean s over stands = each result (it.ok clean stands.tables stands.stands)
     where
       each : (r : Result A E) → IfOk r (λ answer. (after : Tables) × Stands new after × Makes stands.tables answer after)
           → IfOk r (λ answer. told s answer × StandsFor new (next s))
       each (Ok answer) (after, stand, makes) =
-          let made = over stands.tables answer after makes s stands.means in
+          let made = over stands.tables answer after makes stands.means in
           (made.0, record { tables = after; stands = stand; means = made.1 })
       each (Err e) h = tt
 
-  pub stop_over_states : Transacts old new result Makes → IsOverStates → HasCleanDisk new → (s : State) → StandsFor old s
+  pub stop_over_states : Transacts old new result Makes → HasCleanDisk new → (s : State) → IsOver s → StandsFor old s
       → Leaves new (λ left. (left ≡ s) ⊎ (left ≡ next s))
-  stop_over_states it over clean s stands trees h = elim (it.stop clean stands.tables stands.stands trees h) [
+  stop_over_states it clean s over stands trees h = elim (it.stop clean stands.tables stands.stands trees h) [
     | inl earlier ↦ (s, inl (stands.tables, earlier, stands.means), inl refl)
     | inr (answer, after, holds, makes) ↦ (
       next s,
-      inl (after, holds, (over stands.tables answer after makes s stands.means).1),
+      inl (after, holds, (over stands.tables answer after makes stands.means).1),
       inr refl,
     )
   ]

@@ -29,6 +29,7 @@ abbrev pub open_fault_for : StoreFault → OpenFault
 open_fault_for store.Store = open_fault.Store
 open_fault_for store.Memory = open_fault.Memory
 
+-- the number by which a caller of another language tells the fault
 abbrev pub open_fault_number : OpenFault → ℕ
 open_fault_number open_fault.UnknownVersion = 1
 open_fault_number open_fault.Store = 2
@@ -148,6 +149,7 @@ module _ {S : Type 0} (g : Ghosts S) (old new : Held S) where
       × CommitsNothing (state g old) (state g asked) × FailsToMake (state g) asked new told
       × (fault ≡ open_fault_for told))
 
+-- the connection once a transaction was begun
 abbrev pub begun : {S : Type 0} → Held S → Held S
 begun h = record h { in_transaction = true }
 

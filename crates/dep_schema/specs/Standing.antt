@@ -25,6 +25,7 @@ pub record HoldsOf (its : Schema) (trees : Trees) (tables : Tables) : Type 0 whe
   pub ours : AreOf its trees
   pub rows : tables_in trees ≡ tables
 
+-- the trees hold these tables, of version 2
 abbrev pub Holds : Trees → Tables → Type 0
 Holds = HoldsOf our_schema
 
@@ -56,6 +57,7 @@ pub record StandsOf (its : Schema) (s : State) (tables : Tables) : Type 0 where
   pub ours : IsOf its s
   pub rows : tables_of s ≡ tables
 
+-- an open store between transactions, with these tables of version 2
 abbrev pub Stands : State → Tables → Type 0
 Stands = StandsOf our_schema
 

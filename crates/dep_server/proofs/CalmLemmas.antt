@@ -1,4 +1,4 @@
-use Rattle.std.proofs.Common.{◌≡◌, ◌==◌, ℕ, Bool, true, false, List, [], ◌∷◌, ◌++◌, refl, sym, ap, ◌∙◌, append_assoc}
+use Rattle.std.proofs.Common.{◌≡◌, ◌==◌, ℕ, Bool, true, false, List, [], ◌∷◌, ◌++◌, refl, sym, ap, subst, ◌∙◌, append_assoc}
 use Rattle.std.proofs.lemmas.List.{append-nil}
 use Rattle.dep_types.specs.State.{State}
 use Rattle.dep_types.specs.declared.config.Config.{Config}
@@ -7,7 +7,7 @@ use Rattle.dep_message.specs.Stream.{Item}
 use Rattle.dep_answers.specs.Steps.{sent_by}
 use Rattle.dep_hub.specs.Machine.{step, replies, state_after, Serves}
 use Rattle.dep_hub.specs.Records.{Event, Record, stopped, Line, World, Run, Happens, Arrives}
-use Rattle.dep_server.specs.Calm.{SteppedItem, steps_of, CalmServes, all_served, CalmArrives, live, shut_line, Calm, connect, close, arrive, none, CalmRun, nothing, more, stop, is_of, sent_to, bytes_if}
+use Rattle.dep_server.specs.Calm.{SteppedItem, steps_of, CalmServes, all_served, CalmArrives, live, shut_line, Calm, connect, close, arrive, none, CalmRun, AnyCalmRun, nothing, more, stop, is_of, sent_to, bytes_if, EndAlike}
 use Rattle.dep_hub.specs.declared.arrived.Arrived.{Arrived}
 
 -- the state that the steps leave
@@ -91,3 +91,10 @@ run_by {config = config} {first = first} (more {records} {event} {sent} {w} {w'}
     )
 run_by (stop {records} r c) =
     let a = run_by c in (λ n. to_more n records stopped ∙ (append-nil (sent_to n records) ∙ a.0 n), a.1)
+
+-- two that make the same steps
+pub alike : {config : Config} {first : State} (a b : AnyCalmRun config first) → a.steps ≡ b.steps → EndAlike a b
+alike a b same =
+    let x = run_by (subst (λ l. CalmRun a.records a.last a.run l) same a.calm) in
+    let y = run_by b.calm in
+    (λ n. x.0 n ∙ sym (y.0 n), x.1 ∙ sym y.1)

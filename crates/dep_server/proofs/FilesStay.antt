@@ -1,5 +1,5 @@
 -- A file stays until it is replaced or deleted.
-use Rattle.std.proofs.Common.{◌≡◌, ◌⊎◌, inl, inr, ℕ, ◌+◌, Bool, true, false, List, [], ◌∷◌, ◌++◌, Option, Some, None, slice_get, IsTrue, refl, sym, ap, subst, ◌∙◌}
+use Rattle.std.proofs.Common.{◌≡◌, ◌⊎◌, inl, inr, ℕ, Bool, true, false, List, [], ◌∷◌, ◌++◌, Option, Some, None, IsTrue, refl, sym, ap, subst, ◌∙◌}
 use Rattle.dep_types.specs.State.{State, File, file_at, tick}
 use Rattle.dep_types.specs.Sound.{IsSound}
 use Rattle.dep_types.specs.declared.config.Config.{Config}
@@ -10,7 +10,7 @@ use Rattle.dep_docs_in.specs.declared.reference.Reference.{Reference}
 use Rattle.dep_decisions.specs.Rules.{refusal}
 use Rattle.dep_decisions.specs.Effects.{effect}
 use Rattle.dep_decisions.specs.declared.operation.Operation.{Operation}
-use Rattle.dep_decisions.specs.Laws.{IsDepositedFrom, deposited_object, takes_file}
+use Rattle.dep_decisions.specs.Laws.{IsDepositedFrom, takes_file}
 use Rattle.dep_decisions.proofs.Deposited.{deposited}
 use Rattle.dep_decisions.proofs.FilesStay.{file_stays}
 use Rattle.dep_answers.specs.Steps.{step_by, operation_step}
@@ -22,7 +22,9 @@ use Rattle.dep_router.specs.declared.routed.Routed.TheVariants.{To, NotFound, No
 use Rattle.dep_hub.specs.Machine.{operation_of, routed_step, step}
 use Rattle.dep_hub.specs.Records.{Record, World, Run}
 use Rattle.dep_server.specs.Moves.{Move, Made, Begun, moved, state_by, moves_of}
-use Rattle.dep_server.specs.Deposited.{IsAccepted, IsTaken, StaysUntilTaken, IsDeposit, StaysDeposited}
+use Rattle.dep_server.specs.Requests.{AnyRequest, step_of, ticked, left_by, IsAccepted, IsAcceptedFor}
+use Rattle.dep_server.specs.Runs.{AnyRun, RequestIn, as_it_came}
+use Rattle.dep_server.specs.Deposited.{IsTaken, object_of, number_of, StaysUntilTaken, IsDeposit, EntryStaysFrom}
 use Rattle.dep_server.proofs.MovesLead.{over_both, run_leads, moved_sound, moves_sound}
 
 module _ (config : Config) (n f : ℕ) (file : File) where
@@ -122,47 +124,47 @@ module _ (config : Config) (n f : ℕ) (file : File) where
 
 -- ---- a deposit by reference
 
-module _ (config : Config) (s : State) (m : Message) (moment : ℕ) (t : Target) where
-  by_passed : (now : State) (op : Operation) → refusal config now op ≡ None → (operation_step config now op).state ≡ effect config now op
-  unfolding operation_step
-  by_passed now op passed = ap (λ (o : Option Refusal). (step_by config now op o).state) passed
+by_passed : (config : Config) (now : State) (op : Operation) → refusal config now op ≡ None → (operation_step config now op).state ≡ effect config now op
+unfolding operation_step
+by_passed config now op passed = ap (λ (o : Option Refusal). (step_by config now op o).state) passed
+
+module _ (q : AnyRequest) (t : Target) where
+  abbrev found : State
+  found = ticked (step_of q)
 
   -- what is accepted takes effect
-  accepted_state : IsAccepted config (tick config s moment) m t → (step config s (Request m) moment).state ≡ effect config (tick config s moment) (operation_of m t)
+  accepted_state : IsAcceptedFor q t → left_by q ≡ effect q.config found (operation_of q.message t)
   unfolding step
   accepted_state a =
-      ap (λ (r : Routed). (routed_step config (tick config s moment) m r).state) a.named ∙ by_passed (tick config s moment) (operation_of m t) a.passed
+      ap (λ (r : Routed). (routed_step q.config found q.message r).state) a.named ∙ by_passed q.config found (operation_of q.message t) a.passed
 
   abbrev Made_of : Reference → ℕ → State → Type 0
-  Made_of reference i now = (file : File)
-      × (file_at now (deposited_object (tick config s moment) t.resource) ((tick config s moment).next.file + i) ≡ Some file)
-      × IsDepositedFrom (tick config s moment) now reference file
+  Made_of reference i now = (file : File) × (file_at now (object_of q t) (number_of q i) ≡ Some file) × IsDepositedFrom found now reference file
 
-  made_of : (references : List Reference) (i : ℕ) (reference : Reference) → IsSound s → IsDeposit config (tick config s moment) m t references
-      → slice_get references i ≡ Some reference → Made_of reference i (step config s (Request m) moment).state
-  made_of references i reference sound d at =
+  made_of : (i : ℕ) (reference : Reference) → IsSound q.state → IsDeposit q t i reference → Made_of reference i (left_by q)
+  made_of i reference sound d =
       subst (λ (now : State). Made_of reference i now) (sym (accepted_state d.accepted))
-      (deposited config (tick config s moment) (operation_of m t) references d.read reference i (keeps_sound config s moment sound) d.accepted.passed at)
+      (deposited q.config found (operation_of q.message t) d.references d.read reference i (keeps_sound q.config q.state q.moment sound) d.accepted.passed d.told)
 
 cons_moves : (before : List Move) (move : Move) (behind : List Move) → before ++ move ∷ behind ≡ (before ++ move ∷ []) ++ behind
 cons_moves [] move behind = refl
 cons_moves (x ∷ before) move behind = ap (λ (l : List Move). x ∷ l) (cons_moves before move behind)
 
-pub stays_deposited : (config : Config) (first : State) (records : List Record) (w : World) (r : Run config first records w) (before behind : List Move) (m : Message) (moment : ℕ)
-    (t : Target) (references : List Reference) (i : ℕ) (reference : Reference) → IsSound first → moves_of r ≡ before ++ Made (Request m) moment ∷ behind
-    → IsDeposit config (tick config (state_by config first before) moment) m t references → slice_get references i ≡ Some reference
-    → StaysDeposited config (state_by config first before) m moment t i reference behind w.state
-stays_deposited config first records w r before behind m moment t references i reference sound split d at =
-    let s : State = state_by config first before in
-    let made = made_of config s m moment t references i reference (moves_sound config first before sound) d at in
-    let n : ℕ = deposited_object (tick config s moment) t.resource in
-    let f : ℕ = (tick config s moment).next.file + i in
-    let after : state_by config first (before ++ Made (Request m) moment ∷ []) ≡ (step config s (Request m) moment).state = over_both config first before (Made (Request m) moment ∷ []) in
+pub stays_deposited : (r : AnyRun) (q : RequestIn r) (t : Target) (i : ℕ) (reference : Reference) → IsSound r.first → IsDeposit (as_it_came q) t i reference
+    → EntryStaysFrom q t i reference
+stays_deposited r q t i reference sound d =
+    let config : Config = r.config in
+    let move : Move = Made (Request q.message) q.moment in
+    let came : AnyRequest = as_it_came q in
+    let made = made_of came t i reference (moves_sound config r.first q.before sound) d in
+    let n : ℕ = object_of came t in
+    let f : ℕ = number_of came i in
+    let after : state_by config r.first (q.before ++ move ∷ []) ≡ left_by came = over_both config r.first q.before (move ∷ []) in
     record {
       file = made.0;
       there = made.1;
       deposited = made.2;
-      stays = subst (λ (now : State). StaysUntilTaken config now behind w.state n f made.0) after
-          (stays config n f made.0 first records w r (before ++ Made (Request m) moment ∷ []) behind sound (split ∙ cons_moves before (Made (Request m) moment) behind)
+      stays = subst (λ (now : State). StaysUntilTaken config now q.behind r.last.state n f made.0) after
+          (stays config n f made.0 r.first r.records r.last r.run (q.before ++ move ∷ []) q.behind sound (q.joined ∙ cons_moves q.before move q.behind)
           (subst (λ (now : State). file_at now n f ≡ Some made.0) (sym after) made.1));
     }

@@ -14,8 +14,8 @@ use Rattle.dep_message.proofs.OneReading.{one_spelling}
 use Rattle.dep_message.proofs.Reading.{reads_more}
 use Rattle.dep_hub.specs.Machine.{Serves}
 use Rattle.dep_hub.specs.Records.{Event, Record, stopped, Line, Absent, Live, ShutLine, World, line_after, ReadsBeyond, Run, Happens, Arrives}
-use Rattle.dep_server.specs.Calm.{SteppedItem, steps_of, CalmServes, all_served, CalmArrives, live, shut_line, Calm, connect, close, arrive, none, CalmRun, nothing, more as one_more, stop as one_stop}
-use Rattle.dep_server.specs.Streams.{Streams, all_streams, with_event, streams_over, streams_of, items_of, AreSpelled, no_stream, first_stream, Occasion, occasions_of}
+use Rattle.dep_server.specs.Calm.{SteppedItem, steps_of, CalmServes, all_served, CalmArrives, live, shut_line, Calm, connect, close, arrive, none, CalmRun, AnyCalmRun, nothing, more as one_more, stop as one_stop}
+use Rattle.dep_server.specs.Streams.{Streams, all_streams, with_event, streams_over, streams_of, items_of, AreSpelled, no_stream, first_stream, Occasion, occasions_of, HaveSameStreams, HaveSameItems}
 use Rattle.dep_hub.specs.declared.arrived.Arrived.{Arrived}
 
 -- ---- one list of items for one list of streams
@@ -242,6 +242,12 @@ pub run_spelled : {config : Config} {first : State} {records : List Record} {w :
     → CalmRun _ _ r steps → (n : ℕ) → AreSpelled config.max_upload (streams_of n records) (items_of n steps)
 run_spelled {config} {records = records} {w = w} {steps = steps} c n =
     accounts_all config.max_upload (w.line n) (streams_over n records) (items_of n steps) (run_accounts n c)
+
+-- the same streams, the same items
+pub same_items : {config : Config} {first : State} (a b : AnyCalmRun config first) → HaveSameStreams a b → HaveSameItems a b
+same_items {config} a b streams n =
+    one_list config.max_upload (streams_of n b.records) (items_of n a.steps) (items_of n b.steps)
+    (subst (λ s. AreSpelled config.max_upload s (items_of n a.steps)) (streams n) (run_spelled a.calm n)) (run_spelled b.calm n)
 
 -- ---- steps on the same occasions
 

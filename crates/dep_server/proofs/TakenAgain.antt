@@ -32,8 +32,8 @@ use Rattle.dep_hub.specs.Stops.{LeftByFailure, LeftByServing}
 use Rattle.dep_hub.specs.Records.{Event, Record, Line, World, Arrives, at_live, at_shut_line, LeftByArrival, Happens, connects, closes, arrives, unknown, Run, begins, goes_on, stops, breaks}
 use Rattle.dep_hub.specs.declared.arrived.Arrived.{Arrived}
 use Rattle.dep_server.specs.Acknowledged.{RunsThrough, HasSegment, HasStatus}
-use Rattle.dep_server.specs.Deposited.{IsAccepted}
-use Rattle.dep_server.specs.TakenAgain.{FailsAt, ArrivalFailsAt, EventFailsAt, EndsInWork, IsAcknowledged, IsTakenAgain}
+use Rattle.dep_server.specs.Requests.{IsAccepted}
+use Rattle.dep_server.specs.TakenAgain.{FailsAt, ArrivalFailsAt, EventFailsAt, EndsInWork, IsAcknowledged}
 use Rattle.dep_server.proofs.Acknowledging.{fields_text, front_begins, named_segment}
 use Rattle.dep_server.specs.Moves.{Move, Made, moves_of, state_by}
 use Rattle.dep_server.proofs.MovesLead.{moves_sound, over_both, run_leads}
@@ -54,6 +54,11 @@ none_there (Some x) e some = cc e
 was_there : (config : Config) (s : State) (moment u : ℕ) (y : Upload) → map.get (tick config s moment).uploads u ≡ Some y → map.get s.uploads u ≡ Some y
 was_there config s moment u y h = (kept-was (not (expires config (clock_at s moment) s.uploads u)) (map.get s.uploads u) y (sym (get-unexpired config (clock_at s moment) s.uploads u) ∙ h)).1
 
+-- the request is accepted and answered 204 at each moment at which its upload is there
+abbrev IsAcceptedStill : Config → State → Message → ℕ → Type 0
+IsAcceptedStill config s m u = (later : ℕ) → is_some (map.get (tick config s later).uploads u) ≡ true
+    → IsAcknowledged (record { config = config; state = s; message = m; moment = later }) u
+
 -- ---- the reply
 
 status_first : (s : State) (clock : ℕ) (bare ends : Bool) (a : Answer) → a.status ≡ 204 → HasStatus 204 (sent_by (answered_step s a clock bare ends))
@@ -73,7 +78,8 @@ module _ (config : Config) (m : Message) (u : ℕ) where
   replied_by s None e = status_first (effect config s op) s.clock (is_head Post) op.closes empty_answer refl
   replied_by s (Some r) e = cc e
 
-  taken : (s : State) (moment : ℕ) → target m.head.method m.head.path ≡ To (posted_to u) → refusal config (tick config s moment) op ≡ None → IsAcknowledged config s m moment u
+  taken : (s : State) (moment : ℕ) → target m.head.method m.head.path ≡ To (posted_to u) → refusal config (tick config s moment) op ≡ None
+      → IsAcknowledged (record { config = config; state = s; message = m; moment = moment }) u
   unfolding step operation_step
   taken s moment named passed = record {
     accepted = record { named = named; passed = passed };
@@ -202,7 +208,7 @@ module _ (config : Config) (m : Message) (u k : ℕ) (kind : kind_of (operation_
 
 -- what was in work at the end of a run
 pub after_work : (config : Config) (first : State) (records : List Record) (w : World) (r : Run config first records w) (m : Message) (moment u : ℕ) (began : State)
-    → EndsInWork r (Request m) moment began → IsAccepted config (tick config began moment) m (posted_to u) → IsTakenAgain config w.state m u
+    → EndsInWork r (Request m) moment began → IsAccepted config (tick config began moment) m (posted_to u) → IsAcceptedStill config w.state m u
 after_work config first records w r m moment u began in_work accepted later there =
     let k = named_segment config (tick config began moment) m u accepted.passed in
     let y = some_of (map.get (tick config w.state later).uploads u) there in
@@ -226,7 +232,7 @@ module _ (config : Config) (m : Message) (u k : ℕ) (kind : kind_of (operation_
 
 pub after_step : (config : Config) (first : State) (records : List Record) (w : World) (r : Run config first records w) (before behind : List Move) (m : Message) (moment u : ℕ)
     → IsSound first → moves_of r ≡ before ++ Made (Request m) moment ∷ behind → IsAccepted config (tick config (state_by config first before) moment) m (posted_to u)
-    → IsTakenAgain config w.state m u
+    → IsAcceptedStill config w.state m u
 after_step config first records w r before behind m moment u sound split accepted later there =
     let s = state_by config first before in
     let t = (step config s (Request m) moment).state in
@@ -261,7 +267,7 @@ good_there config m u k kind s moment sound passed =
 pub after_all : (config : Config) (first : State) (records : List Record) (w : World) (r : Run config first records w) (through : State) (m : Message) (moment u k : ℕ)
     → IsSound first → RunsThrough r through → IsAccepted config (tick config through moment) m (posted_to u)
     → kind_of (operation_of m (posted_to u)) ≡ Some (of.Segment k)
-    → ((bytes : List ℕ) → HasSegment w.state u k bytes → bytes ≡ m.content) → IsTakenAgain config w.state m u
+    → ((bytes : List ℕ) → HasSegment w.state u k bytes → bytes ≡ m.content) → IsAcceptedStill config w.state m u
 after_all config first records w r through m moment u k sound t accepted kind alone later there =
     let good : Upload → Type 0 = λ x. IsGood x k m.content in
     let kept = good_kept k m.content in

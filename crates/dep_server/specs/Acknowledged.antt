@@ -14,8 +14,9 @@ use Rattle.dep_message.specs.declared.message.Message.{Message}
 use Rattle.dep_decisions.specs.Decisions.{decision}
 use Rattle.dep_decisions.specs.Effects.{used}
 use Rattle.dep_decisions.specs.Laws.{posted_to}
-use Rattle.dep_server.specs.Deposited.{IsAccepted}
 use Rattle.dep_server.specs.Moves.{Move, Made, Begun, state_by}
+use Rattle.dep_server.specs.Requests.{IsAccepted}
+use Rattle.dep_server.specs.Runs.{AnyRun, PointOf, state_at}
 use Rattle.dep_hub.specs.Machine.{operation_of, state_after, Serves, serves_all, step_fails, gives_up}
 use Rattle.dep_hub.specs.Records.{Event, Record, Line, World, Run, begins, goes_on, stops, breaks, Happens, connects, closes, arrives, unknown, Arrives, at_live, at_shut_line}
 use Rattle.dep_hub.specs.declared.arrived.Arrived.{Arrived}
@@ -72,6 +73,10 @@ pub record HasSegment (s : State) (number segment : ℕ) (bytes : List ℕ) : Ty
   pub there : map.get s.uploads number ≡ Some upload
   pub received : map.get upload.segments segment ≡ Some bytes
 
+-- no other bytes were received as this segment
+abbrev pub HasNoOther : State → (number segment : ℕ) → (bytes : List ℕ) → Type 0
+HasNoOther s u k bytes = (others : List ℕ) → HasSegment s u k others → others ≡ bytes
+
 -- there is no such upload: it was deposited or deleted, or has timed out
 abbrev pub IsGone : State → ℕ → Type 0
 IsGone s number = map.get s.uploads number ≡ None
@@ -121,3 +126,9 @@ abbrev pub StaysUntilEnded : Config → State → List Move → (last : State) �
     → (bytes : List ℕ) → Type 0
 StaysUntilEnded config s moves last u k bytes =
     HasSegment last u k bytes ⊎ IsEnded config s moves u
+
+-- it does so from this point of a run on
+abbrev pub SegmentStaysFrom : {r : AnyRun} → PointOf r → (number segment : ℕ) → (bytes : List ℕ)
+    → Type 0
+SegmentStaysFrom {r} p u k bytes =
+    StaysUntilEnded r.config (state_at p) p.behind r.last.state u k bytes

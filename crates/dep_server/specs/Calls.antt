@@ -1,8 +1,9 @@
 -- Lists of calls on a hub, each of which left of it what its contract says.
 use Rattle.std.specs.Prelude.{◌≡◌, ℕ, List, [], ◌∷◌, ◌++◌, Option}
+use Rattle.dep_types.specs.State.{State}
 use Rattle.dep_types.specs.Conditions.{Condition}
 use Rattle.dep_hub.specs.Records.{Connect, Arrive, Close, Record, World}
-use Rattle.dep_hub.specs.Standing.{StandsAt, Adds, ComesTo}
+use Rattle.dep_hub.specs.Standing.{StandsAt, StandsAfter, Adds, ComesTo}
 use Rattle.dep_hub.specs.declared.hub.Hub.{Hub}
 use Rattle.dep_hub.specs.declared.arrived.Arrived.{Arrived}
 use Rattle.dep_hub.specs.declared.arrived.Arrived.TheVariants.{Open as StaysOpen, Closed, Cut, NoSuch}
@@ -65,3 +66,9 @@ module _ {A : Type 0} (condition : A → Condition) where
     none : Calls first [] first
     and_then : {records more : List Record} {mid new : Hub A}
         → Calls first records mid → Call mid new more → Calls first (records ++ more) new
+
+  -- for all records that a hub stood for, another stands for them with these behind
+  abbrev pub StandsForMore : (old new : Hub A) → (more : List Record) → Type 0
+  StandsForMore old new more = (first : State) (records : List Record)
+      → StandsAfter condition old first records
+      → StandsAfter condition new first (records ++ more)

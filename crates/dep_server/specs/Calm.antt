@@ -65,6 +65,14 @@ pub data CalmRun {config : Config} {first : State}
       (r : Run config first records w)
       → CalmRun _ _ r steps → CalmRun _ _ (stops r) steps
 
+-- a run without failed steps, and the steps that it makes
+pub record AnyCalmRun (config : Config) (first : State) : Type 0 where
+  pub records : List Record
+  pub last : World
+  pub run : Run config first records last
+  pub steps : List SteppedItem
+  pub calm : CalmRun records last run steps
+
 -- an event of the connection of this number
 abbrev pub is_of : ℕ → Event → Bool
 is_of n (Connect m) = m == n
@@ -78,3 +86,8 @@ bytes_if b bytes = if b then bytes else []
 -- what was sent to one connection
 abbrev pub sent_to : ℕ → List Record → List ℕ
 sent_to n records = flat_map (λ r. bytes_if (is_of n r.event) r.sent) records
+
+-- two runs send the same bytes, each connection its own, and end in the same state
+abbrev pub EndAlike : {config : Config} {first : State} (a b : AnyCalmRun config first) → Type 0
+EndAlike a b =
+    ((n : ℕ) → sent_to n a.records ≡ sent_to n b.records) × (a.last.state ≡ b.last.state)

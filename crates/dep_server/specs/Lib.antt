@@ -3,7 +3,10 @@ pub mod ReplyHeads
 pub mod Calm
 pub mod Streams
 pub mod Moves
+pub mod Requests
 pub mod Refused
+pub mod Runs
+pub mod Talks
 pub mod Deposited
 pub mod Acknowledged
 pub mod TakenAgain

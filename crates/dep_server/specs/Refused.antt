@@ -13,7 +13,9 @@ use Rattle.dep_decisions.specs.Rules.{refusal}
 use Rattle.dep_answers.specs.Replies.{front_text, refused_answer}
 use Rattle.dep_answers.specs.Steps.{Stepped}
 use Rattle.dep_hub.specs.Machine.{operation_of}
+use Rattle.dep_server.specs.Requests.{AnyStep, ticked}
 
+-- why a request is refused, if it is, by what its path and its method name
 abbrev pub routed_refusal : Config → State → Message → Routed → Option Refusal
 routed_refusal config s m NotFound = Some why.NotFound
 routed_refusal config s m (NotAllowed methods) = Some why.MethodNotAllowed
@@ -25,6 +27,10 @@ item_refusal config s (Fault r bare) = Some r
 item_refusal config s Continue = None
 item_refusal config s (Request m) =
     routed_refusal config s m (target m.head.method m.head.path)
+
+-- why the item of a step is refused, if it is
+abbrev pub refusal_in : AnyStep → Option Refusal
+refusal_in x = item_refusal x.config (ticked x) x.item
 
 -- the step leaves this state, and what is sent for it is the reply to the refusal, or its head, and
 -- nothing behind it

@@ -1,17 +1,20 @@
 -- The streams that come over the connections of a number, and the items that steps make of them.
-use Rattle.std.specs.Prelude.{◌==◌, ℕ, List, [], ◌∷◌, ◌++◌, Option, Some, None, map, if◌then◌else◌}
+use Rattle.std.specs.Prelude.{◌≡◌, ◌==◌, ℕ, List, [], ◌∷◌, ◌++◌, Option, Some, None, map, if◌then◌else◌}
 use Rattle.std.specs.List.{flat_map, fold}
 use Rattle.std.specs.Option.{option_map, option_map_or}
+use Rattle.dep_types.specs.State.{State}
+use Rattle.dep_types.specs.declared.config.Config.{Config}
 use Rattle.dep_message.specs.Places.{Place}
 use Rattle.dep_message.specs.Stream.{Item, Spells}
 use Rattle.dep_hub.specs.Records.{Event, Connect, Arrive, Close, Stop, Record}
-use Rattle.dep_server.specs.Calm.{SteppedItem}
+use Rattle.dep_server.specs.Calm.{SteppedItem, AnyCalmRun}
 
 -- the streams of a number: one for each time that it was opened, the last of them open still or not
 pub record Streams : Type 0 where
   pub closed : List (List ℕ)
   pub current : Option (List ℕ)
 
+-- all of them, in their order
 abbrev pub all_streams : Streams → List (List ℕ)
 all_streams s = s.closed ++ option_map_or (λ stream. stream ∷ []) s.current []
 
@@ -50,5 +53,21 @@ pub record Occasion : Type 0 where
   pub number : ℕ
   pub moment : ℕ
 
+-- the occasions of these steps, in their order
 abbrev pub occasions_of : List SteppedItem → List Occasion
 occasions_of steps = map (λ t. record { number = t.number; moment = t.moment }) steps
+
+-- ---- what two runs have in common
+
+module _ {config : Config} {first : State} where
+  -- the same streams came, to each number its own
+  abbrev pub HaveSameStreams : (a b : AnyCalmRun config first) → Type 0
+  HaveSameStreams a b = (n : ℕ) → streams_of n a.records ≡ streams_of n b.records
+
+  -- they made the same items of each connection
+  abbrev pub HaveSameItems : (a b : AnyCalmRun config first) → Type 0
+  HaveSameItems a b = (n : ℕ) → items_of n a.steps ≡ items_of n b.steps
+
+  -- these came on the same occasions
+  abbrev pub HaveSameOccasions : (a b : AnyCalmRun config first) → Type 0
+  HaveSameOccasions a b = occasions_of a.steps ≡ occasions_of b.steps

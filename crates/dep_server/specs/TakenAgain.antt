@@ -7,12 +7,12 @@ use Rattle.dep_message.specs.Places.{Place}
 use Rattle.dep_message.specs.Stream.{Item, Request}
 use Rattle.dep_message.specs.declared.message.Message.{Message}
 use Rattle.dep_decisions.specs.Laws.{posted_to}
-use Rattle.dep_answers.specs.Steps.{sent_by}
-use Rattle.dep_hub.specs.Machine.{state_after, step, Serves, serves_all, step_fails, gives_up}
+use Rattle.dep_hub.specs.Machine.{state_after, Serves, serves_all, step_fails, gives_up}
 use Rattle.dep_hub.specs.Records.{Event, Record, Line, World, Arrives, at_live, at_shut_line, Happens, connects, closes, arrives, unknown, Run, begins, goes_on, stops, breaks}
 use Rattle.dep_hub.specs.declared.arrived.Arrived.{Arrived}
-use Rattle.dep_server.specs.Acknowledged.{HasStatus}
-use Rattle.dep_server.specs.Deposited.{IsAccepted}
+use Rattle.dep_server.specs.Acknowledged.{RunsThrough, HasStatus}
+use Rattle.dep_server.specs.Requests.{AnyRequest, reply_to, IsAcceptedFor, IsAcceptedSegment}
+use Rattle.dep_server.specs.Runs.{AnyRun, request_at}
 
 -- the step of this item was begun in this state, and failed
 abbrev pub FailsAt : {config : Config} {reads : List Item → Place → Type 0} {s left : State}
@@ -49,14 +49,31 @@ EndsInWork (stops run) item moment began = EndsInWork run item moment began
 EndsInWork (breaks {moment = at} found run arrival shut leaves) item moment began =
     (moment ≡ at) × ArrivalFailsAt arrival item began
 
--- a request that is accepted at this tick, and answered so
-pub record IsAcknowledged (config : Config) (s : State) (m : Message) (moment number : ℕ)
-    : Type 0 where
-  pub accepted : IsAccepted config (tick config s moment) m (posted_to number)
-  pub replied : HasStatus 204 (sent_by (step config s (Request m) moment))
+-- a request that was in work when a run ended: the state in which its step was begun, and when
+pub record RequestInWork (r : AnyRun) : Type 0 where
+  pub message : Message
+  pub moment : ℕ
+  pub began : State
+  pub ends : EndsInWork r.run (Request message) moment began
 
--- it is so at each moment at which the upload is there
-abbrev pub IsTakenAgain : Config → State → Message → (number : ℕ) → Type 0
-IsTakenAgain config s m number =
-    (later : ℕ) → is_some (map.get (tick config s later).uploads number) ≡ true
-    → IsAcknowledged config s m later number
+-- the request as its step was begun
+abbrev pub as_begun : {r : AnyRun} → RequestInWork r → AnyRequest
+as_begun {r} q = request_at r q.began q.message q.moment
+
+-- a run was at a state in which the request is accepted, at some moment, as this segment
+pub record CouldTake (r : AnyRun) (m : Message) (upload segment : ℕ) : Type 0 where
+  pub through : State
+  pub moment : ℕ
+  pub went : RunsThrough r.run through
+  pub accepts : IsAcceptedSegment (request_at r through m moment) upload segment
+
+-- it is accepted as a POST to this upload, and answered 204
+pub record IsAcknowledged (q : AnyRequest) (number : ℕ) : Type 0 where
+  pub accepted : IsAcceptedFor q (posted_to number)
+  pub replied : HasStatus 204 (reply_to q)
+
+-- at the end of a run that is so at each moment at which the upload is there
+abbrev pub IsTakenAgain : AnyRun → Message → (number : ℕ) → Type 0
+IsTakenAgain r m number = (later : ℕ)
+    → is_some (map.get (tick r.config r.last.state later).uploads number) ≡ true
+    → IsAcknowledged (request_at r r.last.state m later) number

@@ -46,6 +46,7 @@ pub record IsEntryAt (u : ℕ) (es : List (ℕ × List ℕ)) (i : ℕ) (row : Se
   pub number : ℕ
   pub bytes : List ℕ
   pub is : row ≡ segment_row u number (length bytes)
+  pub here : get_or es i (0, []) ≡ (number, bytes)
   pub found : entries.find nat_cmp number es ≡ Some bytes
   pub grows : flat_map (λ e. e.1) (take i es) ++ bytes ≡ flat_map (λ e. e.1) (take (i + 1) es)
 
@@ -56,6 +57,7 @@ entry_at u (x ∷ es) sorted zero none within = record {
   number = x.0;
   bytes = x.1;
   is = refl;
+  here = refl;
   found = ap (λ b. cond b (Some x.1) (entries.find nat_cmp x.0 es)) (ap is_eq (tied_itself nat_cmp_total x.0));
   grows = sym (append-nil x.1);
 }
@@ -68,6 +70,7 @@ entry_at u (x ∷ es) sorted (suc i) none within =
       number = rest.number;
       bytes = rest.bytes;
       is = rest.is;
+      here = rest.here;
       found = passed rest.number x.0 x.1 es (λ same. omega (arith, order, same)) ∙ rest.found;
       grows = append_assoc x.1 (flat_map (λ e. e.1) (take i es)) rest.bytes ∙ ap (λ l. x.1 ++ l) rest.grows ∙ ap (λ n. flat_map (λ (e : ℕ × List ℕ). e.1) (take n (x ∷ es))) (sym next);
     }

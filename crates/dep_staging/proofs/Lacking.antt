@@ -1,5 +1,5 @@
 -- A segment of which there is no row was not received.
-use Rattle.std.proofs.Common.{◌≡◌, ℕ, pos, Bool, true, false, List, [], ◌∷◌, length, map, filter, None, refl, sym, ap, subst, ◌∙◌, is_eq, nat_cmp, int_cmp, arith}
+use Rattle.std.proofs.Common.{◌≡◌, ℕ, pos, Bool, true, false, List, [], ◌∷◌, length, map, filter, None, refl, ap, subst, ◌∙◌, is_eq, nat_cmp, int_cmp, arith}
 use Rattle.std.proofs.lemmas.Bool.Decides.{nat_tests}
 use Rattle.std.specs.Ordering.{eq_by_cmp}
 use Rattle.std.specs.List.{list_any, flat_map}

@@ -1,8 +1,9 @@
-//! The digests of what the segments of an upload make, taken one block at a time.
+//! The digests of what the segments of an upload make, taken one block at a time, and ahead.
 
-ghost use Rattle.std.specs.Prelude.{◌≡◌, ◌<◌, ◌^◌, ◌++◌, ℕ, List, [], length, OnOk, IfErr, IsTrue, slice_index_or};
+ghost use Rattle.std.specs.Prelude.{◌≡◌, ◌<◌, ◌^◌, ◌++◌, ℕ, List, [], length, OnOk, OnErr, IfErr, IsTrue, slice_index_or};
 ghost use Rattle.sqlite.specs.State.{HasCleanDisk};
 ghost use Rattle.dep_types.specs.State.{State, Upload};
+ghost use Rattle.dep_types.specs.Sound.{IsSound};
 ghost use Rattle.dep_types.specs.Uploads.{assembled};
 ghost use Rattle.dep_fixity.specs.Fixity.{Holds, digests_of};
 ghost use Rattle.dep_tables.specs.Tables.{tables_of, IsOurs};
@@ -10,18 +11,24 @@ ghost use Rattle.dep_tables.specs.Clauses.{ReadsOnly, FailsReading, StaysWithin}
 ghost use Rattle.dep_row_maps.specs.Stored.{blocks_of};
 ghost use Rattle.dep_row_maps.specs.Laws.{HasSegmentsWithin};
 ghost use Rattle.dep_row_maps.specs.TablesAre.{TablesAre};
+ghost use Rattle.dep_row_maps.specs.Clauses.{FromMaps};
 ghost use Rattle.dep_row_maps.specs.Causes.{FailsSince};
 ghost use Rattle.dep_files.specs.Reading.{Tells};
 ghost use Rattle.dep_staging.specs.Causes.{AreStorableKeys, FailsToHash, FailsToReadBlock, HasStorableSegments};
 ghost use Rattle.dep_staging.specs.Found.{IsLiveAs};
-ghost use Rattle.dep_staging.specs.Hashing.{IsSegmentOf, received_bytes};
+ghost use Rattle.dep_staging.specs.Hashing.{IsSegmentOf};
+ghost use Rattle.dep_staging.specs.HashedAhead.{AreRunning, IsRunning, first_blocks};
 
 use crate::blocks::stored_block;
 use crate::loading::StagedUpload;
+use crate::running::{RunningHash, RunningHashes};
 use dep_files::BLOCK_SIZE;
 use dep_fixity::{Digests, Hasher};
 use dep_tables::{SegmentRow, Statements};
 use dep_types::StoreFault;
+
+/// How many blocks are hashed ahead at once.
+const BLOCKS_AHEAD: usize = 4;
 
 // A block that the segment has.
 fn segment_block<T: Statements>(
@@ -49,15 +56,18 @@ fn segment_block<T: Statements>(
     }
 }
 
+// Hashes the blocks of a segment from this one on.
 fn hash_segment<T: Statements>(
     tx: &mut T,
     segment: &SegmentRow,
+    first: u64,
     hasher: &mut Hasher,
 ) -> Result<(), StoreFault>
     ensures map { HasCleanDisk (T.state tx.new) → IsOurs (T.state tx.old)
         → IsTrue (T.state tx.old).is_open
         → (s : State) → TablesAre (tables_of (T.state tx.old)) s
-        → (bytes message : List ℕ) → IsSegmentOf s segment.now bytes → Holds hasher.old message
+        → (bytes message : List ℕ) → IsSegmentOf s segment.now bytes
+        → Holds hasher.old (message ++ first_blocks first bytes)
         → OnOk result (Holds hasher.new (message ++ bytes)) }
     ensures same { IsTrue (T.state tx.old).is_open
         → ReadsOnly (T.state tx.old) (T.state tx.new) result }
@@ -71,24 +81,24 @@ fn hash_segment<T: Statements>(
     ensures err { FailsReading (T.state tx.old) (T.state tx.new) result }
     ensures stays { StaysWithin T.lenders T.state tx.old tx.new result }
 {
-    for place in 0..segment.size.div_ceil(BLOCK_SIZE as u64) {
+    for place in first..segment.size.div_ceil(BLOCK_SIZE as u64) {
         let block = segment_block(tx, segment, place)?;
         hasher.update(block.as_slice());
     }
     Ok(())
 }
 
-/// The SHA-256 and the SHA-512 (FIPS 180-4) of what was received of an upload that was loaded, in the
-/// order of its segments' numbers: those of the assembled bytes where all are there. It reads each
-/// block once for both, and holds one at a time, and no row.
-pub fn hash_upload<T: Statements>(tx: &mut T, staged: &StagedUpload) -> Result<Digests, StoreFault>
+/// The SHA-256 and the SHA-512 (FIPS 180-4) of the assembled bytes of an upload that was loaded, in
+/// the order of its segments' numbers, over those that were received. What was hashed ahead isn't read
+/// again; each other block is read once for both, one at a time, and no row.
+pub fn hash_upload<T: Statements>(
+    tx: &mut T,
+    staged: &StagedUpload,
+    running: &RunningHashes,
+) -> Result<Digests, StoreFault>
     ensures map { IsTrue (T.state tx.old).is_open → Tells (T.state tx.old) (T.state tx.new) result
-        (λ s digests. (u : ℕ) (it : Upload) → IsLiveAs s u staged.now it
-        → digests ≡ digests_of (received_bytes it)) }
-    ensures assembled { IsTrue (T.state tx.old).is_open
-        → Tells (T.state tx.old) (T.state tx.new) result
         (λ s digests. (u : ℕ) (it : Upload) → IsLiveAs s u staged.now it → HasSegmentsWithin it
-        → digests ≡ digests_of (assembled it)) }
+        → AreRunning s running.now → digests ≡ digests_of (assembled it)) }
     ensures same { IsTrue (T.state tx.old).is_open
         → ReadsOnly (T.state tx.old) (T.state tx.new) result }
     ensures cause { HasCleanDisk (T.state tx.new)
@@ -100,9 +110,79 @@ pub fn hash_upload<T: Statements>(tx: &mut T, staged: &StagedUpload) -> Result<D
     ensures err { FailsReading (T.state tx.old) (T.state tx.new) result }
     ensures stays { StaysWithin T.lenders T.state tx.old tx.new result }
 {
-    let mut hasher = Hasher::new();
-    'rows: for row in staged.received.as_slice() {
-        hash_segment(tx, row, &mut hasher)?;
+    let RunningHash {
+        upload: _,
+        mut hasher,
+        segments,
+        blocks,
+        is_due: _,
+    } = running.found(staged.row.upload);
+    let rows = staged.received.as_slice();
+    let whole = rows.len().min(segments as usize);
+    let mut begun = blocks;
+    'rows: for row in &rows[whole..] {
+        hash_segment(tx, row, begun, &mut hasher)?;
+        begun = 0;
     }
     Ok(hasher.finish())
+}
+
+// Hashes one more block of an upload, and tells whether there was one that was not hashed.
+fn hash_block<T: Statements>(tx: &mut T, run: &mut RunningHash) -> Result<bool, StoreFault>
+    ensures map { HasCleanDisk (T.state tx.new) → IsOurs (T.state tx.old)
+        → (s : State) → TablesAre (tables_of (T.state tx.old)) s → IsSound s
+        → IsRunning s run.old → IsRunning s run.new }
+    ensures same { ReadsOnly (T.state tx.old) (T.state tx.new) result }
+    ensures stays { StaysWithin T.lenders T.state tx.old tx.new result }
+{
+    let number = run.segments.saturating_add(1);
+    match stored_block(tx, run.upload, number, run.blocks)? {
+        Some(block) => run.take(block.as_slice()),
+        None => {
+            if run.blocks == 0 {
+                return Ok(false);
+            }
+            run.end_segment();
+        }
+    }
+    Ok(true)
+}
+
+// Hashes a few blocks of an upload.
+fn hash_blocks<T: Statements>(tx: &mut T, run: &mut RunningHash) -> Result<(), StoreFault>
+    ensures map { IsTrue (T.state tx.old).is_open → HasCleanDisk (T.state tx.new)
+        → IsOurs (T.state tx.old) → (s : State) → TablesAre (tables_of (T.state tx.old)) s
+        → IsSound s → IsRunning s run.old → IsRunning s run.new }
+    ensures same { IsTrue (T.state tx.old).is_open
+        → ReadsOnly (T.state tx.old) (T.state tx.new) result }
+    ensures stays { StaysWithin T.lenders T.state tx.old tx.new result }
+{
+    for _ in 0..BLOCKS_AHEAD {
+        if !hash_block(tx, run)? {
+            run.is_due = false;
+            return Ok(());
+        }
+    }
+    Ok(())
+}
+
+/// Hashes up to four blocks (256 KiB) of an upload to which a segment came, and tells whether more may
+/// be left. A number of 2^63 or more is a fault of the store.
+pub fn hash_ahead<T: Statements>(
+    tx: &mut T,
+    running: &mut RunningHashes,
+) -> Result<bool, StoreFault>
+    ensures map { IsTrue (T.state tx.old).is_open → FromMaps (T.state tx.old) (T.state tx.new)
+        (λ s. IsSound s → AreRunning s running.old → AreRunning s running.new) }
+    ensures same { IsTrue (T.state tx.old).is_open
+        → ReadsOnly (T.state tx.old) (T.state tx.new) result }
+    ensures stays { StaysWithin T.lenders T.state tx.old tx.new result }
+{
+    let Some(mut run) = running.take_due() else {
+        return Ok(false);
+    };
+    let hashed = hash_blocks(tx, &mut run);
+    running.put(run);
+    hashed?;
+    Ok(true)
 }

@@ -16,6 +16,6 @@ pub audited_of : (mid new : db.State) (t : Tables) (object : ℕ) (rows : List F
     → OnOk result (IsUnchanged mid new) → IfOk result (IsAudited (tables_of mid) rows) → IfOk result (λ audit. IsObjectAudited t object audit × Stands new t)
 audited_of mid new t object rows (Ok audit) stands are still audited = (
   record { rows = rows; are = are; audited = subst (λ (now : Tables). IsAudited now rows audit) stands.rows audited },
-  tables_kept mid new t stands still.0.is_open (λ is_open. ((still.0.was_open, still.0.committed_is), inl (still.0.now_is, still.0.mode))),
+  tables_kept mid new t stands still.0.is_open (λ _. inl still),
 )
 audited_of mid new t object rows (Err e) stands are still audited = tt

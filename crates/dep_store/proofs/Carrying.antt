@@ -70,10 +70,9 @@ told_then g old inside told reads clean s was =
 
 pub tables_kept : (old new : db.State) (t : Tables) → Stands old t → IsTrue new.is_open → IsKept old new → Stands new t
 tables_kept old new t stands is_open kept =
-    let it = kept is_open in
-    elim it.1 [
-      | inl still ↦ stands_left old new t stands is_open (still.1 ∙ stands.settled) (still.0 ∙ stands.committed) it.0.1
-      | inr back ↦ stands_left old new t stands is_open back.1 back.0 it.0.1
+    elim (kept is_open) [
+      | inl still ↦ stands_left old new t stands is_open (still.0.mode ∙ stands.settled) (still.0.now_is ∙ stands.committed) still.0.committed_is
+      | inr back ↦ stands_left old new t stands is_open back.autocommit (back.undone is_open).0 (back.undone is_open).1
     ]
 
 pub stands_kept : (old new : db.State) (s : State) → StandsFor old s → IsTrue new.is_open → IsKept old new → StandsFor new s
@@ -85,5 +84,5 @@ err_kept old new (Ok x) s stands is_open kept = tt
 err_kept old new (Err e) s stands is_open kept = stands_kept old new s stands is_open kept
 
 pub ok_unchanged : {A E : Type 0} (old new : db.State) (r : Result A E) (s : State) → StandsFor old s → OnOk r (IsUnchanged old new) → OnOk r (StandsFor new s)
-ok_unchanged old new (Ok x) s stands still = stands_kept old new s stands still.0.is_open (λ is_open. ((still.0.was_open, still.0.committed_is), inl (still.0.now_is, still.0.mode)))
+ok_unchanged old new (Ok x) s stands still = stands_kept old new s stands still.0.is_open (λ _. inl still)
 ok_unchanged old new (Err e) s stands still = tt

@@ -5,5 +5,4 @@ pub mod Remembered
 pub mod WalkLemmas
 pub mod TellLemmas
 pub mod LineLemmas
-pub mod StartingLemmas
 pub mod ShutLemmas

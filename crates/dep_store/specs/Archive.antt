@@ -19,5 +19,6 @@ shown_by d = record {
   sound_if_kept = λ s stands. stands.means.sound;
 }
 
+-- how a store stands: what its database shows
 abbrev pub condition_of : {S : Type 0} → (g : Ghosts S) → Held S → Condition
 condition_of g store = shown_by (state g store)

@@ -5,5 +5,4 @@ pub mod Archive
 pub mod Exports
 pub mod Audits
 pub mod Telling
-pub mod Starting
 pub mod Working

@@ -1,18 +1,17 @@
 //! The archive on SQLite: what requests and the clock make of it, in one transaction each, and what a
-//! crash leaves of that. And what is done with a whole one: a hub is opened over it, the bag of an object
-//! is given to a sink, and the files of all objects are checked.
+//! crash leaves of that. And what is done with a whole one: the bag of an object is given to a sink, the
+//! files of all objects are checked, and a database in a file is worked on.
 #![tactic(auto)]
 
-mod archive;
 mod audit_fault;
 mod auditing;
 mod exporting;
+mod hashing;
 mod lines;
 mod reading;
 mod remembering;
 mod showing;
 mod source;
-mod starting;
 mod store;
 mod tally;
 mod telling;
@@ -21,7 +20,6 @@ mod working;
 
 pub use dep_streams::{Unwatched, Watch};
 pub use exporting::export_object;
-pub use starting::{StartFault, open_hub};
 pub use store::Store;
 pub use telling::audit_all;
 pub use working::{Work, work_on_file};

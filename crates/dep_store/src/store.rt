@@ -23,18 +23,21 @@ ghost use Rattle.dep_schema.specs.Performing.{Performs};
 ghost use Rattle.dep_upgrading.specs.Causes.{FailsToOpenTables, FindsOrUpgrades};
 ghost use Rattle.dep_upgrading.specs.Migrating.{Keeps, OpenLeaves, OpensOlder, Stood};
 ghost use Rattle.dep_hub.specs.Shut.{TellsOpen};
+ghost use Rattle.dep_staging.specs.HashedAhead.{AreRunning};
 ghost use Rattle.dep_store.specs.Archive.{condition_of};
 ghost use Rattle.dep_store.specs.Shut.{LeavesNoMore, FailsToTell};
 
 use crate::auditing::audit_object;
+use crate::hashing::hash_running;
 use crate::reading::{find_next, view_object};
 use crate::remembering::{Remembered, check_open, tell_open};
-use crate::showing::serve;
+use crate::showing::{recalled, serve, show_service};
 use crate::ticking::advance;
 use dep_answers::{Performed, Service};
 use dep_decisions::Operation;
 use dep_moment::Moment;
 use dep_schema::OpenFault;
+use dep_staging::RunningHashes;
 use dep_streams::{Audit, Watch, stream_content};
 use dep_types::{Config, ObjectView, Outlet, StoreFault, StreamFault};
 use dep_upgrading::open_tables;
@@ -162,15 +165,17 @@ impl<S: Alter> Store<S> {
         )
     }
 
-    /// Does what a request asks for, once the clock has gone on, in one transaction. The reply is made
-    /// before the commit, so an `Err` changes nothing.
+    /// Does what a request asks for, once the clock has gone on, in one transaction: what reads the
+    /// service document, by what is remembered. The reply is made before the commit, so an `Err` changes
+    /// nothing. Segments that were hashed ahead aren't hashed again.
     pub fn perform(
         &mut self,
+        running: &RunningHashes,
         service: &Service,
         operation: &Operation<'_>,
     ) -> Result<Performed, StoreFault>
         ensures ok { HasCleanDisk (state S.Store self.new) → AreFit operation.now.fields
-            → (s : State) → StandsFor (state S.Store self.old) s
+            → (s : State) → StandsFor (state S.Store self.old) s → AreRunning s running.now
             → IfOk result
             (Performs (operation_step service.now s operation.now) (state S.Store self.new)) }
         ensures err { IsTrue (state S.Store self.new).is_open
@@ -180,7 +185,7 @@ impl<S: Alter> Store<S> {
         ensures open { IsTrue (state S.Store self.new).is_open
             → IsTrue (state S.Store self.old).is_open }
         ensures stop { HasCleanDisk (state S.Store self.new) → AreFit operation.now.fields
-            → (s : State) → StandsFor (state S.Store self.old) s
+            → (s : State) → StandsFor (state S.Store self.old) s → AreRunning s running.now
             → Leaves (state S.Store self.new)
             (λ left. (left ≡ s) ⊎ (left ≡ (operation_step service.now s operation.now).state)) }
         // On a store that was shut it fails, and a crash leaves what it could leave before.
@@ -191,13 +196,40 @@ impl<S: Alter> Store<S> {
         if !self.connection.is_autocommit() {
             return Err(StoreFault::Store);
         }
+        if let Some(it) = recalled(&self.remembered, operation) {
+            return show_service(self.alloc, service, operation, &it);
+        }
+        self.remembered = None;
         serve(
             &mut self.connection,
-            &mut self.remembered,
             self.alloc,
+            running,
             service,
             operation,
         )
+    }
+
+    /// Hashes a few blocks of an upload to which a segment came, and tells whether more may be left. It
+    /// changes nothing that is kept.
+    pub fn hash_ahead(&mut self, running: &mut RunningHashes) -> Result<bool, StoreFault>
+        ensures running { IsTrue (state S.Store self.new).is_open
+            → (s : State) → StandsFor (state S.Store self.old) s
+            → AreRunning s running.old → AreRunning s running.new }
+        ensures kept { IsTrue (state S.Store self.new).is_open
+            → (s : State) → StandsFor (state S.Store self.old) s
+            → StandsFor (state S.Store self.new) s }
+        ensures honest { HasCleanDisk (state S.Store self.new) → HasCleanDisk (state S.Store self.old) }
+        ensures open { IsTrue (state S.Store self.new).is_open
+            → IsTrue (state S.Store self.old).is_open }
+        ensures left { HasCleanDisk (state S.Store self.new)
+            → (trees : Trees) → (state S.Store self.new).may_leave trees
+            → (state S.Store self.old).may_leave trees }
+    {
+        if !self.connection.is_autocommit() {
+            return Err(StoreFault::Store);
+        }
+        self.remembered = None;
+        hash_running(&mut self.connection, running)
     }
 
     /// Sends the content of the file of this number, one block at a time.

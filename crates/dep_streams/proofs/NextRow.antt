@@ -1,28 +1,75 @@
--- One more row of a query that only shows, asked in a state that is as the first one.
-use Rattle.std.proofs.Common.{◌≡◌, Option, Result, Ok, ◌∙◌, ap}
+-- A query that only shows, whose rows are read one at a time, in states that are as the first one.
+use Rattle.std.proofs.Common.{◌≡◌, ◌⊎◌, inl, inr, ℕ, List, Option, Result, Ok, Err, IfErr, OnOk, IsTrue, false, ◌∙◌, ap, subst}
+use Rattle.std.specs.Prelude.{⊤}
 use Rattle.std.specs.Borrow.{Bor}
 use Rattle.sqlite.specs.Order.{Row}
-use Rattle.sqlite.specs.State.{State, HasCleanDisk, Survives, IsUnchanged}
-use Rattle.sqlite.specs.Held.{state}
+use Rattle.sqlite.specs.State.{State, HasCleanDisk, Fails, FailsToQuery, IsUnchanged, IsRolledBack, Survives, CommitsShowing}
+use Rattle.sqlite.specs.Given.{HasBegun, IsRefused}
+use Rattle.sqlite.specs.Held.{Held, state}
 use Rattle.sqlite.specs.Next.{HasMoved}
 use Rattle.sqlite.specs.declared.error.Error.{Error}
 use Rattle.sqlite.specs.declared.rows.stream.Rows.{Rows}
-use Rattle.sqlite.proofs.Callers.{unchanged_then}
-use Rattle.sqlite.proofs.StateLemmas.{survives_then}
+use Rattle.sqlite.proofs.Callers.{begun_plain, unchanged_then}
+use Rattle.sqlite.proofs.StateLemmas.{survives_weaker}
 use Rattle.sqlite_trees.specs.declared.store.Store.{Ghosts}
-use Rattle.dep_streams.proofs.SendingLemmas.{clean_was}
+use Rattle.dep_streams.specs.Clauses.{OnlyShows, StaysOver}
+use Rattle.dep_streams.proofs.Stills.{clean_was, left_open, shown_open, stays_asked, stays_refused, stays_then, still_same}
 
 -- what a call of `next` answered, by what its Ok holds
 pub answered : (result : Result (Option (Bor Row)) Error) (next was : Option (Bor Row)) → result ≡ Ok next → next ≡ was → result ≡ Ok was
 answered result next was is same = is ∙ ap (λ (x : Option (Bor Row)). Ok x) same
 
+-- ---- before the first row
+
+module _ {S : Type 0} (g : Ghosts S) (sql : List ℕ) (params : Row) (old new : Held S) where
+  -- the query began
+  pub begun_stays : (HasCleanDisk (state g new) → HasBegun g sql params old new) → (old.in_transaction ≡ false → new.in_transaction ≡ false)
+      → Survives (state g old) (state g new) (CommitsShowing sql params (state g old)) → StaysOver (OnlyShows sql) g old new
+  begun_stays begun mode survives = stays_asked sql params (λ plain. plain)
+      (λ late. open_at (begun late)) (λ late plain. inl (begun_plain g sql params old new plain (begun late)).1) mode survives
+    where
+      open_at : HasBegun g sql params old new → IsTrue (state g new).is_open → IsTrue (state g old).is_open
+      open_at (inl none) is_open = none.1.0.was_open
+      open_at (inr all) is_open = shown_open sql params (state g old) (state g new) _ all.1
+
+  -- it was refused
+  pub refused_stays : {X : Type 0} (result : Result X Error) (error : Error) → IsRefused g sql params old result new → result ≡ Err error
+      → StaysOver (OnlyShows sql) g old new
+  refused_stays {X} result error it is = stays_refused sql params error (λ plain. plain) failed it.mode it.survives
+    where
+      failed : HasCleanDisk (state g new) → FailsToQuery sql params (state g old) (state g new) error
+      failed late = subst (λ (r : Result X Error). IfErr r (FailsToQuery sql params (state g old) (state g new))) is (it.err late)
+
+-- ---- at a row
+
 module _ {S : Type 0} (g : Ghosts S) (old new : Rows S g) (result : Result (Option (Bor Row)) Error) (moved : HasMoved g old result new) where
   pub clean_before : HasCleanDisk (state g new.conn.now) → HasCleanDisk (state g old.conn.now)
   clean_before = clean_was (state g old.conn.now) (state g new.conn.now) _ moved.survives
 
-  pub survives_on : (first : State) → Survives first (state g old.conn.now) (λ _. ⊥) → Survives first (state g new.conn.now) (λ _. ⊥)
-  survives_on first before =
-      survives_then first (state g old.conn.now) (state g new.conn.now) _ _ (λ _. ⊥) (λ _ db none. none) (λ _ db none. none) before moved.survives
+  left_as : (r : Result (Option (Bor Row)) Error) → OnOk r (IsUnchanged (state g old.conn.now) (state g new.conn.now))
+      → IfErr r (λ e. Fails (state g old.conn.now) (state g new.conn.now) ⊥ e ⊎ IsUnchanged (state g old.conn.now) (state g new.conn.now))
+      → IsUnchanged (state g old.conn.now) (state g new.conn.now) ⊎ IsRolledBack (state g old.conn.now) (state g new.conn.now)
+  left_as (Ok next) same kept = inl same
+  left_as (Err e) same (inl failed) = inr failed.3
+  left_as (Err e) same (inr still) = inl still
+
+  left : HasCleanDisk (state g new.conn.now) → IsUnchanged (state g old.conn.now) (state g new.conn.now) ⊎ IsRolledBack (state g old.conn.now) (state g new.conn.now)
+  left late = left_as result (moved.same late) (moved.kept late)
+
+  moves : {P : State → Type 0} → StaysOver P g old.conn.now new.conn.now
+  moves = record {
+    honest = clean_before;
+    was_open = λ late. left_open (state g old.conn.now) (state g new.conn.now) (left late);
+    mode = moved.mode;
+    kept = λ late ours is_open. left late;
+    survives = survives_weaker (state g old.conn.now) (state g new.conn.now) _ _ (λ _ db none. absurd none) moved.survives;
+  }
+
+  module _ {P : State → Type 0} (first : Held S) where
+    -- what is kept from before the query on
+    pub stays_on : StaysOver P g first old.conn.now → (HasCleanDisk (state g old.conn.now) → P (state g first) → IsUnchanged (state g first) (state g old.conn.now))
+        → StaysOver P g first new.conn.now
+    stays_on stays same = stays_then stays (λ late ours. still_same (state g first) (state g old.conn.now) (same late ours)) (λ _ _. tt) (moves {P = λ _. ⊤})
 
   pub unchanged_on : (first : State) (next : Option (Bor Row)) → result ≡ Ok next → HasCleanDisk (state g new.conn.now)
       → IsUnchanged first (state g old.conn.now) → IsUnchanged first (state g new.conn.now)

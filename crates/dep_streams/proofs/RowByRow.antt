@@ -1,11 +1,11 @@
 -- Rows that are read one at a time, by a query that only shows, whose bytes are hashed.
-use Rattle.std.proofs.Common.{◌≡◌, ◌⊎◌, ◌++◌, ◌+◌, ℕ, length, length-append, ap, ◌∙◌, List, [], ◌∷◌, Option, Some, None, Result, Ok, Err, IfOk, IfErr, OnOk, OnErr, false, inl, subst, sym}
+use Rattle.std.proofs.Common.{◌≡◌, ◌++◌, ◌+◌, ℕ, length, length-append, ap, ◌∙◌, List, [], ◌∷◌, Option, Some, None, Result, Ok, Err, IfErr, OnErr, inl, subst, sym}
 use Rattle.std.specs.Borrow.{Bor}
 use Rattle.dep_fixity.specs.Fixity.{Holds, digests_of}
 use Rattle.dep_fixity.specs.declared.hasher.Digests.{Digests}
 use Rattle.dep_fixity.specs.declared.hasher.Hasher.{Hasher}
 use Rattle.sqlite.specs.Order.{Row, column}
-use Rattle.sqlite.specs.State.{State, HasCleanDisk, Survives, CommitsShowing, FailsToQuery, IsUnchanged, IsRolledBack}
+use Rattle.sqlite.specs.State.{State, HasCleanDisk, Survives, FailsToQuery, IsUnchanged}
 use Rattle.sqlite.specs.Held.{Held, state}
 use Rattle.sqlite.specs.Given.{HasGiven, IsPlain, IsRefused}
 use Rattle.sqlite.specs.Listing.{understood}
@@ -14,8 +14,10 @@ use Rattle.sqlite.specs.declared.error.Error.{Error}
 use Rattle.sqlite.specs.declared.rows.stream.Rows.{Rows}
 use Rattle.sqlite_trees.specs.declared.store.Store.{Ghosts}
 use Rattle.dep_streams.specs.Sent.{blob_of, joined}
-use Rattle.dep_streams.proofs.NextRow.{clean_before, survives_on, unchanged_on}
-use Rattle.dep_streams.proofs.SendingLemmas.{begins_from, clean_was, commits_nothing, failed_then, fails_from, joined_push, refused_left}
+use Rattle.dep_streams.specs.Clauses.{OnlyShows, StaysOver, TellsSeen, ReadsOver, FailsOver}
+use Rattle.dep_streams.proofs.NextRow.{clean_before, refused_stays, stays_on, unchanged_on}
+use Rattle.dep_streams.proofs.Stills.{commits_none}
+use Rattle.dep_streams.proofs.SendingLemmas.{begins_from, fails_from, joined_push}
 use Rattle.dep_types.specs.declared.store_fault.StoreFault.{StoreFault}
 use Rattle.dep_types.specs.declared.store_fault.StoreFault.TheVariants.{Store}
 use Rattle.dep_tables.specs.Faults.{fault_for}
@@ -32,30 +34,22 @@ Hashed g sql params first now count hasher =
     (given : List Row) × HasGiven g sql params now given × IsUnchanged first (state g now) × Holds hasher (joined given) × (length given ≡ count)
 
 -- what the hashing of a query's rows leaves, by what it answers
-pub record EndsHashing (sql : List ℕ) (params : Row) (first new : State) (result : Result Digests StoreFault) : Type 0 where
-  pub hashes : HasCleanDisk new → IsPlain (understood first.now.schema sql) → IfOk result (HashesShown sql params first)
-  pub cause : HasCleanDisk new → IsPlain (understood first.now.schema sql) → IfErr result (FailsToGive sql params None first new)
-  pub same : HasCleanDisk new → IsPlain (understood first.now.schema sql) → OnOk result (IsUnchanged first new)
-  pub err : HasCleanDisk new → IsPlain (understood first.now.schema sql) → OnErr result (IsUnchanged first new ⊎ IsRolledBack first new)
-  pub mode : first.in_transaction ≡ false → new.in_transaction ≡ false
-  pub clean : HasCleanDisk new → HasCleanDisk first
-  pub survives : IsPlain (understood first.now.schema sql) → Survives first new (λ _. ⊥)
+pub record EndsHashing {S : Type 0} (g : Ghosts S) (sql : List ℕ) (params : Row) (first new : Held S) (result : Result Digests StoreFault) : Type 0 where
+  pub hashes : TellsSeen (OnlyShows sql) g first new result (HashesShown sql params)
+  pub cause : FailsOver (OnlyShows sql) g first new result (FailsToGive sql params None)
+  pub same : ReadsOver (OnlyShows sql) g first new result
+  pub stays : StaysOver (OnlyShows sql) g first new
 
 -- no query began
 pub not_begun : {S X : Type 0} (g : Ghosts S) (sql : List ℕ) (params : Row) (old new : Held S) (result : Result X Error) (error : Error) (fault : StoreFault)
-    → OnErr result (IsRefused g sql params old result new) → result ≡ Err error → fault ≡ fault_for error → EndsHashing sql params (state g old) (state g new) (Err fault)
+    → OnErr result (IsRefused g sql params old result new) → result ≡ Err error → fault ≡ fault_for error → EndsHashing g sql params old new (Err fault)
 not_begun {X = X} g sql params old new result error fault left is of =
     let it : IsRefused g sql params old result new = subst (λ (r : Result X Error). OnErr r (IsRefused g sql params old result new)) is left in
-    let failed : HasCleanDisk (state g new) → FailsToQuery sql params (state g old) (state g new) error =
-    λ late. subst (λ (r : Result X Error). IfErr r (FailsToQuery sql params (state g old) (state g new))) is (it.err late) in
     record {
       hashes = λ late plain. tt;
-      cause = λ late plain. query_failed (error, inl (failed late), of);
+      cause = λ late plain. query_failed (error, inl (subst (λ (r : Result X Error). IfErr r (FailsToQuery sql params (state g old) (state g new))) is (it.err late)), of);
       same = λ late plain. tt;
-      err = λ late plain. refused_left sql params (state g old) (state g new) error plain (failed late);
-      mode = it.mode;
-      clean = clean_was (state g old) (state g new) (CommitsShowing sql params (state g old)) it.survives;
-      survives = λ plain. commits_nothing sql params (state g old) (state g new) plain it.survives;
+      stays = refused_stays g sql params old new result error it is;
     }
 
 module _ {S : Type 0} (g : Ghosts S) (old new : Rows S g) (result : Result (Option (Bor Row)) Error) (moved : HasMoved g old result new) where
@@ -65,9 +59,6 @@ module _ {S : Type 0} (g : Ghosts S) (old new : Rows S g) (result : Result (Opti
   unchanged : (first : State) (next : Option (Bor Row)) → result ≡ Ok next → HasCleanDisk (state g new.conn.now)
       → IsUnchanged first (state g old.conn.now) → IsUnchanged first (state g new.conn.now)
   unchanged = unchanged_on g old new result moved
-
-  survived : (first : State) → Survives first (state g old.conn.now) (λ _. ⊥) → Survives first (state g new.conn.now) (λ _. ⊥)
-  survived = survives_on g old new result moved
 
   module _ (sql : List ℕ) (params : Row) (first : State) (count : ℕ) (hasher : Hasher) (was : Hashed g sql params first old.conn.now count hasher) (late : HasCleanDisk (state g new.conn.now)) where
     pub hashed_all : result ≡ Ok None → IsPlain (understood first.now.schema sql) → (digests : Digests)
@@ -92,10 +83,6 @@ module _ {S : Type 0} (g : Ghosts S) (old new : Rows S g) (result : Result (Opti
     failed : (error : Error) → result ≡ Err error → FailsToQuery sql params (state g old.conn.now) (state g new.conn.now) error
     failed error is = (rw is at (moved.err late)) sql params was.0 was.1
 
-    pub failed_on : (error : Error) → result ≡ Err error → IsPlain (understood first.now.schema sql)
-        → IsUnchanged first (state g new.conn.now) ⊎ IsRolledBack first (state g new.conn.now)
-    failed_on error is plain = failed_then sql params first (state g old.conn.now) (state g new.conn.now) error plain was.2 (failed error is)
-
     pub why_failed : (error : Error) → result ≡ Err error → (fault : StoreFault) → fault ≡ fault_for error → IsPlain (understood first.now.schema sql) → Survives first (state g old.conn.now) (λ _. ⊥)
         → FailsToGive sql params None first (state g new.conn.now) fault
     why_failed error is fault of plain kept = query_failed (error, inl (fails_from sql params first (state g old.conn.now) (state g new.conn.now) error plain was.2 kept (failed error is)), of)
@@ -105,46 +92,37 @@ module _ {S : Type 0} (g : Ghosts S) (old new : Rows S g) (result : Result (Opti
         unread was.0 row.now (begins_from sql params first (state g new.conn.now) (was.0 ++ row.now ∷ []) (unchanged first (Some row) is late was.2)
         (given_begin g sql params new.conn.now (was.0 ++ row.now ∷ []) ((rw is at (moved.ok late)) sql params was.0 was.1))) (inl none.0) none.1
 
-  module _ (sql : List ℕ) (params : Row) (first : State) (count : ℕ) (hasher : Hasher)
-      (before : IsPlain (understood first.now.schema sql) → Survives first (state g old.conn.now) (λ _. ⊥))
-      (was : HasCleanDisk (state g old.conn.now) → IsPlain (understood first.now.schema sql) → Hashed g sql params first old.conn.now count hasher)
-      (outside_before : first.in_transaction ≡ false → old.conn.now.in_transaction ≡ false)
-      (clean : HasCleanDisk (state g old.conn.now) → HasCleanDisk first) where
+  module _ (sql : List ℕ) (params : Row) (first : Held S) (count : ℕ) (hasher : Hasher) (before : StaysOver (OnlyShows sql) g first old.conn.now)
+      (was : HasCleanDisk (state g old.conn.now) → OnlyShows sql (state g first) → Hashed g sql params (state g first) old.conn.now count hasher) where
+    pub stays : StaysOver (OnlyShows sql) g first new.conn.now
+    stays = stays_on g old new result moved first before (λ late plain. (was late plain).2)
+
     -- all rows were hashed
     pub ends_whole : result ≡ Ok None → (digests : Digests) → ((message : List ℕ) → Holds hasher message → digests ≡ digests_of message)
-        → EndsHashing sql params first (state g new.conn.now) (Ok digests)
+        → EndsHashing g sql params first new.conn.now (Ok digests)
     ends_whole is digests made = record {
-      hashes = λ late plain. hashed_all sql params first count hasher (was (earlier late) plain) late is plain digests made;
+      hashes = λ late plain. hashed_all sql params (state g first) count hasher (was (earlier late) plain) late is plain digests made;
       cause = λ late plain. tt;
-      same = λ late plain. unchanged first None is late (was (earlier late) plain).2;
-      err = λ late plain. tt;
-      mode = λ outside. moved.mode (outside_before outside);
-      clean = λ late. clean (earlier late);
-      survives = λ plain. survived first (before plain);
+      same = λ late plain. unchanged (state g first) None is late (was (earlier late) plain).2;
+      stays = stays;
     }
 
     -- one was not given
     pub ends_failed : (error : Error) → result ≡ Err error → (fault : StoreFault) → fault ≡ fault_for error
-        → EndsHashing sql params first (state g new.conn.now) (Err fault)
+        → EndsHashing g sql params first new.conn.now (Err fault)
     ends_failed error is fault of = record {
       hashes = λ late plain. tt;
-      cause = λ late plain. why_failed sql params first count hasher (was (earlier late) plain) late error is fault of plain (before plain);
+      cause = λ late plain. why_failed sql params (state g first) count hasher (was (earlier late) plain) late error is fault of plain (commits_none before plain);
       same = λ late plain. tt;
-      err = λ late plain. failed_on sql params first count hasher (was (earlier late) plain) late error is plain;
-      mode = λ outside. moved.mode (outside_before outside);
-      clean = λ late. clean (earlier late);
-      survives = λ plain. survived first (before plain);
+      stays = stays;
     }
 
     -- one has no bytes
     pub ends_refused : (row : Bor Row) → result ≡ Ok (Some row) → (fault : StoreFault) → (¬ (IsBytesValue (column row.now 2))) × (fault ≡ Store)
-        → EndsHashing sql params first (state g new.conn.now) (Err fault)
+        → EndsHashing g sql params first new.conn.now (Err fault)
     ends_refused row is fault none = record {
       hashes = λ late plain. tt;
-      cause = λ late plain. why_refused sql params first count hasher (was (earlier late) plain) late row is fault none;
+      cause = λ late plain. why_refused sql params (state g first) count hasher (was (earlier late) plain) late row is fault none;
       same = λ late plain. tt;
-      err = λ late plain. inl (unchanged first (Some row) is late (was (earlier late) plain).2);
-      mode = λ outside. moved.mode (outside_before outside);
-      clean = λ late. clean (earlier late);
-      survives = λ plain. survived first (before plain);
+      stays = stays;
     }

@@ -1,58 +1,54 @@
 -- Rows that are read one at a time, by a query that only shows, whose bytes are sent.
-use Rattle.std.proofs.Common.{◌≡◌, ◌≢◌, ◌⊎◌, ◌++◌, ◌+◌, ◌-◌, ◌^◌, ◌<◌, ◌≤◌, ℕ, List, [], ◌∷◌, length, Option, Some, None, Result, Ok, Err, IfErr, OnOk, OnErr, inl, inr, refl, sym, subst, ap, length-append, ◌∙◌, arith}
+use Rattle.std.proofs.Common.{◌≡◌, ◌≢◌, ◌⊎◌, ◌++◌, ◌+◌, ◌-◌, ◌^◌, ◌<◌, ◌≤◌, ℕ, List, [], ◌∷◌, length, Option, Some, None, Result, Ok, Err, IfErr, OnErr, false, inl, inr, refl, sym, subst, ap, length-append, ◌∙◌, arith}
 use Rattle.std.specs.Borrow.{Bor}
 use Rattle.std.specs.Io.KnownBytes.{Appends}
 use Rattle.std.proofs.KnownBytes.{Appends-nil, Appends-trans}
 use Rattle.sqlite.specs.Order.{Row, column}
-use Rattle.sqlite.specs.State.{State, HasCleanDisk, Survives, CommitsShowing, FailsToQuery, IsUnchanged, IsRolledBack, Begins}
+use Rattle.sqlite.specs.State.{State, HasCleanDisk, Survives, CommitsShowing, FailsToQuery, IsUnchanged, Begins}
 use Rattle.sqlite.specs.Held.{Held, state}
-use Rattle.sqlite.specs.Given.{HasGiven, HasBegun, IsPlain, IsRefused}
-use Rattle.sqlite.specs.Listing.{understood}
+use Rattle.sqlite.specs.Given.{HasGiven, HasBegun, IsRefused}
 use Rattle.sqlite.specs.Next.{HasMoved}
 use Rattle.sqlite.specs.declared.error.Error.{Error}
 use Rattle.sqlite.specs.declared.rows.stream.Rows.{Rows}
 use Rattle.sqlite.proofs.Callers.{begun_plain, given_begin}
 use Rattle.sqlite_trees.specs.declared.store.Store.{Ghosts}
 use Rattle.dep_types.specs.Writing.{HasRisen}
-use Rattle.dep_streams.specs.Clauses.{GivesBytes}
+use Rattle.dep_streams.specs.Clauses.{OnlyShows, StaysOver, ReadsOver, FailsOver, GivesOver}
 use Rattle.dep_types.specs.declared.store_fault.StoreFault.{StoreFault}
 use Rattle.dep_types.specs.declared.store_fault.StoreFault.TheVariants as store
 use Rattle.dep_tables.specs.Clauses.{FailsToAsk}
 use Rattle.dep_tables.specs.Faults.{fault_for}
 use Rattle.dep_tables.specs.Rows.{IsBytesValue}
-use Rattle.dep_streams.specs.Causes.{FailsToGive}
+use Rattle.dep_streams.specs.Causes.{FailsToGive, FailsToSend}
 use Rattle.dep_streams.specs.Causes.FailsToGive.{query_failed, too_few, unread, uncounted}
-use Rattle.dep_streams.specs.Faults.{stopped_by, IsStoppedBy}
+use Rattle.dep_streams.specs.Faults.{BlamesOutlet, stopped_by, IsStoppedBy}
 use Rattle.dep_streams.specs.Sent.{blob_of, joined, GivesRow, GivesSized, StopsBetween, SendsSized}
 use Rattle.dep_streams.specs.declared.fault.BlockFault.{BlockFault}
 use Rattle.dep_streams.specs.declared.fault.BlockFault.TheVariants.{Writer, Store, Memory}
 use Rattle.dep_streams.proofs.NextRow as row
+use Rattle.dep_streams.proofs.NextRow.{begun_stays, refused_stays}
+use Rattle.dep_streams.proofs.Stills.{commits_none}
 use Rattle.dep_streams.proofs.ShownFrom.{shown_from}
 use Rattle.dep_streams.proofs.FaultsTold.{stopped_for}
-use Rattle.dep_streams.proofs.SendingLemmas.{all_sent, begins_from, clean_was, commits_nothing, cut_sized, failed_then, fails_from, joined_more, less_left, refused_left, some_left, stops_sized}
+use Rattle.dep_streams.proofs.SendingLemmas.{all_sent, begins_from, cut_sized, fails_from, joined_more, less_left, some_left, stops_sized}
 
 -- what the sending of a query's rows leaves, by what it answers
-pub record EndsSending (sql : List ℕ) (params : Row) (first new : State) (size : ℕ) (start taken : Option (List ℕ)) (were are : ℕ) (result : Result (Unit {0}) BlockFault) : Type 0 where
-  pub streams : GivesBytes start taken (λ sent. HasCleanDisk new → IsPlain (understood first.now.schema sql) → SendsSized sql params first size sent result)
-  pub why : HasCleanDisk new → IsPlain (understood first.now.schema sql) → IfErr result (IsStoppedBy (FailsToGive sql params (Some size) first new))
-  pub ok : HasCleanDisk new → IsPlain (understood first.now.schema sql) → OnOk result (IsUnchanged first new)
-  pub err : HasCleanDisk new → IsPlain (understood first.now.schema sql) → OnErr result (IsUnchanged first new ⊎ IsRolledBack first new)
-  pub clean : HasCleanDisk new → HasCleanDisk first
-  pub survives : IsPlain (understood first.now.schema sql) → Survives first new (λ _. ⊥)
-  pub kept : OnOk result (are ≡ were)
-  pub cause : result ≡ Err Writer → HasRisen were are
-  pub others : result ≢ Err Writer → are ≡ were
+pub record EndsSending {S : Type 0} (g : Ghosts S) (sql : List ℕ) (params : Row) (first new : Held S) (size : ℕ) (start taken : Option (List ℕ)) (were are : ℕ) (result : Result (Unit {0}) BlockFault) : Type 0 where
+  pub streams : GivesOver (OnlyShows sql) g first new start taken (λ s sent. SendsSized sql params s size sent result)
+  pub why : FailsOver (OnlyShows sql) g first new result (FailsToSend sql params size)
+  pub ok : ReadsOver (OnlyShows sql) g first new result
+  pub stays : StaysOver (OnlyShows sql) g first new
+  pub outlet : BlamesOutlet Writer were are result
 
 -- the rows so far were sent, and there is more to send
-pub record HasSent {S : Type 0} (g : Ghosts S) (sql : List ℕ) (params : Row) (first : State) (now : Held S) (size left count : ℕ) (start taken : Option (List ℕ)) (were are : ℕ) : Type 0 where
+pub record HasSent {S : Type 0} (g : Ghosts S) (sql : List ℕ) (params : Row) (first now : Held S) (size left count : ℕ) (start taken : Option (List ℕ)) (were are : ℕ) : Type 0 where
   pub some : 0 < left
   pub sent : List ℕ
   pub counted : left + length sent ≡ size
   pub appended : Appends start taken sent
-  pub shown : HasCleanDisk (state g now) → IsPlain (understood first.now.schema sql)
-      → (given : List Row) × HasGiven g sql params now given × IsUnchanged first (state g now) × (sent ≡ joined given) × (length given ≡ count)
-  pub clean : HasCleanDisk (state g now) → HasCleanDisk first
-  pub survives : IsPlain (understood first.now.schema sql) → Survives first (state g now) (λ _. ⊥)
+  pub shown : HasCleanDisk (state g now) → OnlyShows sql (state g first)
+      → (given : List Row) × HasGiven g sql params now given × IsUnchanged (state g first) (state g now) × (sent ≡ joined given) × (length given ≡ count)
+  pub stays : StaysOver (OnlyShows sql) g first now
   pub same : are ≡ were
 
 -- ---- faults
@@ -71,23 +67,17 @@ not_writer store.Store e = cc
 not_writer store.Memory e = cc
 
 -- a fault of the store behind whole rows
-stopped : (sql : List ℕ) (params : Row) (first new : State) (size : ℕ) (start taken : Option (List ℕ)) (were are : ℕ) (sent : List ℕ) (fault : StoreFault)
+stopped : {S : Type 0} (g : Ghosts S) (sql : List ℕ) (params : Row) (first new : Held S) (size : ℕ) (start taken : Option (List ℕ)) (were are : ℕ) (sent : List ℕ) (fault : StoreFault)
     → length sent < size → Appends start taken sent → are ≡ were
-    → (HasCleanDisk new → IsPlain (understood first.now.schema sql) → StopsBetween sql params first sent)
-    → (HasCleanDisk new → IsPlain (understood first.now.schema sql) → FailsToGive sql params (Some size) first new fault)
-    → (HasCleanDisk new → IsPlain (understood first.now.schema sql) → IsUnchanged first new ⊎ IsRolledBack first new)
-    → (HasCleanDisk new → HasCleanDisk first) → (IsPlain (understood first.now.schema sql) → Survives first new (λ _. ⊥))
-    → EndsSending sql params first new size start taken were are (Err (stopped_by fault))
-stopped sql params first new size start taken were are sent fault low appended same between why left clean survives = record {
-  streams = (sent, appended, λ late plain. stops_sized sql params first size sent fault low (between late plain));
-  why = λ late plain. stopped_for (FailsToGive sql params (Some size) first new) fault (why late plain);
+    → (HasCleanDisk (state g new) → OnlyShows sql (state g first) → StopsBetween sql params (state g first) sent)
+    → (HasCleanDisk (state g new) → OnlyShows sql (state g first) → FailsToGive sql params (Some size) (state g first) (state g new) fault)
+    → StaysOver (OnlyShows sql) g first new → EndsSending g sql params first new size start taken were are (Err (stopped_by fault))
+stopped g sql params first new size start taken were are sent fault low appended same between why stays = record {
+  streams = (sent, appended, λ late plain. stops_sized sql params (state g first) size sent fault low (between late plain));
+  why = λ late plain. stopped_for (FailsToGive sql params (Some size) (state g first) (state g new)) fault (why late plain);
   ok = λ late plain. tt;
-  err = left;
-  clean = clean;
-  survives = survives;
-  kept = tt;
-  cause = λ is. absurd (not_writer fault (fault_is (Unit {0}) (stopped_by fault) Writer is));
-  others = λ _. same;
+  stays = stays;
+  outlet = record { kept = tt; cause = λ is. absurd (not_writer fault (fault_is (Unit {0}) (stopped_by fault) Writer is)); others = λ _. same };
 }
 
 -- the error that is told of a query
@@ -99,34 +89,29 @@ told sql params at new e failed = (e, inl failed, refl)
 -- no query began
 pub not_begun : {S X : Type 0} (g : Ghosts S) (sql : List ℕ) (params : Row) (old new : Held S) (size : ℕ) (taken : Option (List ℕ)) (are : ℕ) (result : Result X Error) (error : Error) (fault : BlockFault)
     → 0 < size → fault ≡ stopped_by (fault_for error) → OnErr result (IsRefused g sql params old result new) → result ≡ Err error
-    → EndsSending sql params (state g old) (state g new) size taken taken are are (Err fault)
+    → EndsSending g sql params old new size taken taken are are (Err fault)
 not_begun {X = X} g sql params old new size taken are result error fault some of left is =
     let it : IsRefused g sql params old result new = subst (λ (r : Result X Error). OnErr r (IsRefused g sql params old result new)) is left in
-    let failed : HasCleanDisk (state g new) → FailsToQuery sql params (state g old) (state g new) error =
-    λ late. subst (λ (r : Result X Error). IfErr r (FailsToQuery sql params (state g old) (state g new))) is (it.err late) in
-    subst (λ (f : BlockFault). EndsSending sql params (state g old) (state g new) size taken taken are are (Err f)) (sym of)
-    (stopped sql params (state g old) (state g new) size taken taken are are [] (fault_for error) some (Appends-nil taken) refl
+    subst (λ (f : BlockFault). EndsSending g sql params old new size taken taken are are (Err f)) (sym of)
+    (stopped g sql params old new size taken taken are are [] (fault_for error) some (Appends-nil taken) refl
     (λ late plain. record { given = []; begins = inl refl; sends = refl })
-    (λ late plain. query_failed (told sql params (state g old) (state g new) error (failed late)))
-    (λ late plain. refused_left sql params (state g old) (state g new) error plain (failed late))
-    (clean_was (state g old) (state g new) (CommitsShowing sql params (state g old)) it.survives)
-    (λ plain. commits_nothing sql params (state g old) (state g new) plain it.survives))
+    (λ late plain. query_failed (told sql params (state g old) (state g new) error (subst (λ (r : Result X Error). IfErr r (FailsToQuery sql params (state g old) (state g new))) is (it.err late))))
+    (refused_stays g sql params old new result error it is))
 
 all_left : (size : ℕ) → size + 0 ≡ size
 all_left size = omega arith
 
 -- one began, and nothing was sent
 pub none_sent : {S : Type 0} (g : Ghosts S) (sql : List ℕ) (params : Row) (old new : Held S) (size : ℕ) (taken : Option (List ℕ)) (are : ℕ)
-    → 0 < size → (HasCleanDisk (state g new) → HasBegun g sql params old new) → Survives (state g old) (state g new) (CommitsShowing sql params (state g old))
-    → HasSent g sql params (state g old) new size size 0 taken taken are are
-none_sent g sql params old new size taken are some begun survives = record {
+    → 0 < size → (HasCleanDisk (state g new) → HasBegun g sql params old new) → (old.in_transaction ≡ false → new.in_transaction ≡ false)
+    → Survives (state g old) (state g new) (CommitsShowing sql params (state g old)) → HasSent g sql params old new size size 0 taken taken are are
+none_sent g sql params old new size taken are some begun mode survives = record {
   some = some;
   sent = [];
   counted = all_left size;
   appended = Appends-nil taken;
   shown = λ clean plain. let none = begun_plain g sql params old new plain (begun clean) in ([], none.0, none.1, refl, refl);
-  clean = clean_was (state g old) (state g new) (CommitsShowing sql params (state g old)) survives;
-  survives = λ plain. commits_nothing sql params (state g old) (state g new) plain survives;
+  stays = begun_stays g sql params old new begun mode survives;
   same = refl;
 }
 
@@ -151,35 +136,31 @@ cut_why sql params first new size left sent given it Store old next gave refused
     go (inr over) = inr (more_than left (length sent) (length (joined (given ++ it ∷ []))) size (length (blob_of it)) over counted
         (ap length (sym (joined_more sent given it is)) ∙ length-append sent (blob_of it)))
 
-begun : {S : Type 0} (g : Ghosts S) (sql : List ℕ) (params : Row) (first : State) (now : Held S) (given : List Row) → HasGiven g sql params now given → IsUnchanged first (state g now) → Begins sql params first given
-begun g sql params first now given has same = begins_from sql params first (state g now) given same (given_begin g sql params now given has)
+begun : {S : Type 0} (g : Ghosts S) (sql : List ℕ) (params : Row) (first now : Held S) (given : List Row) → HasGiven g sql params now given → IsUnchanged (state g first) (state g now) → Begins sql params (state g first) given
+begun g sql params first now given has same = begins_from sql params (state g first) (state g now) given same (given_begin g sql params now given has)
 
-module _ {S : Type 0} {g : Ghosts S} {sql : List ℕ} {params : Row} {first : State} {size left count : ℕ} {start taken : Option (List ℕ)} {were are : ℕ} where
+module _ {S : Type 0} {g : Ghosts S} {sql : List ℕ} {params : Row} {first : Held S} {size left count : ℕ} {start taken : Option (List ℕ)} {were are : ℕ} where
   low : {now : Held S} (was : HasSent g sql params first now size left count start taken were are) → length was.sent < size
   low was = some_left left was.sent size was.some was.counted
 
   -- no more rows can be counted
-  pub ends_uncounted : (now : Held S) → HasSent g sql params first now size left count start taken were are → 2 ^ 64 - 1 ≤ count → EndsSending sql params first (state g now) size start taken were are (Err Store)
-  ends_uncounted now was full = stopped sql params first (state g now) size start taken were are was.sent store.Store (low was) was.appended was.same
+  pub ends_uncounted : (now : Held S) → HasSent g sql params first now size left count start taken were are → 2 ^ 64 - 1 ≤ count → EndsSending g sql params first now size start taken were are (Err Store)
+  ends_uncounted now was full = stopped g sql params first now size start taken were are was.sent store.Store (low was) was.appended was.same
       (λ late plain. let x = was.shown late plain in record { given = x.0; begins = inr (begun g sql params first now x.0 x.1 x.2); sends = x.3 })
-      (λ late plain. let x = was.shown late plain in uncounted x.0 (begun g sql params first now x.0 x.1 x.2) (subst (λ n. 2 ^ 64 - 1 ≤ n) (sym x.4) full) refl)
-      (λ late plain. inl (was.shown late plain).2) was.clean was.survives
+      (λ late plain. let x = was.shown late plain in uncounted x.0 (begun g sql params first now x.0 x.1 x.2) (subst (λ n. 2 ^ 64 - 1 ≤ n) (sym x.4) full) refl) was.stays
 
   module _ (old new : Rows S g) (result : Result (Option (Bor Row)) Error) (moved : HasMoved g old result new)
       (was : HasSent g sql params first old.conn.now size left count start taken were are) where
     earlier : HasCleanDisk (state g new.conn.now) → HasCleanDisk (state g old.conn.now)
     earlier = row.clean_before g old new result moved
 
-    clean : HasCleanDisk (state g new.conn.now) → HasCleanDisk first
-    clean late = was.clean (earlier late)
-
-    survives : IsPlain (understood first.now.schema sql) → Survives first (state g new.conn.now) (λ _. ⊥)
-    survives plain = row.survives_on g old new result moved first (was.survives plain)
+    stays : StaysOver (OnlyShows sql) g first new.conn.now
+    stays = row.stays_on g old new result moved first was.stays (λ late plain. (was.shown late plain).2)
 
     -- the rows before this one, and it
-    more : (it : Bor Row) → result ≡ Ok (Some it) → HasCleanDisk (state g new.conn.now) → IsPlain (understood first.now.schema sql)
-        → (given : List Row) × HasGiven g sql params old.conn.now given × IsUnchanged first (state g old.conn.now) × (was.sent ≡ joined given)
-        × HasGiven g sql params new.conn.now (given ++ it.now ∷ []) × IsUnchanged first (state g new.conn.now) × (length given ≡ count)
+    more : (it : Bor Row) → result ≡ Ok (Some it) → HasCleanDisk (state g new.conn.now) → OnlyShows sql (state g first)
+        → (given : List Row) × HasGiven g sql params old.conn.now given × IsUnchanged (state g first) (state g old.conn.now) × (was.sent ≡ joined given)
+        × HasGiven g sql params new.conn.now (given ++ it.now ∷ []) × IsUnchanged (state g first) (state g new.conn.now) × (length given ≡ count)
     more it is late plain =
         let x = was.shown (earlier late) plain in (
           x.0,
@@ -187,61 +168,57 @@ module _ {S : Type 0} {g : Ghosts S} {sql : List ℕ} {params : Row} {first : St
           x.2,
           x.3,
           (rw is at (moved.ok late)) sql params x.0 x.1,
-          row.unchanged_on g old new result moved first (Some it) is late x.2,
+          row.unchanged_on g old new result moved (state g first) (Some it) is late x.2,
           x.4,
         )
 
-    between : HasCleanDisk (state g new.conn.now) → IsPlain (understood first.now.schema sql) → StopsBetween sql params first was.sent
+    between : HasCleanDisk (state g new.conn.now) → OnlyShows sql (state g first) → StopsBetween sql params (state g first) was.sent
     between late plain =
         let x = was.shown (earlier late) plain in record { given = x.0; begins = inr (begun g sql params first old.conn.now x.0 x.1 x.2); sends = x.3 }
 
     -- it was not given
     pub ends_failed : (error : Error) → result ≡ Err error → (fault : BlockFault) → fault ≡ stopped_by (fault_for error)
-        → EndsSending sql params first (state g new.conn.now) size start taken were are (Err fault)
+        → EndsSending g sql params first new.conn.now size start taken were are (Err fault)
     ends_failed error is fault of =
-        subst (λ (f : BlockFault). EndsSending sql params first (state g new.conn.now) size start taken were are (Err f)) (sym of)
-        (stopped sql params first (state g new.conn.now) size start taken were are was.sent (fault_for error) (low was) was.appended was.same between
+        subst (λ (f : BlockFault). EndsSending g sql params first new.conn.now size start taken were are (Err f)) (sym of)
+        (stopped g sql params first new.conn.now size start taken were are was.sent (fault_for error) (low was) was.appended was.same between
         (λ late plain. let x = was.shown (earlier late) plain in
-        query_failed (told sql params first (state g new.conn.now) error
-        (fails_from sql params first (state g old.conn.now) (state g new.conn.now) error plain x.2 (was.survives plain) ((rw is at (moved.err late)) sql params x.0 x.1))))
-        (λ late plain. let x = was.shown (earlier late) plain in
-        failed_then sql params first (state g old.conn.now) (state g new.conn.now) error plain x.2 ((rw is at (moved.err late)) sql params x.0 x.1))
-        clean survives)
+        query_failed (told sql params (state g first) (state g new.conn.now) error
+        (fails_from sql params (state g first) (state g old.conn.now) (state g new.conn.now) error plain x.2 (commits_none was.stays plain) ((rw is at (moved.err late)) sql params x.0 x.1))))
+        stays)
 
     -- there is none
-    pub ends_short : result ≡ Ok None → EndsSending sql params first (state g new.conn.now) size start taken were are (Err Store)
+    pub ends_short : result ≡ Ok None → EndsSending g sql params first new.conn.now size start taken were are (Err Store)
     ends_short is =
-        stopped sql params first (state g new.conn.now) size start taken were are was.sent store.Store (low was) was.appended was.same between
+        stopped g sql params first new.conn.now size start taken were are was.sent store.Store (low was) was.appended was.same between
         (λ late plain. let x = was.shown (earlier late) plain in
-        too_few x.0 (shown_from sql params first (state g old.conn.now) (state g new.conn.now) x.0 x.2 plain ((rw is at (moved.ok late)) sql params x.0 x.1))
-        (subst (λ (l : List ℕ). length l < size) x.3 (low was)) refl)
-        (λ late plain. inl (row.unchanged_on g old new result moved first None is late (was.shown (earlier late) plain).2))
-        clean survives
+        too_few x.0 (shown_from sql params (state g first) (state g old.conn.now) (state g new.conn.now) x.0 x.2 plain ((rw is at (moved.ok late)) sql params x.0 x.1))
+        (subst (λ (l : List ℕ). length l < size) x.3 (low was)) refl) stays
 
     module _ (it : Bor Row) (is : result ≡ Ok (Some it)) (next : Option (List ℕ)) (later : ℕ) where
       -- it was not sent, or in part
       pub ends_cut : (fault : BlockFault) → GivesRow taken next (blob_of it.now) (Err fault)
           → (fails ℕ fault ≡ fails ℕ Store → (¬ (IsBytesValue (column it.now 2))) ⊎ (left < length (blob_of it.now)))
-          → (fails ℕ fault ≡ fails ℕ Writer → HasRisen are later) → (fails ℕ fault ≢ fails ℕ Writer → later ≡ are)
-          → EndsSending sql params first (state g new.conn.now) size start next were later (Err fault)
-      ends_cut fault gave refused cause others = record {
-        streams = cut_sized sql params first size start taken next was.sent it.now (HasCleanDisk (state g new.conn.now)) (IsPlain (understood first.now.schema sql)) fault was.appended gave (low was)
+          → BlamesOutlet Writer are later (fails ℕ fault)
+          → EndsSending g sql params first new.conn.now size start next were later (Err fault)
+      ends_cut fault gave refused blames = record {
+        streams = cut_sized sql params (state g first) size start taken next was.sent it.now (HasCleanDisk (state g new.conn.now)) (OnlyShows sql (state g first)) fault was.appended gave (low was)
             (λ late plain. let x = more it is late plain in (x.0, begun g sql params first old.conn.now x.0 x.1 x.2, begun g sql params first new.conn.now (x.0 ++ it.now ∷ []) x.4 x.5, x.3));
         why = λ late plain.
             let x = more it is late plain in
-            cut_why sql params first (state g new.conn.now) size left was.sent x.0 it.now fault _ _ gave refused was.counted x.3 (begun g sql params first new.conn.now (x.0 ++ it.now ∷ []) x.4 x.5);
+            cut_why sql params (state g first) (state g new.conn.now) size left was.sent x.0 it.now fault _ _ gave refused was.counted x.3 (begun g sql params first new.conn.now (x.0 ++ it.now ∷ []) x.4 x.5);
         ok = λ late plain. tt;
-        err = λ late plain. inl (more it is late plain).5;
-        clean = clean;
-        survives = survives;
-        kept = tt;
-        cause = λ e. subst (λ (n : ℕ). HasRisen n later) was.same (cause (ap (fails ℕ) (fault_is (Unit {0}) fault Writer e)));
-        others = λ not. others (λ e. not (ap (fails (Unit {0})) (fault_is ℕ fault Writer e))) ∙ was.same;
+        stays = stays;
+        outlet = record {
+          kept = tt;
+          cause = λ e. subst (λ (n : ℕ). HasRisen n later) was.same (blames.cause (ap (fails ℕ) (fault_is (Unit {0}) fault Writer e)));
+          others = λ not. blames.others (λ e. not (ap (fails (Unit {0})) (fault_is ℕ fault Writer e))) ∙ was.same;
+        };
       }
 
       module _ (n : ℕ) (gave : GivesSized taken next (blob_of it.now) (Ok n)) (fits : n ≤ left) (kept : later ≡ are) where
         -- it was sent, and is the last
-        pub ends_whole : left - n ≡ 0 → EndsSending sql params first (state g new.conn.now) size start next were later (Ok tt)
+        pub ends_whole : left - n ≡ 0 → EndsSending g sql params first new.conn.now size start next were later (Ok tt)
         ends_whole none = record {
           streams = (
             was.sent ++ blob_of it.now,
@@ -253,12 +230,8 @@ module _ {S : Type 0} {g : Ghosts S} {sql : List ℕ} {params : Row} {first : St
           );
           why = λ late plain. tt;
           ok = λ late plain. (more it is late plain).5;
-          err = λ late plain. tt;
-          clean = clean;
-          survives = survives;
-          kept = kept ∙ was.same;
-          cause = λ e. absurd (no_fault (Unit {0}) tt Writer e);
-          others = λ _. kept ∙ was.same;
+          stays = stays;
+          outlet = record { kept = kept ∙ was.same; cause = λ e. absurd (no_fault (Unit {0}) tt Writer e); others = λ _. kept ∙ was.same };
         }
 
         -- it was sent, and is not the last
@@ -269,7 +242,6 @@ module _ {S : Type 0} {g : Ghosts S} {sql : List ℕ} {params : Row} {first : St
           counted = less_left left n size was.sent (blob_of it.now) fits gave.1 was.counted;
           appended = Appends-trans start taken next was.sent (blob_of it.now) was.appended gave.0;
           shown = λ late plain. let x = more it is late plain in (x.0 ++ it.now ∷ [], x.4, x.5, joined_more was.sent x.0 it.now x.3, one_longer x.0 it.now count x.6);
-          clean = clean;
-          survives = survives;
+          stays = stays;
           same = kept ∙ was.same;
         }

@@ -1,30 +1,25 @@
 -- Rows that are sent one at a time.
-use Rattle.std.proofs.Common.{◌≡◌, ◌⊎◌, inl, inr, List, ℕ, [], ◌∷◌, ◌++◌, ◌<◌, length, append-nil, append_assoc, Result, Ok, Err, OnOk, OnErr, Option, IsTrue, true, false, sym, ap, subst, ◌∙◌, ◌+◌, ◌-◌, ◌≤◌, length-append, arith}
+use Rattle.std.proofs.Common.{◌≡◌, ◌⊎◌, inl, inr, List, ℕ, [], ◌∷◌, ◌++◌, ◌<◌, length, append-nil, append_assoc, Ok, Err, Option, true, false, sym, ap, subst, ◌∙◌, ◌+◌, ◌-◌, ◌≤◌, length-append, arith}
 use Rattle.std.specs.Io.KnownBytes.{Appends}
 use Rattle.std.proofs.KnownBytes.{Appends-trans}
 use Rattle.sqlite.specs.Order.{Row}
-use Rattle.sqlite_trees.specs.Tree.{Trees}
 use Rattle.sqlite.specs.Effect.{Database}
 use Rattle.sqlite.specs.declared.error.Error.{Error}
 use Rattle.sqlite.specs.Listing.{understood, IsSourceOf, reads_listing}
-use Rattle.sqlite.specs.State.{State, Survives, CommitsShowing, IsUnchanged, IsRolledBack, Begins, FailsToQuery, FailsToShow, IsNotRun, IsTooLate, HasCleanDisk}
+use Rattle.sqlite.specs.State.{State, Survives, IsUnchanged, Begins, FailsToQuery, FailsToShow, IsNotRun, IsTooLate}
 use Rattle.sqlite.specs.Clock.{timed}
 use Rattle.sqlite.specs.Effect.{RefusesToRead}
 use Rattle.sqlite.proofs.StreamLemmas.{fails_since}
 use Rattle.dep_streams.proofs.ShownFrom.{shown_from}
 use Rattle.dep_streams.specs.Causes.{FailsToGive}
 use Rattle.dep_streams.specs.Causes.FailsToGive.{query_failed, too_few, unread, uncounted}
-use Rattle.sqlite.proofs.StateLemmas.{survives_weaker}
-use Rattle.sqlite.proofs.Callers.{IsPlain, never_commits, unchanged_then}
+use Rattle.sqlite.proofs.Callers.{IsPlain, unchanged_then}
 use Rattle.dep_streams.specs.declared.fault.BlockFault.{BlockFault}
 use Rattle.dep_streams.specs.declared.fault.BlockFault.TheVariants.{Writer, Store, Memory}
 use Rattle.dep_types.specs.declared.store_fault.StoreFault.{StoreFault}
 use Rattle.dep_types.specs.declared.store_fault.StoreFault.TheVariants as store
 use Rattle.dep_streams.specs.Faults.{stopped_by}
 use Rattle.dep_streams.specs.Sent.{blob_of, joined, GivesRow, StopsBetween, SendsSized}
-
-pub commits_nothing : (sql : List ℕ) (params : Row) (old new : State) → IsPlain (understood old.now.schema sql) → Survives old new (CommitsShowing sql params old) → Survives old new (λ _. ⊥)
-commits_nothing sql params old new plain = survives_weaker old new _ _ (λ _ db. never_commits sql params old db plain)
 
 -- what begins an answer begins one of the first state
 pub begins_from : (sql : List ℕ) (params : Row) (first old : State) (rows : List Row) → IsUnchanged first old → Begins sql params old rows → Begins sql params first rows
@@ -46,48 +41,9 @@ joined_push (r ∷ given) row = ap (λ more. blob_of r ++ more) (joined_push giv
 pub joined_more : (sent : List ℕ) (given : List Row) (row : Row) → sent ≡ joined given → sent ++ blob_of row ≡ joined (given ++ row ∷ [])
 joined_more sent given row sends = ap (λ l. l ++ blob_of row) sends ∙ sym (joined_push given row)
 
-pub rolled_then : (a b c : State) → IsUnchanged a b → IsUnchanged b c ⊎ IsRolledBack b c → IsUnchanged a c ⊎ IsRolledBack a c
-rolled_then a b c same (inl still) = inl (unchanged_then a b c same still)
-rolled_then a b c same (inr back) = inr (record {
-  was_open = λ _. same.0.was_open;
-  undone = λ h. ((back.undone h).0 ∙ same.0.committed_is, (back.undone h).1 ∙ same.0.committed_is);
-  autocommit = back.autocommit;
-  unmarked = back.unmarked;
-  counts = record { changes = back.counts.changes ∙ same.1.changes; last_rowid = back.counts.last_rowid ∙ same.1.last_rowid };
-})
-
-pub was_open : (a b : State) → IsUnchanged a b ⊎ IsRolledBack a b → IsTrue b.is_open → IsTrue a.is_open
-was_open a b (inl same) h = same.0.was_open
-was_open a b (inr back) h = back.was_open h
-
-none_before : (before after : ℕ) → before ≤ after → after ≡ 0 → before ≡ 0
-none_before before after fewer none = omega arith
-
--- a disk that is clean was so before
-pub clean_was : (old new : State) (Commits : Trees → Type 0) → Survives old new Commits → HasCleanDisk new → HasCleanDisk old
-clean_was old new Commits kept late = none_before _ _ kept.clean late
-
 -- a plain query shows no rows of a write
 never_late : (sql : List ℕ) (params : Row) (old new : State) (e : Error) → IsPlain (understood old.now.schema sql) → IsTooLate sql params old new e → ⊥
 never_late sql params old new e plain late = let none = (subst IsPlain late.1.is plain).0 in let never : false ≡ true = rw none at late.2 in cc
-
--- a plain query that does not begin
-pub refused_left : (sql : List ℕ) (params : Row) (old new : State) (e : Error) → IsPlain (understood old.now.schema sql) → FailsToQuery sql params old new e → IsUnchanged old new ⊎ IsRolledBack old new
-unfolding FailsToQuery IsNotRun
-refused_left sql params old new e plain (inl (inl refused)) = inl refused.1
-refused_left sql params old new e plain (inl (inr failed)) = inr failed.3
-refused_left sql params old new e plain (inr h) =
-    let none = (subst IsPlain h.1.is plain).0 in
-    inl (subst (FailsToShow old new sql h.0 (timed params h.0.formats h.1.now) e) none h.2).3
-
--- a plain query that was under way
-pub failed_then : (sql : List ℕ) (params : Row) (first old new : State) (e : Error) → IsPlain (understood first.now.schema sql) → IsUnchanged first old → FailsToQuery sql params old new e → IsUnchanged first new ⊎ IsRolledBack first new
-failed_then sql params first old new e plain same failed =
-    rolled_then first old new same (refused_left sql params old new e (subst (λ (d : Database). IsPlain (understood d.schema sql)) (sym same.0.now_is) plain) failed)
-
-pub left_by : {A E : Type 0} (r : Result A E) (a b : State) → OnOk r (IsUnchanged a b) → OnErr r (IsUnchanged a b ⊎ IsRolledBack a b) → IsUnchanged a b ⊎ IsRolledBack a b
-left_by (Ok x) a b ok err = inl ok
-left_by (Err e) a b ok err = err
 
 pub stops_sized : (sql : List ℕ) (params : Row) (old : State) (size : ℕ) (sent : List ℕ) (fault : StoreFault) → length sent < size → StopsBetween sql params old sent → SendsSized sql params old size sent (Err (stopped_by fault))
 stops_sized sql params old size sent store.Store low h = (h, low)

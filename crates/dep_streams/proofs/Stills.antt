@@ -1,12 +1,56 @@
 -- Calls of which each leaves the tables as they are.
-use Rattle.std.proofs.Common.{◌≡◌, ◌⊎◌, inl, refl, IsTrue, sym, ap, subst}
-use Rattle.sqlite.specs.State.{State, IsUnchanged, IsRolledBack, Survives}
-use Rattle.sqlite.proofs.Callers.{unchanged_then}
-use Rattle.sqlite.proofs.StateLemmas.{survives_then}
+use Rattle.std.proofs.Common.{◌≡◌, ◌⊎◌, inl, inr, ◌∙◌, ◌≤◌, ℕ, List, Option, Some, None, false, refl, IsTrue, sym, ap, subst, arith}
+use Rattle.sqlite.specs.Order.{Row}
+use Rattle.sqlite.specs.Clock.{timed}
+use Rattle.sqlite.specs.State.{State, HasCleanDisk, IsUnchanged, IsRolledBack, Survives, FailsToQuery, Shown, ShowsRows, CommitsShowing}
+use Rattle.sqlite.specs.Tree.{Trees}
+use Rattle.sqlite_schema.specs.declared.command.Returning.{Returning}
+use Rattle.sqlite.specs.Held.{Held, state}
+use Rattle.sqlite.specs.declared.error.Error.{Error}
+use Rattle.sqlite.proofs.Callers.{unchanged_then, never_commits}
+use Rattle.sqlite.proofs.StateLemmas.{survives_then, survives_weaker, unchanged}
+use Rattle.sqlite_trees.specs.declared.store.Store.{Ghosts}
+use Rattle.dep_statements.proofs.Asked.{asks_leave, shown_unchanged}
+use Rattle.dep_tables.specs.Clauses.{CommitsNothing, IsPlainIn}
 use Rattle.dep_tables.specs.Schema.{our_schema}
 use Rattle.dep_tables.specs.Tables.{tables_in, tables_of, HasTablesOf, IsOurs, HasOurTables, IsKnown}
-use Rattle.dep_streams.proofs.Streams.{kept_same, kept_then, kept_failed}
+use Rattle.dep_row_maps.proofs.Causes.{survives_itself}
+use Rattle.dep_streams.specs.Clauses.{StaysOver}
 use Rattle.dep_streams.specs.Reading.{IsKept}
+
+-- ---- one query
+
+-- what shows rows was open
+pub shown_open : (sql : List ℕ) (params : Row) (old new : State) (rows : List Row) → Shown sql params old new rows → IsTrue old.is_open
+unfolding Shown
+shown_open sql params old new rows h = either h.0.returning h.2
+  where
+    either : (returning : Option Returning) → ShowsRows old new sql h.0 (timed params h.0.formats h.1.now) rows returning → IsTrue old.is_open
+    either None shows = shows.3.0.was_open
+    either (Some what) shows = shows.1.shown.was_open
+
+pub left_open : (old new : State) → IsUnchanged old new ⊎ IsRolledBack old new → IsTrue new.is_open → IsTrue old.is_open
+left_open old new (inl same) is_open = same.0.was_open
+left_open old new (inr back) is_open = back.was_open is_open
+
+rolled_then : (a b c : State) → IsUnchanged a b → IsUnchanged b c ⊎ IsRolledBack b c → IsUnchanged a c ⊎ IsRolledBack a c
+rolled_then a b c same (inl still) = inl (unchanged_then a b c same still)
+rolled_then a b c same (inr back) = inr (record {
+  was_open = λ _. same.0.was_open;
+  undone = λ h. ((back.undone h).0 ∙ same.0.committed_is, (back.undone h).1 ∙ same.0.committed_is);
+  autocommit = back.autocommit;
+  unmarked = back.unmarked;
+  counts = record { changes = back.counts.changes ∙ same.1.changes; last_rowid = back.counts.last_rowid ∙ same.1.last_rowid };
+})
+
+none_before : (before after : ℕ) → before ≤ after → after ≡ 0 → before ≡ 0
+none_before before after fewer none = omega arith
+
+-- a disk that is clean was so before
+pub clean_was : (old new : State) (Commits : Trees → Type 0) → Survives old new Commits → HasCleanDisk new → HasCleanDisk old
+clean_was old new Commits kept late = none_before _ _ kept.clean late
+
+-- ---- one call after another
 
 -- nothing was asked, or nothing was changed
 pub record IsStill (old new : State) : Type 0 where
@@ -14,37 +58,104 @@ pub record IsStill (old new : State) : Type 0 where
   pub unchanged : IsTrue old.is_open → IsUnchanged old new
   pub was_open : IsTrue new.is_open → IsTrue old.is_open
 
-pub still_then : (a b c : State) → IsStill a b → IsUnchanged b c → IsStill a c
-still_then a b c still same =
-    let opened = still.was_open same.0.was_open in
-    let all = unchanged_then a b c (still.unchanged opened) same in
-    record { now_is = all.0.now_is; unchanged = λ _. all; was_open = λ _. opened }
+pub still_itself : (now : State) → IsStill now now
+still_itself now = record { now_is = refl; unchanged = unchanged now; was_open = λ is_open. is_open }
 
-pub ours_still : (a b : State) → IsStill a b → IsOurs a → IsOurs b
-ours_still a b still ours = subst HasOurTables (sym still.now_is) ours
+pub still_same : (a b : State) → IsUnchanged a b → IsStill a b
+still_same a b same = record { now_is = same.0.now_is; unchanged = λ _. same; was_open = λ _. same.0.was_open }
+
+pub still_then : (a b c : State) → IsStill a b → IsUnchanged b c → IsUnchanged a c
+still_then a b c still same = unchanged_then a b c (still.unchanged (still.was_open same.0.was_open)) same
+
+pub still_left : {S : Type 0} (g : Ghosts S) (old new : Held S) → (new ≡ old) ⊎ IsUnchanged (state g old) (state g new) → IsStill (state g old) (state g new)
+still_left {S} g old new (inl none) = subst (λ (h : Held S). IsStill (state g old) (state g h)) (sym none) (still_itself (state g old))
+still_left g old new (inr same) = still_same (state g old) (state g new) same
 
 pub tables_still : (a b : State) → IsStill a b → tables_of b ≡ tables_of a
 tables_still a b still = ap (λ db. tables_in db.trees) still.now_is
 
-pub kept_still : (a b : State) → IsStill a b → IsKept a b
-kept_still a b still is_open = kept_same a b (still.unchanged (still.was_open is_open)) is_open
-
-pub failed_still : (a b c : State) → IsStill a b → (IsTrue c.is_open → IsUnchanged b c ⊎ IsRolledBack b c) → IsKept a c
-failed_still a b c still failed is_open =
-    let kept = kept_failed b c (failed is_open) in
-    kept_then a b c (still.unchanged (still.was_open (kept is_open).0.0)) kept is_open
+kept_then : (a b c : State) → IsStill a b → IsKept b c → IsKept a c
+kept_then a b c still kept is_open =
+    let left = kept is_open in
+    rolled_then a b c (still.unchanged (still.was_open (left_open b c left is_open))) left
 
 -- ---- the tables of any version
+
+pub ours_still : (a b : State) → IsStill a b → IsOurs a → IsOurs b
+ours_still a b still ours = subst HasOurTables (sym still.now_is) ours
 
 pub ours_known : (s : State) → IsOurs s → IsKnown s
 ours_known s ours = (our_schema, inl refl, ours)
 
-pub known_same : (a b : State) → IsUnchanged a b → IsKnown a → IsKnown b
-known_same a b same (its, known, ours) = (its, known, subst (HasTablesOf its) (sym same.0.now_is) ours)
-
 pub known_still : (a b : State) → IsStill a b → IsKnown a → IsKnown b
 known_still a b still (its, known, ours) = (its, known, subst (HasTablesOf its) (sym still.now_is) ours)
 
--- two calls that commit nothing
-pub survives_both : (a b c : State) → Survives a b (λ _. ⊥) → Survives b c (λ _. ⊥) → Survives a c (λ _. ⊥)
-survives_both a b c first second = survives_then a b c _ _ (λ _. ⊥) (λ _ db none. none) (λ _ db none. none) first second
+-- ---- what each call keeps
+
+module _ {S : Type 0} {P : State → Type 0} {g : Ghosts S} where
+  -- nothing was asked
+  pub stays_itself : (now : Held S) → StaysOver P g now now
+  stays_itself now = record {
+    honest = λ late. late;
+    was_open = λ late is_open. is_open;
+    mode = λ outside. outside;
+    kept = λ late ours is_open. inl (unchanged (state g now) is_open);
+    survives = survives_weaker (state g now) (state g now) _ _ (λ _ db none. absurd none) (survives_itself (state g now));
+  }
+
+  pub commits_none : {a b : Held S} → StaysOver P g a b → P (state g a) → CommitsNothing (state g a) (state g b)
+  commits_none {a} {b} stays ours = survives_weaker (state g a) (state g b) _ _ (λ _ db other. other ours) stays.survives
+
+  -- the same of fewer tables
+  pub stays_of : {Q : State → Type 0} {a b : Held S} → (Q (state g a) → P (state g a)) → StaysOver P g a b → StaysOver Q g a b
+  stays_of {a = a} {b} fewer stays = record {
+    honest = stays.honest;
+    was_open = stays.was_open;
+    mode = stays.mode;
+    kept = λ late ours. stays.kept late (fewer ours);
+    survives = survives_weaker (state g a) (state g b) _ _ (λ _ db other ours. other (fewer ours)) stays.survives;
+  }
+
+  -- a call behind others that changed nothing
+  pub stays_then : {Q : State → Type 0} {a b c : Held S} → StaysOver P g a b → (HasCleanDisk (state g b) → P (state g a) → IsStill (state g a) (state g b))
+      → (IsStill (state g a) (state g b) → P (state g a) → Q (state g b)) → StaysOver Q g b c → StaysOver P g a c
+  stays_then {a = a} {b} {c} first still next second = record {
+    honest = λ late. first.honest (second.honest late);
+    was_open = λ late is_open. first.was_open (second.honest late) (second.was_open late is_open);
+    mode = λ outside. second.mode (first.mode outside);
+    kept = λ late ours. let so_far = still (second.honest late) ours in kept_then (state g a) (state g b) (state g c) so_far (second.kept late (next so_far ours));
+    survives = survives_then (state g a) (state g b) (state g c) _ _ _ (λ _ db other. other)
+        (λ late db other ours. other (next (still (second.honest late) ours) ours)) first.survives second.survives;
+  }
+
+  -- a query that may commit what it shows of a write, where it only shows
+  pub stays_asked : (sql : List ℕ) (params : Row) {a b : Held S} → (P (state g a) → IsPlainIn (state g a) sql)
+      → (HasCleanDisk (state g b) → IsTrue (state g b).is_open → IsTrue (state g a).is_open)
+      → (HasCleanDisk (state g b) → P (state g a) → IsUnchanged (state g a) (state g b) ⊎ IsRolledBack (state g a) (state g b))
+      → ((state g a).in_transaction ≡ false → (state g b).in_transaction ≡ false)
+      → Survives (state g a) (state g b) (CommitsShowing sql params (state g a)) → StaysOver P g a b
+  stays_asked sql params {a} {b} plain was_open left mode survives = record {
+    honest = clean_was (state g a) (state g b) (CommitsShowing sql params (state g a)) survives;
+    was_open = was_open;
+    mode = mode;
+    kept = λ late ours is_open. left late ours;
+    survives = survives_weaker (state g a) (state g b) _ _ (λ _ db commits ours. never_commits sql params (state g a) db (plain ours) commits) survives;
+  }
+
+  -- all of its rows were shown
+  pub stays_shown : (sql : List ℕ) (params : Row) {a b : Held S} (rows : List Row) → (P (state g a) → IsPlainIn (state g a) sql)
+      → (HasCleanDisk (state g b) → Shown sql params (state g a) (state g b) rows)
+      → ((state g a).in_transaction ≡ false → (state g b).in_transaction ≡ false)
+      → Survives (state g a) (state g b) (CommitsShowing sql params (state g a)) → StaysOver P g a b
+  stays_shown sql params {a} {b} rows plain shown = stays_asked sql params plain (λ late _. shown_open sql params (state g a) (state g b) rows (shown late))
+      (λ late ours. inl (shown_unchanged sql params (state g a) (state g b) (plain ours) rows (shown late)))
+
+  -- it failed
+  pub stays_refused : (sql : List ℕ) (params : Row) {a b : Held S} (e : Error) → (P (state g a) → IsPlainIn (state g a) sql)
+      → (HasCleanDisk (state g b) → FailsToQuery sql params (state g a) (state g b) e)
+      → ((state g a).in_transaction ≡ false → (state g b).in_transaction ≡ false)
+      → Survives (state g a) (state g b) (CommitsShowing sql params (state g a)) → StaysOver P g a b
+  stays_refused sql params {a} {b} e plain failed = stays_asked sql params plain (λ late. left_open (state g a) (state g b) (left late)) (λ late ours. left late)
+    where
+      left : HasCleanDisk (state g b) → IsUnchanged (state g a) (state g b) ⊎ IsRolledBack (state g a) (state g b)
+      left late = asks_leave sql params (state g a) (state g b) e (inl (failed late))

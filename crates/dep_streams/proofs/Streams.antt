@@ -1,15 +1,10 @@
 -- What was sent of the content of a file.
-use Rattle.std.proofs.Common.{◌≡◌, ◌≢◌, ◌⊎◌, inl, inr, ℕ, ◌+◌, ◌<◌, pos, true, false, cond, List, [], ◌∷◌, ◌++◌, length, filter, Option, Some, None, Ok, Err, IsTrue, false, refl, sym, ap, subst, ◌∙◌, append-nil, append_assoc, length-append, is_eq, arith}
+use Rattle.std.proofs.Common.{◌≡◌, ◌≢◌, ◌⊎◌, inl, inr, ℕ, ◌+◌, ◌<◌, pos, true, cond, List, [], ◌∷◌, ◌++◌, length, filter, Option, Some, None, Ok, Err, refl, sym, ap, subst, ◌∙◌, append-nil, append_assoc, length-append, is_eq, arith}
 use Rattle.std.specs.Prelude.{option_map, option_and_then}
 use Rattle.std.specs.List.{flat_map}
 use Rattle.std.specs.FinMap as finmap
 use Rattle.sqlite.specs.State.{IsUnchanged, IsRolledBack, Shown, ShowsRows}
-use Rattle.sqlite.specs.Clock.{timed}
-use Rattle.sqlite_schema.specs.declared.command.Returning.{Returning}
 use Rattle.sqlite.specs.State as db
-use Rattle.sqlite.specs.Held.{Held, state}
-use Rattle.sqlite.proofs.Callers.{unchanged_then}
-use Rattle.sqlite_trees.specs.declared.store.Store.{Ghosts}
 use Rattle.sqlite.specs.declared.types.Value.TheVariants.{Int}
 use Rattle.sqlite_value.specs.Order.{Row, column, value_cmp}
 use Rattle.dep_types.specs.Maps.{Numbered}
@@ -32,7 +27,6 @@ use Rattle.dep_row_maps.proofs.Whole.{file_found_at}
 use Rattle.dep_streams.specs.declared.sizes.FileSize.{FileSize}
 use Rattle.dep_streams.specs.Sizes.{size_values, shown_size}
 use Rattle.dep_types.specs.Streams.{HasNoFile, IsStreamed}
-use Rattle.dep_streams.specs.Reading.{IsKept}
 use Rattle.dep_streams.specs.Faults.{fault_of_blocks}
 use Rattle.sqlite.specs.Given.{IsPlain}
 use Rattle.sqlite.specs.Listing.{understood}
@@ -144,49 +138,6 @@ some_sent t s f size bytes blocks_fault.Memory h z b = short b.0
     short (inr begins) =
         let whole = begun t s z.object f z.file bytes h z.held begins in
         inr (record { whole = z.file.content; has = record { object = z.object; file = z.file; held = z.held; is = refl }; front = record { rest = begins.rest; joined = whole; short = more_after bytes begins.rest (subst (λ n. length bytes < n) (z.sized ∙ ap length whole) b.1) } })
-
--- ---- what is kept
-
-pub kept_same : (old new : db.State) → IsUnchanged old new → IsKept old new
-kept_same old new same = λ is_open. ((same.0.was_open, same.0.committed_is), inl (same.0.now_is, same.0.mode))
-
-pub kept_back : (old new : db.State) → IsRolledBack old new → IsKept old new
-kept_back old new back = λ is_open. ((back.was_open is_open, (back.undone is_open).1), inr ((back.undone is_open).0, back.autocommit))
-
-pub kept_then : (old mid new : db.State) → IsUnchanged old mid → IsKept mid new → IsKept old new
-kept_then old mid new same kept is_open = let k = kept is_open in ((same.0.was_open, k.0.1 ∙ same.0.committed_is), go k.1)
-  where
-    go : ((new.now ≡ mid.now) × (new.in_transaction ≡ mid.in_transaction)) ⊎ ((new.now ≡ mid.committed) × (new.in_transaction ≡ false)) → ((new.now ≡ old.now) × (new.in_transaction ≡ old.in_transaction)) ⊎ ((new.now ≡ old.committed) × (new.in_transaction ≡ false))
-    go (inl x) = inl (x.0 ∙ same.0.now_is, x.1 ∙ same.0.mode)
-    go (inr x) = inr (x.0 ∙ same.0.committed_is, x.1)
-
-pub kept_failed : (old new : db.State) → IsUnchanged old new ⊎ IsRolledBack old new → IsKept old new
-kept_failed old new (inl same) = kept_same old new same
-kept_failed old new (inr back) = kept_back old new back
-
-pub kept_itself : (now : db.State) → IsKept now now
-kept_itself now is_open = ((is_open, refl), inl (refl, refl))
-
-pub kept_asked : {S : Type 0} (g : Ghosts S) (old new : Held S) → (new ≡ old) ⊎ (IsUnchanged (state g old) (state g new) ⊎ IsRolledBack (state g old) (state g new)) → IsKept (state g old) (state g new)
-kept_asked {S = S} g old new (inl none) = subst (λ (h : Held S). IsKept (state g old) (state g h)) (sym none) (kept_itself (state g old))
-kept_asked g old new (inr left) = kept_failed (state g old) (state g new) left
-
-pub still_on : {S : Type 0} (g : Ghosts S) (old : db.State) (mid new : Held S) → IsUnchanged old (state g mid) → (new ≡ mid) ⊎ IsUnchanged (state g mid) (state g new) → IsUnchanged old (state g new)
-still_on {S = S} g old mid new same (inl none) = subst (λ (h : Held S). IsUnchanged old (state g h)) (sym none) same
-still_on g old mid new same (inr still) = unchanged_then old (state g mid) (state g new) same still
-
--- what shows rows was open
-pub shown_open : (sql : List ℕ) (params : Row) (old new : db.State) (rows : List Row) → Shown sql params old new rows → IsTrue old.is_open
-unfolding Shown
-shown_open sql params old new rows h = either h.0.returning h.2
-  where
-    either : (returning : Option Returning) → ShowsRows old new sql h.0 (timed params h.0.formats h.1.now) rows returning → IsTrue old.is_open
-    either None shows = shows.3.0.was_open
-    either (Some what) shows = shows.1.shown.was_open
-
-pub left_open : (old new : db.State) → IsUnchanged old new ⊎ IsRolledBack old new → IsTrue new.is_open → IsTrue old.is_open
-left_open old new (inl same) is_open = same.0.was_open
-left_open old new (inr back) is_open = back.was_open is_open
 
 -- what hinders the blocks, where all was as at first
 pub blocks_from : (o : BlockOwner) (size : Option ℕ) (first old new : db.State) (fault : StoreFault) → IsPlain (understood first.now.schema blocks_of_text) → IsUnchanged first old → db.Survives first old (λ _. ⊥)

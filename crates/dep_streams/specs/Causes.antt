@@ -18,6 +18,9 @@ use Rattle.dep_tables.specs.declared.owner.BlockOwner.{BlockOwner}
 use Rattle.dep_tables.specs.declared.owner.BlockOwner.TheVariants as owner
 use Rattle.dep_tables.specs.declared.sha256s.FileSha256.{FileSha256}
 use Rattle.dep_tables.specs.declared.sha512s.FileSha512.{FileSha512}
+use Rattle.dep_types.specs.declared.stream_fault.StreamFault.{StreamFault}
+use Rattle.dep_streams.specs.Faults.{IsStoppedBy, IsStreamStoppedBy}
+use Rattle.dep_streams.specs.declared.fault.BlockFault.{BlockFault}
 use Rattle.dep_streams.specs.Fixity.{HasFixity, IsKeptSha512, number_if_damaged}
 use Rattle.dep_streams.specs.Sha512s.{next_file_text, IsFileAfter, IsReached, IsValueAfter}
 use Rattle.dep_streams.specs.Sent.{joined}
@@ -43,12 +46,20 @@ pub data FailsToGive (sql : List ℕ) (params : Row) (size : Option ℕ) (old ne
   uncounted : (given : List Row) → Begins sql params old given → 2 ^ 64 - 1 ≤ length given
       → fault ≡ Store → FailsToGive sql params size old new fault
 
--- the same of the blocks of an owner
+-- why they were not all sent, where the outlet did not fail
+abbrev pub FailsToSend : List ℕ → Row → ℕ → State → State → BlockFault → Type 0
+FailsToSend sql params size old new = IsStoppedBy (FailsToGive sql params (Some size) old new)
+
+-- why the blocks of an owner were not all read
 pub data FailsToGiveBlocks (o : BlockOwner) (size : Option ℕ) (old new : State)
     (fault : StoreFault) : Type 0 where
   no_owner : ¬ (IsStorableOwner o) → fault ≡ Store → FailsToGiveBlocks o size old new fault
   not_given : FailsToGive blocks_of_text (owner_values o) size old new fault
       → FailsToGiveBlocks o size old new fault
+
+-- why they were not sent, where the outlet did not fail
+abbrev pub FailsToSendBlocks : BlockOwner → ℕ → State → State → BlockFault → Type 0
+FailsToSendBlocks o size old new = IsStoppedBy (FailsToGiveBlocks o (Some size) old new)
 
 -- why the size of a file was not told
 pub data FailsToFindSize (file : ℕ) (old new : State) (fault : StoreFault) : Type 0 where
@@ -63,6 +74,10 @@ pub data FailsToStream (file : ℕ) (old new : State) (fault : StoreFault) : Typ
       → option_map shown_size (row_at (tables_of old).files file) ≡ Some (size_values found)
       → FailsToGiveBlocks (owner.File file) (Some found.size) old new fault
       → FailsToStream file old new fault
+
+-- why a content was not sent, where the file is there and the outlet did not fail
+abbrev pub FailsToSendFile : ℕ → State → State → StreamFault → Type 0
+FailsToSendFile file old new = IsStreamStoppedBy (FailsToStream file old new)
 
 -- why a content was not loaded; behind a part of it, for want of memory to keep it
 pub data FailsToLoad (file : ℕ) (old new : State) (fault : StoreFault) : Type 0 where
@@ -90,10 +105,10 @@ pub data FailsToCheck (file : FileSha256) (old new : State) (fault : StoreFault)
       → number_if_damaged file found ≢ [] → fault ≡ Memory → FailsToCheck file old new fault
 
 -- one of these files was not checked, where the tables were as at first
-abbrev pub FailsToAudit : {T : Type 0} → (T → State) → List FileSha256 → T → T → StoreFault → Type 0
+abbrev pub FailsToAudit : {T : Type 0} → (T → State) → List FileSha256 → State → State → StoreFault → Type 0
 FailsToAudit {T} state files old new fault =
-    (file : FileSha256) × Contains files file × (at : T) × ((state at).now ≡ (state old).now)
-    × FailsToCheck file (state at) (state new) fault
+    (file : FileSha256) × Contains files file × (at : T) × ((state at).now ≡ old.now)
+    × FailsToCheck file (state at) new fault
 
 -- why the next file behind a number was not told
 pub data FailsToFindFile (after : ℕ) (old new : State) (fault : StoreFault) : Type 0 where
@@ -109,9 +124,8 @@ pub data FailsToHashNext (after : ℕ) (old new : State) (fault : StoreFault) : 
 
 -- The value of the file behind one of the numbers was not computed, where the tables were as at first; or there was no
 -- memory to keep it.
-abbrev pub FailsToHashFiles : {T : Type 0} → (T → State) → T → T → StoreFault → Type 0
+abbrev pub FailsToHashFiles : {T : Type 0} → (T → State) → State → State → StoreFault → Type 0
 FailsToHashFiles {T} state old new fault =
-    (after : ℕ) × IsReached (tables_of (state old)) after
-    × (((at : T) × ((state at).now ≡ (state old).now) × FailsToHashNext after (state at) (state new) fault)
-    ⊎ ((value : FileSha512) × IsValueAfter (tables_of (state old)) after (Some value)
-    × (fault ≡ Memory)))
+    (after : ℕ) × IsReached (tables_of old) after
+    × (((at : T) × ((state at).now ≡ old.now) × FailsToHashNext after (state at) new fault)
+    ⊎ ((value : FileSha512) × IsValueAfter (tables_of old) after (Some value) × (fault ≡ Memory)))

@@ -1,23 +1,66 @@
--- What the clauses of a call say that sends blocks.
-use Rattle.std.specs.Prelude.{◌≡◌, ◌⊎◌, ℕ, List, IsTrue, Option, Result, OnOk, OnErr}
+-- What the clauses of a call say that reads the tables over a connection.
+use Rattle.std.specs.Prelude.{◌≡◌, ◌⊎◌, ℕ, List, false, IsTrue, Option, Result, IfOk, IfErr, OnOk}
 use Rattle.std.specs.Io.KnownBytes.{Appends}
 use Rattle.sqlite_trees.specs.declared.store.Store.{Ghosts}
-use Rattle.sqlite.specs.State.{HasCleanDisk, IsUnchanged, IsRolledBack}
+use Rattle.sqlite.specs.State.{State, HasCleanDisk, IsUnchanged, Survives}
 use Rattle.sqlite.specs.Held.{Held, state}
-use Rattle.dep_tables.specs.Tables.{IsOurs}
+use Rattle.dep_tables.specs.Clauses.{IsPlainIn}
+use Rattle.dep_tables.specs.Tables.{Tables, tables_of}
+use Rattle.dep_streams.specs.Reading.{IsKept}
 
--- bytes were written to the outlet, and this holds of them
-abbrev pub GivesBytes : Option (List ℕ) → Option (List ℕ) → (List ℕ → Type 0) → Type 0
-GivesBytes old new told = (sent : List ℕ) × Appends old new sent × told sent
+-- the text is a query that only shows, by the schema that is seen
+abbrev pub OnlyShows : List ℕ → State → Type 0
+OnlyShows sql s = IsPlainIn s sql
 
-module _ {S A E : Type 0} (g : Ghosts S) (old new : Held S) (result : Result A E) where
-  -- over our tables an Ok changes nothing
-  abbrev pub LeavesOurs : Type 0
-  LeavesOurs = HasCleanDisk (state g new) → IsOurs (state g old)
+module _ {S : Type 0} (are_ours : State → Type 0) (g : Ghosts S) (old new : Held S) where
+  -- what every call keeps that only reads tables that are ours, whatever it answers
+  pub record StaysOver : Type 0 where
+    -- no fault of the disk is forgotten
+    pub honest : HasCleanDisk (state g new) → HasCleanDisk (state g old)
+    -- it opens no store that was shut, and begins no transaction
+    pub was_open : HasCleanDisk (state g new) → IsTrue (state g new).is_open
+        → IsTrue (state g old).is_open
+    pub mode : (state g old).in_transaction ≡ false → (state g new).in_transaction ≡ false
+    -- Where they are ours, nothing is changed, but that a failure may end a transaction as it began; and a crash leaves
+    -- nothing that it did not leave before.
+    pub kept : HasCleanDisk (state g new) → are_ours (state g old) → IsKept (state g old) (state g new)
+    pub survives : Survives (state g old) (state g new) (λ _. are_ours (state g old) → ⊥)
+
+module _ {S A E : Type 0} (are_ours : State → Type 0) (g : Ghosts S) (old new : Held S)
+    (result : Result A E) where
+  -- where the tables are ours, an Ok tells this of what the connection sees
+  abbrev pub TellsSeen : (State → A → Type 0) → Type 0
+  TellsSeen told = HasCleanDisk (state g new) → are_ours (state g old)
+      → IfOk result (told (state g old))
+
+  -- the same of the tables
+  abbrev pub TellsOver : (Tables → A → Type 0) → Type 0
+  TellsOver told = TellsSeen (λ s. told (tables_of s))
+
+  -- there an Ok changes nothing
+  abbrev pub ReadsOver : Type 0
+  ReadsOver = HasCleanDisk (state g new) → are_ours (state g old)
+      → OnOk result (IsUnchanged (state g old) (state g new))
+
+  -- the same of a call that may ask nothing at all
+  abbrev pub LeavesOver : Type 0
+  LeavesOver = HasCleanDisk (state g new) → are_ours (state g old)
       → OnOk result ((new ≡ old) ⊎ IsUnchanged (state g old) (state g new))
 
-  -- over our tables a failure has changed nothing, or has ended a transaction as it began
-  abbrev pub FailsOverOurs : Type 0
-  FailsOverOurs = HasCleanDisk (state g new) → IsOurs (state g old) → IsTrue (state g new).is_open
-      → OnErr result (IsUnchanged (state g old) (state g new)
-      ⊎ IsRolledBack (state g old) (state g new))
+  -- there a failure has this cause
+  abbrev pub FailsOver : (State → State → E → Type 0) → Type 0
+  FailsOver why = HasCleanDisk (state g new) → are_ours (state g old)
+      → IfErr result (why (state g old) (state g new))
+
+-- a failure has this cause, whatever the tables are
+abbrev pub FailsFor : {S A E : Type 0} (g : Ghosts S) (old new : Held S) → Result A E
+    → (State → State → E → Type 0) → Type 0
+FailsFor g old new result why =
+    HasCleanDisk (state g new) → IfErr result (why (state g old) (state g new))
+
+-- bytes were written to the outlet, and where the tables are ours this holds of them
+abbrev pub GivesOver : {S : Type 0} → (State → Type 0) → (g : Ghosts S) (old new : Held S)
+    (taken taken_after : Option (List ℕ)) → (State → List ℕ → Type 0) → Type 0
+GivesOver are_ours g old new taken taken_after told =
+    (sent : List ℕ) × Appends taken taken_after sent
+    × (HasCleanDisk (state g new) → are_ours (state g old) → told (state g old) sent)

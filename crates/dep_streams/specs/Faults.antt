@@ -1,5 +1,6 @@
--- Faults of one kind as those of another.
-use Rattle.std.specs.Prelude.{⊤}
+-- Faults of one kind as those of another, and the outlet's.
+use Rattle.std.specs.Prelude.{◌≡◌, ◌≢◌, ⊤, ℕ, Result, Err, OnOk}
+use Rattle.dep_types.specs.Writing.{HasRisen}
 use Rattle.dep_types.specs.declared.store_fault.StoreFault.{StoreFault}
 use Rattle.dep_types.specs.declared.store_fault.StoreFault.TheVariants as store
 use Rattle.dep_types.specs.declared.stream_fault.StreamFault.{StreamFault}
@@ -33,3 +34,9 @@ abbrev pub fault_of_blocks : BlockFault → StreamFault
 fault_of_blocks blocks_fault.Writer = Writer
 fault_of_blocks blocks_fault.Store = Store
 fault_of_blocks blocks_fault.Memory = Memory
+
+-- the outlet failed once more where this fault is told, and else not
+pub record BlamesOutlet {A E : Type 0} (blame : E) (were are : ℕ) (result : Result A E) : Type 0 where
+  pub kept : OnOk result (are ≡ were)
+  pub cause : result ≡ Err blame → HasRisen were are
+  pub others : result ≢ Err blame → are ≡ were

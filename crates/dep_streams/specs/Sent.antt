@@ -1,5 +1,5 @@
 -- What was sent of the blocks that a query shows.
-use Rattle.std.specs.Prelude.{◌≡◌, ◌≢◌, ◌⊎◌, ◌<◌, ℕ, List, [], ◌∷◌, ◌++◌, length, map, Option, Result, Ok, Err}
+use Rattle.std.specs.Prelude.{◌≡◌, ◌≢◌, ◌⊎◌, ◌<◌, ℕ, List, [], ◌∷◌, ◌++◌, length, map, filter, Option, Result, Ok, Err}
 use Rattle.std.specs.Io.KnownBytes.{Appends}
 use Rattle.dep_types.specs.Writing.{IsProperPrefix, TakesPart}
 use Rattle.sqlite.specs.Order.{Row, column}
@@ -7,7 +7,13 @@ use Rattle.sqlite.specs.declared.types.Value.{Value}
 use Rattle.sqlite.specs.declared.types.Value.TheVariants.{Blob}
 use Rattle.sqlite.specs.State.{State, Begins}
 use Rattle.dep_statements.specs.Rows.{InOrder}
-use Rattle.dep_tables.specs.Rows.{shown_block, by_part_and_place}
+use Rattle.dep_tables.specs.Rows.{shown_block, is_block_of, by_part_and_place}
+use Rattle.dep_tables.specs.Tables.{tables_of}
+use Rattle.dep_tables.specs.declared.owner.BlockOwner.{BlockOwner}
+use Rattle.dep_types.specs.State as types
+use Rattle.dep_types.specs.Streams.{IsStreamed}
+use Rattle.dep_types.specs.declared.stream_fault.StreamFault.{StreamFault}
+use Rattle.dep_row_maps.specs.TablesAre.{TablesAre}
 use Rattle.dep_streams.specs.declared.fault.BlockFault.{BlockFault}
 use Rattle.dep_streams.specs.declared.fault.BlockFault.TheVariants.{Writer, Store, Memory}
 
@@ -77,3 +83,13 @@ SendsBlocks stored size sent (Err Store) = ((sent ≡ []) ⊎ BeginsBlocks store
     × (length sent < size)
 SendsBlocks stored size sent (Err Memory) = ((sent ≡ []) ⊎ BeginsBlocks stored sent)
     × (length sent < size)
+
+-- the same of an owner's blocks in the tables that are seen
+abbrev pub SendsBlocksOf : BlockOwner → ℕ → Result (Unit {0}) BlockFault → State → List ℕ → Type 0
+SendsBlocksOf o size result s sent =
+    SendsBlocks (filter (is_block_of o) (tables_of s).blocks) size sent result
+
+-- what was sent of a file, by each state whose tables are seen
+abbrev pub SendsFile : {A : Type 0} → ℕ → Result A StreamFault → State → List ℕ → Type 0
+SendsFile file result seen sent =
+    (s : types.State) → TablesAre (tables_of seen) s → IsStreamed s file sent result

@@ -1,10 +1,8 @@
 //! Files whose bytes are not those that were deposited.
 
-ghost use Rattle.std.specs.Prelude.{◌⊎◌, IsTrue, IfOk, IfErr, OnOk, OnErr};
-ghost use Rattle.sqlite.specs.State.{HasCleanDisk, Survives, IsUnchanged, IsRolledBack};
 ghost use Rattle.sqlite.specs.Held.{state};
-ghost use Rattle.dep_tables.specs.Tables.{tables_of, IsOurs};
-ghost use Rattle.dep_streams.specs.Reading.{IsKept};
+ghost use Rattle.dep_tables.specs.Tables.{IsOurs};
+ghost use Rattle.dep_streams.specs.Clauses.{StaysOver, TellsOver, ReadsOver, LeavesOver, FailsOver};
 ghost use Rattle.dep_streams.specs.Fixity.{HasFixity, IsAudited, KeepsDamaged};
 ghost use Rattle.dep_streams.specs.Causes.{FailsToFindFixity, FailsToCheck, FailsToAudit};
 
@@ -42,22 +40,12 @@ fn find_fixity<S: Alter, W: Watch>(
     file: u64,
     watch: &mut W,
 ) -> Result<FileFixity, StoreFault>
-    ensures ok { HasCleanDisk (state S.Store connection.new) → IsOurs (state S.Store connection.old)
-        → IfOk result (HasFixity (tables_of (state S.Store connection.old)) file) }
-    ensures cause { HasCleanDisk (state S.Store connection.new) → IsOurs (state S.Store connection.old)
-        → IfErr result (FailsToFindFixity file (state S.Store connection.old)
-        (state S.Store connection.new)) }
-    ensures same { HasCleanDisk (state S.Store connection.new) → IsOurs (state S.Store connection.old)
-        → OnOk result (IsUnchanged (state S.Store connection.old) (state S.Store connection.new)) }
-    ensures err { HasCleanDisk (state S.Store connection.new) → IsOurs (state S.Store connection.old)
-        → IsTrue (state S.Store connection.new).is_open
-        → OnErr result (IsUnchanged (state S.Store connection.old) (state S.Store connection.new)
-        ⊎ IsRolledBack (state S.Store connection.old) (state S.Store connection.new)) }
-    ensures clean { HasCleanDisk (state S.Store connection.new)
-        → HasCleanDisk (state S.Store connection.old) }
-    ensures survives { HasCleanDisk (state S.Store connection.new)
-        → IsOurs (state S.Store connection.old)
-        → Survives (state S.Store connection.old) (state S.Store connection.new) (λ _. ⊥) }
+    ensures ok { TellsOver IsOurs S.Store connection.old connection.new result
+        (λ t. HasFixity t file) }
+    ensures cause { FailsOver IsOurs S.Store connection.old connection.new result
+        (FailsToFindFixity file) }
+    ensures same { ReadsOver IsOurs S.Store connection.old connection.new result }
+    ensures stays { StaysOver IsOurs S.Store connection.old connection.new }
 {
     let kept_sha512 = match find_sha512(connection, BlockOwner::File(file)) {
         Ok(kept_sha512) => kept_sha512,
@@ -79,23 +67,12 @@ fn keep_damaged<S: Alter, W: Watch>(
     row: &FileSha256,
     watch: &mut W,
 ) -> Result<(), StoreFault>
-    ensures notes { HasCleanDisk (state S.Store connection.new) → IsOurs (state S.Store connection.old)
-        → OnOk result (KeepsDamaged (tables_of (state S.Store connection.old)) row.now
-        damaged.old.items damaged.new.items) }
-    ensures cause { HasCleanDisk (state S.Store connection.new) → IsOurs (state S.Store connection.old)
-        → IfErr result (FailsToCheck row.now (state S.Store connection.old)
-        (state S.Store connection.new)) }
-    ensures same { HasCleanDisk (state S.Store connection.new) → IsOurs (state S.Store connection.old)
-        → OnOk result (IsUnchanged (state S.Store connection.old) (state S.Store connection.new)) }
-    ensures err { HasCleanDisk (state S.Store connection.new) → IsOurs (state S.Store connection.old)
-        → IsTrue (state S.Store connection.new).is_open
-        → OnErr result (IsUnchanged (state S.Store connection.old) (state S.Store connection.new)
-        ⊎ IsRolledBack (state S.Store connection.old) (state S.Store connection.new)) }
-    ensures clean { HasCleanDisk (state S.Store connection.new)
-        → HasCleanDisk (state S.Store connection.old) }
-    ensures survives { HasCleanDisk (state S.Store connection.new)
-        → IsOurs (state S.Store connection.old)
-        → Survives (state S.Store connection.old) (state S.Store connection.new) (λ _. ⊥) }
+    ensures notes { TellsOver IsOurs S.Store connection.old connection.new result
+        (λ t _. KeepsDamaged t row.now damaged.old.items damaged.new.items) }
+    ensures cause { FailsOver IsOurs S.Store connection.old connection.new result
+        (FailsToCheck row.now) }
+    ensures same { ReadsOver IsOurs S.Store connection.old connection.new result }
+    ensures stays { StaysOver IsOurs S.Store connection.old connection.new }
 {
     let found = match find_fixity(connection, row.file, watch) {
         Ok(found) => found,
@@ -123,20 +100,12 @@ pub fn audit_files<S: Alter, W: Watch>(
     files: &[FileSha256],
     watch: &mut W,
 ) -> Result<Audit, StoreFault>
-    ensures audits { HasCleanDisk (state S.Store connection.new) → IsOurs (state S.Store connection.old)
-        → IfOk result (IsAudited (tables_of (state S.Store connection.old)) files.now) }
-    ensures cause { HasCleanDisk (state S.Store connection.new) → IsOurs (state S.Store connection.old)
-        → IfErr result (FailsToAudit (state S.Store) files.now connection.old connection.new) }
-    ensures ok { HasCleanDisk (state S.Store connection.new) → IsOurs (state S.Store connection.old)
-        → IsTrue (state S.Store connection.old).is_open
-        → OnOk result (IsUnchanged (state S.Store connection.old) (state S.Store connection.new)) }
-    ensures same { HasCleanDisk (state S.Store connection.new) → IsOurs (state S.Store connection.old)
-        → IsKept (state S.Store connection.old) (state S.Store connection.new) }
-    ensures clean { HasCleanDisk (state S.Store connection.new)
-        → HasCleanDisk (state S.Store connection.old) }
-    ensures survives { HasCleanDisk (state S.Store connection.new)
-        → IsOurs (state S.Store connection.old)
-        → Survives (state S.Store connection.old) (state S.Store connection.new) (λ _. ⊥) }
+    ensures audits { TellsOver IsOurs S.Store connection.old connection.new result
+        (λ t. IsAudited t files.now) }
+    ensures cause { FailsOver IsOurs S.Store connection.old connection.new result
+        (FailsToAudit (state S.Store) files.now) }
+    ensures ok { LeavesOver IsOurs S.Store connection.old connection.new result }
+    ensures stays { StaysOver IsOurs S.Store connection.old connection.new }
 {
     let mut damaged = Vec::new(alloc);
     'files: for row in files {

@@ -1,16 +1,10 @@
 //! The blocks of an owner, sent one at a time.
 
-ghost use Rattle.std.specs.Prelude.{◌≡◌, ◌≢◌, OnOk, IfErr, Err, Some, filter};
-ghost use Rattle.dep_types.specs.Writing.{HasRisen};
-ghost use Rattle.sqlite.specs.State.{HasCleanDisk};
-ghost use Rattle.sqlite.specs.Held.{state};
-ghost use Rattle.dep_tables.specs.Rows.{is_block_of};
-ghost use Rattle.dep_tables.specs.Tables.{tables_of, IsOurs};
-ghost use Rattle.dep_tables.specs.Clauses.{CommitsNothing};
-ghost use Rattle.dep_streams.specs.Clauses.{GivesBytes, LeavesOurs, FailsOverOurs};
-ghost use Rattle.dep_streams.specs.Sent.{SendsBlocks};
-ghost use Rattle.dep_streams.specs.Causes.{FailsToGiveBlocks};
-ghost use Rattle.dep_streams.specs.Faults.{IsStoppedBy};
+ghost use Rattle.dep_tables.specs.Tables.{IsOurs};
+ghost use Rattle.dep_streams.specs.Clauses.{StaysOver, LeavesOver, FailsOver, GivesOver};
+ghost use Rattle.dep_streams.specs.Faults.{BlamesOutlet};
+ghost use Rattle.dep_streams.specs.Sent.{SendsBlocksOf};
+ghost use Rattle.dep_streams.specs.Causes.{FailsToSendBlocks};
 
 use crate::fault::BlockFault;
 use crate::query::blocks_query;
@@ -27,23 +21,13 @@ pub fn stream_blocks<S: Alter, O: Outlet>(
     size: u64,
     out: &mut O,
 ) -> Result<(), BlockFault>
-    ensures streams { GivesBytes (O.taken out.old) (O.taken out.new) (λ sent.
-        HasCleanDisk (state S.Store connection.new) → IsOurs (state S.Store connection.old)
-        → SendsBlocks (filter (is_block_of owner) (tables_of (state S.Store connection.old)).blocks)
-        size sent result) }
-    ensures why { HasCleanDisk (state S.Store connection.new) → IsOurs (state S.Store connection.old)
-        → IfErr result (IsStoppedBy (FailsToGiveBlocks owner (Some size)
-        (state S.Store connection.old) (state S.Store connection.new))) }
-    ensures ok { LeavesOurs S.Store connection.old connection.new result }
-    ensures err { FailsOverOurs S.Store connection.old connection.new result }
-    ensures clean { HasCleanDisk (state S.Store connection.new)
-        → HasCleanDisk (state S.Store connection.old) }
-    ensures survives { IsOurs (state S.Store connection.old)
-        → CommitsNothing (state S.Store connection.old) (state S.Store connection.new) }
-    ensures kept { OnOk result (O.failures out.new ≡ O.failures out.old) }
-    ensures cause { result ≡ Err BlockFault.Writer
-        → HasRisen (O.failures out.old) (O.failures out.new) }
-    ensures others { result ≢ Err BlockFault.Writer → O.failures out.new ≡ O.failures out.old }
+    ensures streams { GivesOver IsOurs S.Store connection.old connection.new
+        (O.taken out.old) (O.taken out.new) (SendsBlocksOf owner size result) }
+    ensures why { FailsOver IsOurs S.Store connection.old connection.new result
+        (FailsToSendBlocks owner size) }
+    ensures ok { LeavesOver IsOurs S.Store connection.old connection.new result }
+    ensures stays { StaysOver IsOurs S.Store connection.old connection.new }
+    ensures outlet { BlamesOutlet BlockFault.Writer (O.failures out.old) (O.failures out.new) result }
 {
     if size == 0 {
         return Ok(());

@@ -1,15 +1,14 @@
 //! The numbers of the files, one after another, over the tables of any version.
 
-ghost use Rattle.std.specs.Prelude.{◌≡◌, ◌⊎◌, ◌∷◌, [], ◌<◌, ◌^◌, pos, false, IsTrue, IfOk, IfErr, OnOk, OnErr, map};
+ghost use Rattle.std.specs.Prelude.{◌≡◌, ◌∷◌, [], ◌<◌, ◌^◌, pos, IfOk, IfErr, map};
 ghost use Rattle.std.specs.Option.{option_to_list};
-ghost use Rattle.sqlite.specs.State.{HasCleanDisk, Survives, IsUnchanged, IsRolledBack};
-ghost use Rattle.sqlite.specs.Held.{state};
 ghost use Rattle.sqlite.specs.Values.{bound};
 ghost use Rattle.sqlite.specs.declared.types.Value.TheVariants.{Int};
 ghost use Rattle.dep_statements.specs.Rows.{columns_from};
 ghost use Rattle.dep_tables.specs.Clauses.{AtMostOne, IsFaultAt};
 ghost use Rattle.dep_tables.specs.Rows.{IsNumberRow};
-ghost use Rattle.dep_tables.specs.Tables.{tables_of, IsKnown};
+ghost use Rattle.dep_tables.specs.Tables.{IsKnown};
+ghost use Rattle.dep_streams.specs.Clauses.{StaysOver, TellsOver, ReadsOver, FailsFor};
 ghost use Rattle.dep_streams.specs.Sha512s.{IsFileAfter};
 ghost use Rattle.dep_streams.specs.Causes.{FailsToFindFile};
 
@@ -45,28 +44,11 @@ pub(crate) fn next_file<S: Alter>(
     connection: &mut Connection<S>,
     after: u64,
 ) -> Result<Option<u64>, StoreFault>
-    ensures ok { HasCleanDisk (state S.Store connection.new) → IsKnown (state S.Store connection.old)
-        → IfOk result (IsFileAfter (tables_of (state S.Store connection.old)) after) }
-    ensures cause { HasCleanDisk (state S.Store connection.new)
-        → IfErr result (FailsToFindFile after
-        (state S.Store connection.old) (state S.Store connection.new)) }
-    ensures same { HasCleanDisk (state S.Store connection.new) → IsKnown (state S.Store connection.old)
-        → OnOk result (IsUnchanged (state S.Store connection.old) (state S.Store connection.new)) }
-    ensures err { HasCleanDisk (state S.Store connection.new) → IsKnown (state S.Store connection.old)
-        → IsTrue (state S.Store connection.new).is_open
-        → OnErr result (IsUnchanged (state S.Store connection.old) (state S.Store connection.new)
-        ⊎ IsRolledBack (state S.Store connection.old) (state S.Store connection.new)) }
-    ensures found { HasCleanDisk (state S.Store connection.new)
-        → OnOk result (IsTrue (state S.Store connection.old).is_open) }
-    ensures open { HasCleanDisk (state S.Store connection.new)
-        → IsTrue (state S.Store connection.new).is_open
-        → IsTrue (state S.Store connection.old).is_open }
-    ensures mode { (state S.Store connection.old).in_transaction ≡ false
-        → (state S.Store connection.new).in_transaction ≡ false }
-    ensures clean { HasCleanDisk (state S.Store connection.new)
-        → HasCleanDisk (state S.Store connection.old) }
-    ensures survives { IsKnown (state S.Store connection.old)
-        → Survives (state S.Store connection.old) (state S.Store connection.new) (λ _. ⊥) }
+    ensures ok { TellsOver IsKnown S.Store connection.old connection.new result
+        (λ t. IsFileAfter t after) }
+    ensures cause { FailsFor S.Store connection.old connection.new result (FailsToFindFile after) }
+    ensures same { ReadsOver IsKnown S.Store connection.old connection.new result }
+    ensures stays { StaysOver IsKnown S.Store connection.old connection.new }
 {
     if after >= LIMIT {
         return Err(StoreFault::Store);

@@ -1,16 +1,13 @@
 //! The digests of the blocks of an owner, read one at a time.
 
-ghost use Rattle.std.specs.Prelude.{◌≡◌, ◌⊎◌, ◌++◌, ℕ, List, None, false, IsTrue, IfOk, IfErr, OnOk, OnErr};
-ghost use Rattle.sqlite.specs.State.{HasCleanDisk, Survives, IsUnchanged, IsRolledBack};
-ghost use Rattle.sqlite.specs.Held.{state};
-ghost use Rattle.sqlite.specs.Given.{IsPlain};
-ghost use Rattle.sqlite.specs.Listing.{understood};
+ghost use Rattle.std.specs.Prelude.{◌≡◌, ◌++◌, ℕ, List, None, IfErr, OnOk};
 ghost use Rattle.sqlite.specs.Order.{column};
 ghost use Rattle.sqlite.specs.Values.{bound};
 ghost use Rattle.dep_fixity.specs.Fixity.{Holds};
 ghost use Rattle.dep_types.specs.declared.store_fault.StoreFault.TheVariants.{Store};
 ghost use Rattle.dep_tables.specs.Rows.{IsBytesValue};
-ghost use Rattle.dep_tables.specs.Tables.{tables_of, IsKnown};
+ghost use Rattle.dep_tables.specs.Tables.{IsKnown};
+ghost use Rattle.dep_streams.specs.Clauses.{OnlyShows, StaysOver, TellsSeen, TellsOver, ReadsOver, FailsOver};
 ghost use Rattle.dep_streams.specs.Sent.{blob_of};
 ghost use Rattle.dep_streams.specs.Fixity.{AreDigestsOf, HashesShown};
 ghost use Rattle.dep_streams.specs.Causes.{FailsToGive, FailsToGiveBlocks};
@@ -46,26 +43,12 @@ fn hash_rows<S: Alter, W: Watch>(
     params: &[ValueRef<'_>],
     watch: &mut W,
 ) -> Result<Digests, StoreFault>
-    ensures hashes { HasCleanDisk (state S.Store connection.new)
-        → IsPlain (understood connection.old.schema sql.now)
-        → IfOk result (HashesShown sql.now (bound params.now) (state S.Store connection.old)) }
-    ensures cause { HasCleanDisk (state S.Store connection.new)
-        → IsPlain (understood connection.old.schema sql.now)
-        → IfErr result (FailsToGive sql.now (bound params.now) None
-        (state S.Store connection.old) (state S.Store connection.new)) }
-    ensures same { HasCleanDisk (state S.Store connection.new)
-        → IsPlain (understood connection.old.schema sql.now)
-        → OnOk result (IsUnchanged (state S.Store connection.old) (state S.Store connection.new)) }
-    ensures err { HasCleanDisk (state S.Store connection.new)
-        → IsPlain (understood connection.old.schema sql.now)
-        → OnErr result (IsUnchanged (state S.Store connection.old) (state S.Store connection.new)
-        ⊎ IsRolledBack (state S.Store connection.old) (state S.Store connection.new)) }
-    ensures mode { (state S.Store connection.old).in_transaction ≡ false
-        → (state S.Store connection.new).in_transaction ≡ false }
-    ensures clean { HasCleanDisk (state S.Store connection.new)
-        → HasCleanDisk (state S.Store connection.old) }
-    ensures survives { IsPlain (understood connection.old.schema sql.now)
-        → Survives (state S.Store connection.old) (state S.Store connection.new) (λ _. ⊥) }
+    ensures hashes { TellsSeen (OnlyShows sql.now) S.Store connection.old connection.new result
+        (HashesShown sql.now (bound params.now)) }
+    ensures cause { FailsOver (OnlyShows sql.now) S.Store connection.old connection.new result
+        (FailsToGive sql.now (bound params.now) None) }
+    ensures same { ReadsOver (OnlyShows sql.now) S.Store connection.old connection.new result }
+    ensures stays { StaysOver (OnlyShows sql.now) S.Store connection.old connection.new }
 {
     let mut hasher = Hasher::new();
     let mut rows = match connection.query(sql, params) {
@@ -96,23 +79,12 @@ pub(crate) fn hash_blocks<S: Alter, W: Watch>(
     owner: BlockOwner,
     watch: &mut W,
 ) -> Result<Digests, StoreFault>
-    ensures hashes { HasCleanDisk (state S.Store connection.new) → IsKnown (state S.Store connection.old)
-        → IfOk result (AreDigestsOf (tables_of (state S.Store connection.old)) owner) }
-    ensures cause { HasCleanDisk (state S.Store connection.new) → IsKnown (state S.Store connection.old)
-        → IfErr result (FailsToGiveBlocks owner None
-        (state S.Store connection.old) (state S.Store connection.new)) }
-    ensures same { HasCleanDisk (state S.Store connection.new) → IsKnown (state S.Store connection.old)
-        → OnOk result (IsUnchanged (state S.Store connection.old) (state S.Store connection.new)) }
-    ensures err { HasCleanDisk (state S.Store connection.new) → IsKnown (state S.Store connection.old)
-        → IsTrue (state S.Store connection.new).is_open
-        → OnErr result (IsUnchanged (state S.Store connection.old) (state S.Store connection.new)
-        ⊎ IsRolledBack (state S.Store connection.old) (state S.Store connection.new)) }
-    ensures mode { (state S.Store connection.old).in_transaction ≡ false
-        → (state S.Store connection.new).in_transaction ≡ false }
-    ensures clean { HasCleanDisk (state S.Store connection.new)
-        → HasCleanDisk (state S.Store connection.old) }
-    ensures survives { IsKnown (state S.Store connection.old)
-        → Survives (state S.Store connection.old) (state S.Store connection.new) (λ _. ⊥) }
+    ensures hashes { TellsOver IsKnown S.Store connection.old connection.new result
+        (λ t. AreDigestsOf t owner) }
+    ensures cause { FailsOver IsKnown S.Store connection.old connection.new result
+        (FailsToGiveBlocks owner None) }
+    ensures same { ReadsOver IsKnown S.Store connection.old connection.new result }
+    ensures stays { StaysOver IsKnown S.Store connection.old connection.new }
 {
     if !is_storable_owner(owner) {
         return Err(StoreFault::Store);

@@ -1,13 +1,8 @@
 //! The content of a file as a whole.
 
-ghost use Rattle.std.specs.Prelude.{IfOk, IfErr};
-ghost use Rattle.sqlite.specs.State.{HasCleanDisk};
-ghost use Rattle.sqlite.specs.Held.{state};
-ghost use Rattle.dep_types.specs.State.{State};
-ghost use Rattle.dep_tables.specs.Clauses.{CommitsNothing};
-ghost use Rattle.dep_tables.specs.Tables.{tables_of, IsOurs};
-ghost use Rattle.dep_row_maps.specs.TablesAre.{TablesAre};
-ghost use Rattle.dep_streams.specs.Reading.{IsKept, IsLoaded};
+ghost use Rattle.dep_tables.specs.Tables.{IsOurs};
+ghost use Rattle.dep_streams.specs.Clauses.{StaysOver, TellsOver, FailsOver};
+ghost use Rattle.dep_streams.specs.Reading.{IsLoadedFrom};
 ghost use Rattle.dep_streams.specs.Causes.{FailsToLoad};
 
 use crate::streaming::stream_content;
@@ -23,19 +18,11 @@ pub fn load_content<S: Alter>(
     alloc: Global,
     file: u64,
 ) -> Result<Option<Octets>, StoreFault>
-    ensures loads { HasCleanDisk (state S.Store connection.new) → IsOurs (state S.Store connection.old)
-        → (s : State) → TablesAre (tables_of (state S.Store connection.old)) s
-        → IfOk result (IsLoaded s file) }
-    ensures cause { HasCleanDisk (state S.Store connection.new) → IsOurs (state S.Store connection.old)
-        → IfErr result (FailsToLoad file (state S.Store connection.old)
-        (state S.Store connection.new)) }
-    ensures same { HasCleanDisk (state S.Store connection.new) → IsOurs (state S.Store connection.old)
-        → IsKept (state S.Store connection.old) (state S.Store connection.new) }
-    ensures clean { HasCleanDisk (state S.Store connection.new)
-        → HasCleanDisk (state S.Store connection.old) }
-    ensures survives { HasCleanDisk (state S.Store connection.new)
-        → IsOurs (state S.Store connection.old)
-        → CommitsNothing (state S.Store connection.old) (state S.Store connection.new) }
+    ensures loads { TellsOver IsOurs S.Store connection.old connection.new result
+        (IsLoadedFrom file) }
+    ensures cause { FailsOver IsOurs S.Store connection.old connection.new result
+        (FailsToLoad file) }
+    ensures stays { StaysOver IsOurs S.Store connection.old connection.new }
 {
     let mut out = Through::new(Vec::new(alloc));
     match stream_content(connection, file, &mut out) {

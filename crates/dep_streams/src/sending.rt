@@ -1,18 +1,12 @@
 //! The rows of a query of blocks, sent one at a time.
 
-ghost use Rattle.std.specs.Prelude.{◌≡◌, ◌≢◌, ◌⊎◌, ◌≤◌, ◌<◌, OnOk, IfOk, IfErr, OnErr, Err, Some, length};
-ghost use Rattle.dep_types.specs.Writing.{HasRisen};
-ghost use Rattle.sqlite.specs.State.{HasCleanDisk, IsUnchanged, IsRolledBack};
-ghost use Rattle.sqlite.specs.Held.{state};
-ghost use Rattle.sqlite.specs.Given.{IsPlain};
-ghost use Rattle.sqlite.specs.Listing.{understood};
+ghost use Rattle.std.specs.Prelude.{◌≡◌, ◌⊎◌, ◌≤◌, ◌<◌, IfOk, Err, length};
 ghost use Rattle.sqlite.specs.Values.{bound};
 ghost use Rattle.sqlite.specs.Order.{column};
 ghost use Rattle.dep_tables.specs.Rows.{IsBytesValue};
-ghost use Rattle.dep_tables.specs.Clauses.{CommitsNothing};
-ghost use Rattle.dep_streams.specs.Causes.{FailsToGive};
-ghost use Rattle.dep_streams.specs.Faults.{IsStoppedBy};
-ghost use Rattle.dep_streams.specs.Clauses.{GivesBytes};
+ghost use Rattle.dep_streams.specs.Clauses.{OnlyShows, StaysOver, ReadsOver, FailsOver, GivesOver};
+ghost use Rattle.dep_streams.specs.Causes.{FailsToSend};
+ghost use Rattle.dep_streams.specs.Faults.{BlamesOutlet};
 ghost use Rattle.dep_streams.specs.Sent.{blob_of, GivesSized, SendsSized};
 
 use crate::fault::{BlockFault, block_fault_of};
@@ -26,10 +20,7 @@ fn give_sized<O: Outlet>(row: &Row, most: u64, out: &mut O) -> Result<u64, Block
     ensures fits { IfOk result (λ n. n ≤ most) }
     ensures refused { result ≡ Err BlockFault.Store
         → (¬ (IsBytesValue (column row.now 2))) ⊎ (most < length (blob_of row.now)) }
-    ensures kept { OnOk result (O.failures out.new ≡ O.failures out.old) }
-    ensures cause { result ≡ Err BlockFault.Writer
-        → HasRisen (O.failures out.old) (O.failures out.new) }
-    ensures others { result ≢ Err BlockFault.Writer → O.failures out.new ≡ O.failures out.old }
+    ensures outlet { BlamesOutlet BlockFault.Writer (O.failures out.old) (O.failures out.new) result }
 {
     match row.get_ref(2) {
         Ok(ValueRef::Blob(bytes)) => {
@@ -55,28 +46,14 @@ pub(crate) fn stream_sized<S: Alter, O: Outlet>(
     out: &mut O,
 ) -> Result<(), BlockFault>
     requires { 0 < size }
-    ensures streams { GivesBytes (O.taken out.old) (O.taken out.new) (λ sent.
-        HasCleanDisk (state S.Store connection.new) → IsPlain (understood connection.old.schema sql.now)
-        → SendsSized sql.now (bound params.now) (state S.Store connection.old) size sent result) }
-    ensures why { HasCleanDisk (state S.Store connection.new)
-        → IsPlain (understood connection.old.schema sql.now)
-        → IfErr result (IsStoppedBy (FailsToGive sql.now (bound params.now) (Some size)
-        (state S.Store connection.old) (state S.Store connection.new))) }
-    ensures ok { HasCleanDisk (state S.Store connection.new)
-        → IsPlain (understood connection.old.schema sql.now)
-        → OnOk result (IsUnchanged (state S.Store connection.old) (state S.Store connection.new)) }
-    ensures err { HasCleanDisk (state S.Store connection.new)
-        → IsPlain (understood connection.old.schema sql.now)
-        → OnErr result (IsUnchanged (state S.Store connection.old) (state S.Store connection.new)
-        ⊎ IsRolledBack (state S.Store connection.old) (state S.Store connection.new)) }
-    ensures clean { HasCleanDisk (state S.Store connection.new)
-        → HasCleanDisk (state S.Store connection.old) }
-    ensures survives { IsPlain (understood connection.old.schema sql.now)
-        → CommitsNothing (state S.Store connection.old) (state S.Store connection.new) }
-    ensures kept { OnOk result (O.failures out.new ≡ O.failures out.old) }
-    ensures cause { result ≡ Err BlockFault.Writer
-        → HasRisen (O.failures out.old) (O.failures out.new) }
-    ensures others { result ≢ Err BlockFault.Writer → O.failures out.new ≡ O.failures out.old }
+    ensures streams { GivesOver (OnlyShows sql.now) S.Store connection.old connection.new
+        (O.taken out.old) (O.taken out.new)
+        (λ s sent. SendsSized sql.now (bound params.now) s size sent result) }
+    ensures why { FailsOver (OnlyShows sql.now) S.Store connection.old connection.new result
+        (FailsToSend sql.now (bound params.now) size) }
+    ensures ok { ReadsOver (OnlyShows sql.now) S.Store connection.old connection.new result }
+    ensures stays { StaysOver (OnlyShows sql.now) S.Store connection.old connection.new }
+    ensures outlet { BlamesOutlet BlockFault.Writer (O.failures out.old) (O.failures out.new) result }
 {
     let mut left = size;
     let mut rows = match connection.query(sql, params) {

@@ -1,16 +1,15 @@
 //! The SHA-512 values that the tables keep.
 
-ghost use Rattle.std.specs.Prelude.{◌≡◌, ◌⊎◌, ◌∷◌, [], map, IsTrue, IfOk, IfErr, OnOk, OnErr};
+ghost use Rattle.std.specs.Prelude.{◌≡◌, ◌∷◌, [], map, IfOk, IfErr};
 ghost use Rattle.std.specs.Option.{option_to_list};
-ghost use Rattle.sqlite.specs.State.{HasCleanDisk, Survives, IsUnchanged, IsRolledBack};
-ghost use Rattle.sqlite.specs.Held.{state};
 ghost use Rattle.sqlite.specs.Order.{column};
 ghost use Rattle.sqlite.specs.declared.types.Value.TheVariants.{Blob};
 ghost use Rattle.dep_statements.specs.Rows.{columns_from};
 ghost use Rattle.dep_types.specs.declared.store_fault.StoreFault.TheVariants.{Store};
 ghost use Rattle.dep_tables.specs.Clauses.{AtMostOne, IsFaultAt};
 ghost use Rattle.dep_tables.specs.Rows.{HasAt, IsDigestValue, IsSha512Row};
-ghost use Rattle.dep_tables.specs.Tables.{tables_of, IsOurs};
+ghost use Rattle.dep_tables.specs.Tables.{IsOurs};
+ghost use Rattle.dep_streams.specs.Clauses.{StaysOver, TellsOver, ReadsOver, FailsFor};
 ghost use Rattle.dep_streams.specs.Fixity.{IsKeptSha512};
 ghost use Rattle.dep_streams.specs.Causes.{FailsToFindSha512};
 
@@ -54,21 +53,12 @@ pub(crate) fn find_sha512<S: Alter>(
     connection: &mut Connection<S>,
     owner: BlockOwner,
 ) -> Result<Option<[u8; 64]>, StoreFault>
-    ensures ok { HasCleanDisk (state S.Store connection.new) → IsOurs (state S.Store connection.old)
-        → IfOk result (IsKeptSha512 (tables_of (state S.Store connection.old)) owner) }
-    ensures cause { HasCleanDisk (state S.Store connection.new)
-        → IfErr result (FailsToFindSha512 owner
-        (state S.Store connection.old) (state S.Store connection.new)) }
-    ensures same { HasCleanDisk (state S.Store connection.new) → IsOurs (state S.Store connection.old)
-        → OnOk result (IsUnchanged (state S.Store connection.old) (state S.Store connection.new)) }
-    ensures err { HasCleanDisk (state S.Store connection.new) → IsOurs (state S.Store connection.old)
-        → IsTrue (state S.Store connection.new).is_open
-        → OnErr result (IsUnchanged (state S.Store connection.old) (state S.Store connection.new)
-        ⊎ IsRolledBack (state S.Store connection.old) (state S.Store connection.new)) }
-    ensures clean { HasCleanDisk (state S.Store connection.new)
-        → HasCleanDisk (state S.Store connection.old) }
-    ensures survives { IsOurs (state S.Store connection.old)
-        → Survives (state S.Store connection.old) (state S.Store connection.new) (λ _. ⊥) }
+    ensures ok { TellsOver IsOurs S.Store connection.old connection.new result
+        (λ t. IsKeptSha512 t owner) }
+    ensures cause { FailsFor S.Store connection.old connection.new result
+        (FailsToFindSha512 owner) }
+    ensures same { ReadsOver IsOurs S.Store connection.old connection.new result }
+    ensures stays { StaysOver IsOurs S.Store connection.old connection.new }
 {
     if !is_storable_owner(owner) {
         return Err(StoreFault::Store);

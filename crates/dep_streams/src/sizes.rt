@@ -1,15 +1,14 @@
 //! How many bytes a file has, asked outside a transaction.
 
-ghost use Rattle.std.specs.Prelude.{◌≡◌, ◌⊎◌, ◌∷◌, [], ◌<◌, ◌^◌, ℕ, List, pos, IsTrue, IfOk, IfErr, OnOk, OnErr, map, option_map};
+ghost use Rattle.std.specs.Prelude.{◌≡◌, ◌∷◌, [], ◌<◌, ◌^◌, pos, IfOk, IfErr, map};
 ghost use Rattle.std.specs.Option.{option_to_list};
-ghost use Rattle.sqlite.specs.State.{HasCleanDisk, Survives, IsUnchanged, IsRolledBack};
-ghost use Rattle.sqlite.specs.Held.{state};
 ghost use Rattle.sqlite.specs.Values.{bound};
 ghost use Rattle.sqlite.specs.declared.types.Value.TheVariants.{Int};
-ghost use Rattle.dep_statements.specs.Rows.{row_at, columns_from};
-ghost use Rattle.dep_tables.specs.Tables.{tables_of, IsOurs};
+ghost use Rattle.dep_statements.specs.Rows.{columns_from};
+ghost use Rattle.dep_tables.specs.Tables.{IsOurs};
 ghost use Rattle.dep_tables.specs.Clauses.{AtMostOne, IsFaultAt};
-ghost use Rattle.dep_streams.specs.Sizes.{IsSizeRow, size_values, shown_size};
+ghost use Rattle.dep_streams.specs.Clauses.{StaysOver, TellsOver, ReadsOver, FailsFor};
+ghost use Rattle.dep_streams.specs.Sizes.{IsSizeRow, IsSizeOf, size_values};
 ghost use Rattle.dep_streams.specs.Causes.{FailsToFindSize};
 
 use dep_tables::{LIMIT, fault_of, number_at};
@@ -64,27 +63,11 @@ pub(crate) fn find_size<S: Alter>(
     connection: &mut Connection<S>,
     file: u64,
 ) -> Result<Option<FileSize>, StoreFault>
-    ensures ok { HasCleanDisk (state S.Store connection.new) → IsOurs (state S.Store connection.old)
-        → IfOk result (λ found. option_map size_values found
-        ≡ option_map shown_size (row_at (tables_of (state S.Store connection.old)).files file)) }
-    ensures same { HasCleanDisk (state S.Store connection.new) → IsOurs (state S.Store connection.old)
-        → OnOk result (IsUnchanged (state S.Store connection.old) (state S.Store connection.new)) }
-    ensures err { HasCleanDisk (state S.Store connection.new) → IsOurs (state S.Store connection.old)
-        → OnErr result ((connection.new ≡ connection.old)
-        ⊎ (IsUnchanged (state S.Store connection.old) (state S.Store connection.new)
-        ⊎ IsRolledBack (state S.Store connection.old) (state S.Store connection.new))) }
-    ensures cause { HasCleanDisk (state S.Store connection.new)
-        → IfErr result (FailsToFindSize file (state S.Store connection.old)
-        (state S.Store connection.new)) }
-    ensures found { HasCleanDisk (state S.Store connection.new)
-        → OnOk result (IsTrue (state S.Store connection.old).is_open) }
-    ensures open { HasCleanDisk (state S.Store connection.new)
-        → IsTrue (state S.Store connection.new).is_open
-        → IsTrue (state S.Store connection.old).is_open }
-    ensures clean { HasCleanDisk (state S.Store connection.new)
-        → HasCleanDisk (state S.Store connection.old) }
-    ensures survives { IsOurs (state S.Store connection.old)
-        → Survives (state S.Store connection.old) (state S.Store connection.new) (λ _. ⊥) }
+    ensures ok { TellsOver IsOurs S.Store connection.old connection.new result
+        (λ t. IsSizeOf t file) }
+    ensures cause { FailsFor S.Store connection.old connection.new result (FailsToFindSize file) }
+    ensures same { ReadsOver IsOurs S.Store connection.old connection.new result }
+    ensures stays { StaysOver IsOurs S.Store connection.old connection.new }
 {
     if file >= LIMIT {
         return Err(StoreFault::Store);

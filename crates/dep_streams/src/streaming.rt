@@ -1,17 +1,11 @@
 //! The content of a file, sent one block at a time, outside a transaction.
 
-ghost use Rattle.std.specs.Prelude.{◌≡◌, ◌≢◌, ◌⊎◌, ℕ, List, IsTrue, IfErr, OnOk, OnErr, Err};
-ghost use Rattle.std.specs.Io.KnownBytes.{Appends};
-ghost use Rattle.sqlite.specs.State.{HasCleanDisk, IsUnchanged, Survives};
-ghost use Rattle.sqlite.specs.Held.{state};
-ghost use Rattle.dep_types.specs.State.{State};
-ghost use Rattle.dep_types.specs.Streams.{IsStreamed};
-ghost use Rattle.dep_types.specs.Writing.{HasRisen};
-ghost use Rattle.dep_tables.specs.Tables.{tables_of, IsOurs};
-ghost use Rattle.dep_row_maps.specs.TablesAre.{TablesAre};
-ghost use Rattle.dep_streams.specs.Reading.{IsKept};
-ghost use Rattle.dep_streams.specs.Faults.{fault_of_store, fault_of_blocks, IsStreamStoppedBy};
-ghost use Rattle.dep_streams.specs.Causes.{FailsToStream};
+ghost use Rattle.std.specs.Prelude.{◌≡◌};
+ghost use Rattle.dep_tables.specs.Tables.{IsOurs};
+ghost use Rattle.dep_streams.specs.Clauses.{StaysOver, ReadsOver, FailsOver, GivesOver};
+ghost use Rattle.dep_streams.specs.Faults.{BlamesOutlet, fault_of_store, fault_of_blocks};
+ghost use Rattle.dep_streams.specs.Sent.{SendsFile};
+ghost use Rattle.dep_streams.specs.Causes.{FailsToSendFile};
 
 use crate::blocks::stream_blocks;
 use crate::fault::BlockFault;
@@ -46,30 +40,13 @@ pub fn stream_content<S: Alter, O: Outlet>(
     file: u64,
     out: &mut O,
 ) -> Result<(), StreamFault>
-    ensures streams { (sent : List ℕ) × Appends (O.taken out.old) (O.taken out.new) sent
-        × (HasCleanDisk (state S.Store connection.new) → IsOurs (state S.Store connection.old)
-        → (s : State) → TablesAre (tables_of (state S.Store connection.old)) s
-        → IsStreamed s file sent result) }
-    ensures why { HasCleanDisk (state S.Store connection.new) → IsOurs (state S.Store connection.old)
-        → IfErr result (IsStreamStoppedBy (FailsToStream file
-        (state S.Store connection.old) (state S.Store connection.new))) }
-    ensures ok { HasCleanDisk (state S.Store connection.new) → IsOurs (state S.Store connection.old)
-        → OnOk result (IsUnchanged (state S.Store connection.old) (state S.Store connection.new)) }
-    ensures same { HasCleanDisk (state S.Store connection.new) → IsOurs (state S.Store connection.old)
-        → IsKept (state S.Store connection.old) (state S.Store connection.new) }
-    // It opens no store that was shut.
-    ensures open { HasCleanDisk (state S.Store connection.new)
-        → IsTrue (state S.Store connection.new).is_open
-        → IsTrue (state S.Store connection.old).is_open }
-    ensures clean { HasCleanDisk (state S.Store connection.new)
-        → HasCleanDisk (state S.Store connection.old) }
-    ensures survives { HasCleanDisk (state S.Store connection.new)
-        → IsOurs (state S.Store connection.old)
-        → Survives (state S.Store connection.old) (state S.Store connection.new) (λ _. ⊥) }
-    ensures kept { OnOk result (O.failures out.new ≡ O.failures out.old) }
-    ensures cause { result ≡ Err StreamFault.Writer
-        → HasRisen (O.failures out.old) (O.failures out.new) }
-    ensures others { result ≢ Err StreamFault.Writer → O.failures out.new ≡ O.failures out.old }
+    ensures streams { GivesOver IsOurs S.Store connection.old connection.new
+        (O.taken out.old) (O.taken out.new) (SendsFile file result) }
+    ensures why { FailsOver IsOurs S.Store connection.old connection.new result
+        (FailsToSendFile file) }
+    ensures ok { ReadsOver IsOurs S.Store connection.old connection.new result }
+    ensures stays { StaysOver IsOurs S.Store connection.old connection.new }
+    ensures outlet { BlamesOutlet StreamFault.Writer (O.failures out.old) (O.failures out.new) result }
 {
     let found = match find_size(connection, file) {
         Ok(found) => found,

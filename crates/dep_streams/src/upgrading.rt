@@ -1,10 +1,8 @@
 //! The SHA-512 of each file, of its bytes as they stand in the tables of any version.
 
-ghost use Rattle.std.specs.Prelude.{◌≡◌, ◌⊎◌, false, IsTrue, IfOk, IfErr, OnOk, OnErr};
-ghost use Rattle.sqlite.specs.State.{HasCleanDisk, Survives, IsUnchanged, IsRolledBack};
 ghost use Rattle.sqlite.specs.Held.{state};
-ghost use Rattle.dep_tables.specs.Tables.{tables_of, IsKnown};
-ghost use Rattle.dep_streams.specs.Reading.{IsKept};
+ghost use Rattle.dep_tables.specs.Tables.{IsKnown};
+ghost use Rattle.dep_streams.specs.Clauses.{StaysOver, TellsOver, ReadsOver, FailsOver};
 ghost use Rattle.dep_streams.specs.Sha512s.{IsValueAfter, AreValuesOf};
 ghost use Rattle.dep_streams.specs.Causes.{FailsToHashNext, FailsToHashFiles};
 
@@ -22,29 +20,12 @@ fn next_value<S: Alter, W: Watch>(
     after: u64,
     watch: &mut W,
 ) -> Result<Option<FileSha512>, StoreFault>
-    ensures ok { HasCleanDisk (state S.Store connection.new) → IsKnown (state S.Store connection.old)
-        → IfOk result (IsValueAfter (tables_of (state S.Store connection.old)) after) }
-    ensures cause { HasCleanDisk (state S.Store connection.new) → IsKnown (state S.Store connection.old)
-        → IfErr result (FailsToHashNext after
-        (state S.Store connection.old) (state S.Store connection.new)) }
-    ensures same { HasCleanDisk (state S.Store connection.new) → IsKnown (state S.Store connection.old)
-        → OnOk result (IsUnchanged (state S.Store connection.old) (state S.Store connection.new)) }
-    ensures err { HasCleanDisk (state S.Store connection.new) → IsKnown (state S.Store connection.old)
-        → IsTrue (state S.Store connection.new).is_open
-        → OnErr result (IsUnchanged (state S.Store connection.old) (state S.Store connection.new)
-        ⊎ IsRolledBack (state S.Store connection.old) (state S.Store connection.new)) }
-    ensures found { HasCleanDisk (state S.Store connection.new)
-        → OnOk result (IsTrue (state S.Store connection.old).is_open) }
-    ensures open { HasCleanDisk (state S.Store connection.new)
-        → IsTrue (state S.Store connection.new).is_open
-        → IsTrue (state S.Store connection.old).is_open }
-    ensures mode { (state S.Store connection.old).in_transaction ≡ false
-        → (state S.Store connection.new).in_transaction ≡ false }
-    ensures clean { HasCleanDisk (state S.Store connection.new)
-        → HasCleanDisk (state S.Store connection.old) }
-    ensures survives { HasCleanDisk (state S.Store connection.new)
-        → IsKnown (state S.Store connection.old)
-        → Survives (state S.Store connection.old) (state S.Store connection.new) (λ _. ⊥) }
+    ensures ok { TellsOver IsKnown S.Store connection.old connection.new result
+        (λ t. IsValueAfter t after) }
+    ensures cause { FailsOver IsKnown S.Store connection.old connection.new result
+        (FailsToHashNext after) }
+    ensures same { ReadsOver IsKnown S.Store connection.old connection.new result }
+    ensures stays { StaysOver IsKnown S.Store connection.old connection.new }
 {
     let found = match next_file(connection, after) {
         Ok(found) => found,
@@ -70,28 +51,12 @@ pub fn hash_files<S: Alter, W: Watch>(
     alloc: Global,
     watch: &mut W,
 ) -> Result<Vec<FileSha512>, StoreFault>
-    ensures hashes { HasCleanDisk (state S.Store connection.new) → IsKnown (state S.Store connection.old)
-        → IfOk result (λ values.
-        AreValuesOf (tables_of (state S.Store connection.old)) values.items) }
-    ensures cause { HasCleanDisk (state S.Store connection.new) → IsKnown (state S.Store connection.old)
-        → IfErr result (FailsToHashFiles (state S.Store) connection.old connection.new) }
-    ensures ok { HasCleanDisk (state S.Store connection.new) → IsKnown (state S.Store connection.old)
-        → IsTrue (state S.Store connection.old).is_open
-        → OnOk result (IsUnchanged (state S.Store connection.old) (state S.Store connection.new)) }
-    ensures same { HasCleanDisk (state S.Store connection.new) → IsKnown (state S.Store connection.old)
-        → IsKept (state S.Store connection.old) (state S.Store connection.new) }
-    // It opens no store that was shut.
-    ensures open { HasCleanDisk (state S.Store connection.new)
-        → IsTrue (state S.Store connection.new).is_open
-        → IsTrue (state S.Store connection.old).is_open }
-    // Where no transaction was open, none is.
-    ensures mode { (state S.Store connection.old).in_transaction ≡ false
-        → (state S.Store connection.new).in_transaction ≡ false }
-    ensures clean { HasCleanDisk (state S.Store connection.new)
-        → HasCleanDisk (state S.Store connection.old) }
-    ensures survives { HasCleanDisk (state S.Store connection.new)
-        → IsKnown (state S.Store connection.old)
-        → Survives (state S.Store connection.old) (state S.Store connection.new) (λ _. ⊥) }
+    ensures hashes { TellsOver IsKnown S.Store connection.old connection.new result
+        (λ t values. AreValuesOf t values.items) }
+    ensures cause { FailsOver IsKnown S.Store connection.old connection.new result
+        (FailsToHashFiles (state S.Store)) }
+    ensures ok { ReadsOver IsKnown S.Store connection.old connection.new result }
+    ensures stays { StaysOver IsKnown S.Store connection.old connection.new }
 {
     let mut values = Vec::new(alloc);
     let mut last = 0;

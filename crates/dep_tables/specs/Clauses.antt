@@ -80,10 +80,11 @@ FailsToAsk sql params old new fault =
     (e : Error) × (FailsToQuery sql params old new e ⊎ IsTooLate sql params old new e)
     × (fault ≡ fault_for e)
 
--- each row is one of these, and there is one at most; there is just one
+-- each row is one of these, and there is one at most
 abbrev pub AtMostOne : (Row → Type 0) → List Row → Type 0
 AtMostOne is_ours rows = All is_ours rows × (length rows ≤ 1)
 
+-- there is just one row, which is one of these
 abbrev pub JustOne : (Row → Type 0) → List Row → Type 0
 JustOne is_ours rows = All is_ours rows × (length rows ≡ 1)
 
@@ -101,10 +102,11 @@ FailsWithRows copies are_ours sql params old new fault =
     FailsToAsk sql params old new fault
     ⊎ ((rows : List Row) × Shown sql params old new rows × IsFaultAt copies are_ours rows fault)
 
--- of rows that are copied; of a row of numbers and digests, for which no memory is taken
+-- the same of rows that are copied, for which memory can be wanting
 abbrev pub FailsToRead : (List Row → Type 0) → List ℕ → Row → State → State → StoreFault → Type 0
 FailsToRead = FailsWithRows ⊤
 
+-- the same of a row of numbers and digests, for which no memory is taken
 abbrev pub FailsToReadNumbers : (List Row → Type 0) → List ℕ → Row → State → State → StoreFault
     → Type 0
 FailsToReadNumbers = FailsWithRows ⊥

@@ -30,9 +30,11 @@ use Rattle.dep_tables.specs.declared.owner.BlockPlace.{BlockPlace}
 abbrev pub HasAt : (Value → Type 0) → Row → ℕ → Type 0
 HasAt is_ours row at = (at < length row) × is_ours (column row at)
 
+-- an integer from 0 on
 abbrev pub IsNumberValue : Value → Type 0
 IsNumberValue v = (n : ℕ) × (v ≡ Int (pos n))
 
+-- a text that is UTF-8
 abbrev pub IsTextValue : Value → Type 0
 IsTextValue v = (t : List ℕ) × (v ≡ Text t) × IsUtf8 t
 
@@ -40,18 +42,23 @@ IsTextValue v = (t : List ℕ) × (v ≡ Text t) × IsUtf8 t
 abbrev pub IsDigestValue : ℕ → Value → Type 0
 IsDigestValue width v = (b : List ℕ) × (v ≡ Blob b) × (length b ≡ width)
 
+-- NULL where there is nothing to be told
 abbrev pub IsNullOr : (Value → Type 0) → Value → Type 0
 IsNullOr is_ours v = (v ≡ Null) ⊎ is_ours v
 
+-- true as 1, false as 0
 abbrev pub flag : Bool → Value
 flag b = Int (pos (if b then 1 else 0))
 
+-- 1 or 0
 abbrev pub IsFlagValue : Value → Type 0
 IsFlagValue v = (b : Bool) × (v ≡ flag b)
 
+-- a blob of any length
 abbrev pub IsBytesValue : Value → Type 0
 IsBytesValue v = (b : List ℕ) × (v ≡ Blob b)
 
+-- what SQL value a column of this kind has
 abbrev pub IsOfKind : ColumnKind → Value → Type 0
 IsOfKind kind.Number = IsNumberValue
 IsOfKind kind.Flag = IsFlagValue
@@ -76,11 +83,13 @@ stored_format version = Int (pos 1) ∷ Null ∷ Int (pos version) ∷ []
 
 -- ---- state
 
+-- the clock, and the next object, file, upload and change
 abbrev pub state_values : StateRow → Row
 state_values r =
     Int (pos r.clock) ∷ Int (pos r.next.object) ∷ Int (pos r.next.file) ∷ Int (pos r.next.upload)
     ∷ Int (pos r.next.change) ∷ []
 
+-- the one row of `state` in its tree: the rowid is its id, 1, whose own column is NULL
 abbrev pub stored_state : StateRow → Row
 stored_state r = Int (pos 1) ∷ Null ∷ state_values r
 
@@ -99,25 +108,31 @@ pub record IsStorableState (r : StateRow) : Type 0 where
 abbrev pub state_kinds : List ColumnKind
 state_kinds = kind.Number ∷ kind.Number ∷ kind.Number ∷ kind.Number ∷ kind.Number ∷ []
 
+-- what a query for the clock and the next numbers shows
 abbrev pub IsStateRow : Row → Type 0
 IsStateRow = HasKinds state_kinds
 
 -- ---- objects
 
+-- what an object's row has behind its number
 abbrev pub object_columns : ObjectRow → Row
 object_columns r =
     flag r.ingested ∷ Int (pos r.object_tag) ∷ Int (pos r.metadata_tag) ∷ Int (pos r.files_tag)
     ∷ Int (pos r.changed) ∷ []
 
+-- an object as a query shows it, and as its row is put in
 abbrev pub object_values : ObjectRow → Row
 object_values r = Int (pos r.object) ∷ object_columns r
 
+-- an object's row in its tree: the rowid is its number, whose own column is NULL
 abbrev pub stored_object : ObjectRow → Row
 stored_object r = Int (pos r.object) ∷ Null ∷ object_columns r
 
+-- what a query shows of a stored row, the number in front
 abbrev pub shown_object : Row → Row
 shown_object stored = column stored 0 ∷ columns_from 2 5 stored
 
+-- each number of the object's row is one of SQL's
 pub record IsStorableObject (r : ObjectRow) : Type 0 where
   pub object : r.object < 2 ^ 63
   pub object_tag : r.object_tag < 2 ^ 63
@@ -125,9 +140,11 @@ pub record IsStorableObject (r : ObjectRow) : Type 0 where
   pub files_tag : r.files_tag < 2 ^ 63
   pub changed : r.changed < 2 ^ 63
 
+-- the number, whether it is ingested, three tags and a moment
 abbrev pub object_kinds : List ColumnKind
 object_kinds = kind.Number ∷ kind.Flag ∷ kind.Number ∷ kind.Number ∷ kind.Number ∷ kind.Number ∷ []
 
+-- what a query for an object shows
 abbrev pub IsObjectRow : Row → Type 0
 IsObjectRow = HasKinds object_kinds
 
@@ -151,30 +168,36 @@ has_metadata_key r stored =
     has_number 1 r.object stored && is_eq (value_cmp (column stored 2) (Text r.name))
     && has_number 3 r.place stored
 
+-- the object and the place are ones of SQL's numbers
 pub record IsStorableMetadata (r : MetadataRow) : Type 0 where
   pub object : r.object < 2 ^ 63
   pub place : r.place < 2 ^ 63
 
+-- the object, the name, the place and the value
 abbrev pub metadata_kinds : List ColumnKind
 metadata_kinds = kind.Number ∷ kind.Text ∷ kind.Number ∷ kind.Text ∷ []
 
+-- what a query for metadata shows
 abbrev pub IsMetadataRow : Row → Type 0
 IsMetadataRow = HasKinds metadata_kinds
 
 -- ---- files
 
+-- what a file's row has behind its number
 abbrev pub file_columns : FileRow → Row
 file_columns r =
     Int (pos r.object) ∷ Text r.name ∷ Text r.media ∷ Int (pos r.size) ∷ Int (pos r.tag)
     ∷ Int (pos r.deposited) ∷ or_null Text r.behalf ∷ flag r.by_reference ∷ Blob r.sha256 ∷ []
 
--- what its row is given; what is read of it, with the SHA-512 beside it
+-- what a file's row is given
 abbrev pub file_row_values : FileRow → Row
 file_row_values r = Int (pos r.file) ∷ file_columns r
 
+-- what is read of a file, with the SHA-512 beside its row
 abbrev pub file_values : FileRow → Row
 file_values r = file_row_values r ++ Blob r.sha512 ∷ []
 
+-- a file's row in its tree: the rowid is its number, whose own column is NULL
 abbrev pub stored_file : FileRow → Row
 stored_file r = Int (pos r.file) ∷ Null ∷ file_columns r
 
@@ -186,6 +209,7 @@ value_in stored = column stored 3
 abbrev pub shown_file : Row × Row → Row
 shown_file both = (column both.0 0 ∷ columns_from 2 9 both.0) ++ value_in both.1 ∷ []
 
+-- each number of the file's row is one of SQL's
 pub record IsStorableFile (r : FileRow) : Type 0 where
   pub file : r.file < 2 ^ 63
   pub object : r.object < 2 ^ 63
@@ -193,11 +217,13 @@ pub record IsStorableFile (r : FileRow) : Type 0 where
   pub tag : r.tag < 2 ^ 63
   pub deposited : r.deposited < 2 ^ 63
 
+-- the columns of a file's row, and its SHA-512
 abbrev pub file_kinds : List ColumnKind
 file_kinds =
     kind.Number ∷ kind.Number ∷ kind.Text ∷ kind.Text ∷ kind.Number ∷ kind.Number ∷ kind.Number
     ∷ kind.TextOrNull ∷ kind.Flag ∷ kind.Sha256 ∷ kind.Sha512 ∷ []
 
+-- what a query for a file shows, its SHA-512 at the end
 abbrev pub IsFileRow : Row → Type 0
 IsFileRow = HasKinds file_kinds
 
@@ -205,12 +231,15 @@ IsFileRow = HasKinds file_kinds
 abbrev pub sha256_values : FileSha256 → Row
 sha256_values r = Int (pos r.file) ∷ Blob r.value ∷ []
 
+-- what a query shows of a stored row: the number and the SHA-256
 abbrev pub shown_sha256 : Row → Row
 shown_sha256 stored = column stored 0 ∷ column stored 10 ∷ []
 
+-- the number of a file and its SHA-256
 abbrev pub sha256_kinds : List ColumnKind
 sha256_kinds = kind.Number ∷ kind.Sha256 ∷ []
 
+-- what a query for the SHA-256 of files shows
 abbrev pub IsSha256Row : Row → Type 0
 IsSha256Row = HasKinds sha256_kinds
 
@@ -231,20 +260,25 @@ columns_of_upload r = record {
   last = r.last;
 }
 
+-- what an upload's row has behind its number
 abbrev pub upload_columns : UploadColumns → Row
 upload_columns r =
     Int (pos r.size) ∷ Int (pos r.count) ∷ Int (pos r.segment_size) ∷ or_null Blob r.sha256
     ∷ Int (pos r.last) ∷ []
 
+-- an upload as a query shows it, and as its row is put in
 abbrev pub upload_values : UploadColumns → Row
 upload_values r = Int (pos r.upload) ∷ upload_columns r
 
+-- an upload's row in its tree: the rowid is its number, whose own column is NULL
 abbrev pub stored_upload : UploadColumns → Row
 stored_upload r = Int (pos r.upload) ∷ Null ∷ upload_columns r
 
+-- what a query shows of a stored row, the number in front
 abbrev pub shown_upload : Row → Row
 shown_upload stored = column stored 0 ∷ columns_from 2 5 stored
 
+-- each number of the upload's row is one of SQL's
 pub record IsStorableUpload (r : UploadColumns) : Type 0 where
   pub upload : r.upload < 2 ^ 63
   pub size : r.size < 2 ^ 63
@@ -252,9 +286,11 @@ pub record IsStorableUpload (r : UploadColumns) : Type 0 where
   pub segment_size : r.segment_size < 2 ^ 63
   pub last : r.last < 2 ^ 63
 
+-- the number, three sizes, the SHA-256 if one was promised, and a moment
 abbrev pub upload_kinds : List ColumnKind
 upload_kinds = kind.Number ∷ kind.Number ∷ kind.Number ∷ kind.Number ∷ kind.Sha256OrNull ∷ kind.Number ∷ []
 
+-- what a query for an upload shows
 abbrev pub IsUploadRow : Row → Type 0
 IsUploadRow = HasKinds upload_kinds
 
@@ -262,12 +298,14 @@ IsUploadRow = HasKinds upload_kinds
 abbrev pub left_values : LeftUpload → Row
 left_values l = Int (pos l.upload) ∷ Int (pos l.last) ∷ []
 
+-- what a query shows of a stored row: the number and the last moment
 abbrev pub shown_left : Row → Row
 shown_left stored = column stored 0 ∷ column stored 6 ∷ []
 
 abbrev pub left_kinds : List ColumnKind
 left_kinds = kind.Number ∷ kind.Number ∷ []
 
+-- what a query for an upload that was left shows
 abbrev pub IsLeftRow : Row → Type 0
 IsLeftRow = HasKinds left_kinds
 
@@ -278,6 +316,7 @@ by_last_and_upload a b =
 
 -- ---- segments
 
+-- the upload, the number and the size of a segment
 abbrev pub segment_values : SegmentRow → Row
 segment_values r = Int (pos r.upload) ∷ Int (pos r.number) ∷ Int (pos r.size) ∷ []
 
@@ -288,9 +327,11 @@ shown_segment = columns_from 1 3
 abbrev pub by_number : Row → Row → Ordering
 by_number a b = value_cmp (column a 1) (column b 1)
 
+-- the stored row has this one's upload and number
 abbrev pub has_segment_key : SegmentRow → Row → Bool
 has_segment_key r stored = has_number 1 r.upload stored && has_number 2 r.number stored
 
+-- each number of the segment's row is one of SQL's
 pub record IsStorableSegment (r : SegmentRow) : Type 0 where
   pub upload : r.upload < 2 ^ 63
   pub number : r.number < 2 ^ 63
@@ -299,6 +340,7 @@ pub record IsStorableSegment (r : SegmentRow) : Type 0 where
 abbrev pub segment_kinds : List ColumnKind
 segment_kinds = kind.Number ∷ kind.Number ∷ kind.Number ∷ []
 
+-- what a query for segments shows
 abbrev pub IsSegmentRow : Row → Type 0
 IsSegmentRow = HasKinds segment_kinds
 
@@ -312,6 +354,7 @@ stored_number n = Int (pos n) ∷ Null ∷ []
 abbrev pub number_kinds : List ColumnKind
 number_kinds = kind.Number ∷ []
 
+-- what a query for a number alone shows
 abbrev pub IsNumberRow : Row → Type 0
 IsNumberRow = HasKinds number_kinds
 
@@ -326,25 +369,29 @@ abbrev pub number_of : BlockOwner → ℕ
 number_of (File n) = n
 number_of (Upload n) = n
 
+-- the kind of an owner and its number
 abbrev pub owner_values : BlockOwner → Row
 owner_values o = Int (pos (kind_of o)) ∷ Int (pos (number_of o)) ∷ []
 
+-- the kind of the owner, its number, the part and the place
 abbrev pub key_values : BlockKey → Row
 key_values k =
     Int (pos (kind_of k.owner)) ∷ Int (pos (number_of k.owner)) ∷ Int (pos k.at.part)
     ∷ Int (pos k.at.place) ∷ []
 
+-- the key of a block, and its bytes at the end
 abbrev pub block_values : BlockKey → List ℕ → Row
 block_values k bytes =
     Int (pos (kind_of k.owner)) ∷ Int (pos (number_of k.owner)) ∷ Int (pos k.at.part)
     ∷ Int (pos k.at.place) ∷ Blob bytes ∷ []
 
--- whose the blocks are, and whose they become; those of a part before this place
+-- whose the blocks are, and whose they become
 abbrev pub move_values : (o to : BlockOwner) → Row
 move_values o to =
     Int (pos (kind_of o)) ∷ Int (pos (number_of o)) ∷ Int (pos (kind_of to))
     ∷ Int (pos (number_of to)) ∷ []
 
+-- the key that the blocks of its part stand before, and whose they become
 abbrev pub move_run_values : BlockKey → BlockOwner → Row
 move_run_values k to =
     Int (pos (kind_of k.owner)) ∷ Int (pos (number_of k.owner)) ∷ Int (pos k.at.part)
@@ -357,15 +404,18 @@ place_values p = Int (pos p.part) ∷ Int (pos p.place) ∷ []
 abbrev pub shown_block : Row → Row
 shown_block = columns_from 3 3
 
+-- the part and the place of a stored block
 abbrev pub shown_place : Row → Row
 shown_place = columns_from 3 2
 
+-- the bytes of a stored block
 abbrev pub bytes_in : Row → Value
 bytes_in stored = column stored 5
 
 abbrev pub place_kinds : List ColumnKind
 place_kinds = kind.Number ∷ kind.Number ∷ []
 
+-- what a query for the place of a block shows
 abbrev pub IsPlaceRow : Row → Type 0
 IsPlaceRow = HasKinds place_kinds
 
@@ -373,6 +423,7 @@ IsPlaceRow = HasKinds place_kinds
 abbrev pub bytes_kinds : List ColumnKind
 bytes_kinds = kind.Bytes ∷ []
 
+-- what a query for the bytes of a block shows
 abbrev pub IsBytesRow : Row → Type 0
 IsBytesRow = HasKinds bytes_kinds
 
@@ -381,13 +432,15 @@ abbrev pub by_part_and_place : Row → Row → Ordering
 by_part_and_place a b =
     ordering_then (value_cmp (column a 0) (column b 0)) (value_cmp (column a 1) (column b 1))
 
--- a block of this owner; of this part of it; this block
+-- a block of this owner
 abbrev pub is_block_of : BlockOwner → Row → Bool
 is_block_of o stored = has_number 1 (kind_of o) stored && has_number 2 (number_of o) stored
 
+-- a block of this part of the owner
 abbrev pub is_part_of : BlockOwner → ℕ → Row → Bool
 is_part_of o part stored = is_block_of o stored && has_number 3 part stored
 
+-- the block at this part and place of the owner
 abbrev pub is_block : BlockKey → Row → Bool
 is_block k stored = is_part_of k.owner k.at.part stored && has_number 4 k.at.place stored
 
@@ -408,9 +461,11 @@ abbrev pub moved_to : BlockOwner → Row → Row
 moved_to o stored =
     column stored 0 ∷ Int (pos (kind_of o)) ∷ Int (pos (number_of o)) ∷ columns_from 3 3 stored
 
+-- the number of the file or of the upload is one of SQL's
 abbrev pub IsStorableOwner : BlockOwner → Type 0
 IsStorableOwner o = number_of o < 2 ^ 63
 
+-- the number of the owner, the part and the place are ones of SQL's
 pub record IsStorableKey (k : BlockKey) : Type 0 where
   pub owner : IsStorableOwner k.owner
   pub part : k.at.part < 2 ^ 63
@@ -418,6 +473,7 @@ pub record IsStorableKey (k : BlockKey) : Type 0 where
 
 -- ---- sha512s
 
+-- the kind of the owner, its number, and the SHA-512
 abbrev pub sha512_values : BlockOwner → List ℕ → Row
 sha512_values o value = Int (pos (kind_of o)) ∷ Int (pos (number_of o)) ∷ Blob value ∷ []
 
@@ -434,5 +490,6 @@ is_sha512_of_row file stored =
 abbrev pub sha512_kinds : List ColumnKind
 sha512_kinds = kind.Sha512 ∷ []
 
+-- what a query for the SHA-512 of an owner shows
 abbrev pub IsSha512Row : Row → Type 0
 IsSha512Row = HasKinds sha512_kinds

@@ -6,11 +6,13 @@ use Rattle.sqlite_schema.specs.declared.schema.Index.{Index}
 use Rattle.sqlite.specs.Kind.TheVariants.{Integer, Text, Blob}
 use Rattle.dep_statements.specs.Tables.{column_of, keyed_table, indexed_table, index_of, plain_index}
 
+-- the version of the tables, in one row
 abbrev pub format_table : Table
 format_table = keyed_table (codes "format") 0
     (column_of (codes "id") Integer false
     ∷ column_of (codes "version") Integer true ∷ [])
 
+-- the clock and the next numbers, in one row
 abbrev pub state_table : Table
 state_table = keyed_table (codes "state") 1
     (column_of (codes "id") Integer false
@@ -20,6 +22,7 @@ state_table = keyed_table (codes "state") 1
     ∷ column_of (codes "next_upload") Integer true
     ∷ column_of (codes "next_change") Integer true ∷ [])
 
+-- objects, without their metadata and files
 abbrev pub objects_table : Table
 objects_table = keyed_table (codes "objects") 2
     (column_of (codes "object") Integer false
@@ -37,6 +40,7 @@ metadata_table = indexed_table (codes "metadata") 3 (1 ∷ 2 ∷ 3 ∷ [])
     ∷ column_of (codes "place") Integer true
     ∷ column_of (codes "value") Text true ∷ [])
 
+-- files, without their bytes and their SHA-512
 abbrev pub files_table : Table
 files_table = keyed_table (codes "files") 5
     (column_of (codes "file") Integer false
@@ -50,6 +54,7 @@ files_table = keyed_table (codes "files") 5
     ∷ column_of (codes "by_reference") Integer true
     ∷ column_of (codes "sha256") Blob true ∷ [])
 
+-- staged uploads, without their segments
 abbrev pub uploads_table : Table
 uploads_table = keyed_table (codes "uploads") 6
     (column_of (codes "upload") Integer false
@@ -66,6 +71,7 @@ segments_table = indexed_table (codes "segments") 7 (1 ∷ 2 ∷ [])
     ∷ column_of (codes "number") Integer true
     ∷ column_of (codes "size") Integer true ∷ [])
 
+-- the numbers of uploads that timed out
 abbrev pub timed_out_table : Table
 timed_out_table = keyed_table (codes "timed_out") 9 (column_of (codes "upload") Integer false ∷ [])
 
@@ -97,6 +103,7 @@ our_tables =
     format_table ∷ state_table ∷ objects_table ∷ metadata_table ∷ files_table ∷ uploads_table
     ∷ segments_table ∷ timed_out_table ∷ blocks_table ∷ sha512s_table ∷ []
 
+-- the schema of version 1, which has no index but those of the keys
 abbrev pub older_schema : Schema
 older_schema = record {
   tables = older_tables;
@@ -114,6 +121,7 @@ files_index = plain_index (codes "files_of_object") 14 5 (2 ∷ 0 ∷ [])
 abbrev pub uploads_index : Index
 uploads_index = plain_index (codes "uploads_by_last") 15 6 (6 ∷ 0 ∷ [])
 
+-- the schema of version 2, with the indexes of the keys and two more
 abbrev pub our_schema : Schema
 our_schema = record {
   tables = our_tables;

@@ -10,6 +10,7 @@ use Rattle.sqlite_catalog.specs.Listing.{IsSound}
 use Rattle.dep_statements.specs.Rows.{AreOrdered}
 use Rattle.dep_tables.specs.Schema.{older_schema, our_schema}
 
+-- of each table the rows that its tree has, the rowid in front of each
 pub record Tables : Type 0 where
   pub format : List Row
   pub state : List Row
@@ -37,9 +38,11 @@ tables_from first trees = record {
   sha512s = trees (first + 12);
 }
 
+-- the tables where their first tree is 0, as in our schema
 abbrev pub tables_in : Trees → Tables
 tables_in = tables_from 0
 
+-- the tables that a connection sees
 abbrev pub tables_of : State → Tables
 tables_of s = tables_in s.now.trees
 
@@ -57,13 +60,15 @@ pub record HasTablesOf (its : Schema) (db : Database) : Type 0 where
 abbrev pub IsOf : Schema → State → Type 0
 IsOf its s = HasTablesOf its s.now
 
--- the same of our schema
+-- the trees list our schema and obey it
 abbrev pub AreOurs : Trees → Type 0
 AreOurs = AreOf our_schema
 
+-- the database has our schema, and its trees list it and obey it
 abbrev pub HasOurTables : Database → Type 0
 HasOurTables = HasTablesOf our_schema
 
+-- the connection sees our schema
 abbrev pub IsOurs : State → Type 0
 IsOurs = IsOf our_schema
 
@@ -71,10 +76,11 @@ IsOurs = IsOf our_schema
 abbrev pub IsOlder : State → Type 0
 IsOlder = IsOf older_schema
 
--- the schema of one of our versions; a connection that sees one
+-- the schema of one of our versions
 abbrev pub IsKnownSchema : Schema → Type 0
 IsKnownSchema its = (its ≡ our_schema) ⊎ (its ≡ older_schema)
 
+-- the connection sees the schema of one of our versions
 abbrev pub IsKnown : State → Type 0
 IsKnown s = (its : Schema) × IsKnownSchema its × IsOf its s
 

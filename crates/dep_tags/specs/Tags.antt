@@ -27,5 +27,6 @@ abbrev pub is_met : ℕ → List ℕ → Bool
 is_met tag member =
     bytes_eq member (codes "*") || bytes_eq member (decimal tag) || bytes_eq member (quoted_tag tag)
 
+-- some member of If-Match is met by the tag (RFC 9110, section 13.1.1)
 abbrev pub holds : List (List ℕ) → ℕ → Bool
 holds list tag = list_any (is_met tag) list

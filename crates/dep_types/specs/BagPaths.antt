@@ -19,8 +19,10 @@ tag_paths =
 abbrev pub payload_path : ℕ → List ℕ → List ℕ
 payload_path number name = codes "data/" ++ decimal number ++ codes "/" ++ name
 
+-- where the files of the object stand, by ascending number
 abbrev pub payload_paths : Object → List (List ℕ)
 payload_paths o = each (λ e. payload_path e.0 e.1.name) (map.entries o.files)
 
+-- all files of the object's bag (RFC 8493, section 2), its payload behind the others
 abbrev pub bag_paths : Object → List (List ℕ)
 bag_paths o = tag_paths ++ payload_paths o

@@ -6,16 +6,19 @@ use Rattle.dep_types.specs.declared.config.Config.{Config}
 use Rattle.dep_types.specs.declared.config.ConfigFault.{ConfigFault}
 use Rattle.dep_types.specs.declared.config.ConfigFault.TheVariants.{Base, Limit, Memory}
 
+-- sizes in bytes, a count of segments and a time in seconds, none above its greatest
 pub record HasLimits (config : Config) : Type 0 where
   pub upload : IsLimit config.max_upload 16777216
   pub assembled : IsLimit config.max_assembled 17179869184
   pub segments : IsLimit config.max_segments 10000
   pub idle : IsLimit config.staging_max_idle 31536000
 
+-- the base is one, and no limit is 0 or too great
 pub record IsChecked (config : Config) : Type 0 where
   pub base : IsBase config.base
   pub limits : HasLimits config
 
+-- how a refused configuration is told, as a number from 1 to 3
 abbrev pub fault_number : ConfigFault → ℕ
 fault_number Base = 1
 fault_number Limit = 2

@@ -8,6 +8,7 @@ use Rattle.std.specs.List.{HoldsAt}
 use Rattle.std.specs.List.Sorted.{IsPartitionPoint}
 use Rattle.dep_types.specs.declared.metadata.MetadataEntry.{MetadataEntry}
 
+-- an entry as a pair, which orders entries by their names
 abbrev pub name_and_texts : MetadataEntry → List ℕ × List (List ℕ)
 name_and_texts e = (e.name, e.texts)
 

@@ -31,6 +31,7 @@ counters_after next taken =
 abbrev pub has_room : (next wanted : ℕ) → Bool
 has_room next wanted = (wanted == 0) || nat_le (next + wanted) greatest_number
 
+-- so many numbers can be given of each kind: objects, files, uploads and changes
 unfoldable pub room_for : Counters → Counters → Bool
 room_for next taken =
     has_room next.object taken.object && has_room next.file taken.file

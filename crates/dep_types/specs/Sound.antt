@@ -12,6 +12,7 @@ pub record IsGiven (next number : ℕ) : Type 0 where
   pub least : 1 ≤ number
   pub below : number < next
 
+-- its number and its tag were given, and nobody deposited it after the clock
 pub record IsSoundFile (s : State) (number : ℕ) (file : File) : Type 0 where
   pub number_given : IsGiven s.next.file number
   pub tag_given : IsGiven s.next.change file.tag
@@ -19,6 +20,7 @@ pub record IsSoundFile (s : State) (number : ℕ) (file : File) : Type 0 where
   pub name : IsTrue (is_good_name file.name)
   pub media : IsTrue (is_media file.media)
 
+-- its number and its tags were given, it was not changed after the clock, its files are sound
 pub record IsSoundObject (s : State) (number : ℕ) (o : Object) : Type 0 where
   pub number_given : IsGiven s.next.object number
   pub tag_given : IsGiven s.next.change o.tag
@@ -29,6 +31,7 @@ pub record IsSoundObject (s : State) (number : ℕ) (o : Object) : Type 0 where
       → IsTrue (is_kept_name name) × (texts ≢ [])
   pub files : (f : ℕ) (file : File) → map.get o.files f ≡ Some file → IsSoundFile s f file
 
+-- its sizes agree, and each segment that was received has the length of its number
 pub record IsSoundUpload (s : State) (number : ℕ) (u : Upload) : Type 0 where
   pub number_given : IsGiven s.next.upload number
   pub past : u.last ≤ s.clock
@@ -39,6 +42,7 @@ pub record IsSoundUpload (s : State) (number : ℕ) (u : Upload) : Type 0 where
   pub segments : (k : ℕ) (bytes : List ℕ) → map.get u.segments k ≡ Some bytes
       → (1 ≤ k) × (k ≤ u.count) × (length bytes ≡ segment_length u k)
 
+-- what each request and each tick keeps: all that is in the state is sound, a file is in one object
 pub record IsSound (s : State) : Type 0 where
   pub clock : s.clock ≤ greatest_moment
   pub next_object : 1 ≤ s.next.object

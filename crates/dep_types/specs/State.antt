@@ -12,6 +12,7 @@ use Rattle.dep_types.specs.declared.config.Config.{Config}
 abbrev pub Texts : Type 0
 Texts = Named (List (List ℕ))
 
+-- a file of an object: bytes with their name and media type; moments are in seconds of Unix time
 pub record File : Type 0 where
   pub name : List ℕ
   pub media : List ℕ
@@ -21,6 +22,7 @@ pub record File : Type 0 where
   pub behalf : Option (List ℕ)
   pub by_reference : Bool
 
+-- an object with its metadata and its files, a tag for each, and the moment of its last change
 pub record Object : Type 0 where
   pub ingested : Bool
   pub metadata : Texts
@@ -30,6 +32,7 @@ pub record Object : Type 0 where
   pub files_tag : ℕ
   pub changed : ℕ
 
+-- a staged upload: the sizes that it was opened with, what digests were promised, what was received
 pub record Upload : Type 0 where
   pub size : ℕ
   pub count : ℕ
@@ -39,6 +42,7 @@ pub record Upload : Type 0 where
   pub last : ℕ
   pub segments : Numbered (List ℕ)
 
+-- the clock, the next numbers, objects, staged uploads, and the numbers of those that timed out
 pub record State : Type 0 where
   pub clock : ℕ
   pub next : Counters
@@ -68,9 +72,11 @@ is_idle config clock u = nat_lt config.staging_max_idle (clock - u.last)
 abbrev pub expires : Config → ℕ → Numbered Upload → ℕ → Bool
 expires config clock uploads u = option_map_or (is_idle config clock) (map.get uploads u) false
 
+-- the uploads that the tick drops
 abbrev pub expired : Config → ℕ → Numbered Upload → Numbered Upload
 expired config clock uploads = map.retain_keys uploads (expires config clock uploads)
 
+-- the uploads that the tick leaves
 abbrev pub unexpired : Config → ℕ → Numbered Upload → Numbered Upload
 unexpired config clock uploads = map.retain_keys uploads (λ u. not (expires config clock uploads u))
 

@@ -5,10 +5,12 @@ use Rattle.dep_types.specs.declared.store_fault.StoreFault.TheVariants.{Store, M
 use Rattle.dep_types.specs.declared.stream_fault.StreamFault.{StreamFault}
 use Rattle.dep_types.specs.declared.stream_fault.StreamFault.TheVariants as stream
 
+-- numbers that follow those of the refusals
 abbrev pub fault_number : StoreFault → ℕ
 fault_number Store = 20
 fault_number Memory = 21
 
+-- how a failure to send a content is told, as a number from 1 to 4
 abbrev pub stream_fault_number : StreamFault → ℕ
 stream_fault_number stream.Writer = 1
 stream_fault_number stream.Store = 2

@@ -1,5 +1,5 @@
 -- A migration, call by call.
-use Rattle.std.proofs.Common.{◌≡◌, ◌⊎◌, inl, inr, ℕ, None, false, IsTrue, Result, Ok, Err, OnOk, OnErr, IfOk, refl, sym, ap, subst, ◌∙◌, arith}
+use Rattle.std.proofs.Common.{◌≡◌, inl, inr, IsTrue, Result, Ok, Err, OnOk, OnErr, IfOk, refl, sym, ap, subst, ◌∙◌}
 use Rattle.sqlite.specs.Effect.{Database}
 use Rattle.sqlite.specs.Schema.{Schema}
 use Rattle.sqlite.specs.State as db
@@ -9,12 +9,11 @@ use Rattle.dep_types.specs.State.{State}
 use Rattle.dep_statements.specs.Rows.{IsOrdered}
 use Rattle.dep_tables.specs.Schema.{our_schema, older_schema}
 use Rattle.dep_tables.specs.Tables.{Tables, tables_in, tables_of, HasTablesOf, IsKnown}
-use Rattle.dep_tables.specs.declared.sha512s.FileSha512.{FileSha512}
 use Rattle.dep_row_maps.specs.Sha512s.{upgraded}
-use Rattle.dep_schema.specs.Standing.{Holds, HoldsOlder, IsBack, Stands, StandsOf, StandsOlder}
+use Rattle.dep_schema.specs.Standing.{IsBack, Stands, StandsOf, StandsOlder}
 use Rattle.dep_schema.specs.Transactions.{TransactsTo}
 use Rattle.dep_schema.proofs.Transactions.{stands_left}
-use Rattle.dep_schema.proofs.Transacting.{IsSettled, left_as_was, left_still}
+use Rattle.dep_schema.proofs.Transacting.{IsSettled, left_still}
 use Rattle.dep_streams.specs.Reading.{IsKept}
 use Rattle.dep_streams.specs.Sha512s.{AreValuesOf}
 use Rattle.dep_streams.proofs.Upgraded.{stand_upgraded}
@@ -37,10 +36,9 @@ stands_same {its} a b t stands same = record {
 -- a call that only reads has left all as it was, or has ended no transaction
 pub stands_kept : {its : Schema} (a b : db.State) (t : Tables) → StandsOf its a t → IsKept a b → IsTrue b.is_open → StandsOf its b t
 stands_kept a b t stands kept is_open =
-    let it = kept is_open in
-    elim it.1 [
-      | inl same ↦ stands_left a b t stands is_open (same.1 ∙ stands.settled) (same.0 ∙ stands.committed) it.0.1
-      | inr back ↦ stands_left a b t stands is_open back.1 back.0 it.0.1
+    elim (kept is_open) [
+      | inl same ↦ stands_same a b t stands same
+      | inr back ↦ stands_left a b t stands is_open back.autocommit (back.undone is_open).0 (back.undone is_open).1
     ]
 
 module _ (old new : db.State) (settled : IsTrue old.is_open → IsSettled old) (shut : IsTrue new.is_open → HasCleanDisk new) where
@@ -57,7 +55,7 @@ module _ (old new : db.State) (settled : IsTrue old.is_open → IsSettled old) (
 -- the values were computed, and a transaction was tried
 pub was_tried : {E : Type 0} (old mid new : db.State) (values : _) (result : Result (Unit {0}) E)
     → (HasCleanDisk mid → IsKnown old → AreValuesOf (tables_of old) values)
-    → (HasCleanDisk mid → IsKnown old → IsTrue old.is_open → IsUnchanged old mid)
+    → (HasCleanDisk mid → IsKnown old → IsUnchanged old mid)
     → (IsTrue mid.is_open → HasCleanDisk mid) → (HasCleanDisk mid → HasCleanDisk old)
     → TransactsTo older_schema our_schema mid new result (λ t _ after. after ≡ upgraded values t)
     → Migrates old new result
@@ -72,7 +70,7 @@ was_tried {E} old mid new values result are same shut clean it = record {
 }
   where
     stands_mid : HasCleanDisk mid → (t : Tables) → StandsOlder old t → StandsOlder mid t
-    stands_mid late t stands = stands_same old mid t stands (same late (known_older old t stands) stands.is_open)
+    stands_mid late t stands = stands_same old mid t stands (same late (known_older old t stands))
 
     made : HasCleanDisk mid → (t : Tables) → StandsOlder old t → AreValuesOf t values
     made late t stands = subst (λ (x : Tables). AreValuesOf x values) stands.rows (are late (known_older old t stands))
@@ -119,10 +117,9 @@ module _ {A E : Type 0} (old new : db.State) (result : Result A E) (it : Migrate
 -- a call that only reads
 pub kept_back : (old new : db.State) → old.now ≡ old.committed → IsKept old new → IsTrue new.is_open → IsBack old new
 kept_back old new between kept is_open =
-    let it = kept is_open in
-    elim it.1 [
-      | inl same ↦ (same.0 ∙ between, it.0.1)
-      | inr back ↦ (back.0, it.0.1)
+    elim (kept is_open) [
+      | inl same ↦ (same.0.now_is ∙ between, same.0.committed_is)
+      | inr back ↦ back.undone is_open
     ]
 
 -- one behind it that fell back

@@ -1,16 +1,13 @@
 -- What an open finds of a database that stood for a state, in either version.
-use Rattle.std.proofs.Common.{◌≡◌, ◌⊎◌, inl, inr, nat_cmp, Some, ℕ, pos, [], ◌∷◌, false, IsTrue, refl, sym, ap, subst, ◌∙◌}
+use Rattle.std.proofs.Common.{◌≡◌, ◌⊎◌, inl, inr, ℕ, [], ◌∷◌, false, IsTrue, refl, sym, ap, subst, ◌∙◌}
 use Rattle.sqlite.specs.Effect.{Database}
 use Rattle.sqlite.specs.Schema.{Schema}
 use Rattle.sqlite.specs.State as db
 use Rattle.sqlite.specs.State.{HasCleanDisk, IsLive, Survives}
 use Rattle.sqlite.specs.Tree.{Trees}
-use Rattle.std.specs.FinMap as finmap
-use Rattle.std.specs.Option.{option_map_or}
-use Rattle.dep_types.specs.State.{State, Object, File, empty_state}
+use Rattle.dep_types.specs.State.{State, empty_state}
 use Rattle.dep_types.proofs.EmptySound.{empty_sound}
 use Rattle.dep_tables.specs.Rows.{stored_format}
-use Rattle.dep_row_maps.specs.TablesAre.{files_at}
 use Rattle.dep_row_maps.proofs.Whole.{first_stands}
 use Rattle.dep_tables.specs.Schema.{our_schema, older_schema}
 use Rattle.dep_tables.specs.Tables.{Tables, tables_in, HasTablesOf, IsKnownSchema}

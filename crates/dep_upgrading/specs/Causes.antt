@@ -1,6 +1,6 @@
 -- Why a database is opened, and why it is not.
-use Rattle.std.specs.Prelude.{◌≡◌, ◌⊎◌, List}
-use Rattle.sqlite.specs.State.{IsUnchanged}
+use Rattle.std.specs.Prelude.{◌≡◌, ◌⊎◌, List, IsTrue, Result, IfErr, OnOk}
+use Rattle.sqlite.specs.State.{HasCleanDisk, IsUnchanged}
 use Rattle.sqlite.specs.Held.{Held, state}
 use Rattle.sqlite_trees.specs.declared.store.Store.{Ghosts}
 use Rattle.dep_types.specs.declared.store_fault.StoreFault.{StoreFault}
@@ -35,7 +35,7 @@ module _ {S : Type 0} (g : Ghosts S) (old new : Held S) where
   -- upgrade failed, or its commit
   abbrev pub FailsToMigrate : StoreFault → Type 0
   FailsToMigrate fault =
-      FailsToHashFiles (state g) old new fault
+      FailsToHashFiles (state g) (state g old) (state g new) fault
       ⊎ ((hashed : Held S) × IsUnchanged (state g old) (state g hashed)
       × (values : List FileSha512) × AreValuesOf (tables_of (state g old)) values
       × FailsToUpgrade g hashed new values fault)
@@ -49,3 +49,22 @@ module _ {S : Type 0} (g : Ghosts S) (old new : Held S) where
       × (opened : Held S) × IsStill (state g old) (state g opened)
       × (told : StoreFault) × (fault ≡ open_fault_for told)
       × (IsKnown (state g old) → FailsToMigrate g opened new told))
+
+module _ {S : Type 0} (g : Ghosts S) (old : Held S) where
+  -- an open that was done has a cause
+  abbrev pub OpensFor : Held S → Type 0
+  OpensFor opened = HasCleanDisk (state g opened) → FindsOrUpgrades g old
+
+  -- and so has one that failed, with the connection that it hands back
+  abbrev pub RefusesFor : OpenFault × Held S → Type 0
+  RefusesFor refused = HasCleanDisk (state g refused.1) → FailsToOpenTables g old refused.1 refused.0
+
+module _ {S A : Type 0} (g : Ghosts S) (old new : Held S) (result : Result A StoreFault) where
+  -- only where the names were free, tables of version 1 become those of version 2
+  abbrev pub MigratesToFree : Type 0
+  MigratesToFree = HasCleanDisk (state g new) → IsTrue (state g old).is_open → OnOk result (HadFreeNames g old)
+
+  -- over tables of ours a migration that failed has a cause
+  abbrev pub FailsMigrating : Type 0
+  FailsMigrating = HasCleanDisk (state g new) → IsTrue (state g old).is_open → IsKnown (state g old)
+      → IfErr result (FailsToMigrate g old new)

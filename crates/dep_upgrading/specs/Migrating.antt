@@ -1,7 +1,9 @@
 -- What becomes of a database of version 1 that is opened, and what a crash leaves of any open.
-use Rattle.std.specs.Prelude.{◌≡◌, ◌⊎◌, List, IsTrue, Result, OnErr, OnOk}
+use Rattle.std.specs.Prelude.{◌≡◌, ◌⊎◌, List, IsTrue, Result, OnErr, OnOk, MatchResult}
 use Rattle.sqlite.specs.State as db
 use Rattle.sqlite.specs.State.{HasCleanDisk}
+use Rattle.sqlite.specs.Held.{Held, state}
+use Rattle.sqlite_trees.specs.declared.store.Store.{Ghosts}
 use Rattle.sqlite.specs.Tree.{Trees}
 use Rattle.dep_types.specs.State.{State, empty_state}
 use Rattle.dep_tables.specs.Tables.{Tables, IsKnown}
@@ -9,8 +11,10 @@ use Rattle.dep_tables.specs.Versions.{our_version, older_version, HasVersion}
 use Rattle.dep_tables.specs.declared.sha512s.FileSha512.{FileSha512}
 use Rattle.dep_row_maps.specs.Sha512s.{upgraded}
 use Rattle.dep_schema.specs.OpenFaults.{TellsVersion}
-use Rattle.dep_schema.specs.Standing.{Holds, HoldsOlder, HoldsNone, Stands, StandsOlder, IsBack}
+use Rattle.dep_schema.specs.Standing.{Holds, HoldsOlder, HoldsNone, Stands, StandsOlder, IsBack, IsOpenable}
 use Rattle.dep_schema.specs.States.{StandsFor, OlderStandsFor, IsLeftAs, Leaves}
+use Rattle.dep_schema.specs.declared.opening.OpenFault.{OpenFault}
+use Rattle.dep_schema.specs.declared.opening.OpenFault.TheVariants.{UnknownVersion}
 use Rattle.dep_streams.specs.Sha512s.{AreValuesOf}
 
 -- version 2, with the values of the files as their bytes stand
@@ -52,3 +56,54 @@ pub record OpenLeaves (old new : db.State) : Type 0 where
       → (trees : Trees) → new.may_leave trees → HoldsNone trees ⊎ IsLeftAs trees empty_state
   pub found : HasCleanDisk new → IsTrue old.is_open → (s : State) → IsLeftAs old.now.trees s
       → Leaves new (λ left. left ≡ s)
+
+-- a failure between transactions falls back to the last commit of tables of ours
+abbrev pub FallsBack : {A E : Type 0} (old new : db.State) → Result A E → Type 0
+FallsBack old new result = IsTrue new.is_open → old.now ≡ old.committed → IsKnown old
+    → OnErr result (IsBack old new)
+
+-- this holds of the connection, opened or handed back
+abbrev pub OfEither : {C E : Type 0} → Result C (E × C) → (C → Type 0) → Type 0
+OfEither result told = MatchResult result told (λ refused. told refused.1)
+
+-- ---- what is told of an open, by the connection before it and the one behind it
+
+module _ {S : Type 0} (g : Ghosts S) (old : Held S) where
+  -- a database with no table is the empty archive's
+  abbrev pub StartsEmpty : Held S → Type 0
+  StartsEmpty new = HasCleanDisk (state g new) → HoldsNone (state g old).now.trees
+      → StandsFor (state g new) empty_state
+
+  -- one that stood for a state, in either version, stands for it
+  abbrev pub FindsState : Held S → Type 0
+  FindsState new = HasCleanDisk (state g new) → (s : State) → IsLeftAs (state g old).now.trees s
+      → StandsFor (state g new) s
+
+  -- tables of version 2 are those that were there
+  abbrev pub FindsTables : Held S → Type 0
+  FindsTables new = HasCleanDisk (state g new) → (t : Tables) → Holds (state g old).now.trees t
+      → HasVersion our_version t × Stands (state g new) t
+
+  -- tables of version 1 became those of version 2
+  abbrev pub FindsOlder : Held S → Type 0
+  FindsOlder new = HasCleanDisk (state g new) → (t : Tables) → HoldsOlder (state g old).now.trees t
+      → OpensOlder t (state g new)
+
+  -- of a database that can be opened, no version is told that is not known
+  abbrev pub RefusesNone : OpenFault × Held S → Type 0
+  RefusesNone refused = HasCleanDisk (state g refused.1) → refused.0 ≡ UnknownVersion
+      → IsOpenable (state g old) → ⊥
+
+  -- nor of one that stood for a state
+  abbrev pub RefusesNoState : OpenFault × Held S → Type 0
+  RefusesNoState refused = HasCleanDisk (state g refused.1) → IsTrue (state g old).is_open
+      → (s : State) → IsLeftAs (state g old).now.trees s → refused.0 ≡ UnknownVersion → ⊥
+
+  -- while the store is open, tables are kept in the version that they had
+  abbrev pub KeepsTables : OpenFault × Held S → Type 0
+  KeepsTables refused = IsTrue (state g refused.1).is_open → Keeps (state g old) (state g refused.1)
+
+  -- and what stood for a state stands for it still
+  abbrev pub KeepsState : OpenFault × Held S → Type 0
+  KeepsState refused = IsTrue (state g refused.1).is_open
+      → (s : State) → IsLeftAs (state g old).now.trees s → Stood (state g refused.1) s

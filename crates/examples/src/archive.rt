@@ -2,11 +2,12 @@
 ghost use Rattle.sqlite.specs.Steps.{over_memory};
 ghost use Rattle.sqlite.proofs.Callers.{memory_is_clean};
 ghost use Rattle.dep_schema.proofs.Transacting.{leaves_as_was};
-ghost use Rattle.dep_store.specs.Archive.{condition_of};
+ghost use Rattle.dep_archive.specs.Archive.{condition_of};
 
 use crate::calls::answered;
 use crate::files::MemoryFiles;
 use dep_answers::{Performed, Service};
+use dep_archive::HashingStore;
 use dep_decisions::Operation;
 use dep_hub::Archive;
 use dep_moment::Moment;
@@ -21,7 +22,7 @@ use std::alloc::Global;
 /// A store in memory, on which examples are played.
 #[derive(Drop)]
 pub struct MemoryArchive {
-    store: Store<MemStore>,
+    store: HashingStore<MemStore>,
 }
 
 impl Archive for MemoryArchive {
@@ -47,9 +48,13 @@ impl Archive for MemoryArchive {
         self.store.is_open()
     }
 
-    ghost honest_if_open = { λ a _. memory_is_clean a.store };
+    fn work_ahead(&mut self) -> bool {
+        self.store.work_ahead()
+    }
 
-    ghost settled = { λ a s stands. leaves_as_was _ s (λ trees left. left) stands };
+    ghost honest_if_open = { λ a _. memory_is_clean a.store.store };
+
+    ghost settled = { λ a s stands. leaves_as_was _ s (λ trees left. left) stands.stands };
 }
 
 impl ExampleArchive for MemoryArchive {
@@ -66,12 +71,14 @@ impl ExampleArchive for MemoryArchive {
     }
 
     fn closed(self) -> Connection<MemStore> {
-        self.store.close()
+        self.store.into_store().close()
     }
 
     fn opened(alloc: Global, connection: Connection<MemStore>) -> Result<MemoryArchive, Trouble> {
         match open(alloc, connection) {
-            Ok(store) => Ok(MemoryArchive { store }),
+            Ok(store) => Ok(MemoryArchive {
+                store: HashingStore::new(alloc, store),
+            }),
             Err((OpenFault::Memory, _)) => Err(Trouble::Memory),
             Err((_, _)) => Err(Trouble::Line("the archive can't be opened")),
         }
@@ -116,7 +123,7 @@ impl ExampleArchive for MemoryArchive {
         call: ArchiveCall,
         page: &mut Page,
     ) -> Result<&'static str, Trouble> {
-        answered(alloc, &mut self.store, call, page)
+        answered(alloc, self.store.store_mut(), call, page)
     }
 }
 

@@ -1,5 +1,6 @@
 //! The files of an archive, in memory.
 
+use dep_archive::HashingStore;
 use dep_store::{Store, Unwatched};
 use example_faults::{Fault, FaultPlay, FaultyFile, FaultyFiles};
 use example_text::Trouble;
@@ -160,7 +161,10 @@ fn played_on<S: Alter + Drop>(
         return connection;
     }
     match Store::open(alloc, connection, &mut Unwatched) {
-        Ok(store) => play.plays(store).close(),
+        Ok(store) => {
+            let archive = play.plays(HashingStore::new(alloc, store));
+            archive.into_store().close()
+        }
         Err((_, connection)) => connection,
     }
 }

@@ -13,11 +13,12 @@ use Rattle.dep_schema.specs.Standing.{HoldsNone}
 use Rattle.dep_schema.specs.States.{StandsFor, IsLeftAs, Leaves}
 use Rattle.dep_schema.proofs.Transacting.{IsSettled, leaves_as_was}
 use Rattle.dep_schema.specs.declared.opening.OpenFault.{OpenFault}
-use Rattle.dep_store.specs.Archive.{condition_of}
+use Rattle.dep_archive.specs.Archive.{condition_of}
+use Rattle.dep_archive.specs.declared.archive.HashingStore.{HashingStore}
 use Rattle.dep_upgrading.specs.Migrating.{Keeps, OpenLeaves}
-use Rattle.dep_store.specs.Starting.{OpeningLeaves, outcome_of_start}
-use Rattle.dep_store.specs.declared.starting.StartFault.{StartFault}
-use Rattle.dep_store.specs.declared.starting.StartFault.TheVariants as fault
+use Rattle.dep_archive.specs.Starting.{OpeningLeaves, outcome_of_start}
+use Rattle.dep_archive.specs.declared.starting.StartFault.{StartFault}
+use Rattle.dep_archive.specs.declared.starting.StartFault.TheVariants as fault
 use Rattle.dep_hub.specs.Records.{World, Record, Run, begins, stops, stopped, first_world}
 use Rattle.dep_hub.specs.Standing.{StandsAfter, IsClean, IsHonest}
 use Rattle.dep_hub.specs.declared.faults.HubFault.{HubFault}
@@ -51,59 +52,59 @@ left_alone d settled between = record {
 
 module _ {S : Type 0} (g : Ghosts S) (clean : (h : Held S) → IsTrue (state g h).is_open → HasCleanDisk (state g h))
     (settled : (h : Held S) → IsTrue (state g h).is_open → IsSettled (state g h)) (given : Held S) where
-  module _ (config : Config) (opened : Hub (Held S))
+  module _ (config : Config) (opened : Hub (HashingStore S))
       (given_config : opened.config ≡ config)
       (fresh : IsHonest (condition_of g) opened → HoldsNone (state g given).now.trees → StandsAfter (condition_of g) opened empty_state [])
       (again : IsHonest (condition_of g) opened → (found : State) → IsLeftAs (state g given).now.trees found
       → (first : State) (records : List Record) → Run config first records (first_world found)
       → StandsAfter (condition_of g) opened first records) where
-    led : (hub : Hub (Held S)) → hub.config ≡ config → (first : State) (records : List Record)
-        → StandsAfter (condition_of g) hub first records → LedTo config (state g hub.store) first records
+    led : (hub : Hub (HashingStore S)) → hub.config ≡ config → (first : State) (records : List Record)
+        → StandsAfter (condition_of g) hub first records → LedTo config (state g hub.store.store) first records
     led hub same first records it =
         let run : Run config first records it.world = subst (λ (c : Config). Run c first records it.world) same it.run in
         record {
           world = it.world;
           run = run;
-          stands = it.at.state;
+          stands = it.at.state.stands;
           stop = λ trees h.
-              let l = leaves_as_was (state g hub.store) it.world.state (settled hub.store it.at.state.stands.is_open) it.at.state trees h in
+              let l = leaves_as_was (state g hub.store.store) it.world.state (settled hub.store.store it.at.state.stands.stands.is_open) it.at.state.stands trees h in
               (l.0, l.1, subst (λ (s : State). Run config first (records ++ stopped ∷ []) (first_world s)) (sym l.2) (stops run));
         }
 
     -- what the hub went on with
-    pub goes_on : (served : Hub (Held S)) (more : List Record) → served.config ≡ opened.config
+    pub goes_on : (served : Hub (HashingStore S)) (more : List Record) → served.config ≡ opened.config
         → (IsHonest (condition_of g) served → IsHonest (condition_of g) opened)
         → (IsClean (condition_of g) served → (first : State) (records : List Record) → StandsAfter (condition_of g) opened first records
         → StandsAfter (condition_of g) served first (records ++ more))
-        → GoesOn config (state g given) (state g served.store) more
+        → GoesOn config (state g given) (state g served.store.store) more
     goes_on served more same honest adds = record {
       fresh = λ is_open none. led served (same ∙ given_config) empty_state more
-          (adds is_open empty_state [] (fresh (honest (clean served.store is_open)) none));
+          (adds is_open empty_state [] (fresh (honest (clean served.store.store is_open)) none));
       again = λ is_open found left first records run. led served (same ∙ given_config) first (records ++ more)
-          (adds is_open first records (again (honest (clean served.store is_open)) found left first records run));
+          (adds is_open first records (again (honest (clean served.store.store is_open)) found left first records run));
     }
 
     -- the hub that was opened stands for the state that was found
-    stands_first : (first : State) → StandsAfter (condition_of g) opened first [] → StandsFor (state g opened.store) first
-    stands_first first it = subst (λ (w : World). StandsFor (state g opened.store) w.state) (world_at_first it.run refl) it.at.state
+    stands_first : (first : State) → StandsAfter (condition_of g) opened first [] → StandsFor (state g opened.store.store) first
+    stands_first first it = subst (λ (w : World). StandsFor (state g opened.store.store) w.state) (world_at_first it.run refl) it.at.state.stands
 
-    pub kept_by_hub : OpenLeaves (state g given) (state g opened.store) → IsKept (state g given) (state g opened.store)
+    pub kept_by_hub : OpenLeaves (state g given) (state g opened.store.store) → IsKept (state g given) (state g opened.store.store)
     kept_by_hub stop = record {
-      fresh = λ is_open none. stands_first empty_state (fresh (clean opened.store is_open) none);
-      found = λ is_open s left. stands_first s (again (clean opened.store is_open) s left s [] begins);
+      fresh = λ is_open none. stands_first empty_state (fresh (clean opened.store.store is_open) none);
+      found = λ is_open s left. stands_first s (again (clean opened.store.store is_open) s left s [] begins);
       stop = stop;
     }
 
     -- what a run at the port comes to
-    pub served : (count : ℕ) (hub : Hub (Held S)) (back : Held S) (outcome : Outcome) → back ≡ hub.store → hub.config ≡ opened.config
-        → (IsHonest (condition_of g) hub → IsHonest (condition_of g) opened) → OpenLeaves (state g given) (state g opened.store)
+    pub served : (count : ℕ) (hub : Hub (HashingStore S)) (back : Held S) (outcome : Outcome) → back ≡ hub.store.store → hub.config ≡ opened.config
+        → (IsHonest (condition_of g) hub → IsHonest (condition_of g) opened) → OpenLeaves (state g given) (state g opened.store.store)
         → ServesAt (condition_of g) opened hub count outcome → ServesDatabase config count (state g given) (state g back) outcome
     served count hub back outcome same same_config honest stop (inl (talks, are, these)) =
         subst (λ (h : Held S). ServesDatabase config count (state g given) (state g h) outcome) (sym same)
         (serves talks outcome are these.sizes (goes_on hub (all_records_of talks) same_config honest these.adds))
     served count hub back outcome same same_config honest stop (inr (same_hub, fault)) =
-        subst (λ (h : Held S). ServesDatabase config count (state g given) (state g h) outcome) (sym (same ∙ ap (λ (h : Hub (Held S)). h.store) same_hub))
-        (subst (λ (o : Outcome). ServesDatabase config count (state g given) (state g opened.store) o) (sym fault) (not_bound (kept_by_hub stop)))
+        subst (λ (h : Held S). ServesDatabase config count (state g given) (state g h) outcome) (sym (same ∙ ap (λ (h : Hub (HashingStore S)). h.store.store) same_hub))
+        (subst (λ (o : Outcome). ServesDatabase config count (state g given) (state g opened.store.store) o) (sym fault) (not_bound (kept_by_hub stop)))
 
 -- what is told of a database that was opened for a hub which was refused
 abbrev IsKeptFor : (given new : db.State) → Type 0

@@ -3,18 +3,19 @@ ghost use Rattle.std.specs.Prelude.{◌≡◌, [], IfErr, IfOk};
 ghost use Rattle.std.specs.Io.KnownBytes.{Keeps};
 ghost use Rattle.sqlite.specs.Steps.{over_memory};
 ghost use Rattle.dep_types.specs.State.{empty_state};
+ghost use Rattle.dep_archive.specs.Archive.{condition_of};
 ghost use Rattle.dep_hub.specs.Conversation.{wire};
 ghost use Rattle.dep_hub.specs.Flushing.{IsFlushed};
 ghost use Rattle.dep_hub.specs.Standing.{StandsAfter};
 ghost use Rattle.dep_program.specs.Gathering.{told, held_in, given};
 ghost use Rattle.dep_program.specs.Setup.{program_config};
-ghost use Rattle.dep_store.specs.Archive.{condition_of};
 ghost use Rattle.swordd.specs.Replays.{IsNotBegun, Replays, outcome_of, outcome_sent};
 
+use dep_archive::{HashingStore, open_hub};
 use dep_hub::{Flush, Hub, Served, serve_connection};
 use dep_moment::Moment;
 use dep_program::{Gathered, Outcome, configuration};
-use dep_store::{Store, Unwatched, open_hub};
+use dep_store::Unwatched;
 use dep_types::Inlet;
 use sqlite::{Connection, MemStore};
 use std::alloc::Global;
@@ -43,7 +44,7 @@ pub fn replay<R: Inlet, W: Flush>(
                 ensures { result ≡ moment }
             { moment };
             let served = serve_connection(alloc, reader, writer, &mut hub, &mut clock);
-            drop(hub.into_store().close());
+            drop(hub.into_store().into_store().close());
             outcome_of(served)
         }
         Err(outcome) => outcome,
@@ -74,7 +75,7 @@ pub fn replay_gathered<R: Inlet, W: Write + Drop>(
 }
 
 /// A hub over a new store in memory.
-fn new_hub(alloc: Global, base: &str) -> Result<Hub<Store<MemStore>>, Outcome>
+fn new_hub(alloc: Global, base: &str) -> Result<Hub<HashingStore<MemStore>>, Outcome>
     ensures config { IfOk result (λ hub. hub.config ≡ program_config base.now) }
     ensures stands { IfOk result (λ hub. StandsAfter (condition_of over_memory) hub empty_state []) }
     ensures refused { IfErr result (λ outcome. IsNotBegun base.now outcome) }

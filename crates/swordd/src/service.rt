@@ -5,8 +5,9 @@ ghost use Rattle.sqlite.specs.State.{HasCleanDisk};
 ghost use Rattle.dep_program.specs.Setup.{program_config, base_at};
 ghost use Rattle.swordd.specs.Databases.{ServesDatabase};
 
+use dep_archive::open_hub;
 use dep_program::{Door, Outcome, configuration_at, serve_at};
-use dep_store::{Watch, open_hub};
+use dep_store::Watch;
 use sqlite::{Alter, Connection};
 use std::alloc::Global;
 use std::net::{Net, TcpListener, TcpStream};
@@ -40,7 +41,7 @@ pub fn serve_database<
     match open_hub(alloc, config, connection, watch) {
         Ok(mut hub) => {
             let outcome = serve_at(rt, alloc, door, &mut hub);
-            (outcome, hub.into_store().close())
+            (outcome, hub.into_store().into_store().close())
         }
         Err((fault, connection)) => (fault.outcome(), connection),
     }

@@ -14,10 +14,11 @@ use Rattle.dep_schema.specs.States.{StandsFor, IsLeftAs}
 use Rattle.dep_schema.specs.declared.opening.OpenFault.{OpenFault}
 use Rattle.dep_schema.proofs.Transacting.{IsSettled, leaves_as_was}
 use Rattle.dep_upgrading.specs.Migrating.{Keeps}
-use Rattle.dep_store.specs.Archive.{condition_of}
-use Rattle.dep_store.specs.Starting.{OpeningLeaves, outcome_of_start}
-use Rattle.dep_store.specs.declared.starting.StartFault.{StartFault}
-use Rattle.dep_store.specs.declared.starting.StartFault.TheVariants as fault
+use Rattle.dep_archive.specs.Archive.{condition_of}
+use Rattle.dep_archive.specs.declared.archive.HashingStore.{HashingStore}
+use Rattle.dep_archive.specs.Starting.{OpeningLeaves, outcome_of_start}
+use Rattle.dep_archive.specs.declared.starting.StartFault.{StartFault}
+use Rattle.dep_archive.specs.declared.starting.StartFault.TheVariants as fault
 use Rattle.dep_hub.specs.declared.faults.HubFault.{HubFault}
 use Rattle.dep_hub.specs.declared.faults.HubFault.TheVariants as refused_by
 use Rattle.dep_hub.specs.Records.{World, Record, Run, stops, stopped, first_world}
@@ -130,14 +131,14 @@ module _ {A R K S : Type 0} (condition : A → Condition) (unread : R → Option
       subst (λ (o : Outcome). EndsHub condition unread taken held is_over is_cut old store deeds o) (sym (is ∙ ap (outcome_at why) same)) (ends_by old store why it over closed)
 
 module _ {S : Type 0} (g : Ghosts S) (clean : (h : Held S) → IsTrue (state g h).is_open → HasCleanDisk (state g h))
-    (settled : (h : Held S) → IsTrue (state g h).is_open → IsSettled (state g h)) (given : Held S) (config : Config) (opened : Hub (Held S))
+    (settled : (h : Held S) → IsTrue (state g h).is_open → IsSettled (state g h)) (given : Held S) (config : Config) (opened : Hub (HashingStore S))
     (given_config : opened.config ≡ config)
     (fresh : IsHonest (condition_of g) opened → HoldsNone (state g given).now.trees → StandsAfter (condition_of g) opened empty_state [])
     (again : IsHonest (condition_of g) opened → (found : State) → IsLeftAs (state g given).now.trees found
     → (first : State) (records : List Record) → Run config first records (first_world found)
     → StandsAfter (condition_of g) opened first records) where
-  led : (hub : Hub (Held S)) → hub.config ≡ config → (first : State) (records : List Record) (deeds : List Deed)
-      → StandsBehind (condition_of g) hub first records (λ n. []) deeds → LedBy config (state g hub.store) first records deeds
+  led : (hub : Hub (HashingStore S)) → hub.config ≡ config → (first : State) (records : List Record) (deeds : List Deed)
+      → StandsBehind (condition_of g) hub first records (λ n. []) deeds → LedBy config (state g hub.store.store) first records deeds
   led hub same first records deeds it =
       let run : Run config first (records ++ it.more) it.stands.world = subst (λ (c : Config). Run c first (records ++ it.more) it.stands.world) same it.stands.run in
       record {
@@ -146,29 +147,28 @@ module _ {S : Type 0} (g : Ghosts S) (clean : (h : Held S) → IsTrue (state g h
         follows = it.follows;
         world = it.stands.world;
         run = run;
-        stands = it.stands.at.state;
+        stands = it.stands.at.state.stands;
         stop = λ trees h.
-            let l = leaves_as_was (state g hub.store) it.stands.world.state (settled hub.store it.stands.at.state.stands.is_open) it.stands.at.state trees h in
+            let l = leaves_as_was (state g hub.store.store) it.stands.world.state (settled hub.store.store it.stands.at.state.stands.stands.is_open) it.stands.at.state.stands trees h in
             (l.0, l.1, subst (λ (s : State). Run config first ((records ++ it.more) ++ stopped ∷ []) (first_world s)) (sym l.2) (stops run));
       }
 
-  hosted_by : (store : Held S) (deeds : List Deed) → WentOn (condition_of g) opened store deeds → IsHosted config (state g given) (state g store) deeds
+  hosted_by : (store : HashingStore S) (deeds : List Deed) → WentOn (condition_of g) opened store deeds → IsHosted config (state g given) (state g store.store) deeds
   hosted_by store deeds it =
-      subst (λ (h : Held S). IsHosted config (state g given) (state g h) deeds) (sym it.over) (record {
+      subst (λ (a : HashingStore S). IsHosted config (state g given) (state g a.store) deeds) (sym it.over) (record {
         fresh = λ is_open none. led it.new (it.same_config ∙ given_config) empty_state [] deeds
-            (it.behind is_open empty_state [] (fresh (it.honest (clean it.new.store is_open)) none));
+            (it.behind is_open empty_state [] (fresh (it.honest (clean it.new.store.store is_open)) none));
         again = λ is_open found left first records run. led it.new (it.same_config ∙ given_config) first records deeds
-            (it.behind is_open first records (again (it.honest (clean it.new.store is_open)) found left first records run));
+            (it.behind is_open first records (again (it.honest (clean it.new.store.store is_open)) found left first records run));
       })
 
   module _ {R K P : Type 0} (unread : R → Option (List ℕ)) (taken : K → Option (List ℕ)) (held : P → Option (List ℕ)) where
     -- what was done over the hub is done over its database
-    pub over_hub : {is_over is_cut : Bool} (store back : Held S) (deeds : List Deed) (outcome : Outcome) → back ≡ store
+    pub over_hub : {is_over is_cut : Bool} (store : HashingStore S) (back : Held S) (deeds : List Deed) (outcome : Outcome) → back ≡ store.store
         → EndsHub (condition_of g) unread taken held is_over is_cut opened store deeds outcome → WentOn (condition_of g) opened store deeds
         → HostsDatabase g unread taken held is_over is_cut config given back outcome
-    over_hub {is_over = over} {is_cut = cut} store back deeds outcome same it went =
-        subst (λ (h : Held S). HostsDatabase g unread taken held over cut config given h outcome) (sym same)
-        (hosts opened deeds it (hosted_by store deeds went))
+    over_hub store back deeds outcome same it went =
+        hosts opened store deeds it same (subst (λ (h : Held S). IsHosted config (state g given) (state g h) deeds) (sym same) (hosted_by store deeds went))
 
 -- nobody was served
 stays : (config : Config) (d : db.State) (s first : State) (records : List Record) → IsSettled d → StandsFor d s → Run config first records (first_world s) → LedBy config d first records []

@@ -10,8 +10,9 @@ use Rattle.dep_types.specs.declared.config.Config.{Config}
 use Rattle.dep_schema.specs.Standing.{HoldsNone}
 use Rattle.dep_schema.specs.States.{StandsFor, IsLeftAs, Leaves}
 use Rattle.dep_upgrading.specs.Migrating.{Keeps}
-use Rattle.dep_store.specs.Archive.{condition_of}
-use Rattle.dep_store.specs.Starting.{OpeningLeaves}
+use Rattle.dep_archive.specs.Archive.{condition_of}
+use Rattle.dep_archive.specs.declared.archive.HashingStore.{HashingStore}
+use Rattle.dep_archive.specs.Starting.{OpeningLeaves}
 use Rattle.dep_hub.specs.Records.{World, Record, Run, first_world, stopped}
 use Rattle.dep_hub.specs.Standing.{StandsAfter, IsClean, IsHonest}
 use Rattle.dep_hub.specs.declared.hub.Hub.{Hub}
@@ -86,8 +87,9 @@ module _ {S R K P : Type 0} (g : Ghosts S) (unread : R → Option (List ℕ)) (t
   pub data HostsDatabase (is_over is_cut : Bool) (config : Config) (given back : Held S)
       : Outcome → Type 0 where
     -- it was served from a hub over the store, and the machine went on with what was done
-    hosts : {outcome : Outcome} (hub : Hub (Held S)) (deeds : List Deed)
-        → EndsHub (condition_of g) unread taken held is_over is_cut hub back deeds outcome
+    hosts : {outcome : Outcome} (hub : Hub (HashingStore S)) (left : HashingStore S) (deeds : List Deed)
+        → EndsHub (condition_of g) unread taken held is_over is_cut hub left deeds outcome
+        → back ≡ left.store
         → IsHosted config (state g given) (state g back) deeds
         → HostsDatabase is_over is_cut config given back outcome
     -- the configuration is refused

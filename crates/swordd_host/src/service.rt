@@ -8,6 +8,7 @@ ghost use Rattle.swordd_host.specs.Outcomes.{outcome_at};
 use crate::door::{Door, SocketDoor};
 use crate::host_log::StandardErrorLog;
 use crate::start::{microseconds_since, write_start};
+use dep_archive::open_hub;
 use dep_configuration::{Configuration, Limits};
 use dep_host::laws::hosts_make_a_run;
 use dep_host::{Ended, Events, Host, serve};
@@ -16,7 +17,7 @@ use dep_hub::{Archive, Hub};
 use dep_outbox::{Sink, Source, Spool};
 use dep_program::Outcome;
 use dep_sockets::Spools;
-use dep_store::{Unwatched, Work, open_hub, work_on_file};
+use dep_store::{Unwatched, Work, work_on_file};
 use dep_types::{Config, Text};
 use sqlite::{Alter, Connection};
 use std::net::SocketAddr;
@@ -104,8 +105,8 @@ fn serve_database<
 {
     match open_hub(rt.alloc(), config, connection, &mut Unwatched) {
         Ok(hub) => {
-            let (outcome, store) = serve_hub(rt, place, hub, door);
-            (outcome, store.close())
+            let (outcome, archive) = serve_hub(rt, place, hub, door);
+            (outcome, archive.into_store().close())
         }
         Err((fault, connection)) => {
             let _ = eprintln!(rt; "swordd_host: {fault}");

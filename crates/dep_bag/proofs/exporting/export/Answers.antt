@@ -9,25 +9,25 @@ use Rattle.dep_bag.proofs.exporting.export.Goals as goal
 
 pub returns-in_err-give_tag_files-clause-gives : goal.returns-in_err-give_tag_files-clause-gives
 returns-in_err-give_tag_files-clause-gives g c =
-    let gave = c.in_err-give_tag_files.ensures.gives in
+    let gave = c.in_err-give_tag_files.ensures in
     let n = c.args.object in (
-      gave.0,
-      gave.1,
+      gave.given,
+      gave.appends,
       λ clean s at. let v = found_view s n c.in-Ok-Some.view (sym c.in-Ok-Some.field-0-is ∙ c.in-Ok-Some.ensures.ok clean s at) in
-          tags_exported s n c.in-Ok-Some.view v c.in_err-give_tag_files.field-0.0 gave.0 c.from_residual.result gave.2 c.from_residual.ensures.1,
+          tags_exported s n c.in-Ok-Some.view v c.in_err-give_tag_files.field-0.0 gave.given c.from_residual.result gave.is c.from_residual.ensures.1,
     )
 
 pub returns-clause-gives : goal.returns-clause-gives
 returns-clause-gives g c =
-    let tags = c.in_ok-give_tag_files.ensures.gives in
-    let more = c.give_payload.ensures.gives in
+    let tags = c.in_ok-give_tag_files.ensures in
+    let more = c.give_payload.ensures in
     let n = c.args.object in (
-      tags.0 ++ more.0,
-      Appends-trans (g.K.Outlet.taken c.args.sink.now) (g.K.Outlet.taken c.give_tag_files.new.sink) (g.K.Outlet.taken c.give_payload.new.sink) tags.0 more.0 tags.1 more.1,
-      λ clean s at. let before = c.give_payload.ensures.still.honest_before clean in
+      tags.given ++ more.given,
+      Appends-trans (g.K.Outlet.taken c.args.sink.now) (g.K.Outlet.taken c.give_tag_files.new.sink) (g.K.Outlet.taken c.give_payload.new.sink) tags.given more.given tags.appends more.appends,
+      λ clean s at. let before = more.still.honest_before clean in
           let v = found_view s n c.in-Ok-Some.view (sym c.in-Ok-Some.field-0-is ∙ c.in-Ok-Some.ensures.ok before s at) in
-          all_exported s n c.in-Ok-Some.view v tags.0 more.0 c.give_payload.result tags.2
-          (more.2 clean s (c.in-Ok-Some.ensures.kept before s at) (payload v.object)
+          all_exported s n c.in-Ok-Some.view v tags.given more.given c.give_payload.result tags.is
+          (more.is clean s (c.in-Ok-Some.ensures.kept before s at) (payload v.object)
           (subst (λ rows. AreFilesOf s rows (payload v.object)) (sym c.as_slice.ensures) (are_payload s n c.in-Ok-Some.view v))),
     )
 
@@ -47,6 +47,14 @@ returns-in-Ok-None-clause-gives g c = (
   Appends-nil (g.K.Outlet.taken c.args.sink.now),
   λ clean s at. (none_found s c.args.object (sym c.in-Ok-None.field-0-is ∙ c.in-Ok-None.ensures.ok clean s at), refl),
 )
+
+pub returns-clause-absent : goal.returns-clause-absent
+returns-clause-absent g c = λ is. absurd (c.give_payload.ensures.there is)
+
+pub returns-clause-kept : goal.returns-clause-kept
+returns-clause-kept g c = λ clean s at.
+    let more = c.give_payload.ensures in
+    more.kept clean s (c.in-Ok-Some.ensures.kept (more.still.honest_before clean) s at)
 
 pub returns-clause-still : goal.returns-clause-still
 returns-clause-still g c =

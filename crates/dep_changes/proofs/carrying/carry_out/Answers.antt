@@ -12,36 +12,37 @@ use Rattle.dep_row_maps.specs.Causes.{FailsHolding}
 use Rattle.dep_row_maps.specs.Causes.FailsHolding.{statement}
 use Rattle.dep_row_maps.specs.Causes.FailsByStatement.{state_written}
 use Rattle.dep_row_maps.proofs.Causes.{fails_then, if_err_is, if_err_then}
+use Rattle.dep_changes.specs.declared.change.Change.{Change}
 use Rattle.dep_changes.specs.Causes.{TakesMemory}
-use Rattle.dep_changes.proofs.Fits.{counters_fit}
+use Rattle.dep_changes.proofs.Fits.{change_fits, counters_fit}
 use Rattle.dep_changes.proofs.Opened.{decision_storable}
 use Rattle.dep_changes.proofs.carrying.carry_out.Goals as goal
 
 pub returns-then-eq-clause-map : goal.returns-then-eq-clause-map
-returns-then-eq-clause-map g c clean inside ours s are config op sound seen ruling same =
+returns-then-eq-clause-map g c clean inside ours s are it =
     let view = c.args.view.now in
     let d = c.args.decision.now in
     let content = c.args.content.now in
-    let numbers = numbers_told config s op view content d seen ruling.1 same in
-    let made = c.in_ok-change_maps.ensures.map clean inside ours s are numbers (told config s op view content d seen ruling.1 same sound ruling.0) in
+    let numbers = numbers_told s view content d it in
+    let made = c.in_ok-change_maps.ensures.map clean inside ours s are (numbers, told s view content d it) in
     let after : c.after_taking-next.result ≡ counters_after s.next (numbers_for d) = c.after_taking-next.ensures ∙ ap (λ (next : Counters). counters_after next c.numbers_for.result) numbers.1 ∙ ap (counters_after s.next) c.numbers_for.ensures in
     let stays : c.after_taking-next.result ≡ view.next = same_counters c.after_taking-next.result view.next (sym c.eq.ensures ∙ c.if-eq.true) in
-    carried config s op view content d seen ruling.1 same (tables_of (g.T.Statements.state c.change_maps.new.tx)) s.clock s.next refl (sym numbers.1 ∙ sym stays ∙ after) made
+    carried s content d (tables_of (g.T.Statements.state c.change_maps.new.tx)) s.clock s.next refl (sym numbers.1 ∙ sym stays ∙ after) made
 
 pub returns-clause-map : goal.returns-clause-map
-returns-clause-map g c clean inside ours s are config op sound seen ruling same =
+returns-clause-map g c clean inside ours s are it =
     let new = g.T.Statements.state c.set_counters.new.tx in
     let before = clean_before c.set_counters.ensures.stays clean in
     let view = c.args.view.now in
     let d = c.args.decision.now in
     let content = c.args.content.now in
     let next = c.after_taking-next.result in
-    let numbers = numbers_told config s op view content d seen ruling.1 same in
-    let made = c.in_ok-change_maps.ensures.map before inside ours s are numbers (told config s op view content d seen ruling.1 same sound ruling.0) in
+    let numbers = numbers_told s view content d it in
+    let made = c.in_ok-change_maps.ensures.map before inside ours s are (numbers, told s view content d it) in
     let after : next ≡ counters_after s.next (numbers_for d) = c.after_taking-next.ensures ∙ ap (λ (was : Counters). counters_after was c.numbers_for.result) numbers.1 ∙ ap (counters_after s.next) c.numbers_for.ensures in
     ok_then c.set_counters.result
     (c.set_counters.ensures.map clean (c.in_ok-change_maps.ensures.stays.inside before inside) (c.in_ok-change_maps.ensures.ours before inside ours) (with_maps s content d) made)
-    (λ wrote. carried config s op view content d seen ruling.1 same (tables_of new) view.clock next numbers.0 after wrote)
+    (λ wrote. carried s content d (tables_of new) view.clock next numbers.0 after wrote)
 
 pub returns-clause-stays : goal.returns-clause-stays
 returns-clause-stays g c = stays_then c.in_ok-change_maps.ensures.stays c.set_counters.ensures.stays
@@ -64,21 +65,26 @@ returns-clause-untouched g c show =
     absurd (cc)
 
 pub returns-in_err-change_maps-clause-cause : goal.returns-in_err-change_maps-clause-cause
-returns-in_err-change_maps-clause-cause g c clean inside ours s are config op sound seen ruling same limits sizes places =
+returns-in_err-change_maps-clause-cause g c clean inside ours s are it =
     let view = c.args.view.now in
     let d = c.args.decision.now in
     let content = c.args.content.now in
+    let by = it.accepted in
+    let ruling = by.ruling in
+    let change : Change = record { alloc = c.args.alloc; view = c.args.view; content = c.args.content } in
+    let fits = decision_storable by.config s by.op it.limits d ruling.1 ruling.0 it.places in
     if_err_is _ c.from_residual.result c.in_err-change_maps.field-0.0 c.from_residual.ensures.1
-    (c.in_err-change_maps.ensures.cause clean inside ours s are sound (numbers_told config s op view content d seen ruling.1 same) (told config s op view content d seen ruling.1 same sound ruling.0) sizes (decision_storable config s op limits d ruling.1 ruling.0 places))
+    (c.in_err-change_maps.ensures.cause clean inside ours s are (change_fits s by.sound change it.sizes d (numbers_told s view content d by) (told s view content d by) fits))
 
 pub returns-clause-cause : goal.returns-clause-cause
-returns-clause-cause g c clean inside ours s are config op sound seen ruling same limits sizes places =
+returns-clause-cause g c clean inside ours s are it =
     let view = c.args.view.now in
     let d = c.args.decision.now in
     let content = c.args.content.now in
+    let by = it.accepted in
     let before = clean_before c.set_counters.ensures.stays clean in
-    let numbers = numbers_told config s op view content d seen ruling.1 same in
+    let numbers = numbers_told s view content d by in
     let after : c.after_taking-next.result ≡ counters_after view.next (numbers_for d) = c.after_taking-next.ensures ∙ ap (counters_after view.next) c.numbers_for.ensures in
-    let storable = counters_fit s sound view (numbers_for d) c.after_taking-next.result numbers c.requires after _ refl in
+    let storable = counters_fit s by.sound view (numbers_for d) c.after_taking-next.result numbers c.requires after _ refl in
     if_err_then c.set_counters.result (c.set_counters.ensures.cause storable clean (c.in_ok-change_maps.ensures.stays.inside before inside))
     (λ fault failed. fails_then g.T.Statements.state c.args.tx.now c.change_maps.new.tx c.set_counters.new.tx c.in_ok-change_maps.ensures.stays.survives (FailsHolding (TakesMemory s d)) fault (statement (state_written _ failed)))

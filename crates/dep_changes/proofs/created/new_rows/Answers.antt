@@ -24,7 +24,7 @@ files-preserved c s numbers sources =
     let within : i < length files = omega arith in
     let at : slice_get files i ≡ Some x = slice_get_read files (length files) i x refl within c.index-files-index.is in
     let row : c.in_ok-row.row ≡ file_row n (s.next.file + i) (file_from s content x) =
-    c.in_ok-row.ensures.told s numbers (sources.0 i x at) ∙ ap (λ (k : Counters). file_row n (k.file + i) (file_from s content x)) numbers.1 in
+    c.in_ok-row.ensures.told s (numbers, sources.0 i x at) ∙ ap (λ (k : Counters). file_row n (k.file + i) (file_from s content x)) numbers.1 in
     let before = c.files.rows.items in
     let grown = pushed c.push.result c.push.new.self.items (before ++ c.in_ok-row.row ∷ []) before (sym c.is_err.ensures.value ∙ c.if-is_err.false) c.push.ensures.items in
     grown
@@ -33,9 +33,9 @@ files-preserved c s numbers sources =
     ∙ sym (rows_more s content n s.next.file files i x at)
 
 pub returns-clause-told : goal.returns-clause-told
-returns-clause-told c s numbers sources =
+returns-clause-told c s told =
     c.new.ensures
-    ∙ c.files.invariant s numbers sources
+    ∙ c.files.invariant s told.0 told.1
     ∙ ap (rows_added s c.args.change.now.content.now c.args.object s.next.file) (take_all c.files.index c.args.files.now c.files-test.false)
 
 pub returns-in_err-row-clause-cause : goal.returns-in_err-row-clause-cause

@@ -8,7 +8,7 @@ use Rattle.dep_row_maps.proofs.Lens.{get_here}
 use Rattle.dep_decisions.specs.Effects.{with_files}
 use Rattle.dep_changes.proofs.Chains.{ours_then}
 use Rattle.dep_changes.proofs.Added.{new_files_again}
-use Rattle.dep_changes.proofs.Steps.{files_of_row, its_number, its_own, at_number, there_at}
+use Rattle.dep_changes.proofs.Steps.{files_of_row, its_number, at_number, rewritten}
 use Rattle.std.proofs.Common.{◌≢◌, []}
 use Rattle.dep_row_maps.specs.Causes.{FailsHolding}
 use Rattle.dep_row_maps.specs.Causes.FailsHolding.{statement}
@@ -18,21 +18,22 @@ use Rattle.dep_changes.proofs.Causes.{caused_later, files_fit}
 use Rattle.dep_changes.proofs.deposits.append_files.Goals as goal
 
 pub returns-clause-map : goal.returns-clause-map
-returns-clause-map g c clean inside ours s are o it numbers there its texts files sources =
+returns-clause-map g c it clean inside ours s are told =
     let view = c.args.change.now.view.now in
     let mid = g.T.Statements.state c.write_row.new.tx in
     let new = g.T.Statements.state c.put_new_files.new.tx in
     let before = clean_before c.put_new_files.ensures.stays clean in
+    let numbers = told.0.0 in
+    let row = told.1 in
     let n = c.args.row.object in
     let now = c.files_changed.result in
     let mark : Object = with_files s it.files it in
-    let is = files_of_row s n it c.args.row its view.clock view.next numbers.0 numbers.1 now it.files c.files_changed.ensures in
-    let to = its_number n mark now is in
-    let put = at_number (tables_of mid) s now.object n mark to
-    (c.in_ok-write_row.ensures.map before inside ours s are o mark (there_at s.objects now.object n o to there) (its_own n mark now is) texts files) in
+    let is = files_of_row s n it c.args.row row.is_row view.clock view.next numbers.0 numbers.1 now it.files c.files_changed.ensures in
+    let put = at_number (tables_of mid) s now.object n mark (its_number n mark now is)
+    (c.in_ok-write_row.ensures.map mark before inside ours s are (rewritten s n row.was mark now is row.there row.metadata row.files)) in
     let one : State = with_object s n mark in
     ok_then c.put_new_files.result
-    (c.put_new_files.ensures.map clean (c.in_ok-write_row.ensures.stays.inside before inside) (c.in_ok-write_row.ensures.ours before inside ours) one put mark numbers (get_here s.objects n mark) sources)
+    (c.put_new_files.ensures.map mark clean (c.in_ok-write_row.ensures.stays.inside before inside) (c.in_ok-write_row.ensures.ours before inside ours) one put ((numbers, told.0.1), get_here s.objects n mark))
     (λ added. new_files_again (tables_of new) s c.args.change.now.content.now n n mark mark c.args.files.now refl added)
 
 pub returns-clause-stays : goal.returns-clause-stays

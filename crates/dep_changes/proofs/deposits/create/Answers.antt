@@ -19,8 +19,9 @@ use Rattle.dep_changes.proofs.Causes.{blank_fits, caused_later}
 use Rattle.dep_changes.proofs.deposits.create.Goals as goal
 
 pub returns-clause-map : goal.returns-clause-map
-returns-clause-map g c clean inside ours s are numbers none sources =
+returns-clause-map g c clean inside ours s are told =
     let view = c.args.change.now.view.now in
+    let numbers = told.0 in
     let content = c.args.change.now.content.now in
     let mid = g.T.Statements.state c.add_object.new.tx in
     let new = g.T.Statements.state c.fill.new.tx in
@@ -35,7 +36,8 @@ returns-clause-map g c clean inside ours s are numbers none sources =
     let put = at_number (tables_of mid) s now.object n it to (blank_added (tables_of mid) s now it (its_own k it now is) refl refl (c.in_ok-add_object.ensures.map before inside ours s are)) in
     let one : State = with_object s n it in
     ok_then c.fill.result
-    (c.fill.ensures.map clean (c.in_ok-add_object.ensures.stays.inside before inside) (c.in_ok-add_object.ensures.ours before inside ours) one put c.args.ingests numbers (there_at one.objects k n it number (get_here s.objects n it)) (still_have one.objects s content view.uploads c.args.deposit.now sources))
+    (c.fill.ensures.map it clean (c.in_ok-add_object.ensures.stays.inside before inside) (c.in_ok-add_object.ensures.ours before inside ours) one put
+    ((numbers, still_have one.objects s content view.uploads c.args.deposit.now told.1.1), there_at one.objects k n it number (get_here s.objects n it)))
     (λ done. deposit_again (tables_of new) s content k n it c.args.deposit.now c.args.ingests number done)
 
 pub returns-clause-stays : goal.returns-clause-stays
@@ -45,7 +47,7 @@ pub returns-clause-ours : goal.returns-clause-ours
 returns-clause-ours g c = ours_then c.in_ok-add_object.ensures.stays c.fill.ensures.stays c.in_ok-add_object.ensures.ours c.fill.ensures.ours
 
 pub returns-in_err-add_object-clause-cause : goal.returns-in_err-add_object-clause-cause
-returns-in_err-add_object-clause-cause g c storable clean inside =
+returns-in_err-add_object-clause-cause g c s storable clean inside =
     let view = c.args.change.now.view.now in
     let held = HasCopies c.args.deposit.now in
     let fits = blank_fits view storable.0 c.blank_row.result _ _ storable.0.object c.blank_row.ensures in
@@ -53,7 +55,7 @@ returns-in_err-add_object-clause-cause g c storable clean inside =
     (fails_first g.T.Statements.state c.args.tx.now c.add_object.new.tx (FailsHolding held) _ (statement (object_added _ (c.in_err-add_object.ensures.cause fits clean inside))))
 
 pub returns-clause-cause : goal.returns-clause-cause
-returns-clause-cause g c storable clean inside =
+returns-clause-cause g c s storable clean inside =
     let held = HasCopies c.args.deposit.now in
     let before = clean_before c.fill.ensures.stays clean in
     caused_later g.T.Statements.state (FailsHolding held) (FailsHolding held) (λ at now fault it. it) c.fill.result c.args.tx.now c.add_object.new.tx c.fill.new.tx c.in_ok-add_object.ensures.stays.survives

@@ -6,10 +6,11 @@ use Rattle.dep_tables.specs.Tables.{tables_of}
 use Rattle.dep_tables.proofs.Results.{ok_then}
 use Rattle.dep_row_maps.specs.TablesAre.{with_object}
 use Rattle.dep_row_maps.proofs.Lens.{get_here}
-use Rattle.dep_decisions.specs.Effects.{blank, ingested_by}
+use Rattle.dep_decisions.specs.Effects.{blank, filled, ingested_by, uploads_in, without}
+use Rattle.dep_changes.proofs.Carried.{at_object}
 use Rattle.dep_changes.proofs.Chains.{ours_then}
 use Rattle.dep_changes.proofs.Filled.{ingested_row, blank_again, still_have, deposit_again}
-use Rattle.dep_changes.proofs.Steps.{row_is, its_number, its_own, at_number, there_at, written_again}
+use Rattle.dep_changes.proofs.Steps.{row_is, its_number, at_number, rewritten, there_at, written_again}
 use Rattle.dep_row_maps.specs.Causes.{FailsByStatement, FailsHolding}
 use Rattle.dep_row_maps.specs.Causes.FailsHolding.{statement}
 use Rattle.dep_row_maps.specs.Causes.FailsByStatement.{object_written}
@@ -19,8 +20,11 @@ use Rattle.dep_changes.proofs.Causes.{by_statement, caused_later, blank_fits, fo
 use Rattle.dep_changes.proofs.deposits.replace.Goals as goal
 
 pub returns-clause-map : goal.returns-clause-map
-returns-clause-map g c clean inside ours s are n o numbers told sources =
+returns-clause-map g c n clean inside ours s are told =
     let view = c.args.change.now.view.now in
+    let numbers = told.0 in
+    let o = told.1.0 in
+    let object = told.1.1 in
     let content = c.args.change.now.content.now in
     let one = g.T.Statements.state c.delete_files.new.tx in
     let two = g.T.Statements.state c.clear_metadata.new.tx in
@@ -36,26 +40,26 @@ returns-clause-map g c clean inside ours s are n o numbers told sources =
     let row = c.ingested_by-row.result in
     let ingested = o.ingested || c.args.ingests in
     let it : Object = ingested_by c.args.ingests o in
-    let row_of = ingested_row n o c.args.ingests c.in_ok-touched.field-0 row (row_is s n o view.object told.0 c.in_ok-touched.field-0 c.in_ok-touched.ensures.told) c.ingested_by-row.ensures in
+    let row_of = ingested_row n o c.args.ingests c.in_ok-touched.field-0 row (row_is s n o view.object object.0 c.in_ok-touched.field-0 c.in_ok-touched.ensures.told) c.ingested_by-row.ensures in
     let number = its_number n it row row_of in
     let left : Object = record o { files = finmap.empty } in
-    let gone = at_number (tables_of one) s row.object n left number (c.in_ok-delete_files.ensures.map clean_one inside ours s are o (there_at s.objects row.object n o number told.1)) in
+    let gone = at_number (tables_of one) s row.object n left number (c.in_ok-delete_files.ensures.map clean_one inside ours s are o (there_at s.objects row.object n o number object.1)) in
     let first : State = with_object s n left in
     let bare : Object = record left { metadata = finmap.empty } in
     let cleared = written_again (tables_of two) s n left bare (at_number (tables_of two) first row.object n bare number
-    (c.in_ok-clear_metadata.ensures.map clean_two inside_one ours_one first gone left (there_at first.objects row.object n left number (get_here s.objects n left)))) in
+    (c.in_ok-clear_metadata.ensures.map left clean_two inside_one ours_one first gone (there_at first.objects row.object n left number (get_here s.objects n left)))) in
     let second : State = with_object s n bare in
     let now = c.blank_row.result in
     let clear : Object = blank s ingested in
     let is = blank_again s view.clock view.next numbers.0 numbers.1 now n it row row_of c.blank_row.ensures in
-    let to = its_number n clear now is in
-    let put = written_again (tables_of three) s n bare clear (at_number (tables_of three) second now.object n clear to
-    (c.in_ok-write_row.ensures.map clean_three inside_two ours_two second cleared bare clear (there_at second.objects now.object n bare to (get_here s.objects n bare)) (its_own n clear now is) refl refl)) in
+    let put = written_again (tables_of three) s n bare clear (at_number (tables_of three) second now.object n clear (its_number n clear now is)
+    (c.in_ok-write_row.ensures.map clear clean_three inside_two ours_two second cleared (rewritten second n bare clear now is (get_here s.objects n bare) refl refl))) in
     let third : State = with_object s n clear in
-    ok_then c.fill.result
-    (c.fill.ensures.map clean (c.in_ok-write_row.ensures.stays.inside clean_three inside_two) (c.in_ok-write_row.ensures.ours clean_three inside_two ours_two) third put ingested numbers
-    (there_at third.objects row.object n clear number (get_here s.objects n clear)) (still_have third.objects s content view.uploads c.args.deposit.now sources))
-    (λ done. deposit_again (tables_of new) s content row.object n clear c.args.deposit.now ingested number done)
+    at_object s (without s.uploads (uploads_in c.args.deposit.now)) new c.fill.result n o (λ (x : Object). filled s content c.args.deposit.now (x.ingested || c.args.ingests)) object.1
+    (ok_then c.fill.result
+    (c.fill.ensures.map clear clean (c.in_ok-write_row.ensures.stays.inside clean_three inside_two) (c.in_ok-write_row.ensures.ours clean_three inside_two ours_two) third put
+    ((numbers, still_have third.objects s content view.uploads c.args.deposit.now told.1.2), there_at third.objects row.object n clear number (get_here s.objects n clear)))
+    (λ done. deposit_again (tables_of new) s content row.object n clear c.args.deposit.now ingested number done))
 
 pub returns-in_err-clear_metadata-clause-stays : goal.returns-in_err-clear_metadata-clause-stays
 returns-in_err-clear_metadata-clause-stays g c = stays_err c.from_residual-in_err-clear_metadata.ensures.0 (stays_then c.in_ok-delete_files.ensures.stays c.clear_metadata.ensures.stays)
@@ -75,19 +79,21 @@ returns-clause-ours g c =
     ours_then three c.fill.ensures.stays ours_three c.fill.ensures.ours
 
 pub returns-in_err-touched-clause-cause : goal.returns-in_err-touched-clause-cause
-returns-in_err-touched-clause-cause g c clean inside ours s are sound told fits = never_absent c.args.change.now.view.now told c.in_err-touched.ensures.absent
+returns-in_err-touched-clause-cause g c n clean inside ours s are storable = never_absent c.args.change.now.view.now storable.1 c.in_err-touched.ensures.absent
 
 pub returns-in_err-delete_files-clause-cause : goal.returns-in_err-delete_files-clause-cause
-returns-in_err-delete_files-clause-cause g c clean inside ours s are sound told fits =
+returns-in_err-delete_files-clause-cause g c n clean inside ours s are storable =
     let view = c.args.change.now.view.now in
+    let told = storable.1 in
     let held = HasCopies c.args.deposit.now in
     let row = ingested_fits c.in_ok-touched.field-0 c.ingested_by-row.result c.args.ingests (found_fits view told c.in_ok-touched.field-0 c.in_ok-touched.ensures.told) c.ingested_by-row.ensures in
     if_err_is _ c.from_residual-in_err-delete_files.result c.in_err-delete_files.field-0.0 c.from_residual-in_err-delete_files.ensures.1
-    (fails_among g.T.Statements.state c.args.tx.now c.delete_files.new.tx FailsByStatement (FailsHolding held) (by_statement held) _ (c.in_err-delete_files.ensures.cause clean inside ours s are sound row.object))
+    (fails_among g.T.Statements.state c.args.tx.now c.delete_files.new.tx FailsByStatement (FailsHolding held) (by_statement held) _ (c.in_err-delete_files.ensures.cause clean inside ours s are storable.0 row.object))
 
 pub returns-in_err-clear_metadata-clause-cause : goal.returns-in_err-clear_metadata-clause-cause
-returns-in_err-clear_metadata-clause-cause g c clean inside ours s are sound told fits =
+returns-in_err-clear_metadata-clause-cause g c n clean inside ours s are storable =
     let view = c.args.change.now.view.now in
+    let told = storable.1 in
     let held = HasCopies c.args.deposit.now in
     let before = clean_before c.clear_metadata.ensures.stays clean in
     let row = ingested_fits c.in_ok-touched.field-0 c.ingested_by-row.result c.args.ingests (found_fits view told c.in_ok-touched.field-0 c.in_ok-touched.ensures.told) c.ingested_by-row.ensures in
@@ -96,8 +102,9 @@ returns-in_err-clear_metadata-clause-cause g c clean inside ours s are sound tol
     (c.in_err-clear_metadata.ensures.cause row.object clean (c.in_ok-delete_files.ensures.stays.inside before inside)))
 
 pub returns-in_err-write_row-clause-cause : goal.returns-in_err-write_row-clause-cause
-returns-in_err-write_row-clause-cause g c clean inside ours s are sound told fits =
+returns-in_err-write_row-clause-cause g c n clean inside ours s are storable =
     let view = c.args.change.now.view.now in
+    let told = storable.1 in
     let held = HasCopies c.args.deposit.now in
     let two = stays_then c.in_ok-delete_files.ensures.stays c.in_ok-clear_metadata.ensures.stays in
     let before = clean_before c.write_row.ensures.stays clean in
@@ -107,11 +114,12 @@ returns-in_err-write_row-clause-cause g c clean inside ours s are sound told fit
     (statement (object_written _ (c.in_err-write_row.ensures.cause (blank_fits view told.numbers c.blank_row.result _ _ row.object c.blank_row.ensures) clean (two.inside before inside)))))
 
 pub returns-clause-cause : goal.returns-clause-cause
-returns-clause-cause g c clean inside ours s are sound told fits =
+returns-clause-cause g c n clean inside ours s are storable =
     let view = c.args.change.now.view.now in
+    let told = storable.1 in
     let held = HasCopies c.args.deposit.now in
     let three = stays_then (stays_then c.in_ok-delete_files.ensures.stays c.in_ok-clear_metadata.ensures.stays) c.in_ok-write_row.ensures.stays in
     let before = clean_before c.fill.ensures.stays clean in
     let row = ingested_fits c.in_ok-touched.field-0 c.ingested_by-row.result c.args.ingests (found_fits view told c.in_ok-touched.field-0 c.in_ok-touched.ensures.told) c.ingested_by-row.ensures in
     caused_later g.T.Statements.state (FailsHolding held) (FailsHolding held) (λ at now fault it. it) c.fill.result c.args.tx.now c.write_row.new.tx c.fill.new.tx three.survives
-    (c.fill.ensures.cause (told.numbers, row.object, fits) clean (three.inside before inside))
+    (c.fill.ensures.cause (told.numbers, row.object, storable.2) clean (three.inside before inside))

@@ -4,8 +4,7 @@ use Rattle.dep_row_maps.proofs.Lens.{get_here}
 use Rattle.dep_tables.proofs.Chains.{clean_before, stays_err, stays_ok, stays_then}
 use Rattle.dep_tables.specs.Tables.{tables_of}
 use Rattle.dep_decisions.specs.declared.decision.NewFile.{NewFile}
-use Rattle.dep_changes.specs.Changed.{with_new_files}
-use Rattle.dep_changes.proofs.Added.{state_before, object_before, its_source, one_more, none_yet}
+use Rattle.dep_changes.proofs.Added.{with_new_files, state_before, object_before, its_source, one_more, none_yet}
 use Rattle.std.proofs.lemmas.Option.{slice_get_read}
 use Rattle.std.proofs.lemmas.List.{take_all}
 use Rattle.dep_row_maps.specs.TablesAre.{TablesAre}
@@ -35,8 +34,8 @@ files-preserved g c =
           let at : slice_get files i ≡ Some x = slice_get_read files (length files) i x refl within c.index-files-index.is in
           let so_far = inv.2 (clean_mid clean) inside ours s are o numbers there sources in
           one_more s content seen n o files i x at sources (tables_of new) (c.args.change.now.view.now.next.file + i) (ap (λ (k : Counters). k.file + i) numbers.1)
-          (c.in_ok-put_new_file.ensures.map clean (inv.0.inside (clean_mid clean) inside) (inv.1 (clean_mid clean) inside ours)
-          (state_before s content seen n o files i x at sources) so_far (object_before s content seen n o files i x at sources) numbers (get_here s.objects n _) (its_source s content seen n o files i x at sources)),
+          (c.in_ok-put_new_file.ensures.map (object_before s content seen n o files i x at sources) clean (inv.0.inside (clean_mid clean) inside) (inv.1 (clean_mid clean) inside ours)
+          (state_before s content seen n o files i x at sources) so_far ((numbers, its_source s content seen n o files i x at sources), get_here s.objects n _)),
     )
 
 pub returns-in_err-put_new_file-clause-stays : goal.returns-in_err-put_new_file-clause-stays
@@ -50,10 +49,10 @@ files-init g c = (
 )
 
 pub returns-clause-map : goal.returns-clause-map
-returns-clause-map g c clean inside ours s are o numbers there sources =
+returns-clause-map g c o clean inside ours s are told =
     let now = g.T.Statements.state c.files.tx in
     subst (λ (new : List NewFile). TablesAre (tables_of now) (with_new_files s c.args.change.now.content.now c.args.object o new)) (take_all c.files.index c.args.files.now c.files-test.false)
-    (c.files.invariant.2 clean inside ours s are o numbers there sources)
+    (c.files.invariant.2 clean inside ours s are o told.0.0 told.1 told.0.1)
 
 pub returns-in_err-put_new_file-clause-cause : goal.returns-in_err-put_new_file-clause-cause
 returns-in_err-put_new_file-clause-cause g c storable clean inside =

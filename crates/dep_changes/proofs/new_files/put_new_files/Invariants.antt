@@ -6,7 +6,7 @@ use Rattle.dep_tables.proofs.Chains.{Stays}
 use Rattle.dep_tables.specs.Tables.{IsOurs}
 use Rattle.dep_row_maps.specs.Clauses.{SeesState}
 use Rattle.dep_changes.specs.Told.{TellsNumbers, AreSources}
-use Rattle.dep_changes.specs.Changed.{with_new_files}
+use Rattle.dep_changes.proofs.Added.{with_new_files}
 use Rattle.dep_changes.proofs.new_files.put_new_files.Given as goal
 
 abbrev pub invariant-files : goal.invariant-files

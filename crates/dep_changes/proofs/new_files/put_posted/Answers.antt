@@ -8,13 +8,12 @@ use Rattle.dep_changes.proofs.Causes.{by_statement, caused_among, new_row_fits}
 use Rattle.dep_changes.proofs.new_files.put_posted.Goals as goal
 
 pub returns-in_err-row-clause-cause : goal.returns-in_err-row-clause-cause
-returns-in_err-row-clause-cause g c storable clean inside =
+returns-in_err-row-clause-cause g c place storable clean inside =
     if_err_is _ c.from_residual.result c.in_err-row.field-0.0 c.from_residual.ensures.1
     (fails_first g.T.Statements.state c.args.tx.now c.args.tx.now (FailsHolding ⊤) _ (memory tt c.in_err-row.ensures.cause))
 
 pub returns-clause-cause : goal.returns-clause-cause
-returns-clause-cause g c storable clean inside =
-    let view = c.args.change.now.view.now in
+returns-clause-cause g c place storable clean inside =
     let size = subst (λ (bytes : List ℕ). IsStorable (length bytes)) (sym c.as_slice.ensures) storable.3 in
-    let fits = new_row_fits view storable.0 c.in_ok-row.row storable.1 storable.2 size c.in_ok-row.ensures.told in
+    let fits = new_row_fits c.args.change.now storable.0 c.args.numbers c.args.new.now _ c.in_ok-row.row storable.1 storable.2 size c.in_ok-row.ensures.told in
     caused_among g.T.Statements.state FailsByStatement (FailsHolding ⊤) (by_statement ⊤) c.put_file.result c.args.tx.now c.put_file.new.tx (c.put_file.ensures.cause fits clean inside)

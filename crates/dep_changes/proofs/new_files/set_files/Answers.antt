@@ -6,10 +6,11 @@ use Rattle.dep_tables.specs.Tables.{tables_of}
 use Rattle.dep_tables.proofs.Results.{ok_then}
 use Rattle.dep_row_maps.specs.TablesAre.{with_object}
 use Rattle.dep_row_maps.proofs.Lens.{get_here}
-use Rattle.dep_decisions.specs.Effects.{with_files}
+use Rattle.dep_decisions.specs.Effects.{added, uploads_of, with_files, without}
+use Rattle.dep_changes.proofs.Carried.{at_object}
 use Rattle.dep_changes.proofs.Chains.{ours_then}
 use Rattle.dep_changes.proofs.Added.{new_files_again}
-use Rattle.dep_changes.proofs.Steps.{files_row, number_is, its_number, its_own, at_number, there_at, written_again}
+use Rattle.dep_changes.proofs.Steps.{files_row, number_is, its_number, at_number, rewritten, there_at, written_again}
 use Rattle.std.proofs.Common.{◌≢◌, []}
 use Rattle.dep_row_maps.specs.Causes.{FailsByStatement, FailsHolding}
 use Rattle.dep_row_maps.specs.Causes.FailsHolding.{statement}
@@ -19,7 +20,7 @@ use Rattle.dep_changes.proofs.Causes.{by_statement, caused_later, files_fit, fou
 use Rattle.dep_changes.proofs.new_files.set_files.Goals as goal
 
 pub returns-clause-map : goal.returns-clause-map
-returns-clause-map g c clean inside ours s are n o numbers told sources =
+returns-clause-map g c n clean inside ours s are told =
     let view = c.args.change.now.view.now in
     let content = c.args.change.now.content.now in
     let one = g.T.Statements.state c.delete_files.new.tx in
@@ -29,22 +30,25 @@ returns-clause-map g c clean inside ours s are n o numbers told sources =
     let clean_one = clean_before c.write_row.ensures.stays clean_two in
     let inside_one = c.in_ok-delete_files.ensures.stays.inside clean_one inside in
     let ours_one = c.in_ok-delete_files.ensures.ours clean_one inside ours in
+    let numbers = told.0 in
+    let o = told.1.0 in
+    let object = told.1.1 in
     let row = c.in_ok-row.row in
-    let number = number_is s n o view.object told.0 row c.in_ok-row.ensures.told in
+    let number = number_is s n o view.object object.0 row c.in_ok-row.ensures.told in
     let left : Object = record o { files = finmap.empty } in
-    let gone = at_number (tables_of one) s row.object n left number (c.in_ok-delete_files.ensures.map clean_one inside ours s are o (there_at s.objects row.object n o number told.1)) in
+    let gone = at_number (tables_of one) s row.object n left number (c.in_ok-delete_files.ensures.map clean_one inside ours s are o (there_at s.objects row.object n o number object.1)) in
     let first : State = with_object s n left in
     let now = c.files_changed.result in
     let bare : Object = with_files s finmap.empty o in
-    let is = files_row s n o view.object told.0 row c.in_ok-row.ensures.told view.clock view.next numbers.0 numbers.1 now finmap.empty c.files_changed.ensures in
-    let to = its_number n bare now is in
-    let put = written_again (tables_of two) s n left bare (at_number (tables_of two) first now.object n bare to
-    (c.in_ok-write_row.ensures.map clean_two inside_one ours_one first gone left bare (there_at first.objects now.object n left to (get_here s.objects n left)) (its_own n bare now is) refl refl)) in
+    let is = files_row s n o view.object object.0 row c.in_ok-row.ensures.told view.clock view.next numbers.0 numbers.1 now finmap.empty c.files_changed.ensures in
+    let put = written_again (tables_of two) s n left bare (at_number (tables_of two) first now.object n bare (its_number n bare now is)
+    (c.in_ok-write_row.ensures.map bare clean_two inside_one ours_one first gone (rewritten first n left bare now is (get_here s.objects n left) refl refl))) in
     let second : State = with_object s n bare in
-    ok_then c.put_new_files.result
-    (c.put_new_files.ensures.map clean (c.in_ok-write_row.ensures.stays.inside clean_two inside_one) (c.in_ok-write_row.ensures.ours clean_two inside_one ours_one) second put bare numbers
-    (there_at second.objects row.object n bare number (get_here s.objects n bare)) sources)
-    (λ added. new_files_again (tables_of new) s content row.object n bare bare c.args.files.now number added)
+    at_object s (without s.uploads (uploads_of c.args.files.now)) new c.put_new_files.result n o (λ (x : Object). with_files s (added s content c.args.files.now finmap.empty) x) object.1
+    (ok_then c.put_new_files.result
+    (c.put_new_files.ensures.map bare clean (c.in_ok-write_row.ensures.stays.inside clean_two inside_one) (c.in_ok-write_row.ensures.ours clean_two inside_one ours_one) second put
+    ((numbers, told.1.2), there_at second.objects row.object n bare number (get_here s.objects n bare)))
+    (λ added. new_files_again (tables_of new) s content row.object n bare bare c.args.files.now number added))
 
 pub returns-in_err-write_row-clause-stays : goal.returns-in_err-write_row-clause-stays
 returns-in_err-write_row-clause-stays g c = stays_err c.from_residual-in_err-write_row.ensures.0 (stays_then c.in_ok-delete_files.ensures.stays c.write_row.ensures.stays)
@@ -59,19 +63,21 @@ returns-clause-ours g c =
     ours_then two c.put_new_files.ensures.stays ours_two c.put_new_files.ensures.ours
 
 pub returns-in_err-row-clause-cause : goal.returns-in_err-row-clause-cause
-returns-in_err-row-clause-cause g c clean inside ours s are sound told sources = never_absent c.args.change.now.view.now told c.in_err-row.ensures.absent
+returns-in_err-row-clause-cause g c n clean inside ours s are storable = never_absent c.args.change.now.view.now storable.1 c.in_err-row.ensures.absent
 
 pub returns-in_err-delete_files-clause-cause : goal.returns-in_err-delete_files-clause-cause
-returns-in_err-delete_files-clause-cause g c clean inside ours s are sound told sources =
+returns-in_err-delete_files-clause-cause g c n clean inside ours s are storable =
     let view = c.args.change.now.view.now in
+    let told = storable.1 in
     let held = c.args.files.now ≢ [] in
     let fits = found_fits view told c.in_ok-row.row c.in_ok-row.ensures.told in
     if_err_is _ c.from_residual-in_err-delete_files.result c.in_err-delete_files.field-0.0 c.from_residual-in_err-delete_files.ensures.1
-    (fails_among g.T.Statements.state c.args.tx.now c.delete_files.new.tx FailsByStatement (FailsHolding held) (by_statement held) _ (c.in_err-delete_files.ensures.cause clean inside ours s are sound fits.object))
+    (fails_among g.T.Statements.state c.args.tx.now c.delete_files.new.tx FailsByStatement (FailsHolding held) (by_statement held) _ (c.in_err-delete_files.ensures.cause clean inside ours s are storable.0 fits.object))
 
 pub returns-in_err-write_row-clause-cause : goal.returns-in_err-write_row-clause-cause
-returns-in_err-write_row-clause-cause g c clean inside ours s are sound told sources =
+returns-in_err-write_row-clause-cause g c n clean inside ours s are storable =
     let view = c.args.change.now.view.now in
+    let told = storable.1 in
     let held = c.args.files.now ≢ [] in
     let before = clean_before c.write_row.ensures.stays clean in
     let row = c.in_ok-row.row in
@@ -81,11 +87,12 @@ returns-in_err-write_row-clause-cause g c clean inside ours s are sound told sou
     (statement (object_written _ (c.in_err-write_row.ensures.cause fits clean (c.in_ok-delete_files.ensures.stays.inside before inside)))))
 
 pub returns-clause-cause : goal.returns-clause-cause
-returns-clause-cause g c clean inside ours s are sound told sources =
+returns-clause-cause g c n clean inside ours s are storable =
     let view = c.args.change.now.view.now in
+    let told = storable.1 in
     let held = c.args.files.now ≢ [] in
     let two = stays_then c.in_ok-delete_files.ensures.stays c.in_ok-write_row.ensures.stays in
     let before = clean_before c.put_new_files.ensures.stays clean in
     let fits = found_fits view told c.in_ok-row.row c.in_ok-row.ensures.told in
     caused_later g.T.Statements.state (FailsHolding held) (FailsHolding held) (λ at now fault it. it) c.put_new_files.result c.args.tx.now c.write_row.new.tx c.put_new_files.new.tx two.survives
-    (c.put_new_files.ensures.cause (told.numbers, fits.object, sources) clean (two.inside before inside))
+    (c.put_new_files.ensures.cause (told.numbers, fits.object, storable.2) clean (two.inside before inside))

@@ -3,13 +3,13 @@ use Rattle.dep_tables.specs.Tables.{tables_of}
 use Rattle.dep_tables.proofs.Results.{ok_then}
 use Rattle.dep_files.specs.Edits.{without_files}
 use Rattle.dep_changes.proofs.Steps.{emptied, gone_after}
-use Rattle.dep_row_maps.specs.Causes.{FailsByStatement}
-use Rattle.dep_row_maps.proofs.Causes.{if_err_is}
-use Rattle.dep_changes.proofs.Causes.{caused_later}
+use Rattle.dep_row_maps.specs.Causes.{FailsByStatement, FailsHolding}
+use Rattle.dep_row_maps.proofs.Causes.{fails_among, if_err_is}
+use Rattle.dep_changes.proofs.Causes.{by_statement, caused_later}
 use Rattle.dep_changes.proofs.objects.drop_object.Goals as goal
 
 pub returns-clause-map : goal.returns-clause-map
-returns-clause-map g c clean inside ours s are o there =
+returns-clause-map g c o clean inside ours s are there =
     let new = g.T.Statements.state c.delete_object.new.tx in
     let before = clean_before c.delete_object.ensures.stays clean in
     let none = c.in_ok-delete_files.ensures.map before inside ours s are o there in
@@ -21,11 +21,12 @@ pub returns-clause-stays : goal.returns-clause-stays
 returns-clause-stays g c = stays_then c.in_ok-delete_files.ensures.stays c.delete_object.ensures.stays
 
 pub returns-in_err-delete_files-clause-cause : goal.returns-in_err-delete_files-clause-cause
-returns-in_err-delete_files-clause-cause g c clean inside ours s are sound fits =
-    if_err_is _ c.from_residual.result c.in_err-delete_files.field-0.0 c.from_residual.ensures.1 (c.in_err-delete_files.ensures.cause clean inside ours s are sound fits)
+returns-in_err-delete_files-clause-cause g c clean inside ours s are fits =
+    if_err_is _ c.from_residual.result c.in_err-delete_files.field-0.0 c.from_residual.ensures.1
+    (fails_among g.T.Statements.state c.args.tx.now c.delete_files.new.tx FailsByStatement (FailsHolding ⊥) (by_statement ⊥) _ (c.in_err-delete_files.ensures.cause clean inside ours s are fits.0 fits.1))
 
 pub returns-clause-cause : goal.returns-clause-cause
-returns-clause-cause g c clean inside ours s are sound fits =
+returns-clause-cause g c clean inside ours s are fits =
     let before = clean_before c.delete_object.ensures.stays clean in
-    caused_later g.T.Statements.state FailsByStatement FailsByStatement (λ at now fault it. it) c.delete_object.result c.args.tx.now c.delete_files.new.tx c.delete_object.new.tx c.in_ok-delete_files.ensures.stays.survives
-    (c.delete_object.ensures.cause fits clean (c.in_ok-delete_files.ensures.stays.inside before inside))
+    caused_later g.T.Statements.state FailsByStatement (FailsHolding ⊥) (by_statement ⊥) c.delete_object.result c.args.tx.now c.delete_files.new.tx c.delete_object.new.tx c.in_ok-delete_files.ensures.stays.survives
+    (c.delete_object.ensures.cause fits.1 clean (c.in_ok-delete_files.ensures.stays.inside before inside))

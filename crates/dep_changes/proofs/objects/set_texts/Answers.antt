@@ -7,7 +7,8 @@ use Rattle.dep_row_maps.specs.TablesAre.{with_object}
 use Rattle.dep_row_maps.proofs.Lens.{get_here}
 use Rattle.dep_decisions.specs.Effects.{with_texts}
 use Rattle.dep_changes.proofs.Chains.{ours_then}
-use Rattle.dep_changes.proofs.Steps.{texts_row, number_is, its_number, its_own, at_number, there_at, written_again}
+use Rattle.dep_changes.proofs.Carried.{at_object}
+use Rattle.dep_changes.proofs.Steps.{texts_row, number_is, its_number, at_number, rewritten, there_at, written_again}
 use Rattle.std.proofs.Common.{◌≢◌}
 use Rattle.std.specs.FinMap as finmap
 use Rattle.dep_row_maps.specs.Causes.{FailsHolding}
@@ -18,24 +19,26 @@ use Rattle.dep_changes.proofs.Causes.{caused_later, found_fits, never_absent, te
 use Rattle.dep_changes.proofs.objects.set_texts.Goals as goal
 
 pub returns-clause-map : goal.returns-clause-map
-returns-clause-map g c clean inside ours s are n o numbers told =
-    let view = c.args.view.now in
+returns-clause-map g c n clean inside ours s are told =
+    let view = c.args.change.now.view.now in
+    let texts = c.args.metadata.now in
     let mid = g.T.Statements.state c.write_row.new.tx in
     let new = g.T.Statements.state c.set_metadata.new.tx in
     let before = clean_before c.set_metadata.ensures.stays clean in
+    let numbers = told.0 in
+    let o = told.1.0 in
+    let object = told.1.1 in
     let row = c.in_ok-row.row in
-    let number = number_is s n o view.object told.0 row c.in_ok-row.ensures.told in
+    let number = number_is s n o view.object object.0 row c.in_ok-row.ensures.told in
     let now = c.texts_changed.result in
     let mark : Object = with_texts s o.metadata o in
-    let is = texts_row s n o view.object told.0 row c.in_ok-row.ensures.told view.clock view.next numbers.0 numbers.1 now o.metadata c.texts_changed.ensures in
-    let to = its_number n mark now is in
-    let put = at_number (tables_of mid) s now.object n mark to
-    (c.in_ok-write_row.ensures.map before inside ours s are o mark (there_at s.objects now.object n o to told.1) (its_own n mark now is) refl refl) in
+    let is = texts_row s n o view.object object.0 row c.in_ok-row.ensures.told view.clock view.next numbers.0 numbers.1 now o.metadata c.texts_changed.ensures in
+    let put = at_number (tables_of mid) s now.object n mark (its_number n mark now is) (c.in_ok-write_row.ensures.map mark before inside ours s are (rewritten s n o mark now is object.1 refl refl)) in
     let one : State = with_object s n mark in
-    let it : Object = with_texts s c.args.metadata.now o in
-    ok_then c.set_metadata.result
+    at_object s s.uploads new c.set_metadata.result n o (with_texts s texts) object.1
+    (ok_then c.set_metadata.result
     (c.set_metadata.ensures.map clean (c.in_ok-write_row.ensures.stays.inside before inside) (c.in_ok-write_row.ensures.ours before inside ours) one put mark (there_at one.objects row.object n mark number (get_here s.objects n mark)))
-    (λ set. written_again (tables_of new) s n mark it (at_number (tables_of new) one row.object n it number set))
+    (λ set. written_again (tables_of new) s n mark (with_texts s texts o) (at_number (tables_of new) one row.object n (with_texts s texts o) number set)))
 
 pub returns-clause-stays : goal.returns-clause-stays
 returns-clause-stays g c = stays_then c.in_ok-write_row.ensures.stays c.set_metadata.ensures.stays
@@ -44,11 +47,11 @@ pub returns-clause-ours : goal.returns-clause-ours
 returns-clause-ours g c = ours_then c.in_ok-write_row.ensures.stays c.set_metadata.ensures.stays c.in_ok-write_row.ensures.ours c.set_metadata.ensures.ours
 
 pub returns-in_err-row-clause-cause : goal.returns-in_err-row-clause-cause
-returns-in_err-row-clause-cause g c storable clean inside = never_absent c.args.view.now storable.0 c.in_err-row.ensures.absent
+returns-in_err-row-clause-cause g c n s storable clean inside = never_absent c.args.change.now.view.now storable.0 c.in_err-row.ensures.absent
 
 pub returns-in_err-write_row-clause-cause : goal.returns-in_err-write_row-clause-cause
-returns-in_err-write_row-clause-cause g c storable clean inside =
-    let view = c.args.view.now in
+returns-in_err-write_row-clause-cause g c n s storable clean inside =
+    let view = c.args.change.now.view.now in
     let held = c.args.metadata.now ≢ finmap.empty in
     let row = c.in_ok-row.row in
     let fits = texts_fit view storable.0.numbers row c.texts_changed.result (found_fits view storable.0 row c.in_ok-row.ensures.told) c.texts_changed.ensures in
@@ -56,8 +59,8 @@ returns-in_err-write_row-clause-cause g c storable clean inside =
     (fails_first g.T.Statements.state c.args.tx.now c.write_row.new.tx (FailsHolding held) _ (statement (object_written _ (c.in_err-write_row.ensures.cause fits clean inside))))
 
 pub returns-clause-cause : goal.returns-clause-cause
-returns-clause-cause g c storable clean inside =
-    let view = c.args.view.now in
+returns-clause-cause g c n s storable clean inside =
+    let view = c.args.change.now.view.now in
     let held = c.args.metadata.now ≢ finmap.empty in
     let before = clean_before c.set_metadata.ensures.stays clean in
     let fits = found_fits view storable.0 c.in_ok-row.row c.in_ok-row.ensures.told in

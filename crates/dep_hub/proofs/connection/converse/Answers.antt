@@ -2,7 +2,7 @@ use Rattle.std.proofs.Common.{ℕ, Some, None, refl, sym, ap, subst, inl, inr, �
 use Rattle.dep_types.specs.Writing.{next_count}
 use Rattle.std.specs.Prelude.{IsSome}
 use Rattle.dep_hub.specs.Standing.{intake_of}
-use Rattle.dep_hub.proofs.TalkLemmas.{talk_none, talk_more, talk_last, talk_bound, turn_at, reads_more}
+use Rattle.dep_hub.proofs.TalkLemmas.{talk_none, talk_open, talk_last, talk_bound, turn_at, reads_more}
 use Rattle.dep_hub.proofs.connection.converse.Goals as goal
 
 pub loop-count-init : goal.loop-count-init
@@ -16,10 +16,10 @@ loop-count-preserved g c = record {
   there = subst (λ (n : ℕ). IsSome (intake_of c.turn.new.hub.connections.items n)) c.loop-count.invariant.same c.turn.ensures.there;
   config = c.turn.ensures.config ∙ c.loop-count.invariant.config;
   next = c.turn.ensures.next ∙ c.loop-count.invariant.next;
-  reads = c.in_default.ensures.turn.reads ∙ (ap next_count c.loop-count.invariant.reads ∙ sym (reads_more _ c.loop-count.count));
-  last = inr c.in_default.ensures.turn.last;
+  reads = c.in_default.ensures.turn.turn.reads ∙ (ap next_count c.loop-count.invariant.reads ∙ sym (reads_more _ c.loop-count.count));
+  last = inr c.in_default.ensures.turn.turn.last;
   flushed = λ h. c.turn.ensures.flushed (c.loop-count.invariant.flushed h);
-  talk = talk_more g.A.Archive.condition _ _ _ _ _ _ _ c.loop-count.invariant.config c.loop-count.invariant.talk
+  talk = talk_open g.A.Archive.condition _ _ _ _ _ _ c.loop-count.invariant.config c.loop-count.invariant.talk
       (turn_at g.A.Archive.condition _ _ _ _ _ None c.loop-count.invariant.same c.in_default.ensures.turn);
 }
 

@@ -1,20 +1,32 @@
-use Rattle.std.proofs.Common.{refl, length, drop, ◌∙◌}
+use Rattle.std.proofs.Common.{IsSome, Vec, Global, refl, sym, subst, length, drop, ◌∙◌}
 use denote.Param.Always.{mut_next}
 use Rattle.dep_hub.specs.Conversation.{session, wire}
+use Rattle.dep_hub.specs.Standing.{intake_of}
+use Rattle.dep_hub.specs.declared.connections.Connection.{Connection}
 use Rattle.dep_hub.specs.declared.arrived.Arrived.TheVariants.{Open as StaysOpen, Closed as HasClosed, Cut}
 use Rattle.dep_hub.proofs.TurnLemmas.{arrives_flushed, one_turn, no_turn, none_read, gives_bytes, gives_none, has_room, kept_room}
 use Rattle.dep_hub.proofs.connection.turn.Goals as goal
 use Rattle.dep_hub.proofs.connection.turn.Given as given
 
 pub returns-in-Open-clause-turn : goal.returns-in-Open-clause-turn
-returns-in-Open-clause-turn g c =
-    one_turn g.A.Archive.condition (given.C-step g) c.args.incoming.now.connection
-    (session g.A.Archive.condition c.args.hub.now (wire (g.R.Inlet.unread c.args.reader.now) (g.R.Inlet.reads c.args.reader.now) (g.R.Inlet.last c.args.reader.now) (g.W.Outlet.taken c.args.writer.now) (g.W.Outlet.failures c.args.writer.now)) c.args.clock.now)
-    (session g.A.Archive.condition c.arrive-arrived.new.self (wire (g.R.Inlet.unread c.read.new.self) (g.R.Inlet.reads c.read.new.self) (g.R.Inlet.last c.read.new.self) (g.W.Outlet.taken c.flush.new.self) (g.W.Outlet.failures c.flush.new.self)) c.clock-moment.new.self)
-    StaysOpen c.in-Ok.n c.args.incoming.now.buffer.len c.clock-moment.result
-    c.read.new.buffer (drop (length c.read.new.buffer) c.args.incoming.now.buffer.items) c.as_mut_slice.result.now c.args.incoming.now.buffer.items c.deref.result.now
-    c.deref.ensures.value c.read.auto.buffer c.as_mut_slice.ensures.len c.as_mut_slice.ensures.value c.requires.room
-    c.in-Ok.ensures.bound.0 c.in-Ok.ensures.bound.1 c.in-Ok.n-test.1 c.in-Ok.ensures.bytes.0 c.read.ensures.count (c.in-Ok.ensures.last ∙ gives_bytes c.in-Ok.n c.in-Ok.n-test.1) c.clock-moment.ensures (arrives_flushed g.A.Archive.condition _ _ _ _ _ _ _ _ _ _ _ _ c.flush.ensures.taken c.flush.ensures.failures c.in-Open.ensures.arrival)
+returns-in-Open-clause-turn g c = record {
+  served = c.arrive-arrived.new.self;
+  turn = one_turn g.A.Archive.condition (given.C-step g) c.args.incoming.now.connection
+      (session g.A.Archive.condition c.args.hub.now (wire (g.R.Inlet.unread c.args.reader.now) (g.R.Inlet.reads c.args.reader.now) (g.R.Inlet.last c.args.reader.now) (g.W.Outlet.taken c.args.writer.now) (g.W.Outlet.failures c.args.writer.now)) c.args.clock.now)
+      (session g.A.Archive.condition c.arrive-arrived.new.self (wire (g.R.Inlet.unread c.read.new.self) (g.R.Inlet.reads c.read.new.self) (g.R.Inlet.last c.read.new.self) (g.W.Outlet.taken c.flush.new.self) (g.W.Outlet.failures c.flush.new.self)) c.clock-moment.new.self)
+      StaysOpen c.in-Ok.n c.args.incoming.now.buffer.len c.clock-moment.result
+      c.read.new.buffer (drop (length c.read.new.buffer) c.args.incoming.now.buffer.items) c.as_mut_slice.result.now c.args.incoming.now.buffer.items c.deref.result.now
+      c.deref.ensures.value c.read.auto.buffer c.as_mut_slice.ensures.len c.as_mut_slice.ensures.value c.requires.room
+      c.in-Ok.ensures.bound.0 c.in-Ok.ensures.bound.1 c.in-Ok.n-test.1 c.in-Ok.ensures.bytes.0 c.read.ensures.count (c.in-Ok.ensures.last ∙ gives_bytes c.in-Ok.n c.in-Ok.n-test.1) c.clock-moment.ensures (arrives_flushed g.A.Archive.condition _ _ _ _ _ _ _ _ _ _ _ _ c.flush.ensures.taken c.flush.ensures.failures c.in-Open.ensures.arrival);
+  ahead = record {
+    same_config = c.work_ahead-left.ensures.config;
+    same_connections = c.work_ahead-left.ensures.connections;
+    kept = c.work_ahead-left.ensures.kept;
+    left = c.work_ahead-left.ensures.left;
+    clean = c.work_ahead-left.ensures.clean;
+    honest = c.work_ahead-left.ensures.honest;
+  };
+}
 
 pub returns-in-Closed-clause-turn : goal.returns-in-Closed-clause-turn
 returns-in-Closed-clause-turn g c =
@@ -98,7 +110,9 @@ returns-in-Cut-clause-call g c =
     c.requires.call
 
 pub returns-in-Open-clause-there : goal.returns-in-Open-clause-there
-returns-in-Open-clause-there g c = (c.arrive-arrived.ensures.there c.requires.there).1
+returns-in-Open-clause-there g c =
+    subst (λ (cs : Vec Connection Global). IsSome (intake_of cs.items c.args.incoming.now.connection)) (sym c.work_ahead-left.ensures.connections)
+    (c.arrive-arrived.ensures.there c.requires.there).1
 
 pub returns-in-Closed-clause-there : goal.returns-in-Closed-clause-there
 returns-in-Closed-clause-there g c = (c.arrive-arrived.ensures.there c.requires.there).1
@@ -110,10 +124,10 @@ pub returns-in-Open-clause-same : goal.returns-in-Open-clause-same
 returns-in-Open-clause-same g c = refl
 
 pub returns-in-Open-clause-config : goal.returns-in-Open-clause-config
-returns-in-Open-clause-config g c = c.arrive-arrived.ensures.config
+returns-in-Open-clause-config g c = c.work_ahead-left.ensures.config ∙ c.arrive-arrived.ensures.config
 
 pub returns-in-Open-clause-next : goal.returns-in-Open-clause-next
-returns-in-Open-clause-next g c = c.arrive-arrived.ensures.next
+returns-in-Open-clause-next g c = c.work_ahead-left.ensures.next ∙ c.arrive-arrived.ensures.next
 
 pub returns-in-Closed-clause-same : goal.returns-in-Closed-clause-same
 returns-in-Closed-clause-same g c = refl

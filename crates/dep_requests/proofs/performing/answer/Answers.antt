@@ -6,11 +6,11 @@ use Rattle.dep_tables.proofs.Results.{ok_then}
 use Rattle.dep_requests.proofs.performing.answer.Goals as goal
 
 pub returns-clause-map : goal.returns-clause-map
-returns-clause-map g c clean within ours s are sound fit =
+returns-clause-map g c clean within ours s are sound running fit =
     let old = g.T.Statements.state c.args.tx.now in
     let mid = g.T.Statements.state c.rule.new.tx in
     let before = clean_before c.follow-performed.ensures.stays clean in
-    let rules = rw c.config.ensures at (c.in_ok-ruled.ensures.map before within ours s are sound) in
+    let rules = rw c.config.ensures at (c.in_ok-ruled.ensures.map before within ours s are sound running) in
     c.follow-performed.ensures.map clean (c.in_ok-ruled.ensures.stays.inside before within) (c.in_ok-ruled.ensures.ours before within ours) s
     (sees_still old mid s (c.in_ok-ruled.ensures.same before ours).0.now_is are) sound fit rules
 
@@ -22,12 +22,12 @@ returns-clause-ours g c =
     ours_then c.in_ok-ruled.ensures.stays c.follow-performed.ensures.stays c.in_ok-ruled.ensures.ours c.follow-performed.ensures.ours
 
 pub returns-clause-unchanged : goal.returns-clause-unchanged
-returns-clause-unchanged g c clean within ours s are sound nothing =
+returns-clause-unchanged g c clean within ours s are sound running nothing =
     let old = g.T.Statements.state c.args.tx.now in
     let mid = g.T.Statements.state c.rule.new.tx in
     let before = clean_before c.follow-performed.ensures.stays clean in
     let same = c.in_ok-ruled.ensures.same before ours in
-    let rules = rw c.config.ensures at (c.in_ok-ruled.ensures.map before within ours s are sound) in
+    let rules = rw c.config.ensures at (c.in_ok-ruled.ensures.map before within ours s are sound running) in
     let only = only_reads c.args.service.now s c.args.operation.now _ rules.ruling nothing in
     ok_then c.follow-performed.result (c.follow-performed.ensures.unchanged only same.0.is_open clean (c.in_ok-ruled.ensures.ours before within ours))
     (λ more. unchanged_then old mid (g.T.Statements.state c.follow-performed.new.tx) same more)

@@ -1,4 +1,4 @@
-use Rattle.std.proofs.Common.{◌≡◌, List, length, refl, sym, ap, ◌∙◌}
+use Rattle.std.proofs.Common.{◌≡◌, List, length, refl, sym, ap, subst, ◌∙◌}
 use Rattle.dep_tables.proofs.Chains.{clean_before, stays_then}
 use Rattle.dep_decisions.specs.Effects.{effect}
 use Rattle.dep_changes.proofs.Chains.{ours_then}
@@ -8,7 +8,8 @@ use Rattle.dep_decisions.specs.Decisions.{numbers_for}
 use Rattle.dep_decisions.specs.declared.decision.Decision.{Decision}
 use Rattle.dep_decisions.specs.declared.decision.Deposit.{Deposit}
 use Rattle.dep_decisions.specs.declared.decision.NewFile.{NewFile}
-use Rattle.dep_changes.proofs.Carried.{room_of_files}
+use Rattle.dep_row_maps.specs.Clauses.{SeesState}
+use Rattle.dep_changes.proofs.Carried.{request_made, room_of_files}
 use Rattle.dep_decisions.specs.declared.decision.Decision.TheVariants.{Create}
 use Rattle.dep_decisions.specs.declared.decision.Deposit.TheVariants.{Files}
 use Rattle.dep_requests.proofs.Created.{created_shown}
@@ -19,7 +20,8 @@ returns-clause-map g c clean within ours s are config sound fit rules ruling =
     let op = c.args.operation.now in
     let mid = g.T.Statements.state c.carry_out.new.tx in
     let before = clean_before c.load_shown.ensures.stays clean in
-    let made = c.in_ok-carry_out.ensures.map before within ours s are config op sound rules.view ruling refl in
+    let made = subst (SeesState mid) (request_made config s op c.args.decision.now ruling.1)
+    (c.in_ok-carry_out.ensures.map before within ours s are (record { config = config; op = op; sound = sound; seen = rules.view; ruling = ruling; sent = refl })) in
     let then = c.in_ok-carry_out.ensures.ours before within ours in
     let next = next_after config s op c.args.ruled.now.view c.args.decision.now c.after_taking-next.result rules.view ruling.1 (rw c.numbers_for.ensures at c.after_taking-next.ensures) in
     shown_after (effect config s op) op mid (g.T.Statements.state c.load_shown.new.tx) c.after_taking-next.result c.of-subject.result c.load_shown.result made c.of-subject.ensures next
@@ -45,10 +47,11 @@ created_view-requires g c =
 pub returns-in-Files-clause-map : goal.returns-in-Files-clause-map
 returns-in-Files-clause-map g c clean within ours s are config sound fit rules ruling =
     let op = c.args.operation.now in
-    let made = c.in_ok-carry_out.ensures.map clean within ours s are config op sound rules.view ruling refl in
+    let made = subst (SeesState (g.T.Statements.state c.carry_out.new.tx)) (request_made config s op c.args.decision.now ruling.1)
+    (c.in_ok-carry_out.ensures.map clean within ours s are (record { config = config; op = op; sound = sound; seen = rules.view; ruling = ruling; sent = refl })) in
     let files = c.as_slice.result.now in
     let same : c.args.decision.now ≡ Create (Files files) c.in-Create.ingests =
     c.in-Create.is ∙ ap (λ (x : Deposit). Create x c.in-Create.ingests) (c.in-Files.is ∙ ap (λ (fs : List NewFile). Files fs) (sym c.as_slice.ensures)) in
     let asked = sym same ∙ ruling.1 in
-    let told = c.in_ok-created.ensures.told config s op sound rules.view (ruling.0, asked) refl in
+    let told = c.in_ok-created.ensures.told s (record { config = config; op = op; sound = sound; seen = rules.view; ruling = (ruling.0, asked); sent = refl }) in
     (made, created_shown config s op (Files files) c.in-Create.ingests c.in_ok-created.created asked told)

@@ -2,6 +2,7 @@ use Rattle.std.proofs.Common.{rules, ◌≡◌}
 use Rattle.sqlite.proofs.StateLemmas.{clean_if_open}
 use Rattle.dep_schema.proofs.Transacting.{gave_up, committed, uncommitted, works_within, still_inside}
 use Rattle.dep_schema.proofs.Performed.{works}
+use Rattle.dep_staging.specs.HashedAhead.{AreRunning}
 use Rattle.dep_schema.proofs.performing.perform_request.Goals as goal
 
 pub returns-in_err-performed : goal.returns-in_err-performed
@@ -30,7 +31,7 @@ returns-in-Ok g c =
     let same : new ≡ c.connection-2-1.given.0 = search rules in
     record {
       transacts = committed g.S.Store old inside new _ _ work
-          (works g.S.Store old inside c.args.service.now c.args.operation.now c.in_ok-performed.performed worked.map worked.ours)
+          (works g.S.Store old inside c.args.service.now c.args.operation.now (λ s. AreRunning s c.args.running.now) c.in_ok-performed.performed worked.map worked.ours)
           (λ clean. let ok = c.in-Ok.ensures.ok clean in (ok.1, ok.2, ok.3)) c.commit.ensures.survives _ same;
     }
 
@@ -46,6 +47,6 @@ returns-in-Err g c =
     let same : new ≡ c.connection-2-1.given.0 = search rules in
     record {
       transacts = uncommitted g.S.Store old inside new _ c.in_ok-performed.performed _ c.in-Err.error work
-          (works g.S.Store old inside c.args.service.now c.args.operation.now c.in_ok-performed.performed worked.map worked.ours)
+          (works g.S.Store old inside c.args.service.now c.args.operation.now (λ s. AreRunning s c.args.running.now) c.in_ok-performed.performed worked.map worked.ours)
           (still_inside g.S.Store old c.in_ok-performed.ensures.stays c.transaction-tx.ensures.begun left) (λ clean. c.in-Err.ensures.err clean) c.commit.ensures.survives _ same;
     }

@@ -1,5 +1,10 @@
+use Rattle.std.proofs.Common.{List, subst}
+use Rattle.dep_hub.specs.Turns.{Turn, Exchanges, EndsAs}
 use Rattle.dep_hub.proofs.TalkLemmas.{last_tells}
 use Rattle.dep_server.proofs.laws.last_turn_tells_the_end.Goals as goal
 
 pub returns : goal.returns
-returns c = last_tells
+returns c = λ talk before behind t is.
+    last_tells talk.config talk.number talk.first talk.last before behind t talk.unread talk.end
+    (subst (λ (turns : List Turn). Exchanges talk.config talk.number talk.first turns talk.last) is talk.answers)
+    (subst (λ (turns : List Turn). EndsAs talk.unread turns talk.end) is talk.ends)

@@ -2,4 +2,4 @@ use Rattle.dep_server.proofs.MovesLead.{run_leads}
 use Rattle.dep_server.proofs.laws.moves_make_the_state.Goals as goal
 
 pub returns : goal.returns
-returns c = λ config first records w r. run_leads config r
+returns c = λ r. run_leads r.config r.run

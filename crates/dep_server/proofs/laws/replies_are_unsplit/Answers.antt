@@ -6,6 +6,6 @@ use Rattle.dep_server.proofs.laws.replies_are_unsplit.Goals as goal
 pub returns : goal.returns
 unfolding head_end
 returns c = record {
-  steps = λ config s item moment checked sound. step_unsplit config checked s item moment sound;
+  steps = λ x checked sound. step_unsplit x.config checked x.state x.item x.moment sound;
   fixed = (refl, refl);
 }

@@ -5,4 +5,4 @@ use Rattle.dep_server.proofs.SoundLemmas.{step_sound}
 use Rattle.dep_server.proofs.laws.runs_keep_sound.Goals as goal
 
 pub returns : goal.returns
-returns c = λ config first records w run sound. after_run config IsSound (keeps_sound config) (step_sound config) run sound
+returns c = λ r sound. after_run r.config IsSound (keeps_sound r.config) (step_sound r.config) r.run sound

@@ -1,4 +1,4 @@
-use Rattle.std.proofs.Common.{◌<◌, ◌≤◌, ◌^◌, ◌++◌, length, arith, rules, sym, ap, subst, ◌∙◌, append-nil, append_assoc}
+use Rattle.std.proofs.Common.{◌<◌, ◌≤◌, ◌^◌, ◌++◌, length, arith, rules, sym, ap, subst, ◌∙◌, append_assoc}
 use Rattle.dep_fixity.specs.Fixity.{Holds}
 use Rattle.sqlite.proofs.StateLemmas.{unchanged}
 use Rattle.sqlite.proofs.Callers.{unchanged_then}
@@ -20,7 +20,7 @@ loop-place-init g c = (
   c.div_ceil-place-end.ensures,
   search rules,
   λ is_open clean ours. unchanged (g.T.Statements.state c.args.tx.now) is_open,
-  λ is_open clean ours s are bytes message its holds. subst (Holds c.args.hasher.now) (sym (append-nil message)) holds,
+  λ is_open clean ours s are bytes message its holds. holds,
   subst (λ n. n < 2 ^ 63) (sym c.div_ceil-place-end.ensures) (few_blocks c.args.segment.now.size (omega arith)),
 )
 

@@ -1,13 +1,12 @@
-use Rattle.std.proofs.Common.{◌≡◌, ◌<◌, ◌^◌, ℕ, List, ◌++◌, take, IsTrue}
+use Rattle.std.proofs.Common.{◌≡◌, ◌<◌, ◌^◌, ℕ, List, ◌++◌, IsTrue}
 use Rattle.std.specs.Int.{div_ceil}
-use Rattle.std.specs.List.{flat_map}
 use Rattle.dep_fixity.specs.Fixity.{Holds}
 use Rattle.sqlite.specs.State.{HasCleanDisk, IsUnchanged}
 use Rattle.dep_types.specs.State.{State}
 use Rattle.dep_tables.specs.Tables.{tables_of, IsOurs}
 use Rattle.dep_tables.proofs.Chains.{Stays}
-use Rattle.dep_row_maps.specs.Stored.{blocks_of}
 use Rattle.dep_row_maps.specs.TablesAre.{TablesAre}
+use Rattle.dep_staging.specs.HashedAhead.{first_blocks}
 use Rattle.dep_staging.specs.Hashing.{IsSegmentOf}
 use Rattle.dep_staging.proofs.hashing.hash_segment.Given as goal
 
@@ -19,6 +18,6 @@ invariant-loop-place g l =
     × Stays g.T.Statements.lenders g.T.Statements.state l.fn.tx l.tx
     × (IsTrue old.is_open → HasCleanDisk now → IsOurs old → IsUnchanged old now)
     × (IsTrue old.is_open → HasCleanDisk now → IsOurs old → (s : State) → TablesAre (tables_of old) s
-    → (bytes message : List ℕ) → IsSegmentOf s l.segment bytes → Holds l.fn.hasher message
-    → Holds l.hasher (message ++ flat_map (λ b. b) (take l.place (blocks_of bytes))))
+    → (bytes message : List ℕ) → IsSegmentOf s l.segment bytes → Holds l.fn.hasher (message ++ first_blocks l.first bytes)
+    → Holds l.hasher (message ++ first_blocks l.place bytes))
     × (l.place-end < 2 ^ 63)

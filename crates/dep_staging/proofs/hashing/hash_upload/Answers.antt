@@ -1,12 +1,13 @@
-use Rattle.std.proofs.Common.{◌≡◌, ◌≤◌, ◌∙◌, ℕ, List, length, get_or, rules, sym, ap, subst}
+use Rattle.std.proofs.Common.{◌≡◌, ◌≤◌, ◌<◌, ◌+◌, ◌-◌, ◌∙◌, ◌++◌, ℕ, List, [], length, get_or, take, drop, min, arith, rules, sym, ap, subst, append-nil}
 use Rattle.std.specs.FinMap as finmap
 use Rattle.std.specs.List.{flat_map}
-use Rattle.std.proofs.lemmas.List.{take_all, length-map}
+use Rattle.std.proofs.lemmas.List.{take_all, length-map, length-drop, get_or-drop, get_or_past}
 use Rattle.dep_fixity.specs.Fixity.{Holds, digests_of}
 use Rattle.sqlite.proofs.StateLemmas.{unchanged}
 use Rattle.sqlite.proofs.Callers.{unchanged_then}
-use Rattle.dep_tables.proofs.Results.{if_failed}
-use Rattle.dep_tables.proofs.Chains.{clean_before, stays_then, stays_ok, stays_err}
+use Rattle.dep_types.specs.State.{Upload}
+use Rattle.dep_types.specs.declared.rows.UploadRow.{UploadRow}
+use Rattle.dep_tables.proofs.Chains.{clean_before, stays_then, stays_ok}
 use Rattle.dep_tables.specs.Tables.{Tables}
 use Rattle.dep_tables.specs.declared.segments.SegmentRow.{SegmentRow}
 use Rattle.dep_row_maps.specs.TablesAre.{TablesAre}
@@ -14,16 +15,48 @@ use Rattle.dep_row_maps.proofs.Causes.{fails_later, if_err_is}
 use Rattle.dep_row_maps.proofs.Pieces.{assembled-joined}
 use Rattle.dep_files.proofs.Results.{still_ours, same_tables}
 use Rattle.dep_staging.specs.Causes.{FailsToHash, FailsToReadBlock}
+use Rattle.dep_staging.specs.Found.{segment_rows_of}
+use Rattle.dep_staging.specs.HashedAhead.{first_blocks}
+use Rattle.dep_staging.proofs.AheadLemmas.{front_hashed, no_first_blocks, running_at}
 use Rattle.dep_staging.proofs.Causes.{segment_among}
-use Rattle.dep_staging.proofs.Chains.{failed_since}
-use Rattle.dep_staging.proofs.Hashed.{entry_of, segment_is, storable_segment}
+use Rattle.dep_staging.proofs.Hashed.{IsEntryAt, entry_of, segment_is, storable_segment}
 use Rattle.dep_staging.proofs.hashing.hash_upload.Goals as goal
+
+abbrev none : SegmentRow
+none = record { upload = 0; number = 0; size = 0 }
+
+-- the rows that are left, by their places among all
+module _ (rows : List SegmentRow) (whole : ℕ) where
+  abbrev rest : List SegmentRow
+  rest = take (length rows - whole) (drop whole rows)
+
+  rest_is : rest ≡ drop whole rows
+  rest_is = take_all (length rows - whole) (drop whole rows) (omega (arith, length-drop whole rows))
+
+  row_at : (i : ℕ) → get_or rest i none ≡ get_or rows (whole + i) none
+  row_at i = ap (λ l. get_or l i none) rest_is ∙ get_or-drop whole rows i none
+
+  rest_length : length rest ≡ length rows - whole
+  rest_length = ap length rest_is ∙ length-drop whole rows
+
+entry_at : (u : ℕ) (it : Upload) (rows : List SegmentRow) (whole i : ℕ) → rows ≡ segment_rows_of u it → i < length (rest rows whole) → IsEntryAt u (finmap.entries it.segments) (whole + i) (get_or (rest rows whole) i none)
+entry_at u it rows whole i are within =
+    let inside : whole + i < length rows = let count = rest_length rows whole in omega (arith, within, count) in
+    subst (IsEntryAt u (finmap.entries it.segments) (whole + i)) (sym (row_at rows whole i)) (entry_of u (finmap.entries it.segments) rows (finmap.entries_sorted it.segments) (whole + i) none are inside)
 
 pub rows-init : goal.rows-init
 rows-init g c = (
   search rules,
   λ is_open clean ours. unchanged (g.T.Statements.state c.args.tx.now) is_open,
-  λ is_open clean ours s are u it live. c.new-hasher.ensures,
+  λ is_open clean ours s are u it live within running.
+      let run = c.found-segments.result in
+      let es = finmap.entries it.segments in
+      let its : run.upload ≡ u = c.found-segments.ensures.upload ∙ ap (λ (r : UploadRow). r.upload) live.row in
+      let hashed = running_at s run it (c.found-segments.ensures.running s running) (ap (finmap.get s.uploads) its ∙ live.there) in
+      let count : length c.as_slice-rows.result.now ≡ length es = ap length (c.as_slice-rows.ensures.value ∙ live.received) ∙ length-map es _ in
+      let at : c.min-whole.result + 0 ≡ c.min-whole.result = omega arith in
+      subst (λ n. Holds run.hasher (flat_map (λ (e : ℕ × List ℕ). e.1) (take n es) ++ first_blocks run.blocks (get_or es n (0, [])).1)) (sym at)
+      (front_hashed it run c.min-whole.result within hashed (c.min-whole.ensures ∙ ap (λ n. min n run.segments) count)),
 )
 
 pub rows-preserved : goal.rows-preserved
@@ -37,42 +70,30 @@ rows-preserved g c =
       λ is_open clean ours.
           let same = inv.1 is_open (earlier clean) ours in
           unchanged_then old mid new same (c.in_ok-hash_segment.ensures.same same.0.is_open clean (still_ours old mid same ours)),
-      λ is_open clean ours s are u it live.
+      λ is_open clean ours s are u it live within running.
           let same = inv.1 is_open (earlier clean) ours in
           let es = finmap.entries it.segments in
-          let so_far = inv.2 is_open (earlier clean) ours s are u it live in
+          let at = c.min-whole.result + c.rows.row-index in
+          let so_far = inv.2 is_open (earlier clean) ours s are u it live within running in
           let are_mid = subst (λ (t : Tables). TablesAre t s) (sym (same_tables old mid same)) are in
           let m = c.in_ok-hash_segment.ensures.map clean (still_ours old mid same ours) same.0.is_open s are_mid in
-          let none : SegmentRow = record { upload = 0; number = 0; size = 0 } in
-          let e = entry_of u es c.as_slice-row-items.result.now (finmap.entries_sorted it.segments) c.rows.row-index none
-          (c.as_slice-row-items.ensures.value ∙ live.received) c.rows-test.true in
-          subst (Holds c.hash_segment.new.hasher) e.grows (m e.bytes _ (segment_is u c.rows.row-index it _ e s live.there) so_far),
+          let e = entry_at u it c.as_slice-rows.result.now c.min-whole.result c.rows.row-index (c.as_slice-rows.ensures.value ∙ live.received) c.rows-test.true in
+          let begun = subst (λ (x : ℕ × List ℕ). Holds c.rows.hasher (flat_map (λ (e : ℕ × List ℕ). e.1) (take at es) ++ first_blocks c.rows.begun x.1)) e.here so_far in
+          let next : at + 1 ≡ c.min-whole.result + (c.rows.row-index + 1) = omega arith in
+          subst (Holds c.hash_segment.new.hasher) (e.grows ∙ ap (λ n. flat_map (λ (e : ℕ × List ℕ). e.1) (take n es)) next ∙ sym (append-nil _)) (m e.bytes _ (segment_is u at it _ e s live.there) begun),
     )
 
 pub returns-clause-map : goal.returns-clause-map
-returns-clause-map g c is_open clean ours s are u it live =
+returns-clause-map g c is_open clean ours s are u it live within running =
     let es = finmap.entries it.segments in
-    let count : length c.as_slice-row-items.result.now ≡ length es = ap length (c.as_slice-row-items.ensures.value ∙ live.received) ∙ length-map es _ in
-    let past : length es ≤ c.rows.row-index = subst (λ n. n ≤ c.rows.row-index) count c.rows-test.false in
-    c.finish.ensures _ (subst (Holds c.rows.hasher) (ap (flat_map (λ (e : ℕ × List ℕ). e.1)) (take_all c.rows.row-index es past)) (c.rows.invariant.2 is_open clean ours s are u it live))
-
-pub returns-clause-assembled : goal.returns-clause-assembled
-returns-clause-assembled g c is_open clean ours s are u it live within = returns-clause-map g c is_open clean ours s are u it live ∙ ap digests_of (assembled-joined it within)
-
-pub returns-in_err-hash_segment-clause-stays : goal.returns-in_err-hash_segment-clause-stays
-returns-in_err-hash_segment-clause-stays g c = stays_err c.from_residual.ensures.0 (stays_then c.rows.invariant.0 c.hash_segment.ensures.stays)
-
-pub returns-in_err-hash_segment-clause-err : goal.returns-in_err-hash_segment-clause-err
-returns-in_err-hash_segment-clause-err g c clean inside ours is_open =
-    let old = g.T.Statements.state c.args.tx.now in
-    let mid = g.T.Statements.state c.rows.tx in
-    let new = g.T.Statements.state c.hash_segment.new.tx in
-    let inv = c.rows.invariant in
-    let before = clean_before c.hash_segment.ensures.stays clean in
-    let within = inv.0.inside before inside in
-    let was_open = (inv.0.kept before inside).was_open ((c.hash_segment.ensures.stays.kept clean within).was_open is_open) in
-    let same = inv.1 was_open before ours in
-    if_failed _ (failed_since old mid new same (c.in_err-hash_segment.ensures.err clean within (still_ours old mid same ours) is_open))
+    let rows = c.as_slice-rows.result.now in
+    let whole = c.min-whole.result in
+    let at = whole + c.rows.row-index in
+    let count : length rows ≡ length es = ap length (c.as_slice-rows.ensures.value ∙ live.received) ∙ length-map es _ in
+    let past : length es ≤ at = let left = rest_length rows whole in omega (arith, left, count, c.rows-test.false) in
+    let nothing : first_blocks c.rows.begun (get_or es at (0, [])).1 ≡ [] = ap (λ (x : ℕ × List ℕ). first_blocks c.rows.begun x.1) (get_or_past es at (0, []) past) ∙ no_first_blocks c.rows.begun in
+    let whole_of = ap (λ l. flat_map (λ (e : ℕ × List ℕ). e.1) (take at es) ++ l) nothing ∙ append-nil _ ∙ ap (flat_map (λ (e : ℕ × List ℕ). e.1)) (take_all at es past) in
+    c.finish.ensures _ (subst (Holds c.rows.hasher) whole_of (c.rows.invariant.2 is_open clean ours s are u it live within running)) ∙ ap digests_of (assembled-joined it within)
 
 pub returns-in_err-hash_segment-clause-cause : goal.returns-in_err-hash_segment-clause-cause
 returns-in_err-hash_segment-clause-cause g c clean ours is_open s are u it live storable =
@@ -82,15 +103,12 @@ returns-in_err-hash_segment-clause-cause g c clean ours is_open s are u it live 
     let inv = c.rows.invariant in
     let same = inv.1 is_open (clean_before c.hash_segment.ensures.stays clean) ours in
     let are_mid = subst (λ (t : Tables). TablesAre t s) (sym (same_tables (g.T.Statements.state old) (g.T.Statements.state mid) same)) are in
-    let none : SegmentRow = record { upload = 0; number = 0; size = 0 } in
-    let row : SegmentRow = get_or c.as_slice-row-items.result.now c.rows.row-index none in
-    let e = entry_of u (finmap.entries it.segments) c.as_slice-row-items.result.now (finmap.entries_sorted it.segments) c.rows.row-index none
-    (c.as_slice-row-items.ensures.value ∙ live.received) c.rows-test.true in
+    let rows = c.as_slice-rows.result.now in
+    let at = c.min-whole.result + c.rows.row-index in
+    let row = get_or (rest rows c.min-whole.result) c.rows.row-index none in
+    let e = entry_at u it rows c.min-whole.result c.rows.row-index (c.as_slice-rows.ensures.value ∙ live.received) c.rows-test.true in
     if_err_is _ c.from_residual.result c.in_err-hash_segment.field-0.0 c.from_residual.ensures.1
     (fails_later g.T.Statements.state old mid new inv.0.survives (FailsToReadBlock row.upload row.number) (FailsToHash u)
-    (λ at now fault failed. segment_among at now fault u row (ap (λ (r : SegmentRow). r.upload) e.is) failed) _
+    (λ now' after fault failed. segment_among now' after fault u row (ap (λ (r : SegmentRow). r.upload) e.is) failed) _
     (c.in_err-hash_segment.ensures.cause clean (still_ours (g.T.Statements.state old) (g.T.Statements.state mid) same ours) same.0.is_open
-    s are_mid e.bytes (segment_is u c.rows.row-index it _ e s live.there) (storable_segment u c.rows.row-index it _ e storable)))
-
-pub returns-clause-stays : goal.returns-clause-stays
-returns-clause-stays g c = stays_ok c.rows.invariant.0
+    s are_mid e.bytes (segment_is u at it _ e s live.there) (storable_segment u at it _ e storable)))

@@ -1,22 +1,8 @@
 use Rattle.sqlite.specs.Held.{state}
-use Rattle.dep_store.proofs.Remembered.{service_made}
 use Rattle.sqlite.proofs.StateLemmas.{clean_if_open}
-use Rattle.dep_schema.proofs.Transacting.{unmoved, after_back}
+use Rattle.dep_schema.proofs.Transacting.{after_back}
 use Rattle.dep_store.proofs.ShutLemmas.{fails_back, fails_still, was_open_then}
 use Rattle.dep_store.proofs.showing.serve.Goals as goal
-
-pub returns-in-Some-clause-transacts : goal.returns-in-Some-clause-transacts
-returns-in-Some-clause-transacts g c =
-    let d = state g.S.Store c.args.connection.now in
-    let told = c.recalled.ensures c.in-Some.it c.in-Some.is in
-    unmoved d c.show_service.result _ (λ is_open trees h. g.met.S.Store.settled c.args.connection.now.store trees is_open h)
-    (λ t stands. service_made d t c.args.service.now c.args.operation.now c.in-Some.it c.show_service.result stands (c.requires.recalls c.in-Some.it told.0) c.show_service.ensures)
-
-pub returns-in-Some-clause-shut : goal.returns-in-Some-clause-shut
-returns-in-Some-clause-shut g c =
-    let d = state g.S.Store c.args.connection.now in
-    let told = c.recalled.ensures c.in-Some.it c.in-Some.is in
-    was_open_then d d c.show_service.result (c.requires.of_open c.in-Some.it told.0)
 
 pub returns-in_err-check_open-clause-transacts : goal.returns-in_err-check_open-clause-transacts
 returns-in_err-check_open-clause-transacts g c =

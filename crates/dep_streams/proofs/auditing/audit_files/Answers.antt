@@ -1,19 +1,17 @@
-use Rattle.std.proofs.Common.{◌≡◌, ◌∙◌, ◌++◌, ◌+◌, ℕ, List, [], ◌∷◌, take, refl, sym, ap, subst, append-nil}
+use Rattle.std.proofs.Common.{◌≡◌, ◌∙◌, ◌++◌, ◌+◌, ℕ, List, [], ◌∷◌, take, inl, inr, refl, sym, ap, subst, append-nil}
 use Rattle.std.proofs.lemmas.List.Elements.{Contains-get_or}
-use Rattle.std.specs.List.{Contains, AllZip, flat_map, zip}
+use Rattle.std.specs.List.{AllZip, flat_map, zip}
 use Rattle.std.proofs.lemmas.List.{take_more, take_all}
 use Rattle.std.proofs.lemmas.Grind.{flat_map-append}
 use Rattle.sqlite.specs.Held.{state}
-use Rattle.sqlite.specs.State.{State}
-use Rattle.sqlite.proofs.StateLemmas.{survives_then, unchanged}
-use Rattle.dep_tables.specs.Tables.{Tables, tables_of}
+use Rattle.sqlite.specs.State.{State, HasCleanDisk}
+use Rattle.dep_tables.specs.Tables.{Tables, tables_of, IsOurs}
 use Rattle.dep_tables.specs.declared.sha256s.FileSha256.{FileSha256}
-use Rattle.dep_row_maps.proofs.Causes.{survives_itself}
 use Rattle.dep_types.specs.declared.store_fault.StoreFault.{StoreFault}
 use Rattle.dep_streams.specs.Causes.{FailsToCheck}
 use Rattle.dep_streams.specs.Fixity.{HasFixity, KeepsDamaged, number_if_damaged}
 use Rattle.dep_streams.specs.declared.auditing.FileFixity.{FileFixity}
-use Rattle.dep_streams.proofs.Stills.{still_then, ours_still, tables_still, kept_still, failed_still}
+use Rattle.dep_streams.proofs.Stills.{IsStill, ours_still, stays_itself, stays_then, still_left, still_then, tables_still}
 use Rattle.dep_streams.proofs.Digests.{one_more, zip_more}
 use Rattle.dep_streams.proofs.auditing.audit_files.Goals as goal
 
@@ -31,31 +29,27 @@ abbrev row_failed : {row : FileSha256} {old new : State} {fault : StoreFault} �
 row_failed {row} {old} {new} {fault} failed = row
 
 pub files-init : goal.files-init
-files-init g c = (
-  λ clean. clean,
-  λ clean ours. survives_itself (state g.S.Store c.args.connection.now),
-  λ clean ours. record { now_is = refl; unchanged = unchanged (state g.S.Store c.args.connection.now); was_open = λ is_open. is_open },
-  λ clean ours. ([], tt, c.new-damaged.ensures.items),
-)
+files-init g c = (stays_itself c.args.connection.now, λ clean ours. inl refl, λ clean ours. ([], tt, c.new-damaged.ensures.items))
 
 pub files-preserved : goal.files-preserved
 files-preserved g c =
-    let old = state g.S.Store c.args.connection.now in
-    let mid = state g.S.Store c.files.connection in
+    let first = c.args.connection.now in
+    let now = c.files.connection in
+    let old = state g.S.Store first in
+    let mid = state g.S.Store now in
     let new = state g.S.Store c.keep_damaged.new.connection in
     let inv = c.files.invariant in
-    let earlier = c.keep_damaged.ensures.clean in (
-      λ clean. inv.0 (earlier clean),
-      λ clean ours. survives_then old mid new _ _ (λ _. ⊥) (λ _ db none. none) (λ _ db none. none) (inv.1 (earlier clean) ours) (c.keep_damaged.ensures.survives clean (ours_still old mid (inv.2 (earlier clean) ours) ours)),
+    let kept = c.in-Ok.ensures in
+    let earlier = kept.stays.honest in
+    let still : HasCleanDisk mid → IsOurs old → IsStill old mid = λ clean ours. still_left g.S.Store first now (inv.1 clean ours) in (
+      stays_then inv.0 still (ours_still old mid) kept.stays,
+      λ clean ours. let so_far = still (earlier clean) ours in inr (still_then old mid new so_far (kept.same clean (ours_still old mid so_far ours))),
       λ clean ours.
-          let still = inv.2 (earlier clean) ours in
-          still_then old mid new still (c.in-Ok.ensures.same clean (ours_still old mid still ours)),
-      λ clean ours.
-          let still = inv.2 (earlier clean) ours in
-          let done = inv.3 (earlier clean) ours in
-          let noted = c.in-Ok.ensures.notes clean (ours_still old mid still ours) in
+          let so_far = still (earlier clean) ours in
+          let done = inv.2 (earlier clean) ours in
+          let noted = kept.notes clean (ours_still old mid so_far ours) in
           let row : FileSha256 = row_noted noted in
-          let it = subst (λ (t : Tables). KeepsDamaged t row c.files.damaged.items c.keep_damaged.new.damaged.items) (tables_still old mid still) noted in
+          let it = subst (λ (t : Tables). KeepsDamaged t row c.files.damaged.items c.keep_damaged.new.damaged.items) (tables_still old mid so_far) noted in
           let xs = c.args.files.now in
           let i = c.files.row-index in
           let found : List FileFixity = done.0 ++ it.found ∷ [] in
@@ -77,7 +71,7 @@ returns g c =
     let whole = take_all c.files.row-index c.args.files.now c.files-test.false in
     record {
       audits = λ clean ours.
-          let done = inv.3 clean ours in
+          let done = inv.2 clean ours in
           record {
             checked = refl;
             found = done.0;
@@ -85,31 +79,25 @@ returns g c =
             damaged = done.2 ∙ ap (λ (l : List FileSha256). flat_map number_of (zip l done.0)) whole;
           };
       cause = λ clean ours. tt;
-      ok = λ clean ours opened. (inv.2 clean ours).unchanged opened;
-      same = λ clean ours. kept_still _ _ (inv.2 clean ours);
-      clean = inv.0;
-      survives = inv.1;
+      ok = inv.1;
+      stays = inv.0;
     }
 
 pub returns-in-Err : goal.returns-in-Err
 returns-in-Err g c =
-    let old = state g.S.Store c.args.connection.now in
-    let mid = state g.S.Store c.files.connection in
-    let new = state g.S.Store c.keep_damaged.new.connection in
+    let first = c.args.connection.now in
+    let now = c.files.connection in
+    let old = state g.S.Store first in
+    let mid = state g.S.Store now in
     let inv = c.files.invariant in
-    let told = c.keep_damaged.ensures in
+    let told = c.in-Err.ensures in
+    let still : HasCleanDisk mid → IsOurs old → IsStill old mid = λ clean ours. still_left g.S.Store first now (inv.1 clean ours) in
     record {
       audits = λ clean ours. tt;
       cause = λ clean ours.
-          let still = inv.2 (told.clean clean) ours in
-          let failed = c.in-Err.ensures.cause clean (ours_still old mid still ours) in
-          (row_failed failed, Contains-get_or c.args.files.now c.files.row-index _ c.files-test.true, c.files.connection, still.now_is, failed);
-      ok = λ clean ours opened. tt;
-      same = λ clean ours.
-          let still = inv.2 (told.clean clean) ours in
-          failed_still old mid new still (λ is_open. c.in-Err.ensures.err clean (ours_still old mid still ours) is_open);
-      clean = λ clean. inv.0 (told.clean clean);
-      survives = λ clean ours.
-          let before = told.clean clean in
-          survives_then old mid new _ _ (λ _. ⊥) (λ _ db none. none) (λ _ db none. none) (inv.1 before ours) (told.survives clean (ours_still old mid (inv.2 before ours) ours));
+          let so_far = still (told.stays.honest clean) ours in
+          let failed = told.cause clean (ours_still old mid so_far ours) in
+          (row_failed failed, Contains-get_or c.args.files.now c.files.row-index _ c.files-test.true, now, so_far.now_is, failed);
+      ok = λ clean ours. tt;
+      stays = stays_then inv.0 still (ours_still old mid) told.stays;
     }

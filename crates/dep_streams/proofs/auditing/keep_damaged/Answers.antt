@@ -1,18 +1,11 @@
-use Rattle.std.proofs.Common.{inl, refl}
+use Rattle.std.proofs.Common.{refl}
 use Rattle.dep_streams.specs.Causes.FailsToCheck.{not_found, not_noted}
 use Rattle.dep_streams.proofs.auditing.keep_damaged.Goals as goal
 
 pub returns-in-Err : goal.returns-in-Err
 returns-in-Err g c =
     let told = c.in-Err.ensures in
-    record {
-      notes = λ clean ours. tt;
-      cause = λ clean ours. not_found (told.cause clean ours);
-      same = λ clean ours. tt;
-      err = told.err;
-      clean = told.clean;
-      survives = told.survives;
-    }
+    record { notes = λ clean ours. tt; cause = λ clean ours. not_found (told.cause clean ours); same = λ clean ours. tt; stays = told.stays }
 
 pub returns-in-Ok-note_damaged : goal.returns-in-Ok-note_damaged
 returns-in-Ok-note_damaged g c =
@@ -21,9 +14,7 @@ returns-in-Ok-note_damaged g c =
       notes = λ clean ours. record { found = c.in-Ok.found; its = told.ok clean ours; noted = c.in-Ok-note_damaged.ensures.ok };
       cause = λ clean ours. tt;
       same = told.same;
-      err = λ clean ours is_open. tt;
-      clean = told.clean;
-      survives = told.survives;
+      stays = told.stays;
     }
 
 -- there was no memory to note it
@@ -34,7 +25,5 @@ returns-in-Err-note_damaged g c =
       notes = λ clean ours. tt;
       cause = λ clean ours. not_noted c.in-Ok.found (told.ok clean ours) c.in-Err-note_damaged.ensures.damaged refl;
       same = λ clean ours. tt;
-      err = λ clean ours is_open. inl (told.same clean ours);
-      clean = told.clean;
-      survives = told.survives;
+      stays = told.stays;
     }

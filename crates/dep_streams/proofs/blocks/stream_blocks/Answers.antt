@@ -1,7 +1,8 @@
 use Rattle.std.proofs.Common.{Some, inl, inr, refl, sym, []}
 use Rattle.std.proofs.KnownBytes.{Appends-nil}
 use Rattle.sqlite.specs.Held.{state}
-use Rattle.sqlite.proofs.StateLemmas.{unchanged}
+use Rattle.sqlite.specs.State.{State}
+use Rattle.dep_tables.specs.Tables.{IsOurs}
 use Rattle.dep_tables.specs.Texts.{blocks_of_text}
 use Rattle.dep_tables.proofs.Leading.{plain_here}
 use Rattle.dep_tables.proofs.Results.{ok_then, if_err, not_storable}
@@ -9,27 +10,29 @@ use Rattle.dep_streams.specs.declared.fault.BlockFault.TheVariants.{Writer}
 use Rattle.dep_tables.specs.Rows.{owner_values}
 use Rattle.dep_streams.specs.Causes.{FailsToGive, FailsToGiveBlocks}
 use Rattle.dep_streams.specs.Causes.FailsToGiveBlocks.{no_owner, not_given}
+use Rattle.dep_streams.specs.Clauses.{OnlyShows}
 use Rattle.dep_streams.proofs.FaultsTold.{none_stopped, store_stopped, stopped_more}
 use Rattle.dep_streams.proofs.OrderedBlocks.{sends_owner, owner_is}
-use Rattle.dep_row_maps.proofs.Causes.{survives_itself}
+use Rattle.dep_streams.proofs.Stills.{stays_itself, stays_of}
 use Rattle.dep_files.proofs.Results.{some_where}
 use Rattle.dep_streams.proofs.blocks.stream_blocks.Goals as goal
+
+shows : (s : State) → IsOurs s → OnlyShows blocks_of_text s
+shows s ours = plain_here s blocks_of_text ours owner_is.plain
 
 pub returns : goal.returns
 returns g c =
     let old = state g.S.Store c.args.connection.now in
+    let new = state g.S.Store c.stream_sized.new.connection in
     let sent = rw (c.blocks_query.ensures, c.owner_params.ensures) at c.stream_sized.ensures in
     let it = sent.streams in
     record {
-      streams = (it.0, it.1, λ clean ours. sends_owner old c.args.owner c.args.size it.0 c.stream_sized.result ours (it.2 clean (plain_here old blocks_of_text ours owner_is.plain)));
-      why = λ clean ours. if_err c.stream_sized.result (sent.why clean (plain_here old blocks_of_text ours owner_is.plain)) (λ fault. stopped_more (FailsToGive blocks_of_text (owner_values c.args.owner) (Some c.args.size) old (state g.S.Store c.stream_sized.new.connection)) (FailsToGiveBlocks c.args.owner (Some c.args.size) old (state g.S.Store c.stream_sized.new.connection)) fault (λ of it. not_given it));
-      ok = λ clean ours. ok_then c.stream_sized.result (sent.ok clean (plain_here old blocks_of_text ours owner_is.plain)) (λ same. inr same);
-      err = λ clean ours is_open. sent.err clean (plain_here old blocks_of_text ours owner_is.plain);
-      clean = sent.clean;
-      survives = λ ours. sent.survives (plain_here old blocks_of_text ours owner_is.plain);
-      kept = sent.kept;
-      cause = sent.cause;
-      others = sent.others;
+      streams = (it.0, it.1, λ clean ours. sends_owner old c.args.owner c.args.size it.0 c.stream_sized.result ours (it.2 clean (shows old ours)));
+      why = λ clean ours. if_err c.stream_sized.result (sent.why clean (shows old ours))
+          (λ fault. stopped_more (FailsToGive blocks_of_text (owner_values c.args.owner) (Some c.args.size) old new) (FailsToGiveBlocks c.args.owner (Some c.args.size) old new) fault (λ of it. not_given it));
+      ok = λ clean ours. ok_then c.stream_sized.result (sent.ok clean (shows old ours)) (λ same. inr same);
+      stays = stays_of (shows old) sent.stays;
+      outlet = sent.outlet;
     }
 
 pub returns-then-size-eq0 : goal.returns-then-size-eq0
@@ -37,12 +40,8 @@ returns-then-size-eq0 g c = record {
   streams = ([], Appends-nil _, λ clean ours. (inl refl, sym c.if-size-eq0.true));
   why = λ clean ours. tt;
   ok = λ clean ours. inl refl;
-  err = λ clean ours is_open. tt;
-  clean = λ clean. clean;
-  survives = λ ours. survives_itself (state g.S.Store c.args.connection.now);
-  kept = refl;
-  cause = λ e. absurd (none_stopped tt Writer e);
-  others = λ _. refl;
+  stays = stays_itself c.args.connection.now;
+  outlet = record { kept = refl; cause = λ e. absurd (none_stopped tt Writer e); others = λ _. refl };
 }
 
 pub returns-then-not-is_storable_owner : goal.returns-then-not-is_storable_owner
@@ -50,10 +49,6 @@ returns-then-not-is_storable_owner g c = record {
   streams = ([], Appends-nil _, λ clean ours. (inl refl, some_where c.args.size c.if-size-eq0.false));
   why = λ clean ours. no_owner (λ storable. not_storable c.is_storable_owner.result c.if-not-is_storable_owner.true c.is_storable_owner.ensures.1 storable) refl;
   ok = λ clean ours. tt;
-  err = λ clean ours is_open. inl (unchanged (state g.S.Store c.args.connection.now) is_open);
-  clean = λ clean. clean;
-  survives = λ ours. survives_itself (state g.S.Store c.args.connection.now);
-  kept = tt;
-  cause = λ e. absurd (store_stopped e);
-  others = λ _. refl;
+  stays = stays_itself c.args.connection.now;
+  outlet = record { kept = tt; cause = λ e. absurd (store_stopped e); others = λ _. refl };
 }

@@ -1,5 +1,4 @@
 use Rattle.std.proofs.Common.{◌∙◌, refl, sym, subst, rules, Ok, Err, Some, None}
-use Rattle.sqlite.specs.Held.{state}
 use Rattle.sqlite.specs.Values.{bound}
 use Rattle.dep_streams.specs.declared.fault.BlockFault.TheVariants.{Store}
 use Rattle.dep_streams.proofs.NextRow.{answered}
@@ -11,13 +10,13 @@ returns-in-Err g c =
     let it = not_begun g.S.Store c.args.sql.now (bound c.args.params.now) c.args.connection.now c.query.follows.lender-at-none c.args.size
     (g.O.Outlet.taken c.args.out.now) (g.O.Outlet.failures c.args.out.now) c.query.result c.in-Err.error c.block_fault_of.result
     c.requires c.block_fault_of.ensures c.query.follows.holds-at-none c.in-Err.is in
-    record { streams = it.streams; why = it.why; ok = it.ok; err = it.err; clean = it.clean; survives = it.survives; kept = it.kept; cause = it.cause; others = it.others }
+    record { streams = it.streams; why = it.why; ok = it.ok; stays = it.stays; outlet = it.outlet }
 
 pub rows-init : goal.rows-init
 rows-init g c = (
   refl,
   none_sent g.S.Store c.args.sql.now (bound c.args.params.now) c.args.connection.now c.in-Ok.rows.conn.now c.args.size
-      (g.O.Outlet.taken c.args.out.now) (g.O.Outlet.failures c.args.out.now) c.requires c.in-Ok.ensures.begun c.in-Ok.ensures.survives,
+      (g.O.Outlet.taken c.args.out.now) (g.O.Outlet.failures c.args.out.now) c.requires c.in-Ok.ensures.begun c.in-Ok.ensures.mode c.in-Ok.ensures.survives,
 )
 
 pub rows-preserved : goal.rows-preserved
@@ -28,7 +27,7 @@ rows-preserved g c =
       one_more c.rows.rows c.next.follows.lender-at-none c.next.result moved c.rows.invariant.1
           c.in-Some.row (answered c.next.result c.in-Ok-next.next (Some c.in-Some.row) c.in-Ok-next.is c.in-Some.is)
           (g.O.Outlet.taken c.give_sized.new.out) (g.O.Outlet.failures c.give_sized.new.out)
-          c.in-Ok-give_sized.n gave.gives gave.fits gave.kept (search rules),
+          c.in-Ok-give_sized.n gave.gives gave.fits gave.outlet.kept (search rules),
     )
 
 pub returns-in-Err-next : goal.returns-in-Err-next
@@ -38,12 +37,12 @@ returns-in-Err-next g c =
     let names = sym (moved.same_reference ∙ c.rows.invariant.0 ∙ c.in-Ok.ensures.same_reference) in
     let back = sym (c.connection-in-Err-next-1.given.1 names ∙ c.drop-rows.ensures) in
     let it = subst
-    (λ h. EndsSending c.args.sql.now (bound c.args.params.now) (state g.S.Store c.args.connection.now) (state g.S.Store h) c.args.size
+    (λ h. EndsSending g.S.Store c.args.sql.now (bound c.args.params.now) c.args.connection.now h c.args.size
     (g.O.Outlet.taken c.args.out.now) (g.O.Outlet.taken c.rows.out) (g.O.Outlet.failures c.args.out.now) (g.O.Outlet.failures c.rows.out)
     (Err c.block_fault_of-in-Err-next.result))
     back
     (ends_failed c.rows.rows now c.next.result moved c.rows.invariant.1 c.in-Err-next.error c.in-Err-next.is c.block_fault_of-in-Err-next.result c.block_fault_of-in-Err-next.ensures) in
-    record { streams = it.streams; why = it.why; ok = it.ok; err = it.err; clean = it.clean; survives = it.survives; kept = it.kept; cause = it.cause; others = it.others }
+    record { streams = it.streams; why = it.why; ok = it.ok; stays = it.stays; outlet = it.outlet }
 
 pub returns-in_default : goal.returns-in_default
 returns-in_default g c =
@@ -52,12 +51,12 @@ returns-in_default g c =
     let names = sym (moved.same_reference ∙ c.rows.invariant.0 ∙ c.in-Ok.ensures.same_reference) in
     let back = sym (c.connection-in_default-1.given.1 names ∙ c.drop-rows-in_default.ensures) in
     let it = subst
-    (λ h. EndsSending c.args.sql.now (bound c.args.params.now) (state g.S.Store c.args.connection.now) (state g.S.Store h) c.args.size
+    (λ h. EndsSending g.S.Store c.args.sql.now (bound c.args.params.now) c.args.connection.now h c.args.size
     (g.O.Outlet.taken c.args.out.now) (g.O.Outlet.taken c.rows.out) (g.O.Outlet.failures c.args.out.now) (g.O.Outlet.failures c.rows.out)
     (Err Store))
     back
     (ends_short c.rows.rows now c.next.result moved c.rows.invariant.1 (answered c.next.result c.in-Ok-next.next None c.in-Ok-next.is c.in_default.is)) in
-    record { streams = it.streams; why = it.why; ok = it.ok; err = it.err; clean = it.clean; survives = it.survives; kept = it.kept; cause = it.cause; others = it.others }
+    record { streams = it.streams; why = it.why; ok = it.ok; stays = it.stays; outlet = it.outlet }
 
 pub returns-in-Err-give_sized : goal.returns-in-Err-give_sized
 returns-in-Err-give_sized g c =
@@ -67,15 +66,15 @@ returns-in-Err-give_sized g c =
     let back = sym (c.connection-in-Err-give_sized-1.given.1 names ∙ c.drop-rows-in-Err-give_sized.ensures) in
     let gave = c.in-Err-give_sized.ensures in
     let it = subst
-    (λ h. EndsSending c.args.sql.now (bound c.args.params.now) (state g.S.Store c.args.connection.now) (state g.S.Store h) c.args.size
+    (λ h. EndsSending g.S.Store c.args.sql.now (bound c.args.params.now) c.args.connection.now h c.args.size
     (g.O.Outlet.taken c.args.out.now) (g.O.Outlet.taken c.give_sized.new.out) (g.O.Outlet.failures c.args.out.now) (g.O.Outlet.failures c.give_sized.new.out)
     (Err c.in-Err-give_sized.fault))
     back
     (ends_cut c.rows.rows now c.next.result moved c.rows.invariant.1
     c.in-Some.row (answered c.next.result c.in-Ok-next.next (Some c.in-Some.row) c.in-Ok-next.is c.in-Some.is)
     (g.O.Outlet.taken c.give_sized.new.out) (g.O.Outlet.failures c.give_sized.new.out)
-    c.in-Err-give_sized.fault gave.gives gave.refused gave.cause gave.others) in
-    record { streams = it.streams; why = it.why; ok = it.ok; err = it.err; clean = it.clean; survives = it.survives; kept = it.kept; cause = it.cause; others = it.others }
+    c.in-Err-give_sized.fault gave.gives gave.refused gave.outlet) in
+    record { streams = it.streams; why = it.why; ok = it.ok; stays = it.stays; outlet = it.outlet }
 
 pub returns-then-left-eq0 : goal.returns-then-left-eq0
 returns-then-left-eq0 g c =
@@ -85,15 +84,15 @@ returns-then-left-eq0 g c =
     let back = sym (c.connection-then-left-eq0-1.given.1 names ∙ c.drop-rows-then-left-eq0.ensures) in
     let gave = c.in-Ok-give_sized.ensures in
     let it = subst
-    (λ h. EndsSending c.args.sql.now (bound c.args.params.now) (state g.S.Store c.args.connection.now) (state g.S.Store h) c.args.size
+    (λ h. EndsSending g.S.Store c.args.sql.now (bound c.args.params.now) c.args.connection.now h c.args.size
     (g.O.Outlet.taken c.args.out.now) (g.O.Outlet.taken c.give_sized.new.out) (g.O.Outlet.failures c.args.out.now) (g.O.Outlet.failures c.give_sized.new.out)
     (Ok tt))
     back
     (ends_whole c.rows.rows now c.next.result moved c.rows.invariant.1
     c.in-Some.row (answered c.next.result c.in-Ok-next.next (Some c.in-Some.row) c.in-Ok-next.is c.in-Some.is)
     (g.O.Outlet.taken c.give_sized.new.out) (g.O.Outlet.failures c.give_sized.new.out)
-    c.in-Ok-give_sized.n gave.gives gave.fits gave.kept c.if-left-eq0.true) in
-    record { streams = it.streams; why = it.why; ok = it.ok; err = it.err; clean = it.clean; survives = it.survives; kept = it.kept; cause = it.cause; others = it.others }
+    c.in-Ok-give_sized.n gave.gives gave.fits gave.outlet.kept c.if-left-eq0.true) in
+    record { streams = it.streams; why = it.why; ok = it.ok; stays = it.stays; outlet = it.outlet }
 
 -- no more rows can be counted
 pub returns : goal.returns
@@ -101,8 +100,8 @@ returns g c =
     let names = sym (c.rows.invariant.0 ∙ c.in-Ok.ensures.same_reference) in
     let back = sym (c.connection-2-1.given.1 names ∙ c.drop-rows-2.ensures) in
     let it = subst
-    (λ h. EndsSending c.args.sql.now (bound c.args.params.now) (state g.S.Store c.args.connection.now) (state g.S.Store h) c.args.size
+    (λ h. EndsSending g.S.Store c.args.sql.now (bound c.args.params.now) c.args.connection.now h c.args.size
     (g.O.Outlet.taken c.args.out.now) (g.O.Outlet.taken c.rows.out) (g.O.Outlet.failures c.args.out.now) (g.O.Outlet.failures c.rows.out)
     (Err Store))
     back (ends_uncounted c.rows.rows.conn.now c.rows.invariant.1 c.rows-test.false) in
-    record { streams = it.streams; why = it.why; ok = it.ok; err = it.err; clean = it.clean; survives = it.survives; kept = it.kept; cause = it.cause; others = it.others }
+    record { streams = it.streams; why = it.why; ok = it.ok; stays = it.stays; outlet = it.outlet }

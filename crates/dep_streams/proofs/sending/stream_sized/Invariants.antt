@@ -1,5 +1,4 @@
 use Rattle.std.proofs.Common.{◌≡◌}
-use Rattle.sqlite.specs.Held.{state}
 use Rattle.sqlite.specs.Values.{bound}
 use Rattle.dep_streams.proofs.RowsSent.{HasSent}
 use Rattle.dep_streams.proofs.sending.stream_sized.Given as goal
@@ -7,5 +6,5 @@ use Rattle.dep_streams.proofs.sending.stream_sized.Given as goal
 abbrev pub invariant-rows : goal.invariant-rows
 invariant-rows g l =
     (l.rows.conn.ghost_name ≡ l.initial.rows.conn.ghost_name)
-    × HasSent g.S.Store l.sql (bound l.params) (state g.S.Store l.fn.connection) l.rows.conn.now l.fn.size l.left l.counter
+    × HasSent g.S.Store l.sql (bound l.params) l.fn.connection l.rows.conn.now l.fn.size l.left l.counter
     (g.O.Outlet.taken l.fn.out) (g.O.Outlet.taken l.out) (g.O.Outlet.failures l.fn.out) (g.O.Outlet.failures l.out)

@@ -1,15 +1,15 @@
 use Rattle.std.proofs.Common.{inl, inr, ap, subst, map, ◌∙◌}
 use Rattle.sqlite.specs.Held.{state}
 use Rattle.dep_statements.specs.Rows.{columns_from}
-use Rattle.dep_statements.proofs.Asked.{shown_unchanged, asks_leave}
+use Rattle.dep_statements.proofs.Asked.{shown_unchanged}
 use Rattle.dep_tables.specs.Clauses.{AtMostOne, IsFaultAt}
 use Rattle.dep_tables.specs.Rows.{IsSha512Row}
 use Rattle.dep_tables.specs.Texts.{find_sha512_text}
 use Rattle.dep_tables.proofs.Leading.{plain_here}
-use Rattle.dep_tables.proofs.Results.{if_ok, if_failed, if_then, if_err}
+use Rattle.dep_tables.proofs.Results.{if_ok, if_then, if_err}
 use Rattle.dep_tables.proofs.Sha512sTable.{finds_sha512, find_is}
 use Rattle.dep_streams.specs.Causes.FailsToFindSha512.{not_told}
-use Rattle.dep_streams.proofs.SendingLemmas.{commits_nothing}
+use Rattle.dep_streams.proofs.Stills.{stays_shown, stays_refused}
 use Rattle.dep_streams.proofs.sha512s.find_sha512.Goals as goal
 
 pub returns-in-Ok-clause-ok : goal.returns-in-Ok-clause-ok
@@ -27,19 +27,12 @@ pub returns-in-Ok-clause-same : goal.returns-in-Ok-clause-same
 returns-in-Ok-clause-same g c clean ours =
     if_ok c.only.result (shown_unchanged _ _ (state g.S.Store c.args.connection.now) (state g.S.Store c.query_all-asked.new.self) (plain_here (state g.S.Store c.args.connection.now) find_sha512_text ours find_is.plain) _ (c.in-Ok.ensures.ok clean))
 
-pub returns-in-Ok-clause-err : goal.returns-in-Ok-clause-err
-returns-in-Ok-clause-err g c clean ours is_open =
-    if_failed c.only.result (inl (shown_unchanged _ _ (state g.S.Store c.args.connection.now) (state g.S.Store c.query_all-asked.new.self) (plain_here (state g.S.Store c.args.connection.now) find_sha512_text ours find_is.plain) _ (c.in-Ok.ensures.ok clean)))
-
-pub returns-in-Ok-clause-survives : goal.returns-in-Ok-clause-survives
-returns-in-Ok-clause-survives g c ours = commits_nothing _ _ (state g.S.Store c.args.connection.now) (state g.S.Store c.query_all-asked.new.self) (plain_here (state g.S.Store c.args.connection.now) find_sha512_text ours find_is.plain) c.in-Ok.ensures.survives
-
 pub returns-in-Err-clause-cause : goal.returns-in-Err-clause-cause
 returns-in-Err-clause-cause g c clean =
     not_told (inl (c.in-Err.error, inl (rw c.owner_params.ensures at (c.in-Err.ensures.err clean)), c.fault_of.ensures))
 
-pub returns-in-Err-clause-err : goal.returns-in-Err-clause-err
-returns-in-Err-clause-err g c clean ours is_open = asks_leave _ _ (state g.S.Store c.args.connection.now) (state g.S.Store c.query_all-asked.new.self) _ (inl (c.in-Err.ensures.err clean))
+pub returns-in-Ok-clause-stays : goal.returns-in-Ok-clause-stays
+returns-in-Ok-clause-stays g c = stays_shown _ _ _ (λ ours. plain_here (state g.S.Store c.args.connection.now) find_sha512_text ours find_is.plain) c.in-Ok.ensures.ok c.in-Ok.ensures.mode c.in-Ok.ensures.survives
 
-pub returns-in-Err-clause-survives : goal.returns-in-Err-clause-survives
-returns-in-Err-clause-survives g c ours = commits_nothing _ _ (state g.S.Store c.args.connection.now) (state g.S.Store c.query_all-asked.new.self) (plain_here (state g.S.Store c.args.connection.now) find_sha512_text ours find_is.plain) c.in-Err.ensures.survives
+pub returns-in-Err-clause-stays : goal.returns-in-Err-clause-stays
+returns-in-Err-clause-stays g c = stays_refused _ _ _ (λ ours. plain_here (state g.S.Store c.args.connection.now) find_sha512_text ours find_is.plain) c.in-Err.ensures.err c.in-Err.ensures.mode c.in-Err.ensures.survives

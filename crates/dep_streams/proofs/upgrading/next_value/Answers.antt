@@ -8,8 +8,7 @@ use Rattle.dep_streams.specs.Causes.FailsToHashNext.{no_file, no_blocks}
 use Rattle.dep_streams.specs.Fixity.{AreDigestsOf}
 use Rattle.dep_streams.specs.Sha512s.{IsFileAfter}
 use Rattle.dep_streams.proofs.KnownTables.{blocks_plain}
-use Rattle.dep_streams.proofs.SendingLemmas.{rolled_then}
-use Rattle.dep_streams.proofs.Stills.{known_same, survives_both}
+use Rattle.dep_streams.proofs.Stills.{commits_none, known_still, stays_then, still_same}
 use Rattle.dep_streams.proofs.Streams.{blocks_from}
 use Rattle.dep_streams.proofs.upgrading.next_value.Goals as goal
 
@@ -17,17 +16,7 @@ use Rattle.dep_streams.proofs.upgrading.next_value.Goals as goal
 pub returns-in-Err : goal.returns-in-Err
 returns-in-Err g c =
     let told = c.in-Err.ensures in
-    record {
-      ok = λ clean known. tt;
-      cause = λ clean known. no_file (told.cause clean);
-      same = λ clean known. tt;
-      err = told.err;
-      found = λ clean. tt;
-      «open» = told.«open»;
-      mode = told.mode;
-      clean = told.clean;
-      survives = λ clean known. told.survives known;
-    }
+    record { ok = λ clean known. tt; cause = λ clean known. no_file (told.cause clean); same = λ clean known. tt; stays = told.stays }
 
 -- there is none
 pub returns-in_default : goal.returns-in_default
@@ -38,12 +27,7 @@ returns-in_default g c =
       ok = λ clean known. (subst (IsFileAfter (tables_of old) c.args.after) c.in_default.is (told.ok clean known), tt);
       cause = λ clean known. tt;
       same = told.same;
-      err = λ clean known is_open. tt;
-      found = told.found;
-      «open» = told.«open»;
-      mode = told.mode;
-      clean = told.clean;
-      survives = λ clean known. told.survives known;
+      stays = told.stays;
     }
 
 pub returns-in-Ok-hash_blocks : goal.returns-in-Ok-hash_blocks
@@ -55,23 +39,20 @@ returns-in-Ok-hash_blocks g c =
     let second = c.in-Ok-hash_blocks.ensures in
     record {
       ok = λ clean known.
-          let before = second.clean clean in
+          let before = second.stays.honest clean in
           let same = first.same before known in (
             subst (IsFileAfter (tables_of old) c.args.after) c.in-Some.is (first.ok before known),
             (
               c.in-Ok-hash_blocks.digests,
-              subst (λ (t : Tables). AreDigestsOf t (owner.File c.in-Some.file) c.in-Ok-hash_blocks.digests) (same_tables old mid same) (second.hashes clean (known_same old mid same known)),
+              subst (λ (t : Tables). AreDigestsOf t (owner.File c.in-Some.file) c.in-Ok-hash_blocks.digests) (same_tables old mid same) (second.hashes clean (known_still old mid (still_same old mid same) known)),
               refl,
             ),
           );
       cause = λ clean known. tt;
-      same = λ clean known. let same = first.same (second.clean clean) known in unchanged_then old mid new same (second.same clean (known_same old mid same known));
-      err = λ clean known is_open. tt;
-      found = λ clean. first.found (second.clean clean);
-      «open» = λ clean is_open. first.found (second.clean clean);
-      mode = λ outside. second.mode (first.mode outside);
-      clean = λ clean. first.clean (second.clean clean);
-      survives = λ clean known. survives_both old mid new (first.survives known) (second.survives (known_same old mid (first.same (second.clean clean) known) known));
+      same = λ clean known.
+          let same = first.same (second.stays.honest clean) known in
+          unchanged_then old mid new same (second.same clean (known_still old mid (still_same old mid same) known));
+      stays = stays_then first.stays (λ clean known. still_same old mid (first.same clean known)) (known_still old mid) second.stays;
     }
 
 -- its blocks were not all read
@@ -85,17 +66,11 @@ returns-in-Err-hash_blocks g c =
     record {
       ok = λ clean known. tt;
       cause = λ clean known.
-          let before = second.clean clean in
+          let before = second.stays.honest clean in
           let same = first.same before known in
           no_blocks c.in-Some.file (subst (IsFileAfter (tables_of old) c.args.after) c.in-Some.is (first.ok before known))
-          (blocks_from (owner.File c.in-Some.file) None old mid new c.in-Err-hash_blocks.fault (blocks_plain old known) same (first.survives known) (second.cause clean (known_same old mid same known)));
+          (blocks_from (owner.File c.in-Some.file) None old mid new c.in-Err-hash_blocks.fault (blocks_plain old known) same (commits_none first.stays known)
+          (second.cause clean (known_still old mid (still_same old mid same) known)));
       same = λ clean known. tt;
-      err = λ clean known is_open.
-          let same = first.same (second.clean clean) known in
-          rolled_then old mid new same (second.err clean (known_same old mid same known) is_open);
-      found = λ clean. tt;
-      «open» = λ clean is_open. first.found (second.clean clean);
-      mode = λ outside. second.mode (first.mode outside);
-      clean = λ clean. first.clean (second.clean clean);
-      survives = λ clean known. survives_both old mid new (first.survives known) (second.survives (known_same old mid (first.same (second.clean clean) known) known));
+      stays = stays_then first.stays (λ clean known. still_same old mid (first.same clean known)) (known_still old mid) second.stays;
     }

@@ -3,6 +3,7 @@ use Rattle.std.proofs.lemmas.Result.{on_err_weaker}
 use Rattle.sqlite.specs.Held.{state}
 use Rattle.sqlite.proofs.StateLemmas.{clean_if_open}
 use Rattle.dep_tables.proofs.Results.{if_err, ok_then}
+use Rattle.dep_streams.proofs.Stills.{commits_none}
 use Rattle.dep_upgrading.proofs.Migrated.{not_computed, was_tried, kept_back, back_behind}
 use Rattle.dep_upgrading.proofs.opening.migrate.Goals as goal
 
@@ -14,12 +15,12 @@ returns-in-Err g c =
     let told = c.in-Err.ensures in
     let shut = clean_if_open (g.S.Store.view new.store) (g.met.S.Store.shut_if_dirty new.store) in
     record {
-      migrates = not_computed (state g.S.Store old) (state g.S.Store new) (λ is_open trees h. g.met.S.Store.settled old.store trees is_open h) shut c.in-Err.fault told.same told.clean told.survives;
-      mode = told.mode c.requires.settled;
-      «open» = λ is_open. told.«open» (shut is_open) is_open;
+      migrates = not_computed (state g.S.Store old) (state g.S.Store new) (λ is_open trees h. g.met.S.Store.settled old.store trees is_open h) shut c.in-Err.fault told.stays.kept told.stays.honest (λ _. commits_none told.stays);
+      mode = told.stays.mode c.requires.settled;
+      «open» = λ is_open. told.stays.was_open (shut is_open) is_open;
       free = λ clean was_open. tt;
       cause = λ clean was_open known. inl (told.cause clean known);
-      left = λ is_open between known. kept_back (state g.S.Store old) (state g.S.Store new) between (told.same (shut is_open) known) is_open;
+      left = λ is_open between known. kept_back (state g.S.Store old) (state g.S.Store new) between (told.stays.kept (shut is_open) known) is_open;
     }
 
 pub returns : goal.returns
@@ -32,15 +33,15 @@ returns g c =
     let tried = rw c.as_slice.ensures.value at c.upgrade.ensures in
     let upgrades = tried.upgrades in
     record {
-      migrates = was_tried (state g.S.Store old) (state g.S.Store mid) (state g.S.Store new) c.in-Ok.values.items c.upgrade.result told.hashes told.ok shut told.clean upgrades;
+      migrates = was_tried (state g.S.Store old) (state g.S.Store mid) (state g.S.Store new) c.in-Ok.values.items c.upgrade.result told.hashes told.ok shut told.stays.honest upgrades;
       mode = c.upgrade.ensures.mode;
-      «open» = λ is_open. let mid_open = upgrades.was_open is_open in told.«open» (shut mid_open) mid_open;
-      free = λ clean was_open. ok_then c.upgrade.result (tried.free clean) (λ free. (mid, (λ known. (told.ok (upgrades.honest clean) known was_open).0.now_is), free));
+      «open» = λ is_open. let mid_open = upgrades.was_open is_open in told.stays.was_open (shut mid_open) mid_open;
+      free = λ clean was_open. ok_then c.upgrade.result (tried.free clean) (λ free. (mid, (λ known. (told.ok (upgrades.honest clean) known).0.now_is), free));
       cause = λ clean was_open known.
           let before = upgrades.honest clean in
-          if_err c.upgrade.result (tried.cause clean) (λ fault failed. inr (mid, told.ok before known was_open, c.in-Ok.values.items, told.hashes before known, failed));
+          if_err c.upgrade.result (tried.cause clean) (λ fault failed. inr (mid, told.ok before known, c.in-Ok.values.items, told.hashes before known, failed));
       left = λ is_open between known.
           let mid_open = upgrades.was_open is_open in
           let before = shut mid_open in
-          on_err_weaker c.upgrade.result (back_behind (state g.S.Store old) (state g.S.Store mid) (state g.S.Store new) (told.ok before known (told.«open» before mid_open))) (tried.left is_open);
+          on_err_weaker c.upgrade.result (back_behind (state g.S.Store old) (state g.S.Store mid) (state g.S.Store new) (told.ok before known)) (tried.left is_open);
     }

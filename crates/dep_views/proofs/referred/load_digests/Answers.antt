@@ -13,15 +13,15 @@ use Rattle.dep_views.proofs.Causes.{storable_segments}
 use Rattle.dep_views.proofs.referred.load_digests.Goals as goal
 
 pub returns-then-not-is_complete-clause-map : goal.returns-then-not-is_complete-clause-map
-returns-then-not-is_complete-clause-map g c is_open clean inside ours s are sound u it live =
+returns-then-not-is_complete-clause-map g c is_open clean inside ours s are sound running u it live =
     let lacks = sym (c.is_complete.ensures.whole s u it live (segments_within s u it sound live.there)) ∙ c.if-not-is_complete.true in
     sym (ap (λ b. if b then Some (digests_of (assembled it)) else None) lacks)
 
 pub returns-clause-map : goal.returns-clause-map
-returns-clause-map g c is_open clean inside ours s are sound u it live =
+returns-clause-map g c is_open clean inside ours s are sound running u it live =
     let within = segments_within s u it sound live.there in
     let whole = sym (c.is_complete.ensures.whole s u it live within) ∙ c.if-not-is_complete.false in
-    let hashed = c.in_ok-digests.ensures.assembled is_open clean ours s are u it live within in
+    let hashed = c.in_ok-digests.ensures.map is_open clean ours s are u it live within running in
     ap (λ (l : Digests). Some l) hashed ∙ sym (ap (λ b. if b then Some (digests_of (assembled it)) else None) whole)
 
 pub returns-in_err-digests-clause-cause : goal.returns-in_err-digests-clause-cause

@@ -13,7 +13,7 @@ use Rattle.dep_row_maps.proofs.Causes.{fails_behind_them, if_err_is}
 use Rattle.dep_views.proofs.referred.load_referred.Goals as goal
 
 pub returns-in_ok-digests-in-Live-clause-map : goal.returns-in_ok-digests-in-Live-clause-map
-returns-in_ok-digests-in-Live-clause-map g c clean inside ours s are sound =
+returns-in_ok-digests-in-Live-clause-map g c clean inside ours s are sound running =
     let old = g.T.Statements.state c.args.tx.now in
     let mid = g.T.Statements.state c.load_upload.new.tx in
     let u = c.args.upload in
@@ -21,14 +21,14 @@ returns-in_ok-digests-in-Live-clause-map g c clean inside ours s are sound =
     let same = c.in_ok-staged.ensures.same before ours in
     let it = subst (IsFound s u) c.in-Live.is (c.in_ok-staged.ensures.map before ours s are) in
     told_referred s u c.in-Live.staged it.0 it.1 c.in_ok-digests-in-Live.digests
-    (c.in_ok-digests-in-Live.ensures.map same.0.is_open clean (c.in_ok-staged.ensures.stays.inside before inside) (still_ours old mid same ours) s (still_seen old mid s same are) sound u it.0 it.1)
+    (c.in_ok-digests-in-Live.ensures.map same.0.is_open clean (c.in_ok-staged.ensures.stays.inside before inside) (still_ours old mid same ours) s (still_seen old mid s same are) sound running u it.0 it.1)
 
 pub returns-in-TimedOut-clause-map : goal.returns-in-TimedOut-clause-map
-returns-in-TimedOut-clause-map g c clean inside ours s are sound =
+returns-in-TimedOut-clause-map g c clean inside ours s are sound running =
     told_timed_out s c.args.upload (λ it. Live (live_referred c.args.upload it)) TimedOut Unknown (subst (IsFound s c.args.upload) c.in-TimedOut.is (c.in_ok-staged.ensures.map clean ours s are))
 
 pub returns-in-Unknown-clause-map : goal.returns-in-Unknown-clause-map
-returns-in-Unknown-clause-map g c clean inside ours s are sound =
+returns-in-Unknown-clause-map g c clean inside ours s are sound running =
     told_unknown s c.args.upload (λ it. Live (live_referred c.args.upload it)) TimedOut Unknown (subst (IsFound s c.args.upload) c.in-Unknown.is (c.in_ok-staged.ensures.map clean ours s are))
 
 pub returns-in_err-digests-in-Live-clause-stays : goal.returns-in_err-digests-in-Live-clause-stays

@@ -29,9 +29,9 @@ uploads-preserved g c =
       λ is_open clean ours.
           let same = inv.1 is_open (earlier clean) ours in
           unchanged_then old mid new same (c.in_ok-state.ensures.same same.0.is_open clean (still_ours old mid same ours)),
-      λ is_open clean inside ours s are sound.
+      λ is_open clean inside ours s are sound running.
           let same = inv.1 is_open (earlier clean) ours in
-          let so_far = inv.2 is_open (earlier clean) inside ours s are sound in
+          let so_far = inv.2 is_open (earlier clean) inside ours s are sound running in
           let it = c.in_ok-state.ensures.map clean (inv.0.inside (earlier clean) inside) (still_ours old mid same ours) s (still_seen old mid s same are) sound so_far.0 in
           let f = upload_view c.args.by_reference s in
           let xs = c.args.uploads.now in
@@ -43,9 +43,9 @@ uploads-preserved g c =
     )
 
 pub returns-clause-map : goal.returns-clause-map
-returns-clause-map g c is_open clean inside ours s are sound =
+returns-clause-map g c is_open clean inside ours s are sound running =
     let f = upload_view c.args.by_reference s in
-    c.from_vec.ensures ∙ (c.uploads.invariant.2 is_open clean inside ours s are sound).1 ∙ ap (map f) (take_all c.uploads.upload-index c.args.uploads.now c.uploads-test.false)
+    c.from_vec.ensures ∙ (c.uploads.invariant.2 is_open clean inside ours s are sound running).1 ∙ ap (map f) (take_all c.uploads.upload-index c.args.uploads.now c.uploads-test.false)
 
 pub returns-in_err-state-clause-stays : goal.returns-in_err-state-clause-stays
 returns-in_err-state-clause-stays g c = stays_err c.from_residual.ensures.0 (stays_then c.uploads.invariant.0 c.load_state.ensures.stays)

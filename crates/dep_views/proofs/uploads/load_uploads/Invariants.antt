@@ -6,6 +6,7 @@ use Rattle.dep_tables.specs.Tables.{tables_of, IsOurs}
 use Rattle.dep_tables.proofs.Chains.{Stays}
 use Rattle.dep_row_maps.specs.TablesAre.{TablesAre}
 use Rattle.dep_operations.specs.Views.{upload_view}
+use Rattle.dep_staging.specs.HashedAhead.{AreRunning}
 use Rattle.dep_views.specs.Referred.{AreKnown}
 use Rattle.dep_views.proofs.uploads.load_uploads.Given as goal
 
@@ -16,5 +17,5 @@ invariant-uploads g l =
     let now = g.T.Statements.state l.tx in
     Stays g.T.Statements.lenders g.T.Statements.state l.fn.tx l.tx
     × (IsTrue old.is_open → HasCleanDisk now → IsOurs old → IsUnchanged old now)
-    × (IsTrue old.is_open → HasCleanDisk now → IsTrue old.in_transaction → IsOurs old → (s : State) → TablesAre (tables_of old) s → IsSound s
+    × (IsTrue old.is_open → HasCleanDisk now → IsTrue old.in_transaction → IsOurs old → (s : State) → TablesAre (tables_of old) s → IsSound s → AreRunning s l.running
     → AreKnown s l.known × (l.views.items ≡ map (upload_view l.by_reference s) (take l.upload-index l.uploads)))

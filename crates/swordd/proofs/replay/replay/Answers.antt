@@ -19,5 +19,5 @@ returns-in-Ok-clause-replays g c =
     subst (λ (o : Outcome). Replays c.args.base.now c.args.moment before after o) (sym c.outcome_of.ensures)
     (comes_to _ _ c.args.moment (λ f. f.0 ≡ c.args.moment) (λ before after m p e. ((search of_calls), (search of_calls)))
     c.args.base.now (session _ c.in-Ok.hub before _) (session _ run.new.hub after _)
-    c.in-Ok.ensures.stands (memory_is_clean run.new.hub.store) c.in-Ok.ensures.config refl
+    c.in-Ok.ensures.stands (memory_is_clean run.new.hub.store.store) c.in-Ok.ensures.config refl
     run.result run.ensures.converses)

@@ -1,3 +1,4 @@
+use Rattle.std.proofs.Common.{◌∙◌}
 use Rattle.sqlite.proofs.StateLemmas.{clean_if_open}
 use Rattle.swordd_host.proofs.HostedLemmas.{over_hub, without_hub}
 use Rattle.swordd_host.proofs.service.serve_database.Goals as goal
@@ -8,7 +9,7 @@ returns-in-Ok g c = record {
       (λ h is_open trees may. g.met.S.Store.settled h.store trees is_open may) c.args.connection c.args.config c.in-Ok.hub
       c.in-Ok.ensures.config c.in-Ok.ensures.fresh c.in-Ok.ensures.again
       g.R.Source.unread g.K.Sink.taken g.P.Spool.held
-      c.serve_hub-outcome.result.1 c.close.result c.serve_hub-outcome.ensures.ends.0 c.serve_hub-outcome.result.0 c.close.ensures
+      c.serve_hub-outcome.result.1 c.close.result c.serve_hub-outcome.ensures.ends.0 c.serve_hub-outcome.result.0 (c.close.ensures ∙ c.into_store.ensures)
       c.serve_hub-outcome.ensures.ends.1 c.serve_hub-outcome.ensures.ends.2;
 }
 

@@ -1,0 +1,18 @@
+-- A segment that was received stays over each step of a request, while its upload is there.
+use Rattle.std.proofs.Common.{Option, Some, None}
+use Rattle.dep_types.specs.State.{State}
+use Rattle.dep_types.specs.declared.config.Config.{Config}
+use Rattle.dep_types.specs.declared.refusal.Refusal.{Refusal}
+use Rattle.dep_decisions.specs.Laws.{KeepsSegments}
+use Rattle.dep_decisions.specs.Rules.{refusal}
+use Rattle.dep_decisions.specs.declared.operation.Operation.{Operation}
+use Rattle.dep_decisions.proofs.SegmentsStay.{effect_keeps_segments, keeps_segments_refl}
+use Rattle.dep_answers.specs.Steps.{operation_step, step_by}
+
+by_refusal : (config : Config) (s : State) (op : Operation) (r : Option Refusal) → KeepsSegments s (step_by config s op r).state
+by_refusal config s op None = effect_keeps_segments config s op
+by_refusal config s op (Some r) = keeps_segments_refl s
+
+pub step_keeps_segments : (config : Config) (s : State) (op : Operation) → KeepsSegments s (operation_step config s op).state
+unfolding operation_step
+step_keeps_segments config s op = by_refusal config s op (refusal config s op)

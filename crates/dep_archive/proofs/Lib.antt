@@ -1,0 +1,2 @@
+pub mod StartingLemmas
+pub mod KeepingLemmas

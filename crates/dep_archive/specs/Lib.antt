@@ -1,0 +1,2 @@
+pub mod Archive
+pub mod Starting

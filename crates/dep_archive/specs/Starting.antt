@@ -1,0 +1,33 @@
+-- What a stop leaves of a database that is opened for a hub, and what it comes to where no hub is made.
+use Rattle.std.specs.Prelude.{◌≡◌, ◌⊎◌, List, [], ◌∷◌, ◌++◌, IsTrue}
+use Rattle.sqlite.specs.State as db
+use Rattle.sqlite.specs.State.{HasCleanDisk}
+use Rattle.sqlite.specs.Tree.{Trees}
+use Rattle.dep_types.specs.State.{State, empty_state}
+use Rattle.dep_types.specs.declared.config.Config.{Config}
+use Rattle.dep_schema.specs.Standing.{HoldsNone}
+use Rattle.dep_schema.specs.States.{IsLeftAs, Leaves}
+use Rattle.dep_hub.specs.Records.{Record, Run, first_world, stopped}
+use Rattle.dep_hub.specs.declared.faults.HubFault.TheVariants as refused
+use Rattle.dep_program.specs.declared.outcome.Outcome.{Outcome}
+use Rattle.dep_program.specs.declared.outcome.Outcome.TheVariants.{Usage, StoreFault}
+use Rattle.dep_archive.specs.declared.starting.StartFault.{StartFault}
+use Rattle.dep_archive.specs.declared.starting.StartFault.TheVariants as fault
+
+-- A database with no table is left so, or as a new store. One that a stop left for some state is
+-- left for that state and no other; so whatever records led there, they lead there with one more
+-- stop.
+pub record OpeningLeaves (config : Config) (old new : db.State) : Type 0 where
+  pub fresh : HasCleanDisk new → IsTrue old.is_open → HoldsNone old.now.trees
+      → (trees : Trees) → new.may_leave trees → HoldsNone trees ⊎ IsLeftAs trees empty_state
+  pub again : HasCleanDisk new → IsTrue old.is_open
+      → (found : State) → IsLeftAs old.now.trees found
+      → (first : State) (records : List Record) → Run config first records (first_world found)
+      → Leaves new (λ left. (left ≡ found)
+      × Run config first (records ++ stopped ∷ []) (first_world left))
+
+-- what it comes to where no hub is made
+abbrev pub outcome_of_start : StartFault → Outcome
+outcome_of_start (fault.Hub refused.Config) = Usage
+outcome_of_start (fault.Hub refused.Memory) = StoreFault
+outcome_of_start (fault.Open its) = StoreFault

@@ -1,0 +1,16 @@
+use Rattle.std.proofs.Common.{inl, refl}
+use Rattle.dep_host.proofs.HostLemmas.{asked}
+use Rattle.dep_host.proofs.host.Host.work_ahead.Goals as goal
+
+pub returns-clause-goes : goal.returns-clause-goes
+returns-clause-goes g c =
+    asked g.A.Archive.condition g.R.Source.unread g.K.Sink.taken g.S.Spool.held _ _ (record {
+      sits = refl;
+      next = c.work_ahead.ensures.next;
+      same_config = c.work_ahead.ensures.config;
+      clean = c.work_ahead.ensures.clean;
+      honest = c.work_ahead.ensures.honest;
+      stands = c.work_ahead.ensures.stands;
+      same_limits = refl;
+      told = inl refl;
+    })

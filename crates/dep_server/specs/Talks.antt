@@ -1,0 +1,19 @@
+-- Connections that were served, as the laws speak of them.
+use Rattle.std.specs.Prelude.{ℕ, List, Option}
+use Rattle.dep_types.specs.declared.config.Config.{Config}
+use Rattle.dep_hub.specs.Records.{World}
+use Rattle.dep_hub.specs.Turns.{Turn, Exchanges, EndsAs}
+use Rattle.dep_hub.specs.declared.connection.Served.{Served}
+
+-- the turns of a connection, which the machine answered from the first world to the last, and why it
+-- was served no longer, where this was unread
+pub record EndedTalk : Type 0 where
+  pub config : Config
+  pub number : ℕ
+  pub first : World
+  pub turns : List Turn
+  pub last : World
+  pub unread : Option (List ℕ)
+  pub end : Served
+  pub answers : Exchanges config number first turns last
+  pub ends : EndsAs unread turns end

@@ -1,0 +1,269 @@
+-- Uploads that are hashed while their segments come.
+use Rattle.std.proofs.Common.{◌≡◌, ◌≢◌, ◌⊎◌, inl, inr, ℕ, zero, suc, ◌+◌, ◌-◌, ◌^◌, ◌<◌, ◌≤◌, min, Result, Ok, Err, Bool, T, List, [], ◌∷◌, ◌++◌, length, get_or, take, cond, unwrap_or, Option, Some, None, refl, sym, ap, subst, ◌∙◌, nat_cmp, is_eq, append-nil, append_assoc, arith}
+use Rattle.std.specs.Prelude.{slice_get}
+use Rattle.std.specs.List.{flat_map, range_with_len}
+use Rattle.std.specs.Option.{option_map_or}
+use Rattle.std.specs.FinMap as finmap
+use Rattle.std.specs.FinMap.Entries as entries
+use Rattle.std.proofs.lemmas.Cmp.{nat_cmp_total, tied_itself}
+use Rattle.std.proofs.lemmas.Bool.{cases_lt}
+use Rattle.dep_fixity.specs.Fixity.{Holds}
+use Rattle.dep_types.specs.Maps.{Numbered}
+use Rattle.dep_types.specs.declared.store_fault.StoreFault.{StoreFault}
+use Rattle.dep_types.specs.declared.store_fault.StoreFault.TheVariants.{Store}
+use Rattle.dep_types.specs.Sound.{IsSound}
+use Rattle.dep_types.specs.State.{State, Upload}
+use Rattle.dep_files.proofs.Cuts.{one_block_more, all_blocks}
+use Rattle.dep_row_maps.specs.Laws.{HasSegmentsWithin}
+use Rattle.dep_row_maps.specs.Stored.{blocks_of}
+use Rattle.dep_row_maps.proofs.Whole.{segments_there}
+use Rattle.dep_staging.specs.Comparing.{stored_bytes}
+use Rattle.dep_staging.specs.HashedAhead.{bytes_of, bytes_from, first_blocks, WasReceived, HasHashed, IsFresh, IsRunning}
+use Rattle.dep_staging.specs.declared.running.RunningHash.{RunningHash}
+use Rattle.dep_staging.proofs.Entries.{both, passed, above_at}
+use Rattle.dep_staging.proofs.StoredBlocks.{got_by, past_by, within_by}
+
+-- ---- segments, one after another
+
+one_segment_more : (g : ℕ → List ℕ) (first n : ℕ) → flat_map g (range_with_len first (n + 1)) ≡ flat_map g (range_with_len first n) ++ g (first + n)
+one_segment_more g first zero = append-nil (g first) ∙ ap g (omega arith)
+one_segment_more g first (suc n) =
+    let next : first + 1 + n ≡ first + suc n = omega arith in
+    let longer : suc n + 1 ≡ suc (n + 1) = omega arith in
+    ap (λ m. flat_map g (range_with_len first m)) longer ∙ ap (λ l. g first ++ l) (one_segment_more g (first + 1) n ∙ ap (λ k. flat_map g (range_with_len (first + 1) n) ++ g k) next)
+    ∙ sym (append_assoc (g first) (flat_map g (range_with_len (first + 1) n)) (g (first + suc n)))
+
+same_from : (g h : ℕ → List ℕ) (first n : ℕ) → ((k : ℕ) → first ≤ k → k < first + n → g k ≡ h k) → flat_map g (range_with_len first n) ≡ flat_map h (range_with_len first n)
+same_from g h first zero same = refl
+same_from g h first (suc n) same =
+    let here = same first (omega arith) (omega arith) in
+    let rest = same_from g h (first + 1) n (λ k low high. same k (omega (arith, low)) (omega (arith, high))) in
+    λ i. here i ++ rest i
+
+-- ---- the first segments are the first entries of a map
+
+pub record AreFirst (first n : ℕ) (es : List (ℕ × List ℕ)) : Type 0 where
+  pub joined : flat_map (λ e. e.1) (take n es) ≡ flat_map (λ k. unwrap_or (entries.find nat_cmp k es) []) (range_with_len first n)
+  pub within : n ≤ length es
+  pub next : (bytes : List ℕ) → entries.find nat_cmp (first + n) es ≡ Some bytes → get_or es n (0, []) ≡ (first + n, bytes)
+
+-- the least number that is there is that of the first entry
+first_entry : (first : ℕ) (bytes : List ℕ) (es : List (ℕ × List ℕ)) → T (entries.is_sorted nat_cmp es) → ((k : ℕ) (x : List ℕ) → entries.find nat_cmp k es ≡ Some x → first ≤ k)
+    → entries.find nat_cmp first es ≡ Some bytes → get_or es 0 (0, []) ≡ (first, bytes)
+first_entry first bytes [] sorted least found = absurd (cc found)
+first_entry first bytes (e ∷ es) sorted least found = go (cases_lt first e.0)
+  where
+    parts : T (entries.below_all nat_cmp e.0 es) × T (entries.is_sorted nat_cmp es)
+    parts = both (entries.below_all nat_cmp e.0 es) (entries.is_sorted nat_cmp es) sorted
+
+    itself : entries.find nat_cmp e.0 (e ∷ es) ≡ Some e.1
+    itself = ap (λ b. cond b (Some e.1) (entries.find nat_cmp e.0 es)) (ap is_eq (tied_itself nat_cmp_total e.0))
+
+    go : (first < e.0) ⊎ (e.0 ≤ first) → e ≡ (first, bytes)
+    go (inl above) =
+        let later = above_at e.0 first bytes es parts.0 (sym (passed first e.0 e.1 es (λ same. omega (arith, above, same))) ∙ found) in
+        absurd (omega (arith, above, later))
+    go (inr low) =
+        let low' = least e.0 e.1 itself in
+        let same : e.0 ≡ first = omega (arith, low, low') in
+        let its : Some e.1 ≡ Some bytes = sym itself ∙ ap (λ k. entries.find nat_cmp k (e ∷ es)) same ∙ found in
+        let of : e.1 ≡ bytes = cc its in
+        (λ i. (same i, of i))
+
+pub are_first : (first n : ℕ) (es : List (ℕ × List ℕ)) → T (entries.is_sorted nat_cmp es) → ((k : ℕ) (x : List ℕ) → entries.find nat_cmp k es ≡ Some x → first ≤ k)
+    → ((k : ℕ) → first ≤ k → k < first + n → (bytes : List ℕ) × (entries.find nat_cmp k es ≡ Some bytes)) → AreFirst first n es
+are_first first zero es sorted least there = record {
+  joined = refl;
+  within = omega arith;
+  next = λ bytes found. first_entry first bytes es sorted least (ap (λ k. entries.find nat_cmp k es) (omega arith) ∙ found) ∙ ap (λ k. (k, bytes)) (omega arith);
+}
+are_first first (suc n) [] sorted least there = let it = there first (omega arith) (omega arith) in absurd (let none = it.1 in cc none)
+are_first first (suc n) (e ∷ es) sorted least there =
+    let parts = both (entries.below_all nat_cmp e.0 es) (entries.is_sorted nat_cmp es) sorted in
+    let here = there first (omega arith) (omega arith) in
+    let is = first_entry first here.0 (e ∷ es) sorted least here.1 in
+    let number : e.0 ≡ first = ap (λ (x : ℕ × List ℕ). x.0) is in
+    let behind : (k : ℕ) → first + 1 ≤ k → entries.find nat_cmp k (e ∷ es) ≡ entries.find nat_cmp k es = λ k above. passed k e.0 e.1 es (λ same. omega (arith, above, same, number)) in
+    let rest = are_first (first + 1) n es parts.1
+    (λ k x found. let later = above_at e.0 k x es parts.0 found in omega (arith, later, number))
+    (λ k low high. let it = there k (omega (arith, low)) (omega (arith, high)) in (it.0, sym (behind k low) ∙ it.1)) in
+    let next : first + 1 + n ≡ first + suc n = omega arith in
+    record {
+      joined =
+          let head : e.1 ≡ unwrap_or (entries.find nat_cmp first (e ∷ es)) [] = ap (λ (x : ℕ × List ℕ). x.1) is ∙ ap (λ o. unwrap_or o []) (sym here.1) in
+          let tail = rest.joined ∙ same_from (λ k. unwrap_or (entries.find nat_cmp k es) []) (λ k. unwrap_or (entries.find nat_cmp k (e ∷ es)) []) (first + 1) n (λ k low high. ap (λ o. unwrap_or o []) (sym (behind k low))) in
+          λ i. head i ++ tail i;
+      within = let more = rest.within in omega (arith, more);
+      next = λ bytes found. rest.next bytes (sym (behind (first + 1 + n) (omega arith)) ∙ ap (λ k. entries.find nat_cmp k (e ∷ es)) next ∙ found) ∙ ap (λ k. (k, bytes)) next;
+    }
+
+-- ---- what was hashed
+
+no_block : (i : ℕ) → slice_get (blocks_of []) i ≡ None
+unfolding blocks_of
+no_block i = refl
+
+-- a segment that has a block was received
+has_come : (segments : Numbered (List ℕ)) (k i : ℕ) (block : List ℕ) → slice_get (blocks_of (bytes_of segments k)) i ≡ Some block → WasReceived segments k
+has_come segments k i block is = go (finmap.get segments k) refl
+  where
+    go : (o : Option (List ℕ)) → finmap.get segments k ≡ o → WasReceived segments k
+    go None none = absurd (let found = sym (no_block i) ∙ ap (λ x. slice_get (blocks_of (unwrap_or x [])) i) (sym none) ∙ is in cc found)
+    go (Some bytes) there = (bytes, there)
+
+module _ (segments : Numbered (List ℕ)) (was now : RunningHash) (h : HasHashed segments was) where
+  -- one block more
+  pub block_more : (block : List ℕ) → slice_get (blocks_of (bytes_of segments (was.segments + 1))) was.blocks ≡ Some block
+      → ((message : List ℕ) → Holds was.hasher message → Holds now.hasher (message ++ block)) → now.segments ≡ was.segments → now.blocks ≡ was.blocks + 1 → HasHashed segments now
+  block_more block is grows same next =
+      let bytes = bytes_of segments (was.segments + 1) in
+      let front = bytes_from segments 1 was.segments in
+      let more = one_block_more bytes was.blocks block (within_by (blocks_of bytes) was.blocks block is) (sym (got_by (blocks_of bytes) was.blocks block [] is)) in
+      let whole : front ++ (first_blocks was.blocks bytes ++ block) ≡ bytes_from segments 1 now.segments ++ first_blocks now.blocks (bytes_of segments (now.segments + 1)) =
+      ap (λ l. front ++ l) more ∙ ap (λ n. front ++ first_blocks n bytes) (sym next) ∙ ap (λ n. bytes_from segments 1 n ++ first_blocks now.blocks (bytes_of segments (n + 1))) (sym same) in
+      record {
+        holds = subst (Holds now.hasher) (append_assoc front (first_blocks was.blocks bytes) block ∙ whole) (grows _ h.holds);
+        whole = λ k low high. h.whole k low (omega (arith, high, same));
+        begun = λ some. subst (λ n. WasReceived segments (n + 1)) (sym same) (has_come segments (was.segments + 1) was.blocks block is);
+      }
+
+  -- the segment has no more
+  pub segment_done : slice_get (blocks_of (bytes_of segments (was.segments + 1))) was.blocks ≡ None → was.blocks ≢ 0
+      → now.hasher ≡ was.hasher → now.segments ≡ was.segments + 1 → now.blocks ≡ 0 → HasHashed segments now
+  segment_done none some kept next over =
+      let bytes = bytes_of segments (was.segments + 1) in
+      let front = bytes_from segments 1 was.segments in
+      let all = all_blocks bytes was.blocks (past_by (blocks_of bytes) was.blocks none) in
+      let joined : bytes_from segments 1 (was.segments + 1) ≡ front ++ bytes = one_segment_more (bytes_of segments) 1 was.segments ∙ ap (λ k. front ++ bytes_of segments k) (omega arith) in
+      let whole : front ++ first_blocks was.blocks bytes ≡ bytes_from segments 1 now.segments ++ first_blocks now.blocks (bytes_of segments (now.segments + 1)) =
+      ap (λ l. front ++ l) all ∙ sym joined ∙ ap (bytes_from segments 1) (sym next) ∙ sym (append-nil (bytes_from segments 1 now.segments)) ∙ ap (λ n. bytes_from segments 1 now.segments ++ first_blocks n (bytes_of segments (now.segments + 1))) (sym over) in
+      record {
+        holds = subst (λ x. Holds x (bytes_from segments 1 now.segments ++ first_blocks now.blocks (bytes_of segments (now.segments + 1)))) (sym kept) (subst (Holds was.hasher) whole h.holds);
+        whole = λ k low high. reached k low (cases_lt was.segments k) (omega (arith, high, next));
+        begun = λ begun. absurd (begun over);
+      }
+    where
+      reached : (k : ℕ) → 1 ≤ k → (was.segments < k) ⊎ (k ≤ was.segments) → k ≤ was.segments + 1 → WasReceived segments k
+      reached k low (inl above) high = subst (WasReceived segments) (omega (arith, above, high)) (h.begun some)
+      reached k low (inr within) high = h.whole k low within
+
+-- segments that stay were hashed
+pub still_hashed : (before after : Numbered (List ℕ)) (run : RunningHash) → ((k : ℕ) (bytes : List ℕ) → finmap.get before k ≡ Some bytes → finmap.get after k ≡ Some bytes)
+    → HasHashed before run → HasHashed after run
+still_hashed before after run stay h = record {
+  holds = subst (Holds run.hasher) (λ i. front i ++ part run.blocks refl i) h.holds;
+  whole = λ k low high. let it = h.whole k low high in (it.0, stay k it.0 it.1);
+  begun = λ some. let it = h.begun some in (it.0, stay _ it.0 it.1);
+}
+  where
+    kept : (k : ℕ) → WasReceived before k → bytes_of before k ≡ bytes_of after k
+    kept k it = ap (λ o. unwrap_or o []) (it.1 ∙ sym (stay k it.0 it.1))
+
+    front : bytes_from before 1 run.segments ≡ bytes_from after 1 run.segments
+    front = same_from (bytes_of before) (bytes_of after) 1 run.segments (λ k low high. kept k (h.whole k low (omega (arith, high))))
+
+    part : (n : ℕ) → run.blocks ≡ n → first_blocks n (bytes_of before (run.segments + 1)) ≡ first_blocks n (bytes_of after (run.segments + 1))
+    part zero is = refl
+    part (suc n) is = ap (first_blocks (suc n)) (kept (run.segments + 1) (h.begun (λ none. let no = sym is ∙ none in cc no)))
+
+-- ---- what is running
+
+-- what came of it is told of the same hash, whether or not it is due
+pub due_too : (s : State) (run : RunningHash) (is_due : Bool) → IsRunning s run → IsRunning s (record run { is_due = is_due })
+due_too s run is_due (inl fresh) = inl (record { segments = fresh.segments; blocks = fresh.blocks; holds = fresh.holds })
+due_too s run is_due (inr begun) = inr (record { given = begun.given; hashed = λ it there. let h = begun.hashed it there in record { holds = h.holds; whole = h.whole; begun = h.begun } })
+
+-- nothing of an upload is hashed at first
+pub nothing_hashed : (segments : Numbered (List ℕ)) (run : RunningHash) → IsFresh run → HasHashed segments run
+nothing_hashed segments run fresh = record {
+  holds = subst (Holds run.hasher) (sym (λ i. bytes_from segments 1 (fresh.segments i) ++ first_blocks (fresh.blocks i) (bytes_of segments (run.segments + 1)))) fresh.holds;
+  whole = λ k low high. let none = fresh.segments in absurd (omega (arith, low, high, none));
+  begun = λ some. absurd (some fresh.blocks);
+}
+
+pub running_at : (s : State) (run : RunningHash) (it : Upload) → IsRunning s run → finmap.get s.uploads run.upload ≡ Some it → HasHashed it.segments run
+running_at s run it (inl fresh) there = nothing_hashed it.segments run fresh
+running_at s run it (inr begun) there = begun.hashed it there
+
+module _ (s : State) (sound : IsSound s) (was now : RunningHash) (running : IsRunning s was) (same : now.upload ≡ was.upload) where
+  its_bytes : (it : Upload) (k : ℕ) → finmap.get s.uploads was.upload ≡ Some it → stored_bytes s was.upload k ≡ bytes_of it.segments k
+  its_bytes it k there = ap (λ m. bytes_of m k) (segments_there s.uploads was.upload it there)
+
+  hashed_now : ((it : Upload) → finmap.get s.uploads was.upload ≡ Some it → HasHashed it.segments now) → (it : Upload) → finmap.get s.uploads now.upload ≡ Some it → HasHashed it.segments now
+  hashed_now hashed it there = hashed it (ap (finmap.get s.uploads) (sym same) ∙ there)
+
+  pub block_taken : (block : List ℕ) → slice_get (blocks_of (stored_bytes s was.upload (was.segments + 1))) was.blocks ≡ Some block
+      → ((message : List ℕ) → Holds was.hasher message → Holds now.hasher (message ++ block)) → now.segments ≡ was.segments → now.blocks ≡ was.blocks + 1 → IsRunning s now
+  block_taken block is grows kept next = go (finmap.get s.uploads was.upload) refl
+    where
+      go : (o : Option Upload) → finmap.get s.uploads was.upload ≡ o → IsRunning s now
+      go None none =
+          let nothing : stored_bytes s was.upload (was.segments + 1) ≡ [] =
+          ap (λ (o : Option Upload). unwrap_or (finmap.get (option_map_or (λ it. it.segments) o finmap.empty) (was.segments + 1)) []) none
+          ∙ ap (λ (o : Option (List ℕ)). unwrap_or o []) (finmap.get-empty nat_cmp (was.segments + 1)) in
+          absurd (let found = sym (no_block was.blocks) ∙ ap (λ bytes. slice_get (blocks_of bytes) was.blocks) (sym nothing) ∙ is in cc found)
+      go (Some it) there = inr (record {
+        given = subst (λ u. u < s.next.upload) (sym same) (sound.uploads was.upload it there).number_given.below;
+        hashed = hashed_now (λ other found. block_more other.segments was now (running_at s was other running found) block
+            (ap (λ bytes. slice_get (blocks_of bytes) was.blocks) (sym (its_bytes other (was.segments + 1) found)) ∙ is) grows kept next);
+      })
+
+  pub segment_ended : slice_get (blocks_of (stored_bytes s was.upload (was.segments + 1))) was.blocks ≡ None → was.blocks ≢ 0
+      → now.hasher ≡ was.hasher → now.segments ≡ was.segments + 1 → now.blocks ≡ 0 → IsRunning s now
+  segment_ended none some kept next over = go running
+    where
+      go : IsRunning s was → IsRunning s now
+      go (inl fresh) = absurd (some fresh.blocks)
+      go (inr begun) = inr (record {
+        given = subst (λ u. u < s.next.upload) (sym same) begun.given;
+        hashed = hashed_now (λ it there. segment_done it.segments was now (begun.hashed it there)
+            (ap (λ bytes. slice_get (blocks_of bytes) was.blocks) (sym (its_bytes it (was.segments + 1) there)) ∙ none) some kept next over);
+      })
+
+-- the number of a segment that a block was asked for
+pub next_number : {X P : Type 0} (a n number place : ℕ) (r : Result X StoreFault) (x : X) → number ≡ min (n + 1) (2 ^ 64 - 1) → r ≡ Ok x
+    → (((a < 2 ^ 63) × (number < 2 ^ 63) × (place < 2 ^ 63) → ⊥) → (r ≡ Err Store) × P) → number ≡ n + 1
+next_number a n number place r x is ok refuses = go (cases_lt number (2 ^ 63))
+  where
+    go : (number < 2 ^ 63) ⊎ (2 ^ 63 ≤ number) → number ≡ n + 1
+    go (inl below) = omega (arith, is, below)
+    go (inr above) = let failed = (refuses (λ h. let it = h.1 in omega (arith, it, above))).0 in absurd (cc (ok, failed))
+
+-- ---- the rest of an upload
+
+-- a content of no bytes has no blocks
+pub no_first_blocks : (n : ℕ) → first_blocks n [] ≡ []
+unfolding blocks_of
+no_first_blocks zero = refl
+no_first_blocks (suc n) = refl
+
+-- what was hashed is the first entries, and a part of the next one
+pub front_hashed : (it : Upload) (run : RunningHash) (whole : ℕ) → HasSegmentsWithin it → HasHashed it.segments run → whole ≡ min (length (finmap.entries it.segments)) run.segments
+    → Holds run.hasher (flat_map (λ e. e.1) (take whole (finmap.entries it.segments)) ++ first_blocks run.blocks (get_or (finmap.entries it.segments) whole (0, [])).1)
+front_hashed it run whole within h is =
+    subst (Holds run.hasher) (sym (λ i. front i ++ part run.blocks refl i)) h.holds
+  where
+    es : List (ℕ × List ℕ)
+    es = finmap.entries it.segments
+
+    first : AreFirst 1 run.segments es
+    first = are_first 1 run.segments es (finmap.entries_sorted it.segments)
+        (λ k x found. (within k x (finmap.get-entries it.segments k ∙ found)).0)
+        (λ k low high. let got = h.whole k low (omega (arith, high)) in (got.0, sym (finmap.get-entries it.segments k) ∙ got.1))
+
+    count : whole ≡ run.segments
+    count = let few = first.within in omega (arith, is, few)
+
+    front : flat_map (λ (e : ℕ × List ℕ). e.1) (take whole es) ≡ bytes_from it.segments 1 run.segments
+    front = ap (λ n. flat_map (λ (e : ℕ × List ℕ). e.1) (take n es)) count ∙ first.joined
+        ∙ same_from (λ k. unwrap_or (entries.find nat_cmp k es) []) (bytes_of it.segments) 1 run.segments (λ k low high. ap (λ o. unwrap_or o []) (sym (finmap.get-entries it.segments k)))
+
+    next : 1 + run.segments ≡ run.segments + 1
+    next = omega arith
+
+    part : (n : ℕ) → run.blocks ≡ n → first_blocks n (get_or es whole (0, [])).1 ≡ first_blocks n (bytes_of it.segments (run.segments + 1))
+    part zero of = refl
+    part (suc n) of =
+        let got = h.begun (λ none. let no = sym of ∙ none in cc no) in
+        let entry = first.next got.0 (ap (λ k. entries.find nat_cmp k es) next ∙ sym (finmap.get-entries it.segments (run.segments + 1)) ∙ got.1) in
+        ap (first_blocks (suc n)) (ap (λ k. (get_or es k (0, [])).1) count ∙ ap (λ (e : ℕ × List ℕ). e.1) entry ∙ sym (ap (λ o. unwrap_or o []) got.1))

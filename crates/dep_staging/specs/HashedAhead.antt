@@ -1,0 +1,51 @@
+-- Uploads that are hashed while their segments come.
+use Rattle.std.specs.Prelude.{◌≡◌, ◌≢◌, ◌⊎◌, ℕ, ◌+◌, ◌<◌, ◌≤◌, List, [], ◌++◌, take, Some, unwrap_or}
+use Rattle.std.specs.List.{All, flat_map, range_with_len}
+use Rattle.std.specs.FinMap as map
+use Rattle.dep_types.specs.Maps.{Numbered}
+use Rattle.dep_types.specs.State.{State, Upload}
+use Rattle.dep_fixity.specs.Fixity.{Holds}
+use Rattle.dep_row_maps.specs.Stored.{blocks_of}
+use Rattle.dep_staging.specs.declared.running.RunningHash.{RunningHash}
+use Rattle.dep_staging.specs.declared.running.RunningHashes.{RunningHashes}
+
+-- the bytes of a segment, none where it was not received
+abbrev pub bytes_of : Numbered (List ℕ) → (number : ℕ) → List ℕ
+bytes_of segments k = unwrap_or (map.get segments k) []
+
+-- those of so many segments from this number on
+abbrev pub bytes_from : Numbered (List ℕ) → (first count : ℕ) → List ℕ
+bytes_from segments first count = flat_map (bytes_of segments) (range_with_len first count)
+
+-- the first blocks of a content
+abbrev pub first_blocks : (count : ℕ) → List ℕ → List ℕ
+first_blocks count content = flat_map (λ block. block) (take count (blocks_of content))
+
+-- the segment was received
+abbrev pub WasReceived : Numbered (List ℕ) → (number : ℕ) → Type 0
+WasReceived segments k = (bytes : List ℕ) × (map.get segments k ≡ Some bytes)
+
+-- just its first segments were hashed, each of which was received, and the first blocks of the next one
+pub record HasHashed (segments : Numbered (List ℕ)) (run : RunningHash) : Type 0 where
+  pub holds : Holds run.hasher
+      (bytes_from segments 1 run.segments ++ first_blocks run.blocks (bytes_of segments (run.segments + 1)))
+  pub whole : (k : ℕ) → 1 ≤ k → k ≤ run.segments → WasReceived segments k
+  pub begun : run.blocks ≢ 0 → WasReceived segments (run.segments + 1)
+
+-- nothing was hashed
+pub record IsFresh (run : RunningHash) : Type 0 where
+  pub segments : run.segments ≡ 0
+  pub blocks : run.blocks ≡ 0
+  pub holds : Holds run.hasher []
+
+-- the number of its upload was given, and what was hashed is what was received, where it is there
+pub record IsBegun (s : State) (run : RunningHash) : Type 0 where
+  pub given : run.upload < s.next.upload
+  pub hashed : (it : Upload) → map.get s.uploads run.upload ≡ Some it → HasHashed it.segments run
+
+abbrev pub IsRunning : State → RunningHash → Type 0
+IsRunning s run = IsFresh run ⊎ IsBegun s run
+
+-- so it is of each of them
+abbrev pub AreRunning : State → RunningHashes → Type 0
+AreRunning s runs = All (IsRunning s) runs.uploads.items

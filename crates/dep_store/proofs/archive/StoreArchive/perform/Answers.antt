@@ -1,4 +1,0 @@
-use Rattle.dep_store.proofs.archive.StoreArchive.perform.Goals as goal
-
-pub returns-clause-shut : goal.returns-clause-shut
-returns-clause-shut g c clean shut trees h = (trees, c.perform.ensures.shut clean shut trees h, λ s. ((λ x. x), λ x. x))
